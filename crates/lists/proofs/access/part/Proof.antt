@@ -1,0 +1,50 @@
+-- `lists::access::part` meets its contract: its two counts are cut at the slice's end.
+use borrow.Author.Needs.{needs}
+use native.Mathlib.Omega.{arith}
+use mathlib.Core.Path.{_≡_}
+use Prim.Native.Nat.{_+_, _-_}
+use Rattle.lists.proofs.Parts.{part-clipped}
+use Rattle.lists.proofs.access.part.Statement.{statement}
+use Rattle.lists.proofs.access.part.Tie as tie
+
+least-requires : tie.Need-least-requires
+least-requires c κs = search needs
+
+sub-least : tie.Need-sub-least
+sub-least c = search needs
+
+least-requires-2 : tie.Need-least-requires-2
+least-requires-2 c κs = search needs
+
+add-to : tie.Need-add-to
+add-to c = search needs
+
+sub-result : tie.Need-sub-result
+sub-result c = search needs
+
+part-result-start : tie.Need-part-result-start
+part-result-start c = search needs
+
+part-result-end : tie.Need-part-result-end
+part-result-end c = search needs
+
+returns : tie.Need-returns
+returns c =
+    let a = c .before .before .before .before .args in
+    let from = c .before .before .least .result in
+    let count = c .before .least2 .result in
+    let e : from + count - from ≡ count = omega arith in
+    rw (e, c .before .least2 .ensures, c .before .before .least .ensures) (part-clipped (a .bytes .now) (a .at) (a .n))
+
+pub part-spec : {M : Type 1} → statement M
+part-spec =
+    tie.close
+    (tie.spec
+    least-requires
+    sub-least
+    least-requires-2
+    add-to
+    sub-result
+    part-result-start
+    part-result-end
+    returns)

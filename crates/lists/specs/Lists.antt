@@ -1,0 +1,31 @@
+-- Lists as slices hold them: parts, equality, sums, and quotients rounded up. Reading past the end is the kit's `getD`,
+-- storing one value is its `set`, and storing a run of values its `sets`; what falls past the end is dropped.
+use Prim.Native.Nat.{ℕ, _+_, _-_, _/_}
+use mathlib.Core.Bool.{Bool, true, false, cond}
+use mathlib.Core.List.{List, [], _∷_}
+use lib.Dec.{eqb}
+use lib.ListN.{take, drop}
+
+-- the n elements from place `at` on, or as many of them as there are
+abbrev pub partOf : {A : Type 0} → List A → ℕ → ℕ → List A
+partOf xs at n = take n (drop at xs)
+
+-- whether two lists of numbers are the same
+abbrev pub equal : List ℕ → List ℕ → Bool
+equal [] [] = true
+equal [] (y ∷ ys) = false
+equal (x ∷ xs) [] = false
+equal (x ∷ xs) (y ∷ ys) = cond (eqb x y) (equal xs ys) false
+
+-- whether an element passes a test
+abbrev pub any : {A : Type 0} → (A → Bool) → List A → Bool
+any f [] = false
+any f (x ∷ xs) = cond (f x) true (any f xs)
+
+abbrev pub sum : List ℕ → ℕ
+sum [] = 0
+sum (x ∷ xs) = x + sum xs
+
+-- n / d, rounded up
+abbrev pub ceiling : ℕ → ℕ → ℕ
+ceiling n d = (n + (d - 1)) / d

@@ -1,0 +1,84 @@
+// Numbers as decimal digits, and right-justified in columns. It relies on access.rt and on the laws
+// of proofs/Decimals.antt.
+ghost use mathlib.Core.Path.{_≡_};
+ghost use Prim.Native.Nat.{_+_, _-_, _≤_, _<_};
+ghost use lib.ListN.{length, drop, replicate};
+ghost use lib.Seq.{sets};
+ghost use Rattle.lists.specs.Decimal.{decimal, column};
+use crate::access::least;
+use crate::access::minus;
+use crate::access::put_byte;
+
+// How many digits a number has.
+pub fn digit_count(n: u64) -> usize
+    ensures { λ r. ⌜ r ≡ length (decimal n) ⌝ }
+{
+    let mut k = 1;
+    let mut rest = n;
+    while k < 20 {
+        if rest < 10 {
+            return k;
+        }
+        rest = rest / 10;
+        k += 1;
+    }
+    k
+}
+
+// The character of a digit.
+fn glyph(digit: u64) -> u8
+    requires { ⌜ digit < 10 ⌝ }
+    ensures { λ r. ⌜ r ≡ 48 + digit ⌝ }
+{
+    48 + digit as u8
+}
+
+// Writes a number's last `count` digits from place `at` on, the last of them first.
+fn put_digits(target: &mut [u8], at: usize, count: usize, n: u64)
+    requires { ⌜ (at < length (now target)) × (count ≤ length (decimal n)) ⌝ }
+    ensures { λ _. ⌜ now (target .exit) ≡ sets (now (target .entry)) at (drop (length (decimal n) - count) (decimal n)) ⌝ }
+{
+    let mut i = count;
+    let mut rest = n;
+    while 0 < i {
+        i -= 1;
+        put_byte(target, at + i, glyph(rest % 10));
+        rest = rest / 10;
+    }
+}
+
+// Writes a number's digits from place `at` on, and gives how many they are.
+pub fn put_decimal(target: &mut [u8], at: usize, n: u64) -> usize
+    ensures { λ r. ⌜ r ≡ length (decimal n) ⌝ }
+    ensures { λ _. ⌜ now (target .exit) ≡ sets (now (target .entry)) at (decimal n) ⌝ }
+{
+    let k = digit_count(n);
+    if at < target.len() {
+        put_digits(target, at, k, n);
+    }
+    k
+}
+
+// Writes `count` blanks from place `at` on, as many of them as there is room for.
+fn put_blanks(target: &mut [u8], at: usize, count: usize)
+    ensures { λ _. ⌜ now (target .exit) ≡ sets (now (target .entry)) at (replicate count 32) ⌝ }
+{
+    let n = least(count, minus(target.len(), at));
+    let mut i = 0;
+    while i < n {
+        target[at + i] = 32;
+        i += 1;
+    }
+}
+
+// Writes a number right-justified in `width` columns from place `at` on.
+pub fn put_column(target: &mut [u8], at: usize, width: usize, n: u64)
+    ensures { λ _. ⌜ now (target .exit) ≡ sets (now (target .entry)) at (column width n) ⌝ }
+{
+    let k = digit_count(n);
+    let blanks = minus(width, k);
+    put_blanks(target, at, blanks);
+    if blanks < minus(target.len(), at) {
+        put_digits(target, at + blanks, least(width, k), n);
+    }
+}

@@ -1,0 +1,19 @@
+// Total accessors over lent slices: each answers whatever the slice holds and however long it is.
+// What a function writes past a slice's end is dropped, and what it reads there is 0 or nothing. The
+// crate relies on the kit only; its laws on lists and numbers are in proofs/, stated once for all crates.
+mod access;
+mod decimal;
+
+pub use access::byte;
+pub use access::copy_behind;
+pub use access::copy_in;
+pub use access::least;
+pub use access::minus;
+pub use access::part;
+pub use access::put_byte;
+pub use access::put_word;
+pub use access::same;
+pub use access::word;
+pub use decimal::digit_count;
+pub use decimal::put_column;
+pub use decimal::put_decimal;
