@@ -1,0 +1,3 @@
+-- The definitions that the contracts of `types` cite.
+pub mod Refusals
+pub mod Signed
