@@ -1,0 +1,27 @@
+-- `path::split::rsplit_path_branch` meets its contract.
+use mathlib.Core.Path.{ap, _∙_}
+use borrow.Author.Needs.{needs}
+use Rattle.path.specs.Split.{beforeLast}
+use Rattle.path.proofs.split.rsplit_path_branch.Statement.{statement}
+use Rattle.path.proofs.split.rsplit_path_branch.Tie as tie
+
+trim-requires : tie.Need-trim-requires
+trim-requires c κs = search needs
+
+leaf-start-requires : tie.Need-leaf-start-requires
+leaf-start-requires c κs = search needs
+
+minus-requires : tie.Need-minus-requires
+minus-requires c κs = search needs
+
+part-requires : tie.Need-part-requires
+part-requires c κs = search needs
+
+returns : tie.Need-returns
+returns c =
+    let l = c .before .before in
+    c .part .ensures ∙ rw (c .before .minus .ensures) (l .leaf-start .ensures .0 ∙ ap beforeLast (l .before .trim .ensures))
+
+pub rsplit-path-branch-spec : {M : Type 1} → statement M
+rsplit-path-branch-spec =
+    tie.close (tie.spec trim-requires leaf-start-requires minus-requires part-requires returns)

@@ -1,0 +1,81 @@
+-- Document 01, 'Path parts': paths as lists of bytes, and their splits. The separator is 47, `/`; 92 is `\`, which only
+-- `has_parent_path` counts as one.
+use Prim.Native.Nat.{ℕ, _-_}
+use mathlib.Core.Bool.{Bool, true, false, cond}
+use mathlib.Core.List.{List, [], _∷_, _++_}
+use lib.Dec.{eqb}
+use lib.ListN.{take, drop}
+use Rattle.lists.specs.Lists.{any}
+
+abbrev pub isSeparator : ℕ → Bool
+isSeparator c = eqb c 47
+
+-- 'counts `\` as a separator'
+abbrev pub isEither : ℕ → Bool
+isEither c = cond (isSeparator c) true (eqb c 92)
+
+-- 'drops one separator at the end, no more': the list c ∷ t without its last byte, where that passes the test
+abbrev pub trimmedFrom : (ℕ → Bool) → ℕ → List ℕ → List ℕ
+trimmedFrom f c [] = cond (f c) [] (c ∷ [])
+trimmedFrom f c (d ∷ t) = c ∷ trimmedFrom f d t
+
+abbrev pub trimmed : (ℕ → Bool) → List ℕ → List ℕ
+trimmed f [] = []
+trimmed f (c ∷ t) = trimmedFrom f c t
+
+-- what stands before the last separator: nothing where there is none
+abbrev pub beforeLast : List ℕ → List ℕ
+beforeLast [] = []
+beforeLast (c ∷ t) = cond (any isSeparator t) (c ∷ beforeLast t) []
+
+-- what stands behind the last separator: all where there is none
+abbrev pub behindLast : List ℕ → List ℕ
+behindLast [] = []
+behindLast (c ∷ t) = cond (any isSeparator t) (behindLast t) (cond (isSeparator c) t (c ∷ t))
+
+-- what stands before the first separator: all where there is none
+abbrev pub beforeFirst : List ℕ → List ℕ
+beforeFirst [] = []
+beforeFirst (c ∷ t) = cond (isSeparator c) [] (c ∷ beforeFirst t)
+
+-- what stands behind the first separator: nothing where there is none
+abbrev pub behindFirst : List ℕ → List ℕ
+behindFirst [] = []
+behindFirst (c ∷ t) = cond (isSeparator c) t (behindFirst t)
+
+-- `rsplit_path`: branch and leaf, parted by the last separator
+abbrev pub rsplitBranch : List ℕ → List ℕ
+rsplitBranch p = beforeLast (trimmed isSeparator p)
+
+abbrev pub rsplitLeaf : List ℕ → List ℕ
+rsplitLeaf p = behindLast (trimmed isSeparator p)
+
+-- an absolute path begins with a separator
+abbrev pub isComplete : List ℕ → Bool
+isComplete [] = false
+isComplete (c ∷ t) = isSeparator c
+
+-- `lsplit_path` at a place: a leading separator is skipped, the place counted along; then the first separator at or
+-- behind the place parts first from rest
+abbrev pub skipped : List ℕ → List ℕ
+skipped p = drop (cond (isComplete p) 1 0) p
+
+abbrev pub placeIn : List ℕ → ℕ → ℕ
+placeIn p pos = pos - cond (isComplete p) 1 0
+
+abbrev pub lsplitAtFirst : List ℕ → ℕ → List ℕ
+lsplitAtFirst p pos = take (placeIn p pos) (skipped p) ++ beforeFirst (drop (placeIn p pos) (skipped p))
+
+abbrev pub lsplitAtRest : List ℕ → ℕ → List ℕ
+lsplitAtRest p pos = behindFirst (drop (placeIn p pos) (skipped p))
+
+-- `lsplit_path`: a leading separator is skipped, then the first separator parts first from rest
+abbrev pub lsplitFirst : List ℕ → List ℕ
+lsplitFirst p = beforeFirst (skipped p)
+
+abbrev pub lsplitRest : List ℕ → List ℕ
+lsplitRest p = behindFirst (skipped p)
+
+-- `has_parent_path`: a separator of either kind is left when one at the end is dropped
+abbrev pub hasParent : List ℕ → Bool
+hasParent p = any isEither (trimmed isEither p)
