@@ -1,0 +1,2 @@
+-- Laws of tree widths.
+pub mod Widths

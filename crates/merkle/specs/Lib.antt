@@ -1,0 +1,2 @@
+-- The definitions that the contracts of `merkle` cite.
+pub mod Width
