@@ -1,0 +1,50 @@
+//! Answers as lines: `ok` and the values behind it, `refused` and a number, or `badcall` for a line that is no call.
+
+use std::io::Write;
+
+use crate::call::{Answer, Value};
+
+const HEX: &[u8; 16] = b"0123456789ABCDEF";
+
+/// Writes an answer's line behind `text`.
+pub fn answer(answer: Option<&Answer>, text: &mut Vec<u8>) {
+    match answer {
+        Some(Answer::Ok(values)) => {
+            text.extend_from_slice(b"ok");
+            for v in values {
+                text.push(b' ');
+                value(v, text);
+            }
+        }
+        Some(Answer::Refused(n)) => {
+            text.extend_from_slice(b"refused ");
+            number((*n).into(), text);
+        }
+        None => text.extend_from_slice(b"badcall"),
+    }
+    text.push(b'\n');
+}
+
+fn value(value: &Value, text: &mut Vec<u8>) {
+    match value {
+        Value::Bytes(bytes) => string(bytes, text),
+        Value::Number(n) => number(*n, text),
+        Value::Boolean(b) => text.push(if *b { b'1' } else { b'0' }),
+    }
+}
+
+fn number(number: i128, text: &mut Vec<u8>) {
+    write!(text, "{number}").expect("a Vec takes what is written");
+}
+
+/// `:` and the bytes, all but graphic ASCII and `%` itself as `%XX`.
+fn string(bytes: &[u8], text: &mut Vec<u8>) {
+    text.push(b':');
+    for &c in bytes {
+        if c == b'%' || !(33..=126).contains(&c) {
+            text.extend_from_slice(&[b'%', HEX[usize::from(c >> 4)], HEX[usize::from(c & 15)]]);
+        } else {
+            text.push(c);
+        }
+    }
+}
