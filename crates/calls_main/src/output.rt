@@ -1,0 +1,105 @@
+// Answers as lines of standard output, through a buffer that is written out when it is full. Each
+// function takes how much of the buffer is used and gives how much is used behind what it put there.
+// Relies on `io` and on the accessors of `lists`.
+use crate::strings::is_plain;
+use libc::STDOUT_FILENO;
+
+// Writes out what the buffer holds.
+pub(crate) fn flush(out: &mut [u8], used: usize) {
+    io::write_all(STDOUT_FILENO, lists::part(out, 0, used));
+}
+
+// Puts one byte.
+fn put(out: &mut [u8], used: usize, byte: u8) -> usize {
+    if used < out.len() {
+        out[used] = byte;
+        return used + 1;
+    }
+    io::write_all(STDOUT_FILENO, out);
+    lists::put_byte(out, 0, byte);
+    1
+}
+
+// Puts bytes as they are.
+fn text(out: &mut [u8], used: usize, bytes: &[u8]) -> usize {
+    let mut at = used;
+    let mut i = 0;
+    while i < bytes.len() {
+        at = put(out, at, bytes[i]);
+        i += 1;
+    }
+    at
+}
+
+// Puts a line feed behind an answer.
+pub(crate) fn end(out: &mut [u8], used: usize) -> usize {
+    put(out, used, b'\n')
+}
+
+// Puts the answer to a line that is no call.
+pub(crate) fn bad_call(out: &mut [u8], used: usize) -> usize {
+    text(out, used, b"badcall\n")
+}
+
+// Puts the answer to a call that is refused.
+pub(crate) fn refused(out: &mut [u8], used: usize, number: u32) -> usize {
+    let at = text(out, used, b"refused ");
+    let behind = digits(out, at, number as u64);
+    end(out, behind)
+}
+
+// Puts the start of an answer that has values behind it.
+pub(crate) fn ok(out: &mut [u8], used: usize) -> usize {
+    text(out, used, b"ok")
+}
+
+// Puts a value that is a number.
+pub(crate) fn number(out: &mut [u8], used: usize, n: u64) -> usize {
+    let at = put(out, used, b' ');
+    digits(out, at, n)
+}
+
+// Puts a value that is a Boolean.
+pub(crate) fn boolean(out: &mut [u8], used: usize, is_so: bool) -> usize {
+    if is_so {
+        return text(out, used, b" 1");
+    }
+    text(out, used, b" 0")
+}
+
+// Puts a value that is a byte string.
+pub(crate) fn string(out: &mut [u8], used: usize, bytes: &[u8]) -> usize {
+    let mut at = text(out, used, b" :");
+    let mut i = 0;
+    while i < bytes.len() {
+        at = character(out, at, bytes[i]);
+        i += 1;
+    }
+    at
+}
+
+// Puts a byte of a string, plainly or coded.
+fn character(out: &mut [u8], used: usize, byte: u8) -> usize {
+    if is_plain(byte) {
+        return put(out, used, byte);
+    }
+    let first = put(out, used, b'%');
+    let second = put(out, first, hex_digit(byte / 16));
+    put(out, second, hex_digit(byte % 16))
+}
+
+// The upper-case hex digit of a value, of which only the last four bits count.
+fn hex_digit(value: u8) -> u8 {
+    let v = value % 16;
+    if v < 10 {
+        return b'0' + v;
+    }
+    55 + v
+}
+
+// Puts a number's decimal digits.
+fn digits(out: &mut [u8], used: usize, n: u64) -> usize {
+    let mut places = [0u8; 20];
+    let k = lists::put_decimal(&mut places, 0, n);
+    text(out, used, lists::part(&places, 0, k))
+}
