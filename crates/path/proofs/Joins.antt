@@ -3,7 +3,7 @@
 use Prim.Native.Nat.{ℕ, _+_}
 use mathlib.Core.Path.{_≡_, refl, sym, _∙_}
 use mathlib.Core.Bool.{Bool, true, false, cond, not}
-use mathlib.Core.List.{List, _∷_}
+use mathlib.Core.List.{List, [], _∷_}
 use native.Mathlib.Omega.{arith}
 use lib.Dec.{leb}
 use lib.ListN.{length, length-append}
@@ -11,7 +11,16 @@ use lib.Seq.{sets}
 use borrow.Author.Tests.{not-true, not-false}
 use Rattle.lists.proofs.Runs.{sets-append}
 use Rattle.types.specs.Refusals.{value, refused}
-use Rattle.path.specs.Join.{isClosed, glued, Joined, joinedIf, fits}
+use Rattle.path.specs.Join.{isEmpty, isClosed, glued, Joined, joinedIf, fits}
+
+-- a leaf of no bytes, and one of some
+pub no-bytes : (l : List ℕ) → length l ≡ 0 → isEmpty l ≡ true
+no-bytes [] e = refl
+no-bytes (c ∷ t) e = absurd (omega arith)
+
+pub some-bytes : (l : List ℕ) → (length l ≡ 0 → ⊥) → isEmpty l ≡ false
+some-bytes [] h = absurd (h refl)
+some-bytes (c ∷ t) h = refl
 
 -- the text where it fits, or 10 and the buffer as it was
 module _ (fit : Bool) (text buf : List ℕ) where

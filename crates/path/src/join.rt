@@ -8,7 +8,7 @@ ghost use lib.Dec.{leb};
 ghost use lib.ListN.{length};
 ghost use lib.Seq.{sets};
 ghost use Rattle.types.specs.Refusals.{usizeSays};
-ghost use Rattle.path.specs.Join.{Joined, isAlone, joinedIf, fits, appendInto, combineInto};
+ghost use Rattle.path.specs.Join.{Joined, isAlone, appended, joinedIf, fits, appendInto, combineInto};
 use crate::split::is_closed;
 use types::Refusal;
 use types::UsizeResult;
@@ -100,4 +100,23 @@ pub fn combine_path(left: &[u8], right: &[u8], buf: &mut [u8]) -> UsizeResult
     }
     lists::copy_behind(buf, 0, left);
     UsizeResult::Ok(put_behind(buf, left.len(), closed, right))
+}
+
+// Writes `leaf` appended to `branch` to the start of `buf`, and gives its length: `append_path` where
+// the branch doesn't stand in the buffer yet.
+pub fn join_path(branch: &[u8], leaf: &[u8], buf: &mut [u8]) -> UsizeResult
+    ensures { λ r. ⌜ _≡_ {A = Joined} (record { says = usizeSays r; buf = now (buf .exit) }) (joinedIf (fits (appended (now (branch .entry)) (now (leaf .entry))) (now (buf .entry))) (appended (now (branch .entry)) (now (leaf .entry))) (now (buf .entry))) ⌝ }
+{
+    if is_alone(branch) {
+        return put_alone(buf, leaf);
+    }
+    if leaf.len() == 0 {
+        return put_alone(buf, branch);
+    }
+    let closed = is_closed(branch);
+    if !has_room(buf.len(), branch.len(), closed, leaf.len()) {
+        return UsizeResult::Err(Refusal::NoRoom);
+    }
+    lists::copy_behind(buf, 0, branch);
+    UsizeResult::Ok(put_behind(buf, branch.len(), closed, leaf))
 }

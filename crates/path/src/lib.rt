@@ -6,6 +6,7 @@ mod split;
 
 pub use join::append_path;
 pub use join::combine_path;
+pub use join::join_path;
 pub use split::filename;
 pub use split::has_parent_path;
 pub use split::is_complete;

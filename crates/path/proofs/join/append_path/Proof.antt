@@ -1,8 +1,8 @@
 -- `path::join::append_path` meets its contract: the branch is not written again, since it stands in the buffer already.
 use Prim.Native.Nat.{ℕ, _≤_, _<_}
-use mathlib.Core.Path.{_≡_, refl, sym, ap, _∙_}
+use mathlib.Core.Path.{_≡_, sym, ap, _∙_}
 use mathlib.Core.Bool.{true, false, cond}
-use mathlib.Core.List.{List, [], _∷_}
+use mathlib.Core.List.{List, _∷_}
 use native.Mathlib.Nat.{zero-add}
 use native.Mathlib.Omega.{arith}
 use lib.ListN.{length, take, take-append-drop}
@@ -10,22 +10,14 @@ use lib.Seq.{sets, sets-eq, length-take-le}
 use borrow.Author.Needs.{needs}
 use borrow.Author.Tests.{le-leb, lt-leb, leb-true, not-false}
 use Rattle.types.specs.Refusals.{value, refused}
-use Rattle.path.specs.Join.{isAlone, isEmpty, glued, appended, Joined, joinedIf, fits, appendInto}
-use Rattle.path.proofs.Joins.{written-is, glued-refused, glued-written}
+use Rattle.path.specs.Join.{isAlone, glued, appended, Joined, joinedIf, fits, appendInto}
+use Rattle.path.proofs.Joins.{no-bytes, some-bytes, written-is, glued-refused, glued-written}
 use Rattle.path.proofs.join.append_path.Statement.{statement}
 use Rattle.path.proofs.join.append_path.Tie as tie
 
 past-is : (buf : List ℕ) (used : ℕ) (leaf : List ℕ) → length buf < used
     → _≡_ {A = Joined} (record { says = refused 10; buf = buf }) (appendInto buf used leaf)
 past-is buf used leaf h = rw (lt-leb used (length buf) h)
-
-empty : (l : List ℕ) → length l ≡ 0 → isEmpty l ≡ true
-empty [] q = refl
-empty (c ∷ t) q = absurd (omega arith)
-
-filled : (l : List ℕ) → (length l ≡ 0 → ⊥) → isEmpty l ≡ false
-filled [] q = absurd (q refl)
-filled (c ∷ t) q = refl
 
 module _ (buf : List ℕ) (used : ℕ) (leaf : List ℕ) (h : used ≤ length buf) where
   long : length (take used buf) ≡ used
@@ -45,11 +37,11 @@ module _ (buf : List ℕ) (used : ℕ) (leaf : List ℕ) (h : used ≤ length bu
       → _≡_ {A = Joined} (record { says = value used; buf = buf }) (appendInto buf used leaf)
   empty-is a e =
       let b = take used buf in
-      written-is (fits b buf) b buf used buf (rw long (le-leb used (length buf) h)) (sym long) (sym kept) ∙ text-is b (rw (a, empty leaf e))
+      written-is (fits b buf) b buf used buf (rw long (le-leb used (length buf) h)) (sym long) (sym kept) ∙ text-is b (rw (a, no-bytes leaf e))
 
   glued-is : isAlone (take used buf) ≡ false → (length leaf ≡ 0 → ⊥)
       → joinedIf (fits (glued (take used buf) leaf) buf) (glued (take used buf) leaf) buf ≡ appendInto buf used leaf
-  glued-is a e = text-is (glued (take used buf) leaf) (rw (a, filled leaf e))
+  glued-is a e = text-is (glued (take used buf) leaf) (rw (a, some-bytes leaf e))
 
 returns : tie.Need-returns
 returns c =
