@@ -1,0 +1,64 @@
+-- `tables::rows::put_four` meets its contract.
+use borrow.Author.Needs.{needs}
+use mathlib.Core.Path.{_≡_, _∙_}
+use mathlib.Core.List.{List, [], _∷_}
+use Prim.Native.Nat.{ℕ, suc, _+_}
+use native.Mathlib.Omega.{arith}
+use lib.ListN.{set}
+use lib.Seq.{sets}
+use Rattle.tables.specs.Rows.{words}
+use Rattle.tables.proofs.rows.put_four.Statement.{statement}
+use Rattle.tables.proofs.rows.put_four.Tie as tie
+
+four : (l : List ℕ) (b w0 w1 w2 w3 : ℕ) → set (set (set (set l b w0) (b + 1) w1) (b + 2) w2) (b + 3) w3 ≡ sets l b (w0 ∷ w1 ∷ w2 ∷ w3 ∷ [])
+four l b w0 w1 w2 w3 =
+    let e1 : b + 1 ≡ suc b = omega arith in
+    let e2 : b + 2 ≡ suc (suc b) = omega arith in
+    let e3 : b + 3 ≡ suc (suc (suc b)) = omega arith in
+    rw (e1, e2, e3)
+
+put-word-requires : tie.Need-put-word-requires
+put-word-requires c κs = search needs
+
+add-put-word : tie.Need-add-put-word
+add-put-word c = search needs
+
+put-word-requires-2 : tie.Need-put-word-requires-2
+put-word-requires-2 c κs = search needs
+
+add-put-word-2 : tie.Need-add-put-word-2
+add-put-word-2 c = search needs
+
+put-word-requires-3 : tie.Need-put-word-requires-3
+put-word-requires-3 c κs = search needs
+
+add-put-word-3 : tie.Need-add-put-word-3
+add-put-word-3 c = search needs
+
+put-word-requires-4 : tie.Need-put-word-requires-4
+put-word-requires-4 c κs = search needs
+
+same-length : tie.Need-same-length
+same-length c = search needs
+
+returns : tie.Need-returns
+returns c =
+    let a = c .before .before .before .before .before .before .before .before .before .before .before .before .before .before .before .before .before .args in
+    let e3 = c .before .before .before .before .before .before .put-word3 .ensures in
+    let e2 = c .before .before .before .before .before .before .before .before .before .before .put-word2 .ensures in
+    let e1 = c .before .before .before .before .before .before .before .before .before .before .before .before .before .before .put-word .ensures in
+    c .before .before .put-word4 .ensures ∙ rw (e3, e2, e1) (four (a .words .now) (a .at) (a .w0) (a .w1) (a .w2) (a .w3))
+
+pub put-four-spec : {M : Type 1} → statement M
+put-four-spec =
+    tie.close
+    (tie.spec
+    put-word-requires
+    add-put-word
+    put-word-requires-2
+    add-put-word-2
+    put-word-requires-3
+    add-put-word-3
+    put-word-requires-4
+    same-length
+    returns)

@@ -1,0 +1,5 @@
+-- The definitions that the contracts of `tables` cite, and the model of a set that the tables mean.
+pub mod Span
+pub mod Rows
+pub mod Entry
+pub mod Model

@@ -1,0 +1,104 @@
+-- What a set's tables mean: document 01, 'The set'. A set is its files in order, each with offset, size, name, directory,
+-- flags, link text and root, its directories, its times, its name, v1 or v2, and its totals.
+use Prim.Native.Nat.{ℕ, zero, suc, _+_, _%_}
+use mathlib.Core.Bool.{Bool, true, false, cond}
+use mathlib.Core.List.{List, [], _∷_}
+use lib.Dec.{eqb}
+use lib.IntN.{ℤ}
+use lib.ListN.{take}
+use Rattle.tables.specs.declared.rows.Row.{Row}
+use Rattle.tables.specs.declared.storage.FileStorage.{FileStorage}
+use Rattle.tables.specs.Span.{textAt}
+use Rattle.tables.specs.Rows.{rowAt, dirAt, rootAt, has}
+
+pub data Optional (A : Type 0) : Type 0 where
+  absent : Optional A
+  present : A → Optional A
+
+abbrev pub presentIf : {A : Type 0} → Bool → A → Optional A
+presentIf true a = present a
+presentIf false a = absent
+
+-- where a file lies: a single name has no directory, an absolute path has none either; else a stored directory, and
+-- whether that stands outside the set's name
+pub data Directory : Type 0 where
+  single : Directory
+  absolute : Directory
+  stored : List ℕ → Bool → Directory
+
+-- flags: pad 1, hidden 2, executable 4, symlink 8; `made` marks a pad that an addition made
+pub record File : Type 0 where
+  pub offset : ℕ
+  pub size : ℕ
+  pub name : List ℕ
+  pub directory : Directory
+  pub flags : ℕ
+  pub link : Optional (List ℕ)
+  pub root : Optional (List ℕ)
+  pub made : Bool
+
+-- `links` counts link texts, a trimmed pad's too; `times` are held by place, and behind them each time is 0
+pub record Model : Type 0 where
+  pub pieceLength : ℕ
+  pub v2 : Bool
+  pub name : List ℕ
+  pub files : List File
+  pub directories : List (List ℕ)
+  pub times : List ℤ
+  pub links : ℕ
+  pub total : ℕ
+  pub onDisk : ℕ
+  pub trimmed : Bool
+
+-- the set's record and its tables
+pub record Store : Type 0 where
+  pub fs : FileStorage
+  pub rows : List ℕ
+  pub roots : List ℕ
+  pub times : List ℤ
+  pub dirs : List ℕ
+  pub text : List ℕ
+
+-- g 0, …, g (n − 1)
+unfoldable pub tabled : {A : Type 0} → ℕ → (ℕ → A) → List A
+tabled zero g = []
+tabled (suc n) g = g 0 ∷ tabled n (λ k. g (suc k))
+
+abbrev pub directoryText : Store → ℕ → List ℕ
+directoryText s i = textAt (s .text) (dirAt (s .dirs) i)
+
+-- the Rust's path index: 1073741823 for a single name, 1073741822 for an absolute path, else a directory row
+abbrev pub directoryOf : Store → Row → Directory
+directoryOf s r =
+    cond (eqb (r .«path_index») 1073741823) single
+    (cond (eqb (r .«path_index») 1073741822) absolute (stored (directoryText s (r .«path_index»)) (has (r .flags) 32)))
+
+-- bits of a row's flags: 16 a link text is held, 32 the directory stands outside the set's name, 64 a pad made by an
+-- addition, 128 a root is there
+abbrev pub fileOf : Store → ℕ → File
+fileOf s i =
+    record {
+      offset = rowAt (s .rows) i .offset;
+      size = rowAt (s .rows) i .size;
+      name = textAt (s .text) (rowAt (s .rows) i .name);
+      directory = directoryOf s (rowAt (s .rows) i);
+      flags = rowAt (s .rows) i .flags % 16;
+      link = presentIf (has (rowAt (s .rows) i .flags) 16) (textAt (s .text) (rowAt (s .rows) i .link));
+      root = presentIf (has (rowAt (s .rows) i .flags) 128) (rootAt (s .roots) i);
+      made = has (rowAt (s .rows) i .flags) 64;
+    }
+
+abbrev pub viewOf : Store → Model
+viewOf s =
+    record {
+      pieceLength = s .fs .«piece_length»;
+      v2 = s .fs .v2;
+      name = textAt (s .text) (s .fs .name);
+      files = tabled (s .fs .«num_files») (fileOf s);
+      directories = tabled (s .fs .«num_paths») (directoryText s);
+      times = take (s .fs .«num_mtimes») (s .times);
+      links = s .fs .«num_symlinks»;
+      total = s .fs .«total_size»;
+      onDisk = s .fs .«size_on_disk»;
+      trimmed = s .fs .trimmed;
+    }

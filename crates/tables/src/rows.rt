@@ -1,0 +1,255 @@
+// File rows, roots, times and directory rows, read and written whole. Relies on `lists` and the laws
+// of proofs/Words.antt.
+ghost use mathlib.Core.Path.{_≡_};
+ghost use mathlib.Core.List.{[], _∷_};
+ghost use Prim.Native.Nat.{_+_, _<_, _^_};
+ghost use lib.ListN.{getD, set};
+ghost use lib.Seq.{sets};
+ghost use lib.IntN.{pos};
+ghost use Rattle.tables.specs.Rows.{rowAt, putRow, dirAt, putDir, rootAt, putRoot, has};
+ghost use Rattle.tables.specs.Entry.{entryAt};
+use crate::span::Span;
+
+// A root's 32 bytes.
+pub type Sha256Hash = [u8; 32];
+
+// Whether something that may be missing is there.
+pub enum Presence {
+    Absent,
+    Present,
+}
+
+// A file's row as the table holds it.
+pub struct Row {
+    pub offset: u64,
+    pub size: u64,
+    pub name: Span,
+    pub link: Span,
+    pub path_index: u64,
+    pub flags: u64,
+}
+
+// A file: its row, and its root beside the root's presence.
+pub struct FileEntry {
+    pub row: Row,
+    pub presence: Presence,
+    pub root: Sha256Hash,
+}
+
+// Row i, zeros past the end.
+pub fn row_at(rows: &[u64], i: usize) -> Row
+    ensures { λ r. ⌜ r ≡ rowAt (now (rows .entry)) i ⌝ }
+{
+    if rows.len() <= i {
+        return Row {
+            offset: 0,
+            size: 0,
+            name: Span { at: 0, len: 0 },
+            link: Span { at: 0, len: 0 },
+            path_index: 0,
+            flags: 0,
+        };
+    }
+    let base = i * 8;
+    Row {
+        offset: lists::word(rows, base) % 0x1_0000_0000_0000,
+        size: lists::word(rows, base + 1) % 0x1_0000_0000_0000,
+        name: Span {
+            at: lists::word(rows, base + 2) as usize,
+            len: lists::word(rows, base + 3) as usize,
+        },
+        link: Span {
+            at: lists::word(rows, base + 4) as usize,
+            len: lists::word(rows, base + 5) as usize,
+        },
+        path_index: lists::word(rows, base + 6),
+        flags: lists::word(rows, base + 7),
+    }
+}
+
+// The offset of row i.
+pub fn offset_at(rows: &[u64], i: usize) -> u64
+    ensures { λ r. ⌜ r ≡ rowAt (now (rows .entry)) i .offset ⌝ }
+{
+    if rows.len() <= i {
+        return 0;
+    }
+    lists::word(rows, i * 8) % 0x1_0000_0000_0000
+}
+
+// The size of row i.
+pub fn size_at(rows: &[u64], i: usize) -> u64
+    ensures { λ r. ⌜ r ≡ rowAt (now (rows .entry)) i .size ⌝ }
+{
+    if rows.len() <= i {
+        return 0;
+    }
+    lists::word(rows, i * 8 + 1) % 0x1_0000_0000_0000
+}
+
+// The flags of row i.
+pub fn flags_at(rows: &[u64], i: usize) -> u64
+    ensures { λ r. ⌜ r ≡ rowAt (now (rows .entry)) i .flags ⌝ }
+{
+    if rows.len() <= i {
+        return 0;
+    }
+    lists::word(rows, i * 8 + 7)
+}
+
+// Stores four words side by side, from place `at` on.
+fn put_four(words: &mut [u64], at: usize, w0: u64, w1: u64, w2: u64, w3: u64)
+    requires { ⌜ at + 3 < 2 ^ 64 ⌝ }
+    ensures { λ _. ⌜ now (words .exit) ≡ sets (now (words .entry)) at (w0 ∷ w1 ∷ w2 ∷ w3 ∷ []) ⌝ }
+{
+    lists::put_word(words, at, w0);
+    lists::put_word(words, at + 1, w1);
+    lists::put_word(words, at + 2, w2);
+    lists::put_word(words, at + 3, w3);
+}
+
+// Writes row i, nothing past the end.
+pub fn put_row(rows: &mut [u64], i: usize, row: Row)
+    ensures { λ _. ⌜ now (rows .exit) ≡ putRow (now (rows .entry)) i row ⌝ }
+{
+    if rows.len() <= i {
+        return;
+    }
+    let base = i * 8;
+    put_four(
+        rows,
+        base,
+        row.offset,
+        row.size,
+        row.name.at as u64,
+        row.name.len as u64,
+    );
+    put_four(
+        rows,
+        base + 4,
+        row.link.at as u64,
+        row.link.len as u64,
+        row.path_index,
+        row.flags,
+    );
+}
+
+// Directory row i.
+pub fn dir_at(dirs: &[u64], i: usize) -> Span
+    ensures { λ r. ⌜ r ≡ dirAt (now (dirs .entry)) i ⌝ }
+{
+    if dirs.len() <= i {
+        return Span { at: 0, len: 0 };
+    }
+    Span {
+        at: lists::word(dirs, i * 2) as usize,
+        len: lists::word(dirs, i * 2 + 1) as usize,
+    }
+}
+
+// Writes directory row i, nothing past the end.
+pub fn put_dir(dirs: &mut [u64], i: usize, s: Span)
+    ensures { λ _. ⌜ now (dirs .exit) ≡ putDir (now (dirs .entry)) i s ⌝ }
+{
+    if dirs.len() <= i {
+        return;
+    }
+    lists::put_word(dirs, i * 2, s.at as u64);
+    lists::put_word(dirs, i * 2 + 1, s.len as u64);
+}
+
+// The root of row i, zeros past the end.
+pub fn root_at(roots: &[u8], i: usize) -> Sha256Hash
+    ensures { λ r. ⌜ r ≡ rootAt (now (roots .entry)) i ⌝ }
+{
+    let mut root = [0u8; 32];
+    if roots.len() / 32 < i {
+        return root;
+    }
+    lists::copy_in(&mut root, lists::part(roots, i * 32, 32));
+    root
+}
+
+// Writes the root of row i, nothing past the end.
+pub fn put_root(roots: &mut [u8], i: usize, root: Sha256Hash)
+    ensures { λ _. ⌜ now (roots .exit) ≡ putRoot (now (roots .entry)) i root ⌝ }
+{
+    if roots.len() / 32 < i {
+        return;
+    }
+    lists::copy_behind(roots, i * 32, &root);
+}
+
+// The time at place i, 0 past the end.
+pub fn time_at(times: &[i64], i: usize) -> i64
+    ensures { λ r. ⌜ r ≡ getD (now (times .entry)) i (pos 0) ⌝ }
+{
+    if i < times.len() {
+        return times[i];
+    }
+    0
+}
+
+// Writes the time at place i, nothing past the end.
+pub fn put_time(times: &mut [i64], i: usize, time: i64)
+    ensures { λ _. ⌜ now (times .exit) ≡ set (now (times .entry)) i time ⌝ }
+{
+    if i < times.len() {
+        times[i] = time;
+    }
+}
+
+// Whether a row's flags have pad, 1.
+pub fn is_pad(flags: u64) -> bool
+    ensures { λ r. ⌜ r ≡ has flags 1 ⌝ }
+{
+    flags % 2 == 1
+}
+
+// Whether a row's flags have symlink, 8.
+pub fn is_symlink(flags: u64) -> bool
+    ensures { λ r. ⌜ r ≡ has flags 8 ⌝ }
+{
+    flags / 8 % 2 == 1
+}
+
+// Whether a row holds a link text, 16.
+pub fn holds_link(flags: u64) -> bool
+    ensures { λ r. ⌜ r ≡ has flags 16 ⌝ }
+{
+    flags / 16 % 2 == 1
+}
+
+// Whether a row's directory stands outside the set's name, 32.
+pub fn is_outside(flags: u64) -> bool
+    ensures { λ r. ⌜ r ≡ has flags 32 ⌝ }
+{
+    flags / 32 % 2 == 1
+}
+
+// Whether a row has a root, 128.
+pub fn has_root(flags: u64) -> bool
+    ensures { λ r. ⌜ r ≡ has flags 128 ⌝ }
+{
+    flags / 128 % 2 == 1
+}
+
+// File i, its row and its root.
+pub fn entry_at(rows: &[u64], roots: &[u8], i: usize) -> FileEntry
+    ensures { λ r. ⌜ r ≡ entryAt (now (rows .entry)) (now (roots .entry)) i ⌝ }
+{
+    let row = row_at(rows, i);
+    let root = root_at(roots, i);
+    if has_root(row.flags) {
+        return FileEntry {
+            row,
+            presence: Presence::Present,
+            root,
+        };
+    }
+    FileEntry {
+        row,
+        presence: Presence::Absent,
+        root,
+    }
+}
