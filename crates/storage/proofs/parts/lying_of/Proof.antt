@@ -1,0 +1,39 @@
+-- `storage::parts::lying_of` meets its contract.
+use mathlib.Core.Path.{sym, _∙_}
+use Rattle.storage.proofs.Texts.{empty-is, filled-is}
+use borrow.Author.Needs.{needs}
+use Rattle.storage.proofs.parts.lying_of.Statement.{statement}
+use Rattle.storage.proofs.parts.lying_of.Tie as tie
+
+is-complete-requires : tie.Need-is-complete-requires
+is-complete-requires c κs = search needs
+
+returns : tie.Need-returns
+returns c = search needs
+
+returns-2 : tie.Need-returns-2
+returns-2 c = rw (sym (c .before .before .is-complete .ensures) ∙ c .before .if1 .left, ← c .before .before .before .before .before .before .before .pre, empty-is (c .before .before .before .before .before .before .before .args .branch .now) (c .if2 .taken))
+
+lsplit-path-first-requires : tie.Need-lsplit-path-first-requires
+lsplit-path-first-requires c κs = search needs
+
+is-named-requires : tie.Need-is-named-requires
+is-named-requires c κs = search needs
+
+returns-3 : tie.Need-returns-3
+returns-3 c = rw (sym (c .before .before .before .before .before .is-complete .ensures) ∙ c .before .before .before .before .if1 .left, ← c .before .before .before .before .before .before .before .before .before .before .pre, filled-is (c .before .before .before .before .before .before .before .before .before .before .args .branch .now) (c .before .before .before .if2 .left), ← c .before .before .lsplit-path-first .ensures, sym (c .before .is-named .ensures) ∙ c .if3 .taken)
+
+returns-4 : tie.Need-returns-4
+returns-4 c = rw (sym (c .before .before .before .before .before .is-complete .ensures) ∙ c .before .before .before .before .if1 .left, ← c .before .before .before .before .before .before .before .before .before .before .pre, filled-is (c .before .before .before .before .before .before .before .before .before .before .args .branch .now) (c .before .before .before .if2 .left), ← c .before .before .lsplit-path-first .ensures, sym (c .before .is-named .ensures) ∙ c .if3 .left)
+
+pub lying-of-spec : {M : Type 1} → statement M
+lying-of-spec =
+    tie.close
+    (tie.spec
+    is-complete-requires
+    returns
+    returns-2
+    lsplit-path-first-requires
+    is-named-requires
+    returns-3
+    returns-4)

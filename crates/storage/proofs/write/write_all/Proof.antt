@@ -1,0 +1,59 @@
+-- `storage::write::write_all` meets its contract.
+use mathlib.Core.Path.{ap, _∙_}
+use lib.IntN.{ℤ}
+use mir.Facts.{toZ-ofZ}
+use Rattle.storage.specs.Write.{timesAdded}
+use borrow.Author.Needs.{needs}
+use Rattle.storage.proofs.write.write_all.Statement.{statement}
+use Rattle.storage.proofs.write.write_all.Tie as tie
+
+write-rows-requires : tie.Need-write-rows-requires
+write-rows-requires c κs = search needs
+
+write-root-requires : tie.Need-write-root-requires
+write-root-requires c κs = search needs
+
+write-time-requires : tie.Need-write-time-requires
+write-time-requires c κs = search needs
+
+write-dirs-requires : tie.Need-write-dirs-requires
+write-dirs-requires c κs = search needs
+
+write-text-requires : tie.Need-write-text-requires
+write-text-requires c κs = search needs
+
+same-length : tie.Need-same-length
+same-length c = search needs
+
+same-length-2 : tie.Need-same-length-2
+same-length-2 c = search needs
+
+same-length-3 : tie.Need-same-length-3
+same-length-3 c = search needs
+
+same-length-4 : tie.Need-same-length-4
+same-length-4 c = search needs
+
+same-length-5 : tie.Need-same-length-5
+same-length-5 c = search needs
+
+returns : tie.Need-returns
+returns c =
+    let a = c .before .before .before .before .before .before .before .before .before .before .before .before .before .before .before .before .before .before .before .before .before .before .before .before .before .before .before .before .args in
+    (c .before .before .before .before .before .before .before .before .before .before .before .before .before .before .before .before .before .write-rows .ensures, (c .before .before .before .before .before .before .before .before .before .before .before .before .before .write-root .ensures, (c .before .before .before .before .before .before .before .before .before .write-time .ensures ∙ ap (λ (t : ℤ). timesAdded (a .times .now) (a .fs .«num_mtimes») (a .fs .«num_files») t) (toZ-ofZ (c .before .before .before .before .before .before .before .before .before .before .before .before .before .before .before .before .before .before .before .before .before .before .before .before .before .before .before .before .fits .time)), (c .before .before .before .before .before .before .write-dirs .ensures, c .before .before .write-text .ensures))))
+
+pub write-all-spec : {M : Type 1} → statement M
+write-all-spec =
+    tie.close
+    (tie.spec
+    write-rows-requires
+    write-root-requires
+    write-time-requires
+    write-dirs-requires
+    write-text-requires
+    same-length
+    same-length-2
+    same-length-3
+    same-length-4
+    same-length-5
+    returns)

@@ -1,0 +1,263 @@
+-- Document 01, 'The set': what an addition is, what it decides, and what the set is after it. All on the model: nothing
+-- here speaks of tables.
+use Prim.Native.Nat.{ℕ, _+_, _-_, _*_, _/_, _%_, min}
+use mathlib.Core.Bool.{Bool, true, false, cond, not}
+use mathlib.Core.List.{List, [], _∷_, _++_, map}
+use lib.Dec.{eqb, ltb, leb}
+use lib.IntN.{ℤ, pos, negsuc}
+use lib.ListN.{length, set, replicate}
+use Rattle.lists.specs.Lists.{equal, any, sum}
+use Rattle.lists.specs.Decimal.{decimal}
+use Rattle.path.specs.Split.{isSeparator, rsplitBranch, rsplitLeaf, isComplete, lsplitFirst, lsplitRest, hasParent}
+use Rattle.path.specs.Join.{isEmpty}
+use Rattle.tables.specs.Model.{Optional, absent, present, Directory, single, absolute, stored, presentIf, File, Model}
+use Rattle.types.specs.Refusals.{Outcome}
+use Rattle.storage.specs.Rules.{Rule, when, firstOf, outcomeOf, both, either}
+
+-- what an addition is given
+pub record Addition : Type 0 where
+  pub given : Optional (List ℕ)
+  pub path : List ℕ
+  pub size : ℤ
+  pub flags : ℕ
+  pub time : ℤ
+  pub link : List ℕ
+  pub root : Optional (List ℕ)
+
+-- 281474976710655
+abbrev pub limit : ℕ
+limit = 281474976710655
+
+abbrev pub isNegative : ℤ → Bool
+isNegative (pos n) = false
+isNegative (negsuc n) = true
+
+abbrev pub isZero : ℤ → Bool
+isZero (pos n) = eqb n 0
+isZero (negsuc n) = false
+
+abbrev pub sizeOf : ℤ → ℕ
+sizeOf (pos n) = n
+sizeOf (negsuc n) = 0
+
+abbrev pub isPresent : {A : Type 0} → Optional A → Bool
+isPresent absent = false
+isPresent (present a) = true
+
+-- 'A path with no parent names the set; else the first element of the first path does'
+abbrev pub setNameOf : List ℕ → List ℕ
+setNameOf path = cond (hasParent path) (lsplitFirst path) path
+
+-- the set's name after an addition to so many files
+abbrev pub nameAfter : ℕ → List ℕ → List ℕ → List ℕ
+nameAfter files name path = cond (eqb files 0) (setNameOf path) name
+
+-- without the separators at its start
+abbrev pub unled : List ℕ → List ℕ
+unled [] = []
+unled (c ∷ t) = cond (isSeparator c) (unled t) (c ∷ t)
+
+-- 'A directory whose first element is the set's name is stored without it'
+abbrev pub under : List ℕ → List ℕ → Directory
+under name branch =
+    cond (equal (lsplitFirst branch) name) (stored (unled (lsplitRest branch)) false) (stored branch true)
+
+abbrev pub directoryFor : List ℕ → List ℕ → Directory
+directoryFor name path =
+    cond (isComplete path) absolute (cond (isEmpty (rsplitBranch path)) single (under name (rsplitBranch path)))
+
+-- 'A given name of no bytes counts as none'; an absolute path is its own name
+abbrev pub pathName : List ℕ → List ℕ
+pathName path = cond (isComplete path) path (rsplitLeaf path)
+
+abbrev pub storedName : Optional (List ℕ) → List ℕ → List ℕ
+storedName absent path = pathName path
+storedName (present given) path = cond (isEmpty given) (pathName path) given
+
+-- refusal 5 looks at the given name, 'or with none the path's `filename`'; an empty given name is not none here
+abbrev pub limitedName : Optional (List ℕ) → List ℕ → List ℕ
+limitedName absent path = rsplitLeaf path
+limitedName (present given) path = given
+
+-- refusal 6: 'given name starts with a separator, or is nonempty with an absolute path'
+abbrev pub badName : Optional (List ℕ) → List ℕ → Bool
+badName absent path = false
+badName (present given) path = either (isComplete given) (both (not (isEmpty given)) (isComplete path))
+
+-- 'A file of size above 0 without link text': such a file fixes v1 or v2, or must agree
+abbrev pub decides : ℕ → List ℕ → Bool
+decides size link = both (ltb 0 size) (isEmpty link)
+
+-- 'while the total is 0 or there are as many link texts as files'
+abbrev pub isOpen : ℕ → ℕ → ℕ → Bool
+isOpen total links files = either (eqb total 0) (eqb links files)
+
+abbrev pub v2After : Bool → ℕ → ℕ → ℕ → ℕ → List ℕ → Bool → Bool
+v2After v2 total links files size link root = cond (both (decides size link) (isOpen total links files)) root v2
+
+-- 'later ones must agree'
+abbrev pub disagrees : Bool → ℕ → ℕ → ℕ → ℕ → List ℕ → Bool → Bool
+disagrees v2 total links files size link root =
+    both (decides size link) (both (not (isOpen total links files)) (cond v2 (not root) root))
+
+-- 'when the total is no multiple of the piece length, a pad follows': what is missing to the next multiple
+abbrev pub padTo : ℕ → ℕ → ℕ
+padTo pieceLength total = (pieceLength - total % pieceLength) % pieceLength
+
+abbrev pub padAfter : Bool → ℕ → ℕ → ℕ
+padAfter v2 pieceLength total = cond v2 (padTo pieceLength total) 0
+
+-- 'Link text makes a link until 32766 are held'
+abbrev pub keepsLink : ℕ → List ℕ → Bool
+keepsLink links link = both (not (isEmpty link)) (ltb links 32766)
+
+-- 'the symlink flag is dropped where none is held'
+abbrev pub flagsKept : ℕ → Bool → ℕ
+flagsKept flags keeps = flags % 8 + cond keeps (flags / 8 % 2 * 8) 0
+
+-- `.pad`
+abbrev pub padDirectory : List ℕ
+padDirectory = 46 ∷ 112 ∷ 97 ∷ 100 ∷ []
+
+-- the directories with one more, unless it is there already
+abbrev pub isAmong : List ℕ → List (List ℕ) → Bool
+isAmong d ds = any (equal d) ds
+
+abbrev pub withDirectory : List ℕ → List (List ℕ) → List (List ℕ)
+withDirectory d ds = cond (isAmong d ds) ds (ds ++ (d ∷ []))
+
+abbrev pub withPlace : Directory → List (List ℕ) → List (List ℕ)
+withPlace single ds = ds
+withPlace absolute ds = ds
+withPlace (stored d outside) ds = withDirectory d ds
+
+-- the times after one is given to file i: 0 gives none, and takes what its place holds
+abbrev pub withTime : ℕ → ℤ → List ℤ → List ℤ
+withTime i t times = cond (isZero t) times (set (times ++ replicate (i + 1 - length times) (pos 0)) i t)
+
+-- ---- the set after an addition that is not refused
+
+abbrev pub filesOf : Model → ℕ
+filesOf m = length (m .files)
+
+abbrev pub sizeAdded : Addition → ℕ
+sizeAdded a = sizeOf (a .size)
+
+abbrev pub keeps : Model → Addition → Bool
+keeps m a = keepsLink (m .links) (a .link)
+
+abbrev pub isV2 : Model → Addition → Bool
+isV2 m a = v2After (m .v2) (m .total) (m .links) (filesOf m) (sizeAdded a) (a .link) (isPresent (a .root))
+
+abbrev pub padOf : Model → Addition → ℕ
+padOf m a = padAfter (isV2 m a) (m .pieceLength) (m .total + sizeAdded a)
+
+abbrev pub newName : Model → Addition → List ℕ
+newName m a = nameAfter (filesOf m) (m .name) (a .path)
+
+abbrev pub placeFor : Model → Addition → Directory
+placeFor m a = directoryFor (newName m a) (a .path)
+
+abbrev pub fileAdded : Model → Addition → File
+fileAdded m a =
+    record {
+      offset = m .total;
+      size = sizeAdded a;
+      name = storedName (a .given) (a .path);
+      directory = placeFor m a;
+      flags = flagsKept (a .flags) (keeps m a);
+      link = presentIf (keeps m a) (a .link);
+      root = a .root;
+      made = false;
+    }
+
+-- 'a pad follows: directory `.pad`, name the pad's size in decimal digits'
+abbrev pub padAdded : ℕ → ℕ → List File
+padAdded offset size =
+    cond (eqb size 0) []
+    (record {
+      offset = offset;
+      size = size;
+      name = decimal size;
+      directory = stored padDirectory false;
+      flags = 1;
+      link = absent;
+      root = absent;
+      made = true;
+    } ∷ [])
+
+abbrev pub directoriesAfter : Model → Addition → List (List ℕ)
+directoriesAfter m a =
+    cond (eqb (padOf m a) 0) (withPlace (placeFor m a) (m .directories))
+    (withDirectory padDirectory (withPlace (placeFor m a) (m .directories)))
+
+abbrev pub added : Model → Addition → Model
+added m a =
+    record {
+      pieceLength = m .pieceLength;
+      v2 = isV2 m a;
+      name = newName m a;
+      files = m .files ++ (fileAdded m a ∷ padAdded (m .total + sizeAdded a) (padOf m a));
+      directories = directoriesAfter m a;
+      times = withTime (filesOf m) (a .time) (m .times);
+      links = m .links + cond (keeps m a) 1 0;
+      total = m .total + sizeAdded a + padOf m a;
+      onDisk = m .onDisk + cond (eqb (a .flags % 2) 1) 0 (sizeAdded a);
+      trimmed = m .trimmed;
+    }
+
+-- ---- room
+
+-- 'Text needed is the sum of the set's name and all names, directories and link texts held'
+abbrev pub linkLength : Optional (List ℕ) → ℕ
+linkLength absent = 0
+linkLength (present link) = length link
+
+abbrev pub fileText : File → ℕ
+fileText f = length (f .name) + linkLength (f .link)
+
+abbrev pub textOf : Model → ℕ
+textOf m = length (m .name) + sum (map length (m .directories)) + sum (map fileText (m .files))
+
+-- the places that the lent tables have
+pub record Rooms : Type 0 where
+  pub files : ℕ
+  pub directories : ℕ
+  pub times : ℕ
+  pub text : ℕ
+
+-- refusal 10: 'a table or text area shorter than the result needs, or over 65535 files or directories'
+abbrev pub lacks : Rooms → Model → ℕ → Bool
+lacks rooms m text =
+    either (ltb (min 65535 (rooms .files)) (filesOf m))
+    (either (ltb (min 65535 (rooms .directories)) (length (m .directories)))
+    (either (ltb (rooms .times) (length (m .times))) (ltb (rooms .text) text)))
+
+-- ---- refusals
+
+-- a piece length is from 1 to 2147483647, as an i32 holds it
+abbrev pub badLength : ℕ → Bool
+badLength n = either (ltb n 1) (ltb 2147483647 n)
+
+abbrev pub disagree : Model → Addition → Bool
+disagree m a = disagrees (m .v2) (m .total) (m .links) (filesOf m) (sizeAdded a) (a .link) (isPresent (a .root))
+
+-- the table's rows for adding, in its order; whether room is lacking is decided beside it
+abbrev pub addingRules : Model → Addition → Bool → List Rule
+addingRules m a noRoom =
+    when (badLength (m .pieceLength)) 1 ∷
+    when (isNegative (a .size)) 2 ∷
+    when (ltb limit (sizeAdded a)) 3 ∷
+    when (ltb limit (m .total + sizeAdded a)) 4 ∷
+    when (leb 4096 (length (limitedName (a .given) (a .path)))) 5 ∷
+    when (badName (a .given) (a .path)) 6 ∷
+    when (both (not (hasParent (a .path))) (ltb 0 (filesOf m))) 7 ∷
+    when (both (disagree m a) (m .v2)) 8 ∷
+    when (disagree m a) 9 ∷
+    when (ltb limit (m .total + sizeAdded a + padOf m a)) 4 ∷
+    when noRoom 10 ∷
+    []
+
+-- an addition to a set whose tables have so many places: the set after it, or the refusal
+abbrev pub addedTo : Rooms → Model → Addition → Outcome Model
+addedTo rooms m a = outcomeOf (firstOf (addingRules m a (lacks rooms (added m a) (textOf (added m a))))) (added m a)

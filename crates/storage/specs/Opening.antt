@@ -1,0 +1,27 @@
+-- Document 01: opening, refusal 1 for a piece length below 1; a newly opened set has no files.
+use Prim.Native.Nat.{ℕ}
+use mathlib.Core.Bool.{false, cond}
+use lib.Dec.{eqb}
+use lib.IntN.{ℤ, pos, negsuc}
+use Rattle.types.specs.Refusals.{Outcome, value, refused}
+use Rattle.tables.specs.declared.storage.FileStorage.{FileStorage}
+
+abbrev pub empty : ℕ → FileStorage
+empty n =
+    record {
+      «piece_length» = n;
+      v2 = false;
+      «num_files» = 0;
+      «num_paths» = 0;
+      «num_symlinks» = 0;
+      «num_mtimes» = 0;
+      name = record { at = 0; len = 0 };
+      «text_len» = 0;
+      «total_size» = 0;
+      «size_on_disk» = 0;
+      trimmed = false;
+    }
+
+abbrev pub opened : ℤ → Outcome FileStorage
+opened (pos n) = cond (eqb n 0) (refused 1) (value (empty n))
+opened (negsuc n) = refused 1

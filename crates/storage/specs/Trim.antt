@@ -1,0 +1,55 @@
+-- Document 01, `remove_tail_padding`: 'skips empty files, removes at most one pad, and moves no modified time'.
+use Prim.Native.Nat.{ℕ, _+_, _-_, _/_, _%_}
+use mathlib.Core.Bool.{Bool, true, false, cond}
+use mathlib.Core.List.{List, [], _∷_, _++_, map}
+use lib.Dec.{eqb}
+use lib.ListN.{getD, take, drop}
+use Rattle.tables.specs.Model.{Optional, absent, present, presentIf, File, Model}
+
+-- the place of the last file that is not empty, where that is a pad; files are counted from i, `found` before them
+abbrev pub tailPadFrom : ℕ → Optional ℕ → List File → Optional ℕ
+tailPadFrom i found [] = found
+tailPadFrom i found (f ∷ fs) =
+    tailPadFrom (i + 1) (cond (eqb (f .size) 0) found (presentIf (eqb (f .flags % 2) 1) i)) fs
+
+abbrev pub tailPad : List File → Optional ℕ
+tailPad files = tailPadFrom 0 absent files
+
+abbrev pub sizeAt : ℕ → List File → ℕ
+sizeAt f files = getD (map (λ (g : File). g .size) files) f 0
+
+abbrev pub beginningAt : ℕ → File → File
+beginningAt offset g =
+    record {
+      offset = offset;
+      size = g .size;
+      name = g .name;
+      directory = g .directory;
+      flags = g .flags;
+      link = g .link;
+      root = g .root;
+      made = g .made;
+    }
+
+-- the set without file f; the files behind it, which are empty, begin at the new total
+abbrev pub without : ℕ → Model → Model
+without f m =
+    record {
+      pieceLength = m .pieceLength;
+      v2 = m .v2;
+      name = m .name;
+      files = take f (m .files) ++ map (beginningAt (m .total - sizeAt f (m .files))) (drop (f + 1) (m .files));
+      directories = m .directories;
+      times = m .times;
+      links = m .links;
+      total = m .total - sizeAt f (m .files);
+      onDisk = m .onDisk;
+      trimmed = true;
+    }
+
+abbrev pub trimmedIf : Optional ℕ → Model → Model
+trimmedIf absent m = m
+trimmedIf (present f) m = without f m
+
+abbrev pub trimmedOf : Model → Model
+trimmedOf m = trimmedIf (tailPad (m .files)) m

@@ -1,0 +1,144 @@
+// The search for an addition's directories among those stored, from the back, as in
+// `get_or_add_path`. Relies on the accessors of `tables` and the laws of proofs/Directories.antt.
+ghost use mathlib.Core.Path.{_≡_};
+ghost use Prim.Native.Nat.{_≤_};
+ghost use Rattle.lists.specs.Lists.{equal};
+ghost use Rattle.storage.specs.Rules.{both};
+ghost use Rattle.storage.specs.Addition.{padDirectory};
+ghost use Rattle.storage.specs.Write.{placeOf};
+ghost use Rattle.storage.specs.Parts.{directoryAt};
+ghost use Rattle.storage.specs.Plan.{dirTexts, countWith, dirPlanOf, padDirPlanOf, dirsWith};
+use crate::parts::Lying;
+
+// The path index of a directory, whether it is new, the length of its new text, and how many
+// directories there are with it.
+pub(crate) struct DirPlan {
+    pub index: u64,
+    pub new: bool,
+    pub len: usize,
+    pub count: usize,
+}
+
+// The place of the last of n directories with that text, n where there is none.
+fn find_dir(dirs: &[u64], text: &[u8], n: usize, dir: &[u8]) -> usize
+    ensures { λ r. ⌜ r ≡ placeOf (now (dir .entry)) (dirTexts (now (dirs .entry)) (now (text .entry)) n) ⌝ }
+{
+    let mut i = n;
+    while 0 < i {
+        let s = tables::dir_at(dirs, i - 1);
+        if lists::same(dir, tables::text_at(text, s)) {
+            return i - 1;
+        }
+        i -= 1;
+    }
+    n
+}
+
+// A stored directory, whose text is new where no row has it.
+fn stored_dir(dirs: &[u64], text: &[u8], n: usize, dir: &[u8]) -> DirPlan
+    requires { ⌜ n ≤ 65535 ⌝ }
+    ensures { λ r. ⌜ r ≡ dirPlanOf (directoryAt Lying.Inside (now (dir .entry))) (dirTexts (now (dirs .entry)) (now (text .entry)) n) ⌝ }
+{
+    let k = find_dir(dirs, text, n, dir);
+    if k < n {
+        return DirPlan {
+            index: k as u64,
+            new: false,
+            len: 0,
+            count: n,
+        };
+    }
+    DirPlan {
+        index: n as u64,
+        new: true,
+        len: dir.len(),
+        count: n + 1,
+    }
+}
+
+// A file's directory.
+pub(crate) fn plan_dir(lying: Lying, dirs: &[u64], text: &[u8], n: usize, dir: &[u8]) -> DirPlan
+    requires { ⌜ n ≤ 65535 ⌝ }
+    ensures { λ r. ⌜ r ≡ dirPlanOf (directoryAt lying (now (dir .entry))) (dirTexts (now (dirs .entry)) (now (text .entry)) n) ⌝ }
+{
+    match lying {
+        Lying::Single => DirPlan {
+            index: 1073741823,
+            new: false,
+            len: 0,
+            count: n,
+        },
+        Lying::Absolute => DirPlan {
+            index: 1073741822,
+            new: false,
+            len: 0,
+            count: n,
+        },
+        Lying::Inside => stored_dir(dirs, text, n, dir),
+        Lying::Outside => stored_dir(dirs, text, n, dir),
+    }
+}
+
+// How many directories there are, one of them new or not.
+fn count_with(new: bool, n: usize) -> usize
+    requires { ⌜ n ≤ 65535 ⌝ }
+    ensures { λ r. ⌜ r ≡ countWith new n ⌝ }
+{
+    if new { n + 1 } else { n }
+}
+
+// Whether a file's new directory is the pads' own.
+fn is_pads(new: bool, dir: &[u8]) -> bool
+    ensures { λ r. ⌜ r ≡ both new (equal padDirectory (now (dir .entry))) ⌝ }
+{
+    if new {
+        return lists::same(b".pad", dir);
+    }
+    false
+}
+
+// The directory of the pad of that size behind a file, whose own directory is new or not.
+pub(crate) fn plan_pad_dir(
+    pad: u64,
+    new: bool,
+    dirs: &[u64],
+    text: &[u8],
+    n: usize,
+    dir: &[u8],
+) -> DirPlan
+    requires { ⌜ n ≤ 65535 ⌝ }
+    ensures { λ r. ⌜ r ≡ padDirPlanOf pad (dirsWith new (now (dir .entry)) (dirTexts (now (dirs .entry)) (now (text .entry)) n)) ⌝ }
+{
+    let count = count_with(new, n);
+    if pad == 0 {
+        return DirPlan {
+            index: 0,
+            new: false,
+            len: 0,
+            count,
+        };
+    }
+    if is_pads(new, dir) {
+        return DirPlan {
+            index: n as u64,
+            new: false,
+            len: 0,
+            count,
+        };
+    }
+    let k = find_dir(dirs, text, n, b".pad");
+    if k < n {
+        return DirPlan {
+            index: k as u64,
+            new: false,
+            len: 0,
+            count,
+        };
+    }
+    DirPlan {
+        index: count as u64,
+        new: true,
+        len: 4,
+        count: count + 1,
+    }
+}

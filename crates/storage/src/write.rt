@@ -1,0 +1,203 @@
+// The writers of an addition: each writes one table by the plan, and none can fail. Relies on the
+// writers of `tables` and `lists` and on the laws of proofs/Written.antt.
+ghost use mathlib.Core.Path.{_≡_};
+ghost use mathlib.Core.Bool.{cond};
+ghost use mathlib.Core.List.{[]};
+ghost use Prim.Native.Nat.{_-_, _≤_};
+ghost use lib.IntN.{pos};
+ghost use lib.ListN.{replicate};
+ghost use lib.Seq.{sets};
+ghost use Rattle.storage.specs.Write.{rootsAdded, timesAdded};
+ghost use Rattle.storage.specs.Outcomes.{optionalOf};
+ghost use Rattle.storage.specs.Plan.{padDigits, renamed, textWritten, dirsRenamed, dirWritten, dirsWritten, rowsWritten};
+use crate::checks::is_zero;
+use crate::plan::AddPlan;
+use crate::plan::NewDir;
+use tables::FileStorage;
+use tables::Presence;
+use tables::Sha256Hash;
+use tables::Span;
+
+// Removes the old name of a set without files, which is named again.
+fn free_name(text: &mut [u8], files: usize, used: usize, old: Span)
+    ensures { λ _. ⌜ now (text .exit) ≡ renamed files old used (now (text .entry)) ⌝ }
+{
+    if files == 0 {
+        tables::remove_text(text, used, old);
+    }
+}
+
+// Writes a text that is new.
+fn put_new(text: &mut [u8], new: bool, at: usize, source: &[u8])
+    ensures { λ _. ⌜ now (text .exit) ≡ sets (now (text .entry)) at (cond new (now (source .entry)) []) ⌝ }
+{
+    if new {
+        lists::copy_behind(text, at, source);
+    }
+}
+
+// Writes the file's name: the given one where that is chosen, else the path's own.
+fn put_name(text: &mut [u8], at: usize, chosen: bool, filename: &[u8], own: &[u8])
+    ensures { λ _. ⌜ now (text .exit) ≡ sets (now (text .entry)) at (cond chosen (now (filename .entry)) (now (own .entry))) ⌝ }
+{
+    if chosen {
+        lists::copy_behind(text, at, filename);
+    } else {
+        lists::copy_behind(text, at, own);
+    }
+}
+
+// Writes a pad's name, its size in digits, where there is a pad.
+fn put_pad(text: &mut [u8], at: usize, pad: u64)
+    ensures { λ _. ⌜ now (text .exit) ≡ sets (now (text .entry)) at (padDigits pad) ⌝ }
+{
+    if 0 < pad {
+        lists::put_decimal(text, at, pad);
+    }
+}
+
+// Writes the new texts: the set's name, the directory, the name, the link, the pad's directory and name.
+fn write_text(
+    text: &mut [u8],
+    files: usize,
+    used: usize,
+    plan: AddPlan,
+    called: &[u8],
+    dir: &[u8],
+    chosen: bool,
+    filename: &[u8],
+    own: &[u8],
+    link: &[u8],
+)
+    ensures { λ _. ⌜ now (text .exit) ≡ textWritten files used plan (now (text .entry)) (now (called .entry)) (now (dir .entry)) (cond chosen (now (filename .entry)) (now (own .entry))) (now (link .entry)) ⌝ }
+{
+    let old = plan.old;
+    free_name(text, files, used, old);
+    lists::copy_behind(text, plan.start, called);
+    put_new(text, plan.dir.new, plan.dir.text.at, dir);
+    put_name(text, plan.row.name.at, chosen, filename, own);
+    lists::copy_behind(text, plan.row.link.at, link);
+    put_new(text, plan.pad_dir.new, plan.pad_dir.text.at, b".pad");
+    put_pad(text, plan.pad_row.name.at, plan.pad_row.size);
+}
+
+// Lowers the directory rows where the old name of a set without files is removed.
+fn free_dirs(dirs: &mut [u64], files: usize, n: usize, old: Span)
+    ensures { λ _. ⌜ now (dirs .exit) ≡ dirsRenamed files old n (now (dirs .entry)) ⌝ }
+{
+    if files == 0 {
+        tables::lower_dirs(dirs, n, old);
+    }
+}
+
+// Writes a directory row that is new.
+fn put_new_dir(dirs: &mut [u64], dir: NewDir)
+    ensures { λ _. ⌜ now (dirs .exit) ≡ dirWritten dir (now (dirs .entry)) ⌝ }
+{
+    if dir.new {
+        let text = dir.text;
+        tables::put_dir(dirs, dir.place, text);
+    }
+}
+
+// Writes the directory rows: the file's, then the pad's.
+fn write_dirs(dirs: &mut [u64], files: usize, n: usize, plan: AddPlan)
+    ensures { λ _. ⌜ now (dirs .exit) ≡ dirsWritten files n plan (now (dirs .entry)) ⌝ }
+{
+    let old = plan.old;
+    free_dirs(dirs, files, n, old);
+    let dir = plan.dir;
+    put_new_dir(dirs, dir);
+    let pad_dir = plan.pad_dir;
+    put_new_dir(dirs, pad_dir);
+}
+
+// Writes the file's row, and the pad's where there is one.
+fn write_rows(rows: &mut [u64], files: usize, plan: AddPlan)
+    requires { ⌜ files ≤ 65535 ⌝ }
+    ensures { λ _. ⌜ now (rows .exit) ≡ rowsWritten files plan (now (rows .entry)) ⌝ }
+{
+    let row = plan.row;
+    tables::put_row(rows, files, row);
+    if 0 < plan.pad_row.size {
+        let pad_row = plan.pad_row;
+        tables::put_row(rows, files + 1, pad_row);
+    }
+}
+
+// Writes the root of file i, where it has one.
+fn write_root(roots: &mut [u8], i: usize, rooted: Presence, root: Sha256Hash)
+    ensures { λ _. ⌜ now (roots .exit) ≡ rootsAdded (now (roots .entry)) i (optionalOf rooted root) ⌝ }
+{
+    match rooted {
+        Presence::Present => tables::put_root(roots, i, root),
+        Presence::Absent => {}
+    }
+}
+
+// Writes 0 to the places from `from` up to, and without, `to`.
+fn clear_times(times: &mut [i64], from: usize, to: usize)
+    ensures { λ _. ⌜ now (times .exit) ≡ sets (now (times .entry)) from (replicate (to - from) (pos 0)) ⌝ }
+{
+    let mut i = from;
+    while i < to {
+        tables::put_time(times, i, 0);
+        i += 1;
+    }
+}
+
+// Writes the time of file i, and 0 to the places before it that were not held; a time of 0 writes nothing.
+fn write_time(times: &mut [i64], held: usize, i: usize, time: i64)
+    requires { ⌜ i ≤ 65535 ⌝ }
+    ensures { λ _. ⌜ now (times .exit) ≡ timesAdded (now (times .entry)) held i time ⌝ }
+{
+    if is_zero(time) {
+        return;
+    }
+    clear_times(times, held, i + 1);
+    tables::put_time(times, i, time);
+}
+
+// Writes an addition by its plan: rows, root, time, directory rows and texts.
+pub(crate) fn write_all(
+    fs: FileStorage,
+    rows: &mut [u64],
+    roots: &mut [u8],
+    times: &mut [i64],
+    dirs: &mut [u64],
+    text: &mut [u8],
+    plan: AddPlan,
+    time: i64,
+    rooted: Presence,
+    root: Sha256Hash,
+    called: &[u8],
+    dir: &[u8],
+    chosen: bool,
+    filename: &[u8],
+    own: &[u8],
+    link: &[u8],
+)
+    requires { ⌜ fs .«num_files» ≤ 65535 ⌝ }
+    ensures { λ _. ⌜ now (rows .exit) ≡ rowsWritten (fs .«num_files») plan (now (rows .entry)) ⌝ }
+    ensures { λ _. ⌜ now (roots .exit) ≡ rootsAdded (now (roots .entry)) (fs .«num_files») (optionalOf rooted root) ⌝ }
+    ensures { λ _. ⌜ now (times .exit) ≡ timesAdded (now (times .entry)) (fs .«num_mtimes») (fs .«num_files») time ⌝ }
+    ensures { λ _. ⌜ now (dirs .exit) ≡ dirsWritten (fs .«num_files») (fs .«num_paths») plan (now (dirs .entry)) ⌝ }
+    ensures { λ _. ⌜ now (text .exit) ≡ textWritten (fs .«num_files») (fs .«text_len») plan (now (text .entry)) (now (called .entry)) (now (dir .entry)) (cond chosen (now (filename .entry)) (now (own .entry))) (now (link .entry)) ⌝ }
+{
+    write_rows(rows, fs.num_files, plan);
+    write_root(roots, fs.num_files, rooted, root);
+    write_time(times, fs.num_mtimes, fs.num_files, time);
+    write_dirs(dirs, fs.num_files, fs.num_paths, plan);
+    write_text(
+        text,
+        fs.num_files,
+        fs.text_len,
+        plan,
+        called,
+        dir,
+        chosen,
+        filename,
+        own,
+        link,
+    );
+}
