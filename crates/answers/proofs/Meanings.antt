@@ -1,0 +1,130 @@
+-- What the answers mean: the set that the tables mean (specs/Model.antt of `tables`) has as many files and directories as the
+-- answers say, and its file k has the size, offset, name, flags, time, link text, root and paths that they say. These laws
+-- rely on those of `tables` about places.
+use Prim.Native.Nat.{ℕ, _%_, _/_, _<_}
+use mathlib.Core.Path.{_≡_, refl, ap}
+use mathlib.Core.Bool.{Bool, true, false, cond, not}
+use mathlib.Core.List.{List, []}
+use native.Mathlib.Omega.{arith}
+use lib.Dec.{eqb}
+use lib.IntN.{ℤ, pos}
+use lib.ListN.{length, getD, replicate}
+use borrow.Author.Tests.{lt-ltb, eqb-true}
+use Rattle.types.specs.Refusals.{value}
+use Rattle.path.specs.Join.{appended}
+use Rattle.tables.specs.declared.storage.FileStorage.{FileStorage}
+use Rattle.tables.specs.Span.{textAt}
+use Rattle.tables.specs.Rows.{rowAt, dirAt, rootAt, has}
+use Rattle.tables.specs.Model.{Optional, absent, present, presentIf, Directory, single, absolute, stored, File, Store, directoryText, fileOf, viewOf}
+use Rattle.tables.proofs.Tabled.{length-tabled, getD-tabled}
+use Rattle.storage.specs.Rules.{both}
+use Rattle.storage.specs.Addition.{badLength}
+use Rattle.answers.specs.Answers.{indexOf, askedFile, timeOf, rootOf, isAbsolute, internalPath, symlinkPath}
+
+-- something that may be missing, or what stands for it
+abbrev pub orElse : {A : Type 0} → Optional A → A → A
+orElse absent d = d
+orElse (present x) d = x
+
+abbrev pub isAbsoluteIn : Directory → Bool
+isAbsoluteIn single = false
+isAbsoluteIn absolute = true
+isAbsoluteIn (stored d b) = false
+
+-- the path of a name within the set
+abbrev pub pathIn : Directory → List ℕ → List ℕ
+pathIn single name = name
+pathIn absolute name = name
+pathIn (stored d b) name = appended d name
+
+-- the path that a link leads to, with the set's name
+abbrev pub linkIn : List ℕ → Optional (List ℕ) → List ℕ
+linkIn name absent = []
+linkIn name (present t) = appended name t
+
+-- an open set answers about each of its files where the tables hold them
+pub asked-value : {A : Type 0} (fs : FileStorage) (k : ℕ) (held : Bool) (a : ℕ → A) → badLength (fs .«piece_length») ≡ false
+    → k < fs .«num_files» → held ≡ true → askedFile fs (pos k) held a ≡ value (a k)
+asked-value fs k held a e h q = rw (e, lt-ltb k (fs .«num_files») h, q)
+
+-- two answers that agree at the file
+pub asked-same : {A : Type 0} (fs : FileStorage) (z : ℤ) (held : Bool) (a b : ℕ → A) → ((k : ℕ) → a k ≡ b k) → askedFile fs z held a ≡ askedFile fs z held b
+asked-same {A} fs z held a b e = ap (λ (x : A). askedFile fs z held (λ _. x)) (e (indexOf z))
+
+-- by whether a bit of the flags is set, and by what the path index says
+root-if : (b : Bool) (x d : List ℕ) → cond b x d ≡ orElse (presentIf b x) d
+root-if true x d = refl
+root-if false x d = refl
+
+link-if : (b : Bool) (name t : List ℕ) → cond b (appended name t) [] ≡ linkIn name (presentIf b t)
+link-if true name t = refl
+link-if false name t = refl
+
+path-if : (a b o : Bool) (d name : List ℕ)
+    → cond (both (not a) (not b)) (appended d name) name ≡ pathIn (cond a single (cond b absolute (stored d o))) name
+path-if true b o d name = refl
+path-if false true o d name = refl
+path-if false false o d name = refl
+
+absolute-if : (a b o : Bool) (d : List ℕ) → (a ≡ true → b ≡ false) → b ≡ isAbsoluteIn (cond a single (cond b absolute (stored d o)))
+absolute-if true b o d h = h refl
+absolute-if false true o d h = refl
+absolute-if false false o d h = refl
+
+-- the set, and its file k
+module _ (s : Store) where
+  pub count-is : length (viewOf s .files) ≡ s .fs .«num_files»
+  count-is = length-tabled (s .fs .«num_files») (fileOf s)
+
+  pub directories-is : length (viewOf s .directories) ≡ s .fs .«num_paths»
+  directories-is = length-tabled (s .fs .«num_paths») (directoryText s)
+
+  pub directory-is : (i : ℕ) (d : List ℕ) → i < s .fs .«num_paths» → getD (viewOf s .directories) i d ≡ textAt (s .text) (dirAt (s .dirs) i)
+  directory-is i d h = getD-tabled (s .fs .«num_paths») (directoryText s) i d h
+
+  pub set-name-is : textAt (s .text) (s .fs .name) ≡ viewOf s .name
+  set-name-is = refl
+
+  pub file-is : (k : ℕ) (d : File) → k < s .fs .«num_files» → getD (viewOf s .files) k d ≡ fileOf s k
+  file-is k d h = getD-tabled (s .fs .«num_files») (fileOf s) k d h
+
+  module _ (k : ℕ) where
+    pub size-is : rowAt (s .rows) k .size ≡ fileOf s k .size
+    size-is = refl
+
+    pub offset-is : rowAt (s .rows) k .offset ≡ fileOf s k .offset
+    offset-is = refl
+
+    pub name-is : textAt (s .text) (rowAt (s .rows) k .name) ≡ fileOf s k .name
+    name-is = refl
+
+    pub flags-is : rowAt (s .rows) k .flags % 16 ≡ fileOf s k .flags
+    flags-is = refl
+
+    pub pad-is : has (rowAt (s .rows) k .flags) 1 ≡ has (fileOf s k .flags) 1
+    pad-is =
+        let f = rowAt (s .rows) k .flags in
+        let e : f / 1 % 2 ≡ (f % 16) / 1 % 2 = omega arith in
+        ap (λ (n : ℕ). eqb n 1) e
+
+    pub time-is : timeOf (s .fs) (s .times) k ≡ getD (viewOf s .times) k (pos 0)
+    time-is = refl
+
+    pub root-is : rootOf (s .rows) (s .roots) k ≡ orElse (fileOf s k .root) (replicate 32 0)
+    root-is = root-if (has (rowAt (s .rows) k .flags) 128) (rootAt (s .roots) k) (replicate 32 0)
+
+    pub link-held : fileOf s k .link ≡ presentIf (has (rowAt (s .rows) k .flags) 16) (textAt (s .text) (rowAt (s .rows) k .link))
+    link-held = refl
+
+    pub symlink-is : symlinkPath (s .fs) (s .text) (rowAt (s .rows) k) ≡ linkIn (viewOf s .name) (fileOf s k .link)
+    symlink-is = link-if (has (rowAt (s .rows) k .flags) 16) (viewOf s .name) (textAt (s .text) (rowAt (s .rows) k .link))
+
+    pub absolute-is : isAbsolute (rowAt (s .rows) k) ≡ isAbsoluteIn (fileOf s k .directory)
+    absolute-is =
+        let r = rowAt (s .rows) k in
+        absolute-if (eqb (r .«path_index») 1073741823) (isAbsolute r) (has (r .flags) 32) (directoryText s (r .«path_index»)) (λ e. rw (eqb-true (r .«path_index») 1073741823 e))
+
+    pub path-is : internalPath (s .dirs) (s .text) (rowAt (s .rows) k) ≡ pathIn (fileOf s k .directory) (fileOf s k .name)
+    path-is =
+        let r = rowAt (s .rows) k in
+        path-if (eqb (r .«path_index») 1073741823) (isAbsolute r) (has (r .flags) 32) (directoryText s (r .«path_index»)) (fileOf s k .name)

@@ -1,0 +1,61 @@
+-- `answers::file::file_offset` meets its contract.
+use mathlib.Core.Path.{_∙_}
+use lib.IntN.{pos}
+use mir.Syntax.{w64}
+use mir.Val.{SFits}
+use mir.Facts.{toZ-ofZ}
+use borrow.Author.Needs.{needs}
+use Rattle.tables.specs.Rows.{rowAt}
+use Rattle.answers.specs.Answers.{rowsHeld}
+use Rattle.answers.proofs.Deciding.{file-value, file-refused}
+use Rattle.answers.proofs.Numbers.{below-48}
+use Rattle.answers.proofs.file.file_offset.Statement.{statement}
+use Rattle.answers.proofs.file.file_offset.Tie as tie
+
+is-held-requires : tie.Need-is-held-requires
+is-held-requires c κs = search needs
+
+file-in-requires : tie.Need-file-in-requires
+file-in-requires c κs = search needs
+
+enum-known-k : tie.Need-enum-known-k
+enum-known-k c = search needs
+
+row-at-requires : tie.Need-row-at-requires
+row-at-requires c κs = search needs
+
+signed64-requires : tie.Need-signed64-requires
+signed64-requires c κs = search needs
+
+enum-known-e : tie.Need-enum-known-e
+enum-known-e c = search needs
+
+returns : tie.Need-returns
+returns c =
+    let a = c .before .before .before .before .before .before .before .before .args in
+    let h = c .before .before .before .before .before .before .is-held in
+    let d = c .before .before .before .before .before .file-in in
+    let k = c .before .before .before .k .given in
+    let fits : SFits w64 (c .signed64 .result) = search needs in
+    file-value (a .fs) (a .index .0) (λ k. pos (rowAt (a .rows .now) k .offset)) (h .result) (rowsHeld (a .fs) (a .rows .now)) (d .result) (d .ensures) (h .ensures) (k .0 .0) (k .1)
+    _ (toZ-ofZ fits ∙ c .signed64 .ensures ∙ rw (c .before .row-at .ensures) (below-48 _))
+
+returns-2 : tie.Need-returns-2
+returns-2 c =
+    let a = c .before .before .before .before .before .before .args in
+    let h = c .before .before .before .before .is-held in
+    let d = c .before .before .before .file-in in
+    file-refused (a .fs) (a .index .0) (λ k. pos (rowAt (a .rows .now) k .offset)) (h .result) (rowsHeld (a .fs) (a .rows .now)) (d .result) (d .ensures) (h .ensures) _ (c .before .e .given .1)
+
+pub file-offset-spec : {M : Type 1} → statement M
+file-offset-spec =
+    tie.close
+    (tie.spec
+    is-held-requires
+    file-in-requires
+    enum-known-k
+    row-at-requires
+    signed64-requires
+    enum-known-e
+    returns
+    returns-2)

@@ -1,0 +1,130 @@
+// Answers about one file that are numbers, truth values or a root. They rely on decide.rt and on the total
+// accessors of `tables`.
+ghost use mathlib.Core.Path.{_≡_};
+ghost use Prim.Native.Nat.{_%_};
+ghost use lib.IntN.{pos};
+ghost use Rattle.storage.specs.Rules.{both};
+ghost use Rattle.tables.specs.Rows.{rowAt, has};
+ghost use Rattle.answers.specs.Results.{i64Says, boolSays, u8Says, rootSays, rootGiven};
+ghost use Rattle.answers.specs.Answers.{askedFile, rowsHeld, rootsHeld, timesHeld, timeOf, rootOf, isAbsolute};
+use crate::decide::are_both;
+use crate::decide::file_in;
+use crate::decide::is_held;
+use crate::result::BoolResult;
+use crate::result::I64Result;
+use crate::result::RootResult;
+use crate::result::U8Result;
+use crate::result::UnitResult;
+use tables::FileStorage;
+use tables::Sha256Hash;
+use types::FileIndex;
+use types::UsizeResult;
+
+// The path index of a single name, which has no directory.
+pub(crate) const NO_PATH: u64 = 1073741823;
+
+// The path index of a file that was added by an absolute path.
+pub(crate) const PATH_IS_ABSOLUTE: u64 = 1073741822;
+
+// The time of file k: 0 behind those held.
+fn time_of(fs: FileStorage, times: &[i64], k: usize) -> i64
+    ensures { λ r. ⌜ r ≡ timeOf fs (now (times .entry)) k ⌝ }
+{
+    if k < fs.num_mtimes {
+        return tables::time_at(times, k);
+    }
+    0
+}
+
+// The root of file k, zeros where it has none.
+fn root_of(rows: &[u64], roots: &[u8], k: usize) -> Sha256Hash
+    ensures { λ r. ⌜ r ≡ rootOf (now (rows .entry)) (now (roots .entry)) k ⌝ }
+{
+    if tables::has_root(tables::flags_at(rows, k)) {
+        return tables::root_at(roots, k);
+    }
+    [0u8; 32]
+}
+
+// The size of a file.
+pub fn file_size(fs: FileStorage, rows: &[u64], index: FileIndex) -> I64Result
+    ensures { λ r. ⌜ i64Says r ≡ askedFile fs (index .0) (rowsHeld fs (now (rows .entry))) (λ k. pos (rowAt (now (rows .entry)) k .size)) ⌝ }
+{
+    match file_in(fs, index, is_held(fs.num_files, rows.len() / 8)) {
+        UsizeResult::Ok(k) => I64Result::Ok(types::signed64(tables::row_at(rows, k).size)),
+        UsizeResult::Err(e) => I64Result::Err(e),
+    }
+}
+
+// The offset of a file.
+pub fn file_offset(fs: FileStorage, rows: &[u64], index: FileIndex) -> I64Result
+    ensures { λ r. ⌜ i64Says r ≡ askedFile fs (index .0) (rowsHeld fs (now (rows .entry))) (λ k. pos (rowAt (now (rows .entry)) k .offset)) ⌝ }
+{
+    match file_in(fs, index, is_held(fs.num_files, rows.len() / 8)) {
+        UsizeResult::Ok(k) => I64Result::Ok(types::signed64(tables::row_at(rows, k).offset)),
+        UsizeResult::Err(e) => I64Result::Err(e),
+    }
+}
+
+// Whether a file is a pad.
+pub fn pad_file_at(fs: FileStorage, rows: &[u64], index: FileIndex) -> BoolResult
+    ensures { λ r. ⌜ boolSays r ≡ askedFile fs (index .0) (rowsHeld fs (now (rows .entry))) (λ k. has (rowAt (now (rows .entry)) k .flags) 1) ⌝ }
+{
+    match file_in(fs, index, is_held(fs.num_files, rows.len() / 8)) {
+        UsizeResult::Ok(k) => BoolResult::Ok(tables::is_pad(tables::flags_at(rows, k))),
+        UsizeResult::Err(e) => BoolResult::Err(e),
+    }
+}
+
+// The flags of a file: pad 1, hidden 2, executable 4, symlink 8.
+pub fn file_flags(fs: FileStorage, rows: &[u64], index: FileIndex) -> U8Result
+    ensures { λ r. ⌜ u8Says r ≡ askedFile fs (index .0) (rowsHeld fs (now (rows .entry))) (λ k. rowAt (now (rows .entry)) k .flags % 16) ⌝ }
+{
+    match file_in(fs, index, is_held(fs.num_files, rows.len() / 8)) {
+        UsizeResult::Ok(k) => U8Result::Ok((tables::flags_at(rows, k) % 16) as u8),
+        UsizeResult::Err(e) => U8Result::Err(e),
+    }
+}
+
+// Whether a file was added by an absolute path.
+pub fn file_absolute_path(fs: FileStorage, rows: &[u64], index: FileIndex) -> BoolResult
+    ensures { λ r. ⌜ boolSays r ≡ askedFile fs (index .0) (rowsHeld fs (now (rows .entry))) (λ k. isAbsolute (rowAt (now (rows .entry)) k)) ⌝ }
+{
+    match file_in(fs, index, is_held(fs.num_files, rows.len() / 8)) {
+        UsizeResult::Ok(k) => BoolResult::Ok(
+            tables::row_at(rows, k).path_index == PATH_IS_ABSOLUTE,
+        ),
+        UsizeResult::Err(e) => BoolResult::Err(e),
+    }
+}
+
+// The modified time of a file, 0 where none is held.
+pub fn mtime(fs: FileStorage, times: &[i64], index: FileIndex) -> I64Result
+    ensures { λ r. ⌜ i64Says r ≡ askedFile fs (index .0) (timesHeld fs (now (times .entry))) (timeOf fs (now (times .entry))) ⌝ }
+{
+    match file_in(fs, index, is_held(fs.num_mtimes, times.len())) {
+        UsizeResult::Ok(k) => I64Result::Ok(time_of(fs, times, k)),
+        UsizeResult::Err(e) => I64Result::Err(e),
+    }
+}
+
+// The root of a file, zeros where it has none.
+pub fn root(fs: FileStorage, rows: &[u64], roots: &[u8], index: FileIndex) -> RootResult
+    ensures { λ r. ⌜ rootSays r ≡ askedFile fs (index .0) (both (rowsHeld fs (now (rows .entry))) (rootsHeld fs (now (roots .entry)))) (rootOf (now (rows .entry)) (now (roots .entry))) ⌝ }
+    ensures { λ r. ⌜ r .root ≡ rootGiven (rootSays r) ⌝ }
+{
+    let held = are_both(
+        is_held(fs.num_files, rows.len() / 8),
+        is_held(fs.num_files, roots.len() / 32),
+    );
+    match file_in(fs, index, held) {
+        UsizeResult::Ok(k) => RootResult {
+            answer: UnitResult::Ok,
+            root: root_of(rows, roots, k),
+        },
+        UsizeResult::Err(e) => RootResult {
+            answer: UnitResult::Err(e),
+            root: [0u8; 32],
+        },
+    }
+}

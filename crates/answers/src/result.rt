@@ -1,0 +1,46 @@
+// Answers that are a value or a refusal, one enum for each type of value. It relies on `types`.
+use tables::Sha256Hash;
+use tables::Span;
+use types::Refusal;
+
+// A number of 32 bits, or why there is none.
+pub enum I32Result {
+    Ok(i32),
+    Err(Refusal),
+}
+
+// A number of 64 bits, or why there is none.
+pub enum I64Result {
+    Ok(i64),
+    Err(Refusal),
+}
+
+// A truth value, or why there is none.
+pub enum BoolResult {
+    Ok(bool),
+    Err(Refusal),
+}
+
+// A byte, or why there is none.
+pub enum U8Result {
+    Ok(u8),
+    Err(Refusal),
+}
+
+// The place of a text in the text area, or why there is none.
+pub enum SpanResult {
+    Ok(Span),
+    Err(Refusal),
+}
+
+// Done, or why not.
+pub enum UnitResult {
+    Ok,
+    Err(Refusal),
+}
+
+// A root beside whether it was given; zeros where it was refused.
+pub struct RootResult {
+    pub answer: UnitResult,
+    pub root: Sha256Hash,
+}
