@@ -1,0 +1,96 @@
+-- What an addition answers: on tables in order the number that the tables give is the number that the model gives, and 0
+-- gives every bound that the writing needs. Relies on TextsAdded.antt.
+use mathlib.Core.Path.{_≡_, refl, sym, ap, _∙_}
+use mathlib.Core.Bool.{Bool, true, false, cond, not}
+use Prim.Native.Nat.{ℕ, _+_, _*_, _/_, _≤_, min}
+use native.Mathlib.Omega.{arith}
+use lib.Dec.{leb, ltb}
+use lib.ListN.{length}
+use borrow.Author.Tests.{le-leb, ltb-false}
+use Rattle.tables.specs.Model.{Model, Store, viewOf}
+use Rattle.storage.specs.Rules.{firstOf, outcomeOf, both, either}
+use Rattle.path.specs.Split.{hasParent}
+use Rattle.storage.specs.Addition.{Addition, added, addedTo, addingRules, badLength, badName, disagree, filesOf, isNegative, lacks, limit, limitedName, padOf, sizeAdded, textOf}
+use Rattle.storage.specs.Write.{textAfter}
+use Rattle.storage.specs.Outcomes.{roomsOf, holds, addingNumber}
+use Rattle.model.specs.Sound.{Sound}
+use Rattle.model.proofs.TextsAdded.{text-after}
+
+module _ (s : Store) (ok : Sound s) where
+  -- the tables hold what the set's record counts
+  pub sound-holds : holds s ≡ true
+  sound-holds =
+      rw (
+        le-leb (s .fs .«num_files») (min 65535 (roomsOf s .files)) (omega (arith, ok .rows-hold, ok .roots-hold, ok .few-files)),
+        le-leb (s .fs .«num_paths») (min 65535 (roomsOf s .directories)) (omega (arith, ok .dirs-hold, ok .few-paths)),
+        le-leb (s .fs .«num_mtimes») (roomsOf s .times) (ok .times-hold),
+        le-leb (s .fs .«text_len») (roomsOf s .text) (ok .text-holds),
+      )
+      (le-leb (s .fs .«size_on_disk») (s .fs .«total_size») (omega (arith, ok .on-disk)))
+
+  pub adding-number : (a : Addition) → addingNumber s (viewOf s) a ≡ firstOf (addingRules (viewOf s) a (lacks (roomsOf s) (added (viewOf s) a) (textOf (added (viewOf s) a))))
+  adding-number a =
+      ap (λ (h : Bool). firstOf (addingRules (viewOf s) a (either (not h) (lacks (roomsOf s) (added (viewOf s) a) (textAfter (s .fs) (viewOf s) a))))) sound-holds
+      ∙ ap (λ (t : ℕ). firstOf (addingRules (viewOf s) a (lacks (roomsOf s) (added (viewOf s) a) t))) (text-after s a ok)
+
+  pub adding : (a : Addition) → addedTo (roomsOf s) (viewOf s) a ≡ outcomeOf (addingNumber s (viewOf s) a) (added (viewOf s) a)
+  adding a = ap (λ (k : ℕ). outcomeOf k (added (viewOf s) a)) (sym (adding-number a))
+
+-- ---- what holds where nothing is refused
+
+pass-one : (t : Bool) (n k : ℕ) → cond t (n + 1) k ≡ 0 → (t ≡ false) × (k ≡ 0)
+pass-one true n k e = absurd (omega arith)
+pass-one false n k e = (refl, e)
+
+neither : (a b : Bool) → either a b ≡ false → (a ≡ false) × (b ≡ false)
+neither true b e = let z : _≡_ {A = ℕ} 0 1 = cc in absurd (omega arith)
+neither false b e = (refl, e)
+
+pub record Fits (s : Store) (m : Model) (a : Addition) : Type 0 where
+  pub limited : m .total + sizeAdded a + padOf m a ≤ limit
+  pub few-files : filesOf (added m a) ≤ 65535
+  pub rows-hold : filesOf (added m a) * 8 ≤ length (s .rows)
+  pub roots-hold : filesOf (added m a) * 32 ≤ length (s .roots)
+  pub few-paths : length (added m a .directories) ≤ 65535
+  pub dirs-hold : length (added m a .directories) * 2 ≤ length (s .dirs)
+  pub times-hold : length (added m a .times) ≤ length (s .times)
+  pub text-holds : textAfter (s .fs) m a ≤ length (s .text)
+
+few-rows : (f r t : ℕ) → f ≤ min 65535 (min (r / 8) (t / 32)) → (f ≤ 65535) × (f * 8 ≤ r) × (f * 32 ≤ t)
+few-rows f r t h = (omega arith, omega arith, omega arith)
+
+few-dirs : (d r : ℕ) → d ≤ min 65535 (r / 2) → (d ≤ 65535) × (d * 2 ≤ r)
+few-dirs d r h = (omega arith, omega arith)
+
+room : (s : Store) (m : Model) (a : Addition) → m .total + sizeAdded a + padOf m a ≤ limit → lacks (roomsOf s) (added m a) (textAfter (s .fs) m a) ≡ false → Fits s m a
+room s m a h e =
+    let p = neither (ltb (min 65535 (roomsOf s .files)) (filesOf (added m a))) _ e in
+    let q = neither (ltb (min 65535 (roomsOf s .directories)) (length (added m a .directories))) _ (p .1) in
+    let r = neither (ltb (roomsOf s .times) (length (added m a .times))) _ (q .1) in
+    let f = few-rows (filesOf (added m a)) (length (s .rows)) (length (s .roots)) (ltb-false _ _ (p .0)) in
+    let d = few-dirs (length (added m a .directories)) (length (s .dirs)) (ltb-false _ _ (q .0)) in
+    record {
+      limited = h;
+      few-files = f .0;
+      rows-hold = f .1;
+      roots-hold = f .2;
+      few-paths = d .0;
+      dirs-hold = d .1;
+      times-hold = ltb-false _ _ (r .0);
+      text-holds = ltb-false _ _ (r .1);
+    }
+
+pub fits : (s : Store) (m : Model) (a : Addition) → addingNumber s m a ≡ 0 → Fits s m a
+fits s m a e =
+    let p1 = pass-one (badLength (m .pieceLength)) 0 _ e in
+    let p2 = pass-one (isNegative (a .size)) 1 _ (p1 .1) in
+    let p3 = pass-one (ltb limit (sizeAdded a)) 2 _ (p2 .1) in
+    let p4 = pass-one (ltb limit (m .total + sizeAdded a)) 3 _ (p3 .1) in
+    let p5 = pass-one (leb 4096 (length (limitedName (a .given) (a .path)))) 4 _ (p4 .1) in
+    let p6 = pass-one (badName (a .given) (a .path)) 5 _ (p5 .1) in
+    let p7 = pass-one (both (not (hasParent (a .path))) (ltb 0 (filesOf m))) 6 _ (p6 .1) in
+    let p8 = pass-one (both (disagree m a) (m .v2)) 7 _ (p7 .1) in
+    let p9 = pass-one (disagree m a) 8 _ (p8 .1) in
+    let p10 = pass-one (ltb limit (m .total + sizeAdded a + padOf m a)) 3 _ (p9 .1) in
+    let p11 = pass-one (either (not (holds s)) (lacks (roomsOf s) (added m a) (textAfter (s .fs) m a))) 9 _ (p10 .1) in
+    room s m a (ltb-false limit (m .total + sizeAdded a + padOf m a) (p10 .0)) (neither (not (holds s)) _ (p11 .0) .1)

@@ -1,0 +1,48 @@
+-- A newly opened set: its tables, whatever they hold, are in order, and mean the set without files. Relies on nothing.
+use mathlib.Core.Path.{_≡_, refl}
+use mathlib.Core.List.{List}
+use Prim.Native.Nat.{ℕ}
+use native.Mathlib.Omega.{arith}
+use lib.IntN.{ℤ}
+use borrow.Author.Tests.{le-ltb}
+use Rattle.tables.specs.Model.{Store, tabled, viewOf}
+use Rattle.storage.specs.Opening.{empty}
+use Rattle.model.specs.Sound.{Place, setName, dirName, fileName, linkText, nowhere, spanOf, sumTo, Sound}
+use Rattle.model.specs.Reached.{fresh}
+
+module _ (n : ℕ) (rows roots : List ℕ) (times : List ℤ) (dirs text : List ℕ) where
+  abbrev opened : Store
+  opened = record { fs = empty n; rows = rows; roots = roots; times = times; dirs = dirs; text = text }
+
+  span-opened : (p : Place) → spanOf opened p ≡ nowhere
+  span-opened setName = refl
+  span-opened (dirName k) = rw (le-ltb k 0 (omega arith))
+  span-opened (fileName k) = rw (le-ltb k 0 (omega arith))
+  span-opened (linkText k) = rw (le-ltb k 0 (omega arith))
+
+  pub sound-opened : Sound opened
+  unfolding sumTo
+  sound-opened =
+      record {
+        rows-hold = omega arith;
+        roots-hold = omega arith;
+        dirs-hold = omega arith;
+        times-hold = omega arith;
+        text-holds = omega arith;
+        few-files = omega arith;
+        few-paths = omega arith;
+        within = λ p. rw (span-opened p) (omega arith);
+        apart = λ p q d. rw (span-opened p, span-opened q) (omega arith);
+        full = refl;
+        offsets = λ k h. absurd (omega arith);
+        total = refl;
+        limited = omega arith;
+        on-disk = refl;
+        unlinked = λ k h e. absurd (omega arith);
+        placed = λ k h b. absurd (omega arith);
+        indexed = λ k h. absurd (omega arith);
+      }
+
+  pub view-opened : viewOf opened ≡ fresh n
+  unfolding tabled
+  view-opened = refl
