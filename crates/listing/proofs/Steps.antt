@@ -1,0 +1,254 @@
+-- Laws of the run: what a line's numbers are bounded by, and what a line that is obeyed or refused does to the rest of the
+-- run. They rely on the laws of `model` for additions.
+use Prim.Native.Nat.{ℕ, _+_, _-_, _%_, _≤_, _<_, _^_}
+use mathlib.Core.Path.{_≡_, refl, sym, ap, subst, _∙_}
+use mathlib.Core.Bool.{Bool, true, false, cond}
+use mathlib.Core.List.{List, [], _∷_}
+use native.Mathlib.Omega.{arith}
+use native.Mathlib.Nat.{mod-eq-of-lt}
+use lib.Dec.{eqb, leb, ltb}
+use lib.IntN.{ℤ}
+use lib.ListN.{length, getD, drop, replicate, length-take, length-drop, drop-of-length-le}
+use borrow.Author.Tests.{eqb-true, leb-true, lt-ltb, le-ltb}
+use Rattle.lists.specs.Lists.{partOf, ceiling}
+use Rattle.lists.proofs.Parts.{part-length}
+use Rattle.types.specs.declared.refusal.Refusal.the-variants.{TooManyPieces}
+use Rattle.types.specs.Refusals.{Outcome, value, refused}
+use Rattle.tables.specs.declared.storage.FileStorage.{FileStorage}
+use Rattle.tables.specs.Entry.{presenceIf}
+use Rattle.tables.specs.Model.{Optional, absent, present, presentIf, Model, Store, viewOf}
+use Rattle.storage.specs.Rules.{outcomeOf, both}
+use Rattle.storage.specs.Addition.{Addition, Rooms, sizeOf, added, addedTo}
+use Rattle.storage.specs.Write.{storeAdded}
+use Rattle.storage.specs.Outcomes.{Changed, roomsOf, addingNumber, optionalOf}
+use Rattle.storage.specs.Opening.{empty}
+use Rattle.model.specs.Reached.{fresh}
+use Rattle.model.specs.Sound.{Sound}
+use Rattle.model.proofs.Adding.{adding}
+use Rattle.model.proofs.Added.{view-added, sound-added}
+use Rattle.listing.specs.Form.{lines, when, onlyIf, numberIn, pieceLengthIn, areFlags, additionOf, additionIn, fileIn}
+use Rattle.listing.specs.Run.{Run, listed, stopped, counted, goOn, openedAs, readAs, runFrom, run, places}
+use Rattle.listing.specs.Answers.{firstLine}
+use Rattle.listing.specs.declared.run.RunResult.the-variants.{Listed, Stopped}
+use Rattle.listing.specs.Steps.{openedBy, obeyed, countedBy, storeOf, runSays, Placed}
+use Rattle.listing.proofs.Reading.{number-small, first-take, lines-next}
+
+-- a number that passed the test of the piece length
+length-small : (b : Bool) (o : Optional ℕ) (n : ℕ) → present n ≡ when b (onlyIf (λ m. leb m 2147483647) o) → n ≤ 2147483647
+length-small false o n e = let z : _≡_ {A = ℕ} 0 1 = cc in absurd (omega arith)
+length-small true absent n e = let z : _≡_ {A = ℕ} 0 1 = cc in absurd (omega arith)
+length-small true (present m) n e = at (leb m 2147483647) refl e
+  where
+    at : (b : Bool) → leb m 2147483647 ≡ b → present n ≡ presentIf b m → n ≤ 2147483647
+    at true q p = let z : n ≡ m = cc in omega (arith, leb-true m 2147483647 q)
+    at false q p = let z : _≡_ {A = ℕ} 0 1 = cc in absurd (omega arith)
+
+pub piece-length-is : (line : List ℕ) (n : ℕ) → present n ≡ pieceLengthIn line → n % 2 ^ 31 ≡ n
+piece-length-is line n e = mod-eq-of-lt (omega (arith, length-small (eqb (length line) 10) (numberIn line) n e))
+
+-- the size in a file line
+abbrev sizeIn : Optional Addition → ℕ
+sizeIn absent = 0
+sizeIn (present a) = sizeOf (a .size)
+
+size-small : (b : Bool) (o f : Optional ℕ) (path : List ℕ) → ((n : ℕ) → o ≡ present n → n < 1000000000000000) → sizeIn (when b (additionIn o f path)) < 1000000000000000
+size-small false o f path h = omega arith
+size-small true absent f path h = omega arith
+size-small true (present n) absent path h = omega arith
+size-small true (present n) (present m) path h = h n refl
+
+pub size-is : (line : List ℕ) (size flags : ℕ) → present (additionOf size flags (drop 19 line)) ≡ fileIn line → size % 2 ^ 63 ≡ size
+size-is line size flags e =
+    let q : size ≡ sizeIn (fileIn line) = ap sizeIn e in
+    let b =
+    size-small (both (leb 19 (length line)) (both (eqb (getD line 15 0) 32) (eqb (getD line 18 0) 32)))
+    (numberIn (partOf line 0 15)) (onlyIf areFlags (numberIn (partOf line 16 2))) (drop 19 line)
+    (λ n p. number-small (partOf line 0 15) n (omega (arith, part-length line 0 15)) p) in
+    mod-eq-of-lt (omega (arith, q))
+
+-- a root in a file line has 32 bytes
+abbrev Rooted : Addition → Type 0
+Rooted a = (r : List ℕ) → a .root ≡ present r → length r ≡ 32
+
+root-long : (b : Bool) (r : List ℕ) → presentIf b (replicate 32 1) ≡ present r → length r ≡ 32
+root-long true r e = let q : replicate 32 1 ≡ r = cc in sym (ap length q)
+root-long false r e = let z : _≡_ {A = ℕ} 0 1 = cc in absurd (omega arith)
+
+rooted-in : (b : Bool) (o f : Optional ℕ) (path : List ℕ) (a : Addition) → when b (additionIn o f path) ≡ present a → Rooted a
+rooted-in false o f path a e = let z : _≡_ {A = ℕ} 0 1 = cc in absurd (omega arith)
+rooted-in true absent f path a e = let z : _≡_ {A = ℕ} 0 1 = cc in absurd (omega arith)
+rooted-in true (present n) absent path a e = let z : _≡_ {A = ℕ} 0 1 = cc in absurd (omega arith)
+rooted-in true (present n) (present m) path a e =
+    let q : additionOf n m path ≡ a = cc in
+    λ r p. root-long (leb 16 m) r (ap (λ (x : Addition). x .root) q ∙ p)
+
+root-is : (line : List ℕ) (a : Addition) → fileIn line ≡ present a → Rooted a
+root-is line a e =
+    rooted-in (both (leb 19 (length line)) (both (eqb (getD line 15 0) 32) (eqb (getD line 18 0) 32)))
+    (numberIn (partOf line 0 15)) (onlyIf areFlags (numberIn (partOf line 16 2))) (drop 19 line) a e
+
+-- what flags say of a root, as a call brings it
+pub root-by : (b : Bool) (root : List ℕ) → optionalOf (presenceIf b) root ≡ presentIf b root
+root-by true root = refl
+root-by false root = refl
+
+-- the run behind the last line
+pub counted-is : (fs : FileStorage) (rows roots : List ℕ) (times : List ℤ) (dirs text : List ℕ) (line : ℕ)
+    → runSays (countedBy fs line) rows roots times dirs text ≡ counted line (viewOf (storeOf fs rows roots times dirs text))
+counted-is fs rows roots times dirs text line = at (ltb 2147483647 (ceiling (fs .«total_size») (fs .«piece_length»)))
+  where
+    at : (b : Bool) → runSays (cond b (Stopped TooManyPieces line) (Listed fs)) rows roots times dirs text ≡ cond b (stopped 13 line) (listed (viewOf (storeOf fs rows roots times dirs text)))
+    at true = refl
+    at false = refl
+
+-- tables of these lengths have `places`
+rooms-are : (s : Store) → Placed (s .rows) (s .roots) (s .times) (s .dirs) (s .text) → roomsOf s ≡ places
+rooms-are s p = rw (p .rows-are, p .roots-are, p .times-are, p .dirs-are, p .text-is)
+
+-- what a change leaves, by whether its number is 0
+abbrev changedBy : Bool → ℕ → Store → Store → Changed
+changedBy b k s t =
+    cond b (record { says = value (t .fs); rows = t .rows; roots = t .roots; times = t .times; dirs = t .dirs; text = t .text })
+    (record { says = refused k; rows = s .rows; roots = s .roots; times = s .times; dirs = s .dirs; text = s .text })
+
+-- a line that is read and obeyed, or refused
+abbrev pub newStore : FileStorage → Changed → Store
+newStore fs t = storeOf fs (t .rows) (t .roots) (t .times) (t .dirs) (t .text)
+
+module _ (s : Store) (p : Placed (s .rows) (s .roots) (s .times) (s .dirs) (s .text)) (ok : Sound s) (line : ℕ) (l : List ℕ) (ls : List (List ℕ)) where
+  adding-is : (a : Addition) → addedTo places (viewOf s) a ≡ outcomeOf (addingNumber s (viewOf s) a) (added (viewOf s) a)
+  adding-is a = ap (λ (r : Rooms). addedTo r (viewOf s) a) (sym (rooms-are s p)) ∙ adding s ok a
+
+  next-is : runFrom places line (viewOf s) (l ∷ ls) ≡ readAs (fileIn l) (line + 1) (λ a. goOn (addedTo places (viewOf s) a) (line + 1) (λ next. runFrom places (line + 1) next ls))
+  unfolding runFrom
+  next-is = refl
+
+  -- the rest of the run, by what the line says
+  abbrev after : Optional Addition → Run
+  after o = readAs o (line + 1) (λ a. goOn (addedTo places (viewOf s) a) (line + 1) (λ next. runFrom places (line + 1) next ls))
+
+  stop-at : (o : Optional Addition) (k : ℕ) → obeyed o s .says ≡ refused k → stopped k (line + 1) ≡ after o
+  stop-at absent k e = let q : k ≡ 17 = cc in ap (λ (n : ℕ). stopped n (line + 1)) q
+  stop-at (present a) k e =
+      at (eqb (addingNumber s (viewOf s) a) 0) e
+      ∙ sym (ap (λ (o : Outcome Model). goOn o (line + 1) (λ next. runFrom places (line + 1) next ls)) (adding-is a))
+    where
+      at : (b : Bool) → changedBy b (addingNumber s (viewOf s) a) s (storeAdded s (viewOf s) a) .says ≡ refused k
+          → stopped k (line + 1) ≡ goOn (cond b (value (added (viewOf s) a)) (refused (addingNumber s (viewOf s) a))) (line + 1) (λ next. runFrom places (line + 1) next ls)
+      at true q = let z : _≡_ {A = ℕ} 0 1 = cc in absurd (omega arith)
+      at false q = let z : k ≡ addingNumber s (viewOf s) a = cc in ap (λ (n : ℕ). stopped n (line + 1)) z
+
+  go-at : (o : Optional Addition) (fs : FileStorage) → fileIn l ≡ o → obeyed o s .says ≡ value fs
+      → Sound (newStore fs (obeyed o s)) × (runFrom places (line + 1) (viewOf (newStore fs (obeyed o s))) ls ≡ after o)
+  go-at absent fs h e = let z : _≡_ {A = ℕ} 0 1 = cc in absurd (omega arith)
+  go-at (present a) fs h e =
+      let r = at (eqb (addingNumber s (viewOf s) a) 0) refl e in
+      (r .0, r .1 ∙ sym (ap (λ (o : Outcome Model). goOn o (line + 1) (λ next. runFrom places (line + 1) next ls)) (adding-is a)))
+    where
+      at : (b : Bool) → eqb (addingNumber s (viewOf s) a) 0 ≡ b → changedBy b (addingNumber s (viewOf s) a) s (storeAdded s (viewOf s) a) .says ≡ value fs
+          → Sound (newStore fs (changedBy b (addingNumber s (viewOf s) a) s (storeAdded s (viewOf s) a))) × (runFrom places (line + 1) (viewOf (newStore fs (changedBy b (addingNumber s (viewOf s) a) s (storeAdded s (viewOf s) a)))) ls ≡ goOn (cond b (value (added (viewOf s) a)) (refused (addingNumber s (viewOf s) a))) (line + 1) (λ next. runFrom places (line + 1) next ls))
+      at true t q =
+          let n = addingNumber s (viewOf s) a in
+          let zero = eqb-true n 0 t in
+          let z : fs ≡ storeAdded s (viewOf s) a .fs = cc in
+          let same : newStore fs (changedBy true n s (storeAdded s (viewOf s) a)) ≡ storeAdded s (viewOf s) a =
+          ap (λ (f : FileStorage). newStore f (changedBy true n s (storeAdded s (viewOf s) a))) z in (
+            subst (λ (x : Store). Sound x) (sym same) (sound-added s a ok zero (root-is l a h)),
+            ap (λ (x : Store). runFrom places (line + 1) (viewOf x) ls) same ∙ ap (λ (m : Model). runFrom places (line + 1) m ls) (view-added s a ok zero (root-is l a h)),
+          )
+      at false t q = let z : _≡_ {A = ℕ} 0 1 = cc in absurd (omega arith)
+
+-- a line is no longer than what is left of the input
+pub line-few : (input : List ℕ) (at : ℕ) → length (firstLine (drop at input)) ≤ length input - at
+line-few input at =
+    let s = drop at input in
+    omega (arith, ap length (first-take s), length-take (length (firstLine s)) s, length-drop at input)
+
+-- the run at a place of the input: the lines before it are obeyed, their number is `line`, and what is left makes the whole
+pub record Going (input : List ℕ) (whole : Run) (at line : ℕ) (s : Store) : Type 0 where
+  pub behind : line ≤ at
+  pub within : at ≤ length input + 1
+  pub placed : Placed (s .rows) (s .roots) (s .times) (s .dirs) (s .text)
+  pub sound : Sound s
+  pub rest : runFrom places line (viewOf s) (lines (drop at input)) ≡ whole
+
+module _ (input : List ℕ) (whole : Run) (at line : ℕ) (s : Store) (g : Going input whole at line s) where
+  -- no line is left
+  pub run-ends : length input ≤ at → counted line (viewOf s) ≡ whole
+  unfolding runFrom
+  run-ends h =
+      ap (λ (l : List ℕ). runFrom places line (viewOf s) (lines l)) (sym (drop-of-length-le input {i = at} h)) ∙ g .rest
+
+  module _ (h : at < length input) (n : ℕ) (e : n ≡ length (firstLine (drop at input))) where
+    rest-next : runFrom places line (viewOf s) (partOf input at n ∷ lines (drop (at + n + 1) input)) ≡ whole
+    rest-next = ap (λ (l : List (List ℕ)). runFrom places line (viewOf s) l) (sym (lines-next input at n h e)) ∙ g .rest
+
+    module _ (t : Changed) (q : t ≡ obeyed (fileIn (partOf input at n)) s) where
+      -- a line is refused
+      pub run-stops : (k : ℕ) → t .says ≡ refused k → stopped k (line + 1) ≡ whole
+      run-stops k r =
+          let l = partOf input at n in
+          let ls = lines (drop (at + n + 1) input) in
+          stop-at s (g .placed) (g .sound) line l ls (fileIn l) k (sym (ap (λ (x : Changed). x .says) q) ∙ r)
+          ∙ sym (next-is s (g .placed) (g .sound) line l ls)
+          ∙ rest-next
+
+      -- a line is obeyed
+      pub run-goes : (fs : FileStorage) → t .says ≡ value fs → Placed (t .rows) (t .roots) (t .times) (t .dirs) (t .text) → Going input whole (at + n + 1) (line + 1) (newStore fs t)
+      run-goes fs r p =
+          let l = partOf input at n in
+          let ls = lines (drop (at + n + 1) input) in
+          let m = go-at s (g .placed) (g .sound) line l ls (fileIn l) fs refl (sym (ap (λ (x : Changed). x .says) q) ∙ r) in
+          record {
+            behind = omega (arith, g .behind);
+            within = omega (arith, line-few input at);
+            placed = p;
+            sound = subst (λ (x : Changed). Sound (newStore fs x)) (sym q) (m .0);
+            rest =
+                ap (λ (x : Changed). runFrom places (line + 1) (viewOf (newStore fs x)) ls) q
+                ∙ m .1
+                ∙ sym (next-is s (g .placed) (g .sound) line l ls)
+                ∙ rest-next;
+          }
+
+-- the first line
+module _ (input : List ℕ) where
+  pub run-long : 65536 < length input → stopped 17 0 ≡ run places input
+  run-long h = rw (lt-ltb 65536 (length input) h)
+
+  pub run-none : length input ≤ 65536 → length input ≡ 0 → stopped 17 1 ≡ run places input
+  run-none h e = rw (le-ltb 65536 (length input) h, none input e)
+    where
+      none : (l : List ℕ) → length l ≡ 0 → l ≡ []
+      none [] q = refl
+      none (c ∷ l) q = absurd (omega arith)
+
+  module _ (n : ℕ) (h : length input ≤ 65536) (k : length input ≡ 0 → ⊥) (e : n ≡ length (firstLine input)) where
+    run-first : readAs (pieceLengthIn (partOf input 0 n)) 1 (λ m. goOn (openedAs m) 1 (λ x. runFrom places 1 x (lines (drop (n + 1) input)))) ≡ run places input
+    run-first =
+        let q : 0 + n + 1 ≡ n + 1 = omega arith in
+        let r : lines input ≡ partOf input 0 n ∷ lines (drop (n + 1) input) =
+        lines-next input 0 n (omega arith) e ∙ ap (λ (i : ℕ). partOf input 0 n ∷ lines (drop i input)) q in
+        rw (le-ltb 65536 (length input) h, r)
+
+    pub first-stops : (j : ℕ) → openedBy (pieceLengthIn (partOf input 0 n)) ≡ refused j → stopped j 1 ≡ run places input
+    first-stops j o = stop (pieceLengthIn (partOf input 0 n)) o ∙ run-first
+      where
+        stop : (x : Optional ℕ) → openedBy x ≡ refused j → stopped j 1 ≡ readAs x 1 (λ m. goOn (openedAs m) 1 (λ y. runFrom places 1 y (lines (drop (n + 1) input))))
+        stop absent q = let z : j ≡ 17 = cc in ap (λ (i : ℕ). stopped i 1) z
+        stop (present m) q = at (eqb m 0) q
+          where
+            at : (b : Bool) → cond b (refused 1) (value (empty m)) ≡ refused j → stopped j 1 ≡ goOn (cond b (refused 1) (value (fresh m))) 1 (λ y. runFrom places 1 y (lines (drop (n + 1) input)))
+            at true r = let z : j ≡ 1 = cc in ap (λ (i : ℕ). stopped i 1) z
+            at false r = let z : _≡_ {A = ℕ} 0 1 = cc in absurd (omega arith)
+
+    pub first-goes : (fs : FileStorage) → openedBy (pieceLengthIn (partOf input 0 n)) ≡ value fs → (m : ℕ) × (fs ≡ empty m) × (runFrom places 1 (fresh m) (lines (drop (n + 1) input)) ≡ run places input)
+    first-goes fs o = let r = go (pieceLengthIn (partOf input 0 n)) o in (r .0, r .1, r .2 ∙ run-first)
+      where
+        go : (x : Optional ℕ) → openedBy x ≡ value fs → (m : ℕ) × (fs ≡ empty m) × (runFrom places 1 (fresh m) (lines (drop (n + 1) input)) ≡ readAs x 1 (λ i. goOn (openedAs i) 1 (λ y. runFrom places 1 y (lines (drop (n + 1) input)))))
+        go absent q = let z : _≡_ {A = ℕ} 0 1 = cc in absurd (omega arith)
+        go (present m) q = let r = at (eqb m 0) q in (m, r .0, r .1)
+          where
+            at : (b : Bool) → cond b (refused 1) (value (empty m)) ≡ value fs → (fs ≡ empty m) × (runFrom places 1 (fresh m) (lines (drop (n + 1) input)) ≡ goOn (cond b (refused 1) (value (fresh m))) 1 (λ y. runFrom places 1 y (lines (drop (n + 1) input))))
+            at true r = let z : _≡_ {A = ℕ} 0 1 = cc in absurd (omega arith)
+            at false r = let z : fs ≡ empty m = cc in (z, refl)

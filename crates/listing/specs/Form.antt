@@ -1,0 +1,83 @@
+-- Document 01, 'The listing': the form of its lines. 10 is a line feed, 32 a blank, 48 to 57 are the digits.
+use Prim.Native.Nat.{ℕ, _+_, _%_}
+use mathlib.Core.Bool.{Bool, true, false, cond}
+use mathlib.Core.List.{List, [], _∷_, _++_}
+use lib.Dec.{eqb, ltb, leb}
+use lib.IntN.{pos}
+use lib.ListN.{length, getD, take, drop, replicate}
+use Rattle.lists.specs.Lists.{partOf}
+use Rattle.lists.specs.Decimal.{valueFrom}
+use Rattle.path.specs.Join.{isEmpty}
+use Rattle.tables.specs.Model.{Optional, absent, present, presentIf}
+use Rattle.storage.specs.Rules.{both, either}
+use Rattle.storage.specs.Addition.{Addition}
+
+-- 'Lines end in a line feed, which the last may lack': the lines of an input, `line` being what stands before it in its
+-- first line
+abbrev pub linesFrom : List ℕ → List ℕ → List (List ℕ)
+linesFrom line [] = cond (isEmpty line) [] (line ∷ [])
+linesFrom line (c ∷ t) = cond (eqb c 10) (line ∷ linesFrom [] t) (linesFrom (line ++ (c ∷ [])) t)
+
+abbrev pub lines : List ℕ → List (List ℕ)
+lines input = linesFrom [] input
+
+-- without the blanks at its start
+abbrev pub unblanked : List ℕ → List ℕ
+unblanked [] = []
+unblanked (c ∷ t) = cond (eqb c 32) (unblanked t) (c ∷ t)
+
+abbrev pub isDigit : ℕ → Bool
+isDigit c = both (leb 48 c) (leb c 57)
+
+abbrev pub areDigits : List ℕ → Bool
+areDigits [] = true
+areDigits (c ∷ t) = both (isDigit c) (areDigits t)
+
+-- 'with no sign or leading zero': digits that begin with 0 are the single digit 0
+abbrev pub isNumber : List ℕ → Bool
+isNumber [] = false
+isNumber (c ∷ t) = both (areDigits (c ∷ t)) (either (ltb 48 c) (isEmpty t))
+
+-- 'Numbers are right-justified': blanks, then digits
+abbrev pub numberIn : List ℕ → Optional ℕ
+numberIn column = presentIf (isNumber (unblanked column)) (valueFrom 0 (unblanked column))
+
+abbrev pub onlyIf : {A : Type 0} → (A → Bool) → Optional A → Optional A
+onlyIf f absent = absent
+onlyIf f (present a) = presentIf (f a) a
+
+abbrev pub when : {A : Type 0} → Bool → Optional A → Optional A
+when true a = a
+when false a = absent
+
+-- 'piece length in 10 columns'; 'a piece length above 2147483647 is out of form'
+abbrev pub pieceLengthIn : List ℕ → Optional ℕ
+pieceLengthIn line = when (eqb (length line) 10) (onlyIf (λ n. leb n 2147483647) (numberIn line))
+
+-- 'flags in 2 (a sum of 1, 2, 4 as above and 16 …; all else is out of form)'
+abbrev pub areFlags : ℕ → Bool
+areFlags n = either (ltb n 8) (both (leb 16 n) (ltb n 24))
+
+-- '16, which gives a root of 32 bytes of value 1'
+abbrev pub additionOf : ℕ → ℕ → List ℕ → Addition
+additionOf size flags path =
+    record {
+      given = absent;
+      path = path;
+      size = pos size;
+      flags = flags % 8;
+      time = pos 0;
+      link = [];
+      root = presentIf (leb 16 flags) (replicate 32 1);
+    }
+
+abbrev pub additionIn : Optional ℕ → Optional ℕ → List ℕ → Optional Addition
+additionIn absent flags path = absent
+additionIn (present size) absent path = absent
+additionIn (present size) (present flags) path = present (additionOf size flags path)
+
+-- 'per file size in 15, blank, flags in 2, blank, path'
+abbrev pub fileIn : List ℕ → Optional Addition
+fileIn line =
+    when (both (leb 19 (length line)) (both (eqb (getD line 15 0) 32) (eqb (getD line 18 0) 32)))
+    (additionIn (numberIn (partOf line 0 15)) (onlyIf areFlags (numberIn (partOf line 16 2))) (drop 19 line))

@@ -1,0 +1,59 @@
+-- What the steps of a run answer: opening by the first line, a file line obeyed, and the run as a whole.
+use Prim.Native.Nat.{ℕ}
+use mathlib.Core.Bool.{cond}
+use mathlib.Core.List.{List}
+use mathlib.Core.Path.{_≡_}
+use lib.Dec.{ltb}
+use lib.IntN.{ℤ, pos}
+use lib.ListN.{length}
+use Rattle.lists.specs.Lists.{ceiling}
+use Rattle.types.specs.declared.refusal.Refusal.the-variants.{TooManyPieces, ParseFailed}
+use Rattle.types.specs.Refusals.{numberOf, Outcome, refused}
+use Rattle.tables.specs.declared.storage.FileStorage.{FileStorage}
+use Rattle.tables.specs.Model.{Optional, absent, present, Store, viewOf}
+use Rattle.storage.specs.declared.answer.StorageResult.{StorageResult}
+use Rattle.storage.specs.declared.answer.StorageResult.the-variants.{Ok, Err}
+use Rattle.storage.specs.Addition.{Addition}
+use Rattle.storage.specs.Outcomes.{Changed, addStored}
+use Rattle.storage.specs.Opening.{opened}
+use Rattle.listing.specs.Form.{pieceLengthIn, fileIn}
+use Rattle.listing.specs.Run.{Run, listed, stopped}
+use Rattle.listing.specs.declared.run.RunResult.{RunResult}
+use Rattle.listing.specs.declared.run.RunResult.the-variants.{Listed, Stopped}
+
+abbrev pub openedBy : Optional ℕ → Outcome FileStorage
+openedBy absent = refused 17
+openedBy (present n) = opened (pos n)
+
+-- a line out of form is 17, and leaves the tables as they were
+abbrev pub obeyed : Optional Addition → Store → Changed
+obeyed absent s =
+    record { says = refused 17; rows = s .rows; roots = s .roots; times = s .times; dirs = s .dirs; text = s .text }
+obeyed (present a) s = addStored s a
+
+-- the run that an answer ends
+abbrev pub stoppedBy : StorageResult → ℕ → RunResult
+stoppedBy (Ok fs) line = Stopped ParseFailed line
+stoppedBy (Err e) line = Stopped e line
+
+-- the run that ends behind the last line
+abbrev pub countedBy : FileStorage → ℕ → RunResult
+countedBy fs line =
+    cond (ltb 2147483647 (ceiling (fs .«total_size») (fs .«piece_length»))) (Stopped TooManyPieces line) (Listed fs)
+
+abbrev pub storeOf : FileStorage → List ℕ → List ℕ → List ℤ → List ℕ → List ℕ → Store
+storeOf fs rows roots times dirs text =
+    record { fs = fs; rows = rows; roots = roots; times = times; dirs = dirs; text = text }
+
+-- how a run ends, by its answer and what the tables then hold
+abbrev pub runSays : RunResult → List ℕ → List ℕ → List ℤ → List ℕ → List ℕ → Run
+runSays (Listed fs) rows roots times dirs text = listed (viewOf (storeOf fs rows roots times dirs text))
+runSays (Stopped e line) rows roots times dirs text = stopped (numberOf e) line
+
+-- tables with as many places as `places` says: no line gives a time
+pub record Placed (rows roots : List ℕ) (times : List ℤ) (dirs text : List ℕ) : Type 0 where
+  pub rows-are : length rows ≡ 3200
+  pub roots-are : length roots ≡ 12800
+  pub times-are : length times ≡ 0
+  pub dirs-are : length dirs ≡ 800
+  pub text-is : length text ≡ 65536

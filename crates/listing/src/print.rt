@@ -1,0 +1,229 @@
+// Printing: numbers in columns, a file's line by its row, and a set's or a refusal's whole text. Room is
+// decided first and written after. Relies on `lists`, `tables` and the laws of proofs/Printed.antt.
+ghost use mathlib.Core.Path.{_≡_};
+ghost use Prim.Native.Nat.{_+_, _≤_, _<_};
+ghost use lib.ListN.{length};
+ghost use lib.Seq.{sets};
+ghost use Rattle.lists.specs.Lists.{ceiling};
+ghost use Rattle.types.specs.Refusals.{usizeSays, numberOf};
+ghost use Rattle.path.specs.Join.{Joined, isAlone, appended};
+ghost use Rattle.listing.specs.Run.{printed, listed, stopped};
+ghost use Rattle.listing.specs.Printing.{fourColumns, branchOf, glueOf, directoryIn, pathIn, rowLine, shown, linesOf, leftIn, putText};
+use tables::FileStorage;
+use tables::Row;
+use types::Refusal;
+use types::UsizeResult;
+
+// Writes numbers in columns of 5, 15, 15 and `width` from place `at` on, and a byte behind them.
+fn put_columns(out: &mut [u8], at: usize, a: u64, b: u64, c: u64, width: usize, d: u64, last: u8)
+    requires { ⌜ at + (35 + width) < length (now out) ⌝ }
+    ensures { λ _. ⌜ now (out .exit) ≡ sets (now (out .entry)) at (fourColumns a b c width d last) ⌝ }
+{
+    lists::put_column(out, at, 5, a);
+    lists::put_column(out, at + 5, 15, b);
+    lists::put_column(out, at + 20, 15, c);
+    lists::put_column(out, at + 35, width, d);
+    lists::put_byte(out, at + 35 + width, last);
+}
+
+// Whether a directory is empty or `.`, which leaves a name alone.
+fn is_alone(dir: &[u8]) -> bool
+    ensures { λ r. ⌜ r ≡ isAlone (now (dir .entry)) ⌝ }
+{
+    if dir.len() == 0 {
+        return true;
+    }
+    lists::same(dir, b".")
+}
+
+// A directory as it stands in a path.
+fn branch_of(dir: &[u8]) -> &[u8]
+    ensures { λ r. ⌜ now r ≡ branchOf (now (dir .entry)) ⌝ }
+{
+    if is_alone(dir) {
+        return lists::part(dir, 0, 0);
+    }
+    dir
+}
+
+// How many separators stand between a branch and a name.
+fn glue_of(branch: &[u8], name: &[u8]) -> usize
+    ensures { λ r. ⌜ r ≡ glueOf (now (branch .entry)) (now (name .entry)) ⌝ }
+{
+    if branch.len() == 0 {
+        return 0;
+    }
+    if name.len() == 0 {
+        return 0;
+    }
+    if branch[branch.len() - 1] == b'/' {
+        return 0;
+    }
+    1
+}
+
+// The length of the path of a directory and a name.
+fn path_length(dir: &[u8], name: &[u8]) -> usize
+    requires { ⌜ (length (now dir) ≤ 65536) × (length (now name) ≤ 65536) ⌝ }
+    ensures { λ r. ⌜ r ≡ length (appended (now (dir .entry)) (now (name .entry))) ⌝ }
+{
+    let branch = branch_of(dir);
+    branch.len() + glue_of(branch, name) + name.len()
+}
+
+// Writes the path of a directory and a name from place `at` on, and gives the place behind it.
+fn put_path(out: &mut [u8], at: usize, dir: &[u8], name: &[u8]) -> usize
+    requires { ⌜ at + length (appended (now dir) (now name)) ≤ length (now out) ⌝ }
+    ensures { λ r. ⌜ r ≡ at + length (appended (now (dir .entry)) (now (name .entry))) ⌝ }
+    ensures { λ _. ⌜ now (out .exit) ≡ sets (now (out .entry)) at (appended (now (dir .entry)) (now (name .entry))) ⌝ }
+{
+    let branch = branch_of(dir);
+    let glue = glue_of(branch, name);
+    lists::copy_behind(out, at, branch);
+    let to = at + branch.len();
+    lists::copy_behind(out, to, lists::part(b"/", 0, glue));
+    lists::copy_behind(out, to + glue, name);
+    to + glue + name.len()
+}
+
+// The text of a row's directory, of no bytes where the row has none.
+fn directory_in<'a>(dirs: &[u64], text: &'a [u8], row: Row) -> &'a [u8]
+    ensures { λ r. ⌜ now r ≡ directoryIn (now (dirs .entry)) (now (text .entry)) row ⌝ }
+{
+    if row.path_index == 1073741823 {
+        return lists::part(text, 0, 0);
+    }
+    if row.path_index == 1073741822 {
+        return lists::part(text, 0, 0);
+    }
+    tables::text_at(text, tables::dir_at(dirs, row.path_index as usize))
+}
+
+// The length of a file's line.
+fn row_line_length(dirs: &[u64], text: &[u8], row: Row) -> usize
+    requires { ⌜ length (now text) ≤ 65536 ⌝ }
+    ensures { λ r. ⌜ r ≡ 39 + length (pathIn (now (dirs .entry)) (now (text .entry)) row) ⌝ }
+{
+    39
+        + path_length(
+            directory_in(dirs, text, row),
+            tables::text_at(text, row.name),
+        )
+}
+
+// Writes the line of file i from place `at` on, and gives the place behind it.
+fn put_row_line(out: &mut [u8], at: usize, i: usize, dirs: &[u64], text: &[u8], row: Row) -> usize
+    requires { ⌜ at + (39 + length (pathIn (now dirs) (now text) row)) ≤ length (now out) ⌝ }
+    ensures { λ r. ⌜ r ≡ at + (39 + length (pathIn (now (dirs .entry)) (now (text .entry)) row)) ⌝ }
+    ensures { λ _. ⌜ now (out .exit) ≡ sets (now (out .entry)) at (rowLine (now (dirs .entry)) (now (text .entry)) i row) ⌝ }
+{
+    put_columns(
+        out,
+        at,
+        i as u64,
+        row.offset,
+        row.size,
+        2,
+        row.flags % 2,
+        b' ',
+    );
+    let end = put_path(
+        out,
+        at + 38,
+        directory_in(dirs, text, row),
+        tables::text_at(text, row.name),
+    );
+    lists::put_byte(out, end, b'\n');
+    end + 1
+}
+
+// How many of `room` bytes the lines of a set's files leave, or that they do not fit.
+fn room_behind(fs: FileStorage, rows: &[u64], dirs: &[u64], text: &[u8], room: usize) -> UsizeResult
+    requires { ⌜ length (now text) ≤ 65536 ⌝ }
+    ensures { λ r. ⌜ usizeSays r ≡ leftIn (length (linesOf fs (now (rows .entry)) (now (dirs .entry)) (now (text .entry)))) room ⌝ }
+{
+    let mut left = room;
+    let mut i = 0;
+    while i < fs.num_files {
+        let n = row_line_length(dirs, text, tables::row_at(rows, i));
+        if left < n {
+            return UsizeResult::Err(Refusal::NoRoom);
+        }
+        left -= n;
+        i += 1;
+    }
+    UsizeResult::Ok(left)
+}
+
+// Writes the lines of a set's files to the start of `out`, and gives the place behind them.
+fn put_lines(fs: FileStorage, rows: &[u64], dirs: &[u64], text: &[u8], out: &mut [u8]) -> usize
+    requires { ⌜ length (linesOf fs (now rows) (now dirs) (now text)) ≤ length (now out) ⌝ }
+    ensures { λ r. ⌜ r ≡ length (linesOf fs (now (rows .entry)) (now (dirs .entry)) (now (text .entry))) ⌝ }
+    ensures { λ _. ⌜ now (out .exit) ≡ sets (now (out .entry)) 0 (linesOf fs (now (rows .entry)) (now (dirs .entry)) (now (text .entry))) ⌝ }
+{
+    let mut at = 0;
+    let mut i = 0;
+    while i < fs.num_files {
+        at = put_row_line(out, at, i, dirs, text, tables::row_at(rows, i));
+        i += 1;
+    }
+    at
+}
+
+// How many pieces a total of bytes has.
+pub(crate) fn pieces_of(total: u64, piece_length: u64) -> u64
+    ensures { λ r. ⌜ r ≡ ceiling total «piece_length» ⌝ }
+{
+    if total == 0 {
+        return 0;
+    }
+    if piece_length == 0 {
+        return 0;
+    }
+    (total - 1) / piece_length + 1
+}
+
+// Writes what is printed of a set to the start of `out`, and gives its length.
+pub(crate) fn put_set(
+    fs: FileStorage,
+    rows: &[u64],
+    dirs: &[u64],
+    text: &[u8],
+    out: &mut [u8],
+) -> UsizeResult
+    requires { ⌜ length (now text) ≤ 65536 ⌝ }
+    ensures { λ r. ⌜ _≡_ {A = Joined} (record { says = usizeSays r; buf = now (out .exit) }) (putText (printed (listed (shown fs (now (rows .entry)) (now (dirs .entry)) (now (text .entry))))) (now (out .entry))) ⌝ }
+{
+    let UsizeResult::Ok(left) = room_behind(fs, rows, dirs, text, out.len()) else {
+        return UsizeResult::Err(Refusal::NoRoom);
+    };
+    if left < 46 {
+        return UsizeResult::Err(Refusal::NoRoom);
+    }
+    let at = put_lines(fs, rows, dirs, text, out);
+    let pieces = pieces_of(fs.total_size, fs.piece_length);
+    put_columns(
+        out,
+        at,
+        fs.num_files as u64,
+        fs.total_size,
+        fs.size_on_disk,
+        10,
+        pieces,
+        b'\n',
+    );
+    UsizeResult::Ok(at + 46)
+}
+
+// Writes what is printed of a refusal at a line to the start of `out`, and gives its length.
+pub(crate) fn put_refusal(refusal: Refusal, line: usize, out: &mut [u8]) -> UsizeResult
+    ensures { λ r. ⌜ _≡_ {A = Joined} (record { says = usizeSays r; buf = now (out .exit) }) (putText (printed (stopped (numberOf refusal) line)) (now (out .entry))) ⌝ }
+{
+    if out.len() < 11 {
+        return UsizeResult::Err(Refusal::NoRoom);
+    }
+    lists::put_column(out, 0, 5, types::number(refusal) as u64);
+    lists::put_column(out, 5, 5, line as u64);
+    lists::put_byte(out, 10, b'\n');
+    UsizeResult::Ok(11)
+}

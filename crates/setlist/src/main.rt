@@ -1,0 +1,15 @@
+// The program `setlist` of document 01: it reads standard input, and writes the listing of what it read.
+// One byte more than an input may have is read, so that a longer one is known. Relies on `listing`.
+use libc::STDIN_FILENO;
+use libc::STDOUT_FILENO;
+use types::UsizeResult;
+
+fn main() {
+    let mut input = [0u8; 65537];
+    let got = io::read_full(STDIN_FILENO, &mut input);
+    let mut out = [0u8; 262144];
+    let UsizeResult::Ok(n) = listing::list(&input[..got], &mut out) else {
+        return;
+    };
+    io::write_all(STDOUT_FILENO, &out[..n]);
+}
