@@ -1,0 +1,229 @@
+-- Deciding before an answer. A decision says the number of the first refusal, or 0; the answer that follows says its value,
+-- or that number. Stated once for every list of rules; they rely on the definitions of specs/Questions.antt.
+--     unsigned-of, unsigned-negative      what a signed number is, by its unsigned reading
+--     below-yes, below-no                 what `within` says of a number
+--     go, stop                            the answer after a decision
+--     passed                              after `Go` no rule's test holds
+--     pieces-known, piece-known           what that means for the set and a piece of it
+--     file-known, file-counted            what it means for a file and its set
+use Prim.Native.Nat.{ℕ, _+_, _-_, _*_, _%_, _^_, _≤_, _<_}
+use mathlib.Core.Path.{_≡_, refl, sym, ap, _∙_}
+use mathlib.Core.Bool.{Bool, true, false, cond, not, true≢false}
+use mathlib.Core.List.{List, [], _∷_, _++_}
+use native.Mathlib.Nat.{mul-le-mul, suc-mul}
+use native.Mathlib.Numerals.{add-one}
+use native.Mathlib.Omega.{arith}
+use lib.Dec.{eqb, ltb, leb}
+use lib.IntN.{ℤ, pos, negsuc}
+use borrow.Author.Tests.{ltb-true, ltb-false, eqb-true, ne-eqb, not-false}
+use Rattle.lists.proofs.Quotients.{ceiling-covers}
+use Rattle.types.specs.Refusals.{numberOf, Outcome, value, refused}
+use Rattle.types.specs.Signed.{unsignedOf, belowOr}
+use Rattle.types.specs.declared.refusal.Refusal.{Refusal}
+use Rattle.types.specs.declared.refusal.Refusal.the-variants.{InvalidPieceLength, NegativeSize, FileTooLarge, TorrentInvalidLength, FilenameTooLong, InvalidName, MissingParentPath, TorrentMissingPiecesRoot, TorrentInconsistentFiles, NoRoom, NoSuchFile, NoSuchPiece, TooManyPieces, OutOfRange, NotASymlink, NoTree, ParseFailed}
+use Rattle.types.specs.declared.signed.Unsigned.the-variants.{Of, Negative}
+use Rattle.tables.specs.declared.storage.FileStorage.{FileStorage}
+use Rattle.storage.specs.Rules.{Rule, when, firstOf, outcomeOf, either}
+use Rattle.storage.specs.Addition.{badLength, isNegative, sizeOf, limit}
+use Rattle.answers.specs.Answers.{indexOf, isBelow}
+use Rattle.layout.specs.declared.decide.Check.{Check}
+use Rattle.layout.specs.declared.decide.Check.the-variants.{Go, Stop}
+use Rattle.layout.specs.Deciding.{checkNumber, Counted}
+use Rattle.layout.specs.Questions.{numPieces, opened, noFile, manyPieces, noPiece, badRange, short}
+use Rattle.layout.specs.Pieces.{startOf, pieceSize}
+
+-- signed numbers
+pub unsigned-of : (z : ℤ) (n : ℕ) → unsignedOf z ≡ Of n → (isNegative z ≡ false) × (sizeOf z ≡ n)
+unsigned-of (pos m) n e = (refl, cc)
+unsigned-of (negsuc m) n e = absurd (let z : _≡_ {A = ℕ} 0 1 = cc in omega arith)
+
+pub unsigned-negative : (z : ℤ) → unsignedOf z ≡ Negative → (isNegative z ≡ true) × (sizeOf z ≡ 0)
+unsigned-negative (pos m) e = absurd (let z : _≡_ {A = ℕ} 0 1 = cc in omega arith)
+unsigned-negative (negsuc m) e = (refl, refl)
+
+-- one of so many
+module _ (r count : ℕ) where
+  low-side : (b : Bool) (n k : ℕ) → value k ≡ cond b (value n) (refused r) → b ≡ true
+  low-side true n k e = refl
+  low-side false n k e = absurd (let z : _≡_ {A = ℕ} 0 1 = cc in omega arith)
+
+  high-side : (b : Bool) (n m : ℕ) → refused m ≡ cond b (value n) (refused r) → b ≡ false
+  high-side true n m e = absurd (let z : _≡_ {A = ℕ} 0 1 = cc in omega arith)
+  high-side false n m e = refl
+
+  pub below-yes : (z : ℤ) (k : ℕ) → value k ≡ belowOr r count z → isBelow count z ≡ true
+  below-yes (pos n) k e = low-side (ltb n count) n k e
+  below-yes (negsuc n) k e = absurd (let z : _≡_ {A = ℕ} 0 1 = cc in omega arith)
+
+  pub below-no : (z : ℤ) (m : ℕ) → refused m ≡ belowOr r count z → isBelow count z ≡ false
+  below-no (pos n) m e = high-side (ltb n count) n m e
+  below-no (negsuc n) m e = refl
+
+pub below-is : (count : ℕ) (z : ℤ) → isBelow count z ≡ true → indexOf z < count
+below-is count (pos n) e = ltb-true n count e
+below-is count (negsuc n) e = absurd (true≢false (sym e))
+
+-- no refusal has the number 0
+pub numbered : (e : Refusal) → eqb (numberOf e) 0 ≡ false
+numbered InvalidPieceLength = refl
+numbered NegativeSize = refl
+numbered FileTooLarge = refl
+numbered TorrentInvalidLength = refl
+numbered FilenameTooLong = refl
+numbered InvalidName = refl
+numbered MissingParentPath = refl
+numbered TorrentMissingPiecesRoot = refl
+numbered TorrentInconsistentFiles = refl
+numbered NoRoom = refl
+numbered NoSuchFile = refl
+numbered NoSuchPiece = refl
+numbered TooManyPieces = refl
+numbered OutOfRange = refl
+numbered NotASymlink = refl
+numbered NoTree = refl
+numbered ParseFailed = refl
+
+-- the answer after a decision d that says n
+module _ {A : Type 0} (a : A) {n : ℕ} {d : Check} (p : checkNumber d ≡ n) where
+  pub go : d ≡ Go → (x : A) → x ≡ a → value x ≡ outcomeOf n a
+  go e x h = let z : n ≡ 0 = sym p ∙ ap checkNumber e in rw (h, z)
+
+  pub stop : (e : Refusal) → d ≡ Stop e → refused (numberOf e) ≡ outcomeOf n a
+  stop e q =
+      let z : n ≡ numberOf e = sym p ∙ ap checkNumber q in
+      let k : eqb (numberOf e) 0 ≡ false = numbered e in
+      rw (z, k)
+
+-- rules that all have numbers, and rules of which no test holds
+abbrev named : List Rule → Bool
+named [] = true
+named (r ∷ rs) = cond (ltb 0 (r .number)) (named rs) false
+
+abbrev pub Passed : List Rule → Type 0
+Passed [] = Unit
+Passed (r ∷ rs) = (r .test ≡ false) × Passed rs
+
+named-first : (b c : Bool) → cond b c false ≡ true → (b ≡ true) × (c ≡ true)
+named-first true c e = (refl, e)
+named-first false c e = absurd (true≢false (sym e))
+
+passed-one : (t : Bool) (n m : ℕ) → 0 < n → cond t n m ≡ 0 → (t ≡ false) × (m ≡ 0)
+passed-one true n m h e = absurd (omega arith)
+passed-one false n m h e = (refl, e)
+
+none : (rs : List Rule) → named rs ≡ true → firstOf rs ≡ 0 → Passed rs
+none [] h e = tt
+none (r ∷ rs) h e =
+    let q = named-first (ltb 0 (r .number)) (named rs) h in
+    let p = passed-one (r .test) (r .number) (firstOf rs) (ltb-true 0 (r .number) (q .0)) e in
+    (p .0, none rs (q .1) (p .1))
+
+pub passed : (rs : List Rule) {d : Check} → named rs ≡ true → checkNumber d ≡ firstOf rs → d ≡ Go → Passed rs
+passed rs h p e = none rs h (sym p ∙ ap checkNumber e)
+
+-- what the tests mean where they fail
+pub neither : (a b : Bool) → either a b ≡ false → (a ≡ false) × (b ≡ false)
+neither true b e = absurd (true≢false e)
+neither false b e = (refl, e)
+
+pub offset-low : (o n : ℤ) → badRange o n .test ≡ false → sizeOf o ≤ limit
+offset-low o n e =
+    let q = neither (isNegative o) (either (isNegative n) (ltb limit (sizeOf o))) e .1 in
+    ltb-false limit (sizeOf o) (neither (isNegative n) (ltb limit (sizeOf o)) q .1)
+
+length-good : (n : ℕ) → badLength n ≡ false → (0 < n) × (n ≤ 2147483647)
+length-good n e =
+    let p = neither (ltb n 1) (ltb 2147483647 n) e in
+    (omega (arith, ltb-false n 1 (p .0)), ltb-false 2147483647 n (p .1))
+
+counted : (fs : FileStorage) → opened fs .test ≡ false → manyPieces fs .test ≡ false → Counted fs
+counted fs a b =
+    let p = length-good (fs .«piece_length») a in
+    record { some = p .0; long = p .1; few = ltb-false 2147483647 (numPieces fs) b }
+
+-- one of its pieces
+pub record Inside (fs : FileStorage) (p : ℕ) : Type 0 where
+  pub set : Counted fs
+  pub below : p < numPieces fs
+  pub small : p < 2 ^ 32
+  pub start : p * fs .«piece_length» ≤ 2147483647 * 2147483647
+  pub size : pieceSize fs p ≤ 2147483647
+
+size-le : (fs : FileStorage) (p : ℕ) → 0 < fs .«piece_length» → pieceSize fs p ≤ fs .«piece_length»
+size-le fs p h = at (eqb (p + 1) (numPieces fs)) refl
+  where
+    at : (b : Bool) → eqb (p + 1) (numPieces fs) ≡ b → cond b (fs .«total_size» - startOf fs p) (fs .«piece_length») ≤ fs .«piece_length»
+    at true e =
+        let q = rw (← (eqb-true (p + 1) (numPieces fs) e), add-one p, suc-mul p (fs .«piece_length»)) at (ceiling-covers (fs .«total_size») (fs .«piece_length») h) in
+        omega arith
+    at false e = omega arith
+
+inside : (fs : FileStorage) (z : ℤ) (p : ℕ) → p ≡ indexOf z → Counted fs → noPiece fs z .test ≡ false → Inside fs p
+inside fs z p e c n =
+    let b : p < numPieces fs = rw e (below-is (numPieces fs) z (not-false (isBelow (numPieces fs) z) n)) in
+    record {
+      set = c;
+      below = b;
+      small = omega arith;
+      start = mul-le-mul {n₁ = p} {m₁ = fs .«piece_length»} {n₂ = 2147483647} {m₂ = 2147483647} (omega arith) (c .long);
+      size = omega (arith, size-le fs p (c .some));
+    }
+
+-- what is known after a question's `Go`
+pub pieces-known : (fs : FileStorage) {d : Check} → checkNumber d ≡ firstOf (opened fs ∷ manyPieces fs ∷ []) → d ≡ Go → Counted fs
+pieces-known fs p e =
+    let q = passed (opened fs ∷ manyPieces fs ∷ []) refl p e in
+    counted fs (q .0) (q .1 .0)
+
+pub piece-known : (fs : FileStorage) (z : ℤ) (bad held : Bool) {d : Check} (p : ℕ) → p ≡ indexOf z
+    → checkNumber d ≡ firstOf (opened fs ∷ manyPieces fs ∷ noPiece fs z ∷ when bad 14 ∷ short held ∷ []) → d ≡ Go → Inside fs p
+piece-known fs z bad held p h c e =
+    let q = passed (opened fs ∷ manyPieces fs ∷ noPiece fs z ∷ when bad 14 ∷ short held ∷ []) refl c e in
+    inside fs z p h (counted fs (q .0) (q .1 .0)) (q .1 .1 .0)
+
+pub piece-range-good : (fs : FileStorage) (z : ℤ) (bad held : Bool) {d : Check}
+    → checkNumber d ≡ firstOf (opened fs ∷ manyPieces fs ∷ noPiece fs z ∷ when bad 14 ∷ short held ∷ []) → d ≡ Go → bad ≡ false
+piece-range-good fs z bad held c e = passed (opened fs ∷ manyPieces fs ∷ noPiece fs z ∷ when bad 14 ∷ short held ∷ []) refl c e .1 .1 .1 .0
+
+pub record FilePassed (fs : FileStorage) (z : ℤ) (many bad tree : Bool) : Type 0 where
+  pub length : badLength (fs .«piece_length») ≡ false
+  pub below : indexOf z < fs .«num_files»
+  pub not-many : many ≡ false
+  pub not-bad : bad ≡ false
+  pub not-tree : tree ≡ false
+
+pub file-known : (fs : FileStorage) (z : ℤ) (many bad tree : Bool) (room : ℕ) {d : Check}
+    → checkNumber d ≡ firstOf (opened fs ∷ noFile fs z ∷ when many 13 ∷ when bad 14 ∷ when tree 16 ∷ short (leb (fs .«num_files») room) ∷ []) → d ≡ Go
+    → FilePassed fs z many bad tree
+file-known fs z many bad tree room c e =
+    let q = passed (opened fs ∷ noFile fs z ∷ when many 13 ∷ when bad 14 ∷ when tree 16 ∷ short (leb (fs .«num_files») room) ∷ []) refl c e in
+    record {
+      length = q .0;
+      below = below-is (fs .«num_files») z (not-false (isBelow (fs .«num_files») z) (q .1 .0));
+      not-many = q .1 .1 .0;
+      not-bad = q .1 .1 .1 .0;
+      not-tree = q .1 .1 .1 .1 .0;
+    }
+
+pub file-counted : (fs : FileStorage) (z : ℤ) (many bad tree : Bool) → many ≡ ltb 2147483647 (numPieces fs) → FilePassed fs z many bad tree → Counted fs
+file-counted fs z many bad tree h k = counted fs (k .length) (sym h ∙ k .not-many)
+
+-- two tests of one refusal
+pub either-rule : (o f s : Rule) (a b : Bool) → firstOf (o ∷ f ∷ when (either a b) 16 ∷ s ∷ []) ≡ firstOf (o ∷ f ∷ when a 16 ∷ when b 16 ∷ s ∷ [])
+either-rule o f s true b = refl
+either-rule o f s false b = refl
+
+-- the low 31 bits of a number that is another
+pub low-as : {z : ℤ} {n m : ℕ} → z ≡ pos (n % 2 ^ 31) → n ≡ m → z ≡ pos (m % 2 ^ 31)
+low-as h e = h ∙ ap (λ (k : ℕ). pos (k % 2 ^ 31)) e
+
+-- rules behind rules that all have numbers
+first-behind : (t : Bool) (n a b : ℕ) → 0 < n → cond t n (cond (eqb a 0) b a) ≡ cond (eqb (cond t n a) 0) b (cond t n a)
+first-behind true n a b h = let e : eqb n 0 ≡ false = ne-eqb n 0 (λ q. omega arith) in rw e
+first-behind false n a b h = refl
+
+pub first-append : (rs qs : List Rule) → named rs ≡ true → firstOf (rs ++ qs) ≡ cond (eqb (firstOf rs) 0) (firstOf qs) (firstOf rs)
+first-append [] qs h = refl
+first-append (r ∷ rs) qs h =
+    let q = named-first (ltb 0 (r .number)) (named rs) h in
+    ap (cond (r .test) (r .number)) (first-append rs qs (q .1)) ∙ first-behind (r .test) (r .number) (firstOf rs) (firstOf qs) (ltb-true 0 (r .number) (q .0))

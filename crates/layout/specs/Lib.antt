@@ -1,0 +1,9 @@
+-- The definitions that the contracts of `layout` cite.
+pub mod Results
+pub mod Search
+pub mod Questions
+pub mod Pieces
+pub mod Files
+pub mod Mapping
+pub mod Deciding
+pub mod Block

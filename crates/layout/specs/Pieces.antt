@@ -1,0 +1,38 @@
+-- Document 01, 'Layout answers': answers about pieces.
+use Prim.Native.Nat.{ℕ, _+_, _-_, _*_, min}
+use mathlib.Core.Bool.{Bool, cond}
+use mathlib.Core.List.{List}
+use lib.Dec.{eqb, leb}
+use lib.IntN.{ℤ, pos, negsuc}
+use Rattle.lists.specs.Lists.{ceiling}
+use Rattle.tables.specs.declared.storage.FileStorage.{FileStorage}
+use Rattle.tables.specs.Rows.{rowAt}
+use Rattle.layout.specs.Questions.{numPieces}
+use Rattle.layout.specs.Search.{partitionPoint, fileFound}
+
+-- n less 1, which is −1 for 0
+abbrev pub lessOne : ℕ → ℤ
+lessOne n = cond (eqb n 0) (negsuc 0) (pos (n - 1))
+
+abbrev pub startOf : FileStorage → ℕ → ℕ
+startOf fs p = p * fs .«piece_length»
+
+-- the size of piece p: the piece length, but for the last
+abbrev pub pieceSize : FileStorage → ℕ → ℕ
+pieceSize fs p = cond (eqb (p + 1) (numPieces fs)) (fs .«total_size» - startOf fs p) (fs .«piece_length»)
+
+-- piece p cut where the first file behind its start begins
+abbrev pub pieceSize2 : FileStorage → List ℕ → ℕ → ℕ
+pieceSize2 fs rows p =
+    cond (leb (fs .«num_files») (partitionPoint rows (fs .«num_files») (startOf fs p))) (pieceSize fs p)
+    (min (rowAt rows (partitionPoint rows (fs .«num_files») (startOf fs p)) .offset - startOf fs p) (fs .«piece_length»))
+
+-- 'A block is 16384 bytes'
+abbrev pub blocksIn : ℕ → ℕ
+blocksIn n = ceiling n 16384
+
+abbrev pub fileAtPiece : FileStorage → List ℕ → ℕ → ℕ
+fileAtPiece fs rows p = fileFound rows (fs .«num_files») (startOf fs p)
+
+abbrev pub lastFileAtPiece : FileStorage → List ℕ → ℕ → ℕ
+lastFileAtPiece fs rows p = fileFound rows (fs .«num_files») (startOf fs p + pieceSize fs p - 1)

@@ -1,0 +1,217 @@
+// Answers about pieces, and files at offsets and pieces. They rely on the search and on `types` for
+// signed numbers; each tests its refusals first (decide.rt).
+ghost use mathlib.Core.Path.{_≡_};
+ghost use mathlib.Core.List.{[], _∷_};
+ghost use Prim.Native.Nat.{_+_, _-_, _*_, _%_, _^_, _≤_, _<_};
+ghost use lib.IntN.{pos};
+ghost use Rattle.storage.specs.Addition.{sizeOf};
+ghost use Rattle.answers.specs.Answers.{indexOf, rowsHeld};
+ghost use Rattle.answers.specs.Results.{i32Says};
+ghost use Rattle.layout.specs.Results.{Range, pieceSays, fileSays, pieceRangeSays, fileRangeSays};
+ghost use Rattle.layout.specs.Questions.{asked, numPieces, opened, manyPieces, noPiece, badOffset, short};
+ghost use Rattle.layout.specs.Search.{fileFound};
+ghost use Rattle.layout.specs.Pieces.{lessOne, startOf, pieceSize, pieceSize2, blocksIn, fileAtPiece, lastFileAtPiece};
+use crate::decide::Check;
+use crate::decide::ask_piece;
+use crate::decide::ask_pieces;
+use crate::decide::ask_set;
+use crate::decide::count_pieces;
+use crate::decide::is_bad_offset;
+use crate::decide::is_held;
+use crate::number::ceil;
+use crate::number::less;
+use crate::number::piece_number;
+use crate::number::size64;
+use crate::number::smaller;
+use crate::result::FileRangeResult;
+use crate::result::FileResult;
+use crate::result::PieceRangeResult;
+use crate::result::PieceResult;
+use crate::search::find;
+use crate::search::partition_point;
+use answers::I32Result;
+use tables::FileStorage;
+use types::FileIndex;
+use types::FileIndexRange;
+use types::PieceIndex;
+use types::PieceIndexRange;
+
+// The last of n pieces, −1 where there is none.
+fn last_of(n: u64) -> PieceIndex
+    requires { ⌜ n ≤ 2147483647 ⌝ }
+    ensures { λ r. ⌜ r .0 ≡ lessOne n ⌝ }
+{
+    if n == 0 {
+        return PieceIndex::none();
+    }
+    PieceIndex::new(n - 1)
+}
+
+// Where piece p begins.
+pub(crate) fn start_of(fs: FileStorage, p: u64) -> u64
+    requires { ⌜ p * fs .«piece_length» < 2 ^ 64 ⌝ }
+    ensures { λ r. ⌜ r ≡ startOf fs p ⌝ }
+{
+    p * fs.piece_length
+}
+
+// The size of piece p: the piece length, but for the last.
+fn size_of(fs: FileStorage, p: u64) -> u64
+    requires { ⌜ (p < 2 ^ 32) × (p * fs .«piece_length» < 2 ^ 64) ⌝ }
+    ensures { λ r. ⌜ r ≡ pieceSize fs p ⌝ }
+{
+    if p + 1 == count_pieces(fs) {
+        return less(fs.total_size, start_of(fs, p));
+    }
+    fs.piece_length
+}
+
+// Piece p cut where the first file behind its start begins.
+fn size2_of(fs: FileStorage, rows: &[u64], p: u64) -> u64
+    requires { ⌜ (p < 2 ^ 32) × (p * fs .«piece_length» < 2 ^ 64) ⌝ }
+    ensures { λ r. ⌜ r ≡ pieceSize2 fs (now (rows .entry)) p ⌝ }
+{
+    let start = start_of(fs, p);
+    let next = partition_point(rows, fs.num_files, start);
+    if fs.num_files <= next {
+        return size_of(fs, p);
+    }
+    smaller(less(tables::offset_at(rows, next), start), fs.piece_length)
+}
+
+// The last byte's place of piece p.
+fn last_byte(fs: FileStorage, p: u64) -> u64
+    requires { ⌜ (p < 2 ^ 32) × (p * fs .«piece_length» + pieceSize fs p < 2 ^ 64) ⌝ }
+    ensures { λ r. ⌜ r ≡ startOf fs p + pieceSize fs p - 1 ⌝ }
+{
+    less(start_of(fs, p) + size_of(fs, p), 1)
+}
+
+// How many pieces the set has.
+pub fn num_pieces(fs: FileStorage) -> I32Result
+    ensures { λ r. ⌜ i32Says r ≡ asked (opened fs ∷ manyPieces fs ∷ []) (pos (numPieces fs)) ⌝ }
+{
+    match ask_pieces(fs) {
+        Check::Go => I32Result::Ok(types::signed32(count_pieces(fs))),
+        Check::Stop(e) => I32Result::Err(e),
+    }
+}
+
+// The last piece, −1 where there is none.
+pub fn last_piece(fs: FileStorage) -> PieceResult
+    ensures { λ r. ⌜ pieceSays r ≡ asked (opened fs ∷ manyPieces fs ∷ []) (lessOne (numPieces fs)) ⌝ }
+{
+    match ask_pieces(fs) {
+        Check::Go => PieceResult::Ok(last_of(count_pieces(fs))),
+        Check::Stop(e) => PieceResult::Err(e),
+    }
+}
+
+// All pieces.
+pub fn piece_range(fs: FileStorage) -> PieceRangeResult
+    ensures { λ r. ⌜ pieceRangeSays r ≡ asked (opened fs ∷ manyPieces fs ∷ []) (record { begin = pos 0; end = pos (numPieces fs) }) ⌝ }
+{
+    match ask_pieces(fs) {
+        Check::Go => PieceRangeResult::Ok(PieceIndexRange {
+            begin: PieceIndex::new(0),
+            end: PieceIndex::new(count_pieces(fs)),
+        }),
+        Check::Stop(e) => PieceRangeResult::Err(e),
+    }
+}
+
+// All files.
+pub fn file_range(fs: FileStorage) -> FileRangeResult
+    ensures { λ r. ⌜ fileRangeSays r ≡ asked (opened fs ∷ []) (record { begin = pos 0; end = pos (fs .«num_files» % 2 ^ 31) }) ⌝ }
+{
+    match ask_set(fs, false, true) {
+        Check::Go => FileRangeResult::Ok(FileIndexRange {
+            begin: FileIndex::new(0),
+            end: FileIndex::new(fs.num_files as u64),
+        }),
+        Check::Stop(e) => FileRangeResult::Err(e),
+    }
+}
+
+// The size of a piece: the piece length, but for the last.
+pub fn piece_size(fs: FileStorage, piece: PieceIndex) -> I32Result
+    ensures { λ r. ⌜ i32Says r ≡ asked (opened fs ∷ manyPieces fs ∷ noPiece fs (piece .0) ∷ []) (pos (pieceSize fs (indexOf (piece .0)) % 2 ^ 31)) ⌝ }
+{
+    match ask_piece(fs, piece, false, true) {
+        Check::Go => I32Result::Ok(types::signed32(size_of(fs, piece_number(piece)))),
+        Check::Stop(e) => I32Result::Err(e),
+    }
+}
+
+// The size of a piece, cut where the first file behind its start begins.
+pub fn piece_size2(fs: FileStorage, rows: &[u64], piece: PieceIndex) -> I32Result
+    ensures { λ r. ⌜ i32Says r ≡ asked (opened fs ∷ manyPieces fs ∷ noPiece fs (piece .0) ∷ short (rowsHeld fs (now (rows .entry))) ∷ []) (pos (pieceSize2 fs (now (rows .entry)) (indexOf (piece .0)) % 2 ^ 31)) ⌝ }
+{
+    match ask_piece(fs, piece, false, is_held(fs.num_files, rows.len() / 8)) {
+        Check::Go => I32Result::Ok(types::signed32(size2_of(fs, rows, piece_number(piece)))),
+        Check::Stop(e) => I32Result::Err(e),
+    }
+}
+
+// How many blocks such a cut piece has.
+pub fn blocks_in_piece2(fs: FileStorage, rows: &[u64], piece: PieceIndex) -> I32Result
+    ensures { λ r. ⌜ i32Says r ≡ asked (opened fs ∷ manyPieces fs ∷ noPiece fs (piece .0) ∷ short (rowsHeld fs (now (rows .entry))) ∷ []) (pos (blocksIn (pieceSize2 fs (now (rows .entry)) (indexOf (piece .0))) % 2 ^ 31)) ⌝ }
+{
+    match ask_piece(fs, piece, false, is_held(fs.num_files, rows.len() / 8)) {
+        Check::Go => I32Result::Ok(types::signed32(ceil(
+            size2_of(fs, rows, piece_number(piece)),
+            16384,
+        ))),
+        Check::Stop(e) => I32Result::Err(e),
+    }
+}
+
+// How many blocks a piece of full length has.
+pub fn blocks_per_piece(fs: FileStorage) -> I32Result
+    ensures { λ r. ⌜ i32Says r ≡ asked (opened fs ∷ []) (pos (blocksIn (fs .«piece_length») % 2 ^ 31)) ⌝ }
+{
+    match ask_set(fs, false, true) {
+        Check::Go => I32Result::Ok(types::signed32(ceil(fs.piece_length, 16384))),
+        Check::Stop(e) => I32Result::Err(e),
+    }
+}
+
+// The file at an offset.
+pub fn file_index_at_offset(fs: FileStorage, rows: &[u64], offset: i64) -> FileResult
+    ensures { λ r. ⌜ fileSays r ≡ asked (opened fs ∷ badOffset fs offset ∷ short (rowsHeld fs (now (rows .entry))) ∷ []) (pos (fileFound (now (rows .entry)) (fs .«num_files») (sizeOf offset) % 2 ^ 31)) ⌝ }
+{
+    match ask_set(
+        fs,
+        is_bad_offset(fs, offset),
+        is_held(fs.num_files, rows.len() / 8),
+    ) {
+        Check::Go => FileResult::Ok(FileIndex::new(
+            find(rows, fs.num_files, size64(offset)) as u64,
+        )),
+        Check::Stop(e) => FileResult::Err(e),
+    }
+}
+
+// The file at the start of a piece.
+pub fn file_index_at_piece(fs: FileStorage, rows: &[u64], piece: PieceIndex) -> FileResult
+    ensures { λ r. ⌜ fileSays r ≡ asked (opened fs ∷ manyPieces fs ∷ noPiece fs (piece .0) ∷ short (rowsHeld fs (now (rows .entry))) ∷ []) (pos (fileAtPiece fs (now (rows .entry)) (indexOf (piece .0)) % 2 ^ 31)) ⌝ }
+{
+    match ask_piece(fs, piece, false, is_held(fs.num_files, rows.len() / 8)) {
+        Check::Go => FileResult::Ok(FileIndex::new(
+            find(rows, fs.num_files, start_of(fs, piece_number(piece))) as u64,
+        )),
+        Check::Stop(e) => FileResult::Err(e),
+    }
+}
+
+// The file at the last byte of a piece.
+pub fn last_file_index_at_piece(fs: FileStorage, rows: &[u64], piece: PieceIndex) -> FileResult
+    ensures { λ r. ⌜ fileSays r ≡ asked (opened fs ∷ manyPieces fs ∷ noPiece fs (piece .0) ∷ short (rowsHeld fs (now (rows .entry))) ∷ []) (pos (lastFileAtPiece fs (now (rows .entry)) (indexOf (piece .0)) % 2 ^ 31)) ⌝ }
+{
+    match ask_piece(fs, piece, false, is_held(fs.num_files, rows.len() / 8)) {
+        Check::Go => FileResult::Ok(FileIndex::new(
+            find(rows, fs.num_files, last_byte(fs, piece_number(piece))) as u64,
+        )),
+        Check::Stop(e) => FileResult::Err(e),
+    }
+}
