@@ -1,19 +1,59 @@
 // Answers a script of calls on standard input over the port's libraries, a line of output for each
 // call, in the form that the driver over the Rust speaks too. What it answers is the libraries' to
 // promise; proved here is that the program is safe and ends.
+mod addition;
 mod calls;
+mod changes;
+mod file_questions;
 mod input;
 mod names;
 mod numbers;
+mod on_sets;
+mod opening;
 mod output;
 mod paths;
+mod places;
+mod roots;
 mod scan;
+mod set_questions;
+mod state;
 mod strings;
+mod values;
 mod widths;
 mod words;
 
-// Lends each part of the work its buffer.
+// Lends each set its quarter of every table, and its card.
 fn main() {
+    let mut rows = [0u64; 8192];
+    let mut roots = [0u8; 32768];
+    let mut times = [0i64; 1024];
+    let mut dirs = [0u64; 2048];
+    let mut text = text_areas();
+    let mut cards = [0u64; 65];
+    run(
+        &mut rows,
+        &mut roots,
+        &mut times,
+        &mut dirs,
+        &mut text,
+        &mut cards,
+    );
+}
+
+// The text areas of the four sets.
+fn text_areas() -> [u8; 1048576] {
+    [0u8; 1048576]
+}
+
+// Lends each part of the work its buffer.
+fn run(
+    rows: &mut [u64],
+    roots: &mut [u8],
+    times: &mut [i64],
+    dirs: &mut [u64],
+    text: &mut [u8],
+    cards: &mut [u64],
+) {
     let mut block = io::large_buffer();
     let mut line = io::large_buffer();
     let mut first = io::large_buffer();
@@ -26,6 +66,12 @@ fn main() {
         &mut first,
         &mut second,
         &mut joined,
+        rows,
+        roots,
+        times,
+        dirs,
+        text,
+        cards,
         &mut out,
     );
     output::flush(&mut out, used);
@@ -40,6 +86,12 @@ fn answer_all(
     first: &mut [u8],
     second: &mut [u8],
     joined: &mut [u8],
+    rows: &mut [u64],
+    roots: &mut [u8],
+    times: &mut [i64],
+    dirs: &mut [u64],
+    text: &mut [u8],
+    cards: &mut [u64],
     out: &mut [u8],
 ) -> usize {
     let mut turns = u64::MAX;
@@ -50,7 +102,21 @@ fn answer_all(
         if !cursor.is_line {
             return used;
         }
-        used = calls::answer_line(line, cursor.length, first, second, joined, out, used);
+        used = calls::answer_line(
+            line,
+            cursor.length,
+            first,
+            second,
+            joined,
+            rows,
+            roots,
+            times,
+            dirs,
+            text,
+            cards,
+            out,
+            used,
+        );
         turns -= 1;
     }
     used

@@ -3,6 +3,7 @@
 // Relies on `io` and on the accessors of `lists`.
 use crate::strings::is_plain;
 use libc::STDOUT_FILENO;
+use types::Unsigned;
 
 // Writes out what the buffer holds.
 pub(crate) fn flush(out: &mut [u8], used: usize) {
@@ -48,6 +49,11 @@ pub(crate) fn refused(out: &mut [u8], used: usize, number: u32) -> usize {
     end(out, behind)
 }
 
+// Puts the answer to a change that was made.
+pub(crate) fn done(out: &mut [u8], used: usize) -> usize {
+    text(out, used, b"ok\n")
+}
+
 // Puts the start of an answer that has values behind it.
 pub(crate) fn ok(out: &mut [u8], used: usize) -> usize {
     text(out, used, b"ok")
@@ -57,6 +63,67 @@ pub(crate) fn ok(out: &mut [u8], used: usize) -> usize {
 pub(crate) fn number(out: &mut [u8], used: usize, n: u64) -> usize {
     let at = put(out, used, b' ');
     digits(out, at, n)
+}
+
+// Puts a value that is an `i64`.
+pub(crate) fn long(out: &mut [u8], used: usize, n: i64) -> usize {
+    match types::unsigned64(n) {
+        Unsigned::Of(m) => number(out, used, m),
+        Unsigned::Negative => negative(out, used, types::unsigned64(!n)),
+    }
+}
+
+// Puts a value that is an `i32`.
+pub(crate) fn short(out: &mut [u8], used: usize, n: i32) -> usize {
+    match types::unsigned32(n) {
+        Unsigned::Of(m) => number(out, used, m),
+        Unsigned::Negative => negative(out, used, types::unsigned32(!n)),
+    }
+}
+
+// Puts a negative number, by how far it lies below −1.
+fn negative(out: &mut [u8], used: usize, distance: Unsigned) -> usize {
+    let at = text(out, used, b" -");
+    digits(out, at, above(distance))
+}
+
+// One more than a number.
+fn above(n: Unsigned) -> u64 {
+    match n {
+        Unsigned::Of(m) => {
+            if m < u64::MAX {
+                return m + 1;
+            }
+            m
+        }
+        Unsigned::Negative => 0,
+    }
+}
+
+// Puts a value that is a root, in lower-case hex.
+pub(crate) fn hex(out: &mut [u8], used: usize, bytes: &[u8]) -> usize {
+    let mut at = put(out, used, b' ');
+    let mut i = 0;
+    while i < bytes.len() {
+        at = hex_byte(out, at, bytes[i]);
+        i += 1;
+    }
+    at
+}
+
+// Puts a byte in lower-case hex.
+fn hex_byte(out: &mut [u8], used: usize, byte: u8) -> usize {
+    let at = put(out, used, lower_digit(byte / 16));
+    put(out, at, lower_digit(byte % 16))
+}
+
+// The lower-case hex digit of a value, of which only the last four bits count.
+fn lower_digit(value: u8) -> u8 {
+    let v = value % 16;
+    if v < 10 {
+        return b'0' + v;
+    }
+    87 + v
 }
 
 // Puts a value that is a Boolean.

@@ -78,7 +78,7 @@ fn coded(high: u8, low: u8, next: usize) -> Unit {
 }
 
 // The value of an upper-case hex digit; 16 for any other character.
-fn hex_value(c: u8) -> u8 {
+pub(crate) fn hex_value(c: u8) -> u8 {
     if c < b'0' {
         return 16;
     }

@@ -1,5 +1,6 @@
-//! A call's answer from the unchanged Rust. Where document 01 has a refusal the Rust isn't asked: a debug
-//! assertion would fire there.
+//! A call's answer from the unchanged Rust. Calls on paths, hashes and widths are answered here, calls on sets in
+//! sets.rs, set.rs and questions.rs. Where document 01 has a refusal the Rust isn't asked if a debug assertion
+//! would fire there.
 
 use bitdaemon_common::crc32c::crc32c;
 use bitdaemon_core::merkle::merkle_num_leafs;
@@ -7,55 +8,50 @@ use bitdaemon_core::path::{
     append_path, combine_path, filename, has_parent_path, is_complete, lsplit_path, lsplit_path_at, rsplit_path,
 };
 
+use crate::answer::{Answer, Refusal, Value, boolean, bytes, number};
 use crate::parse::Call;
-
-/// What a call answers: values, or a refusal by document 01's number.
-pub enum Answer {
-    Ok(Vec<Value>),
-    Refused(u32),
-}
-
-/// A value of an answer.
-pub enum Value {
-    Bytes(Vec<u8>),
-    Number(i128),
-    Boolean(bool),
-}
-
-/// Document 01's refusal 16, of a tree without leaves or with too many.
-const NO_TREE: u32 = 16;
+use crate::questions;
+use crate::sets::Sets;
 
 /// The most leaves of a tree, from document 01's table.
 const MOST_LEAVES: usize = 1_073_741_823;
 
-/// The answer to a call.
-pub fn answer(call: &Call) -> Answer {
-    match call {
+/// The answer to a call, or nothing if it speaks of a set that was never opened.
+pub fn answer(call: &Call, sets: &mut Sets) -> Option<Answer> {
+    Some(match call {
         Call::Rsplit(path) => two(rsplit_path(path)),
         Call::Lsplit(path) => two(lsplit_path(path)),
         Call::LsplitAt(path, place) => two(lsplit_path_at(path, *place)),
-        Call::HasParent(path) => one(Value::Boolean(has_parent_path(path))),
-        Call::IsComplete(path) => one(Value::Boolean(is_complete(path))),
-        Call::Filename(path) => one(Value::Bytes(filename(path).to_vec())),
-        Call::Append(branch, leaf) => one(Value::Bytes(appended(branch, leaf))),
-        Call::Combine(left, right) => one(Value::Bytes(combine_path(left, right))),
-        Call::Crc(bytes) => one(Value::Number(crc32c(bytes).into())),
-        Call::Width(0) => Answer::Refused(NO_TREE),
-        Call::Width(leaves) if *leaves > MOST_LEAVES => Answer::Refused(NO_TREE),
-        Call::Width(leaves) => one(Value::Number(merkle_num_leafs(*leaves) as i128)),
-    }
-}
-
-fn one(value: Value) -> Answer {
-    Answer::Ok(vec![value])
+        Call::HasParent(path) => boolean(has_parent_path(path)),
+        Call::IsComplete(path) => boolean(is_complete(path)),
+        Call::Filename(path) => bytes(filename(path)),
+        Call::Append(branch, leaf) => bytes(&appended(branch, leaf)),
+        Call::Combine(left, right) => bytes(&combine_path(left, right)),
+        Call::Crc(bytes) => number(crc32c(bytes)),
+        Call::Width(leaves) => width(*leaves),
+        Call::Open(piece_length, room) => sets.open(*piece_length, *room),
+        Call::Use(place) => sets.turn_to(*place),
+        Call::Reset => sets.reset(),
+        Call::Add(addition) => sets.current()?.add(addition),
+        Call::Trim => sets.current()?.trim(),
+        Call::AskSet(question) => questions::on_set(sets.current()?, question),
+        Call::AskFile(question, file) => questions::on_file(sets.current()?, question, *file),
+    })
 }
 
 fn two((first, second): (&[u8], &[u8])) -> Answer {
-    Answer::Ok(vec![Value::Bytes(first.to_vec()), Value::Bytes(second.to_vec())])
+    Ok(vec![Value::Bytes(first.to_vec()), Value::Bytes(second.to_vec())])
 }
 
 fn appended(branch: &[u8], leaf: &[u8]) -> Vec<u8> {
     let mut path = branch.to_vec();
     append_path(&mut path, leaf);
     path
+}
+
+fn width(leaves: usize) -> Answer {
+    if leaves == 0 || leaves > MOST_LEAVES {
+        return Err(Refusal::NoTree);
+    }
+    number(merkle_num_leafs(leaves) as i128)
 }

@@ -1,7 +1,11 @@
-//! Lines of a script: which give no output, and which call a line is. A number is in form if it is written as it
-//! would be printed: decimal digits with no leading zero, no `+` and no `-0`; anything else is no number.
+//! Lines of a script: which give no output, and which call a line is. What single words stand for is in words.rs.
 
-use std::str::FromStr;
+use bitdaemon_common::FileIndex;
+
+use crate::questions::{FileQuestion, SetQuestion};
+use crate::set::{Addition, Room, USUAL_ROOM};
+use crate::sets::SETS;
+use crate::words::{Words, number};
 
 /// A call with its arguments.
 pub enum Call {
@@ -15,6 +19,13 @@ pub enum Call {
     Combine(Vec<u8>, Vec<u8>),
     Crc(Vec<u8>),
     Width(usize),
+    Open(i32, Room),
+    Use(usize),
+    Reset,
+    Add(Addition),
+    Trim,
+    AskSet(SetQuestion),
+    AskFile(FileQuestion, FileIndex),
 }
 
 /// Whether a line gives no output: it has blanks only, or begins with `#`.
@@ -36,74 +47,86 @@ pub fn call(line: &[u8]) -> Option<Call> {
         b"combine" => Call::Combine(words.string()?, words.string()?),
         b"crc" => Call::Crc(words.string()?),
         b"width" => Call::Width(words.number()?),
-        _ => return None,
+        b"open" => Call::Open(words.number()?, room(&mut words)?),
+        b"use" => Call::Use(words.number().filter(|&place| place < SETS)?),
+        b"reset" => Call::Reset,
+        b"add" => Call::Add(addition(&mut words)?),
+        b"trim" => Call::Trim,
+        name => question(name, &mut words)?,
     };
     words.next().is_none().then_some(call)
 }
 
-/// The words of a line, parted by blanks.
-struct Words<'a> {
-    rest: &'a [u8],
+/// A question on a set or a file.
+fn question(name: &[u8], words: &mut Words) -> Option<Call> {
+    if let Some(question) = set_question(name) {
+        return Some(Call::AskSet(question));
+    }
+    Some(Call::AskFile(file_question(name)?, FileIndex(words.number()?)))
 }
 
-impl<'a> Words<'a> {
-    fn new(line: &'a [u8]) -> Self {
-        Self { rest: line }
-    }
-
-    /// The next word, if there is one.
-    fn next(&mut self) -> Option<&'a [u8]> {
-        let start = self.rest.iter().position(|&c| c != b' ')?;
-        let word = &self.rest[start..];
-        let end = word.iter().position(|&c| c == b' ').unwrap_or(word.len());
-        self.rest = &word[end..];
-        Some(&word[..end])
-    }
-
-    /// The next word as a byte string.
-    fn string(&mut self) -> Option<Vec<u8>> {
-        string(self.next()?)
-    }
-
-    /// The next word as a number of the wanted type.
-    fn number<N: FromStr + ToString>(&mut self) -> Option<N> {
-        number(self.next()?)
-    }
+fn set_question(name: &[u8]) -> Option<SetQuestion> {
+    Some(match name {
+        b"name" => SetQuestion::Name,
+        b"num_files" => SetQuestion::NumFiles,
+        b"total_size" => SetQuestion::TotalSize,
+        b"size_on_disk" => SetQuestion::SizeOnDisk,
+        b"piece_length" => SetQuestion::PieceLength,
+        b"v2" => SetQuestion::V2,
+        b"dirs" => SetQuestion::Dirs,
+        b"text_bytes" => SetQuestion::TextBytes,
+        _ => return None,
+    })
 }
 
-/// The bytes that a word `:..` stands for.
-fn string(word: &[u8]) -> Option<Vec<u8>> {
-    let mut bytes = Vec::with_capacity(word.len());
-    let mut rest = word.strip_prefix(b":")?;
-    while let [c, behind @ ..] = rest {
-        rest = match (*c, behind) {
-            (b'%', [high, low, behind @ ..]) => {
-                bytes.push(digit(*high)? << 4 | digit(*low)?);
-                behind
-            }
-            (b'%', _) => return None,
-            (33..=126, _) => {
-                bytes.push(*c);
-                behind
-            }
+fn file_question(name: &[u8]) -> Option<FileQuestion> {
+    Some(match name {
+        b"file_name" => FileQuestion::FileName,
+        b"file_size" => FileQuestion::FileSize,
+        b"file_offset" => FileQuestion::FileOffset,
+        b"pad_file_at" => FileQuestion::PadFileAt,
+        b"file_flags" => FileQuestion::FileFlags,
+        b"mtime" => FileQuestion::Mtime,
+        b"root" => FileQuestion::Root,
+        b"file_absolute_path" => FileQuestion::FileAbsolutePath,
+        b"internal_file_path" => FileQuestion::InternalFilePath,
+        b"symlink" => FileQuestion::Symlink,
+        b"internal_symlink" => FileQuestion::InternalSymlink,
+        _ => return None,
+    })
+}
+
+/// The rest of a line `open LENGTH`: each kind of room at most once, in any order.
+fn room(words: &mut Words) -> Option<Room> {
+    let (mut files, mut directories, mut text) = (None, None, None);
+    while let Some(word) = words.next() {
+        let sign = word.iter().position(|&c| c == b'=')?;
+        let place = match &word[..sign] {
+            b"files" => &mut files,
+            b"dirs" => &mut directories,
+            b"text" => &mut text,
             _ => return None,
         };
+        if place.replace(number(&word[sign + 1..])?).is_some() {
+            return None;
+        }
     }
-    Some(bytes)
+    Some(Room {
+        files: files.unwrap_or(USUAL_ROOM.files),
+        directories: directories.unwrap_or(USUAL_ROOM.directories),
+        text: text.unwrap_or(USUAL_ROOM.text),
+    })
 }
 
-/// The value of an upper-case hex digit.
-fn digit(c: u8) -> Option<u8> {
-    match c {
-        b'0'..=b'9' => Some(c - b'0'),
-        b'A'..=b'F' => Some(c - b'A' + 10),
-        _ => None,
-    }
-}
-
-/// The number that a word is, if it is one of the type and written as it would be printed.
-fn number<N: FromStr + ToString>(word: &[u8]) -> Option<N> {
-    let text = str::from_utf8(word).ok()?;
-    let number: N = text.parse().ok()?;
-    (number.to_string() == text).then_some(number)
+/// The words behind `add`: NAME PATH SIZE FLAGS MTIME LINK ROOT.
+fn addition(words: &mut Words) -> Option<Addition> {
+    Some(Addition {
+        name: words.optional_string()?,
+        path: words.string()?,
+        size: words.number()?,
+        flags: words.number()?,
+        time: words.number()?,
+        link: words.string()?,
+        root: words.optional_root()?,
+    })
 }

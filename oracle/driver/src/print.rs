@@ -2,23 +2,23 @@
 
 use std::io::Write;
 
-use crate::call::{Answer, Value};
+use crate::answer::{Answer, Value};
 
 const HEX: &[u8; 16] = b"0123456789ABCDEF";
 
 /// Writes an answer's line behind `text`.
 pub fn answer(answer: Option<&Answer>, text: &mut Vec<u8>) {
     match answer {
-        Some(Answer::Ok(values)) => {
+        Some(Ok(values)) => {
             text.extend_from_slice(b"ok");
             for v in values {
                 text.push(b' ');
                 value(v, text);
             }
         }
-        Some(Answer::Refused(n)) => {
+        Some(Err(refusal)) => {
             text.extend_from_slice(b"refused ");
-            number((*n).into(), text);
+            number(*refusal as i128, text);
         }
         None => text.extend_from_slice(b"badcall"),
     }
@@ -30,6 +30,7 @@ fn value(value: &Value, text: &mut Vec<u8>) {
         Value::Bytes(bytes) => string(bytes, text),
         Value::Number(n) => number(*n, text),
         Value::Boolean(b) => text.push(if *b { b'1' } else { b'0' }),
+        Value::Root(bytes) => root(bytes, text),
     }
 }
 
@@ -46,5 +47,12 @@ fn string(bytes: &[u8], text: &mut Vec<u8>) {
         } else {
             text.push(c);
         }
+    }
+}
+
+/// The bytes in lower-case hex.
+fn root(bytes: &[u8; 32], text: &mut Vec<u8>) {
+    for c in bytes {
+        write!(text, "{c:02x}").expect("a Vec takes what is written");
     }
 }

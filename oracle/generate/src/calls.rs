@@ -49,7 +49,7 @@ pub fn paths_up_to(script: &mut Script, longest: usize, farthest: u64) -> io::Re
     }
     for path in &paths {
         for place in 0..=farthest {
-            script.call("lsplit_at", &[Word::Bytes(path), Word::Number(place)])?;
+            script.call("lsplit_at", &[Word::Bytes(path), Word::Number(place.into())])?;
         }
     }
     Ok(())
@@ -84,7 +84,7 @@ pub fn random(script: &mut Script, random: &mut Random, count: usize) -> io::Res
         }
         let path = bytes::path(random);
         let place = place(random, path.len());
-        script.call("lsplit_at", &[Word::Bytes(&path), Word::Number(place)])?;
+        script.call("lsplit_at", &[Word::Bytes(&path), Word::Number(place.into())])?;
         script.call("crc", &[Word::Bytes(&bytes::any(random))])?;
     }
     Ok(())

@@ -1,12 +1,19 @@
-//! Prints a script of calls: `generate SEED COUNT` a long one with COUNT random inputs for each call, `generate sample`
-//! the short one that is stored with its answers. The same arguments always give the same script.
+//! Prints a script of calls: `generate SEED COUNT` a long one with COUNT random inputs for each call without a set,
+//! `generate sets SEED COUNT` one with COUNT changes of sets, `generate links` one that passes the most link texts,
+//! `generate sample` and `generate sample sets` the short ones that are stored with their answers. The same arguments
+//! always give the same script.
 
+mod additions;
+mod asking;
 mod bytes;
 mod calls;
+mod links;
 mod malformed;
 mod random;
 mod sample;
+mod scenes;
 mod script;
+mod sets;
 mod widths;
 
 use std::io::{self, BufWriter};
@@ -21,11 +28,11 @@ fn main() -> ExitCode {
     let mut script = Script::new(BufWriter::with_capacity(1 << 20, io::stdout().lock()));
     let written = match words.as_slice() {
         ["sample"] => sample::write(&mut script),
-        [seed, count] => match (seed.parse(), count.parse()) {
-            (Ok(seed), Ok(count)) => long(&mut script, seed, count),
-            _ => return usage(),
-        },
-        _ => return usage(),
+        ["sample", "sets"] => sample::write_sets(&mut script),
+        ["links"] => links::write(&mut script),
+        ["sets", seed, count] => with_numbers(seed, count, |seed, count| sets(&mut script, seed, count)),
+        [seed, count] => with_numbers(seed, count, |seed, count| long(&mut script, seed, count)),
+        _ => Err(wrong_use()),
     };
     match written.and_then(|()| script.finish()) {
         Ok(()) => ExitCode::SUCCESS,
@@ -36,9 +43,24 @@ fn main() -> ExitCode {
     }
 }
 
-fn usage() -> ExitCode {
-    eprintln!("usage: generate SEED COUNT, or generate sample");
-    ExitCode::from(2)
+fn wrong_use() -> io::Error {
+    io::Error::other("usage: generate [sets] SEED COUNT, generate links, or generate sample [sets]")
+}
+
+/// Writes a script that depends on two numbers.
+fn with_numbers(seed: &str, count: &str, write: impl FnOnce(u64, usize) -> io::Result<()>) -> io::Result<()> {
+    match (seed.parse(), count.parse()) {
+        (Ok(seed), Ok(count)) => write(seed, count),
+        _ => Err(wrong_use()),
+    }
+}
+
+/// Lines out of form, then sets that show one rule each, then random changes.
+fn sets(script: &mut Script, seed: u64, count: usize) -> io::Result<()> {
+    let mut random = Random::new(seed);
+    malformed::fixed_sets(script)?;
+    sets::scenes(script, &mut random)?;
+    sets::random(script, &mut random, count)
 }
 
 /// Published vectors, then short inputs exhaustively, then random ones.

@@ -1,4 +1,4 @@
-//! The short script whose answers are stored beside the program that answers it.
+//! The short scripts whose answers are stored beside the program that answers them.
 
 use std::io;
 
@@ -6,6 +6,7 @@ use crate::calls;
 use crate::malformed;
 use crate::random::Random;
 use crate::script::Script;
+use crate::sets;
 use crate::widths;
 
 const HEAD: &[&str] = &[
@@ -16,6 +17,23 @@ const HEAD: &[&str] = &[
 
 /// Paths whose pairs are asked for.
 const JOINED: [&[u8]; 12] = [b"", b".", b"/", b"a", b"\\", b"..", b"a/", b"/a", b"./", b"a.", b"a//", b"a/b"];
+
+const SETS_HEAD: &[&str] = &[
+    "# A sample of calls on sets, printed by `generate sample sets` of the folder oracle; the answers beside it are those of",
+    "# the unchanged Rust. `oracle/store` writes both files. First come the lines out of form, then sets that show one rule",
+    "# each, then random ones.",
+];
+
+pub fn write_sets(script: &mut Script) -> io::Result<()> {
+    let mut random = Random::new(1);
+    script.keep_to_text();
+    for line in SETS_HEAD {
+        script.line(line.as_bytes())?;
+    }
+    malformed::fixed_sets(script)?;
+    sets::scenes(script, &mut random)?;
+    sets::random(script, &mut random, 50)
+}
 
 pub fn write(script: &mut Script) -> io::Result<()> {
     let mut random = Random::new(1);

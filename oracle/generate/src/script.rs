@@ -12,10 +12,11 @@ pub struct Script<'a> {
     is_text: bool,
 }
 
-/// A word behind a call's name.
+/// A word behind a call's name; a plain one stands as it is.
 pub enum Word<'a> {
     Bytes(&'a [u8]),
-    Number(u64),
+    Number(i128),
+    Plain(&'a [u8]),
 }
 
 impl<'a> Script<'a> {
@@ -30,21 +31,13 @@ impl<'a> Script<'a> {
 
     /// A call.
     pub fn call(&mut self, name: &str, words: &[Word]) -> io::Result<()> {
-        let mut line = name.as_bytes().to_vec();
-        for word in words {
-            line.push(b' ');
-            match word {
-                Word::Bytes(bytes) => string(bytes, &mut line),
-                Word::Number(n) => line.extend_from_slice(n.to_string().as_bytes()),
-            }
-        }
-        self.line(&line)
+        self.line(&call(name, words))
     }
 
     /// Any line.
     pub fn line(&mut self, line: &[u8]) -> io::Result<()> {
         let is_taken = !self.is_text || line.iter().all(|c| (32..=126).contains(c));
-        if line.len() <= LONGEST && is_taken {
+        if is_short(line) && is_taken {
             self.out.write_all(line)?;
             self.out.write_all(b"\n")?;
         }
@@ -54,6 +47,25 @@ impl<'a> Script<'a> {
     pub fn finish(mut self) -> io::Result<()> {
         self.out.flush()
     }
+}
+
+/// Whether every program takes a line of that length.
+pub fn is_short(line: &[u8]) -> bool {
+    line.len() <= LONGEST
+}
+
+/// The line of a call.
+pub fn call(name: &str, words: &[Word]) -> Vec<u8> {
+    let mut line = name.as_bytes().to_vec();
+    for word in words {
+        line.push(b' ');
+        match word {
+            Word::Bytes(bytes) => string(bytes, &mut line),
+            Word::Number(n) => line.extend_from_slice(n.to_string().as_bytes()),
+            Word::Plain(text) => line.extend_from_slice(text),
+        }
+    }
+    line
 }
 
 /// `:` and the bytes, all but graphic ASCII and `%` itself as `%XX`.

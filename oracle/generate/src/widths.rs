@@ -13,7 +13,7 @@ pub fn fixed(script: &mut Script) -> io::Result<()> {
     let powers = (0..=40).map(|k| 1 << k);
     let around = powers.flat_map(|n: u64| [n - 1, n, n + 1]);
     for n in around.chain([MOST - 1, MOST, MOST + 1, u64::MAX - 1, u64::MAX]) {
-        script.call("width", &[Word::Number(n)])?;
+        script.call("width", &[Word::Number(n.into())])?;
     }
     Ok(())
 }
@@ -22,7 +22,7 @@ pub fn fixed(script: &mut Script) -> io::Result<()> {
 pub fn random(script: &mut Script, random: &mut Random, count: usize) -> io::Result<()> {
     for _ in 0..count {
         let n = if random.once_in(2) { random.number() } else { random.next() % (MOST + 2) };
-        script.call("width", &[Word::Number(n)])?;
+        script.call("width", &[Word::Number(n.into())])?;
     }
     Ok(())
 }

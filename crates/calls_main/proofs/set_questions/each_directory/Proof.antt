@@ -1,0 +1,56 @@
+-- The loop keeps the length of the buffer, and the directories that are left are its measure.
+use Prim.Native.Nat.{_-_}
+use mathlib.Core.Path.{_≡_}
+use borrow.Author.Needs.{needs}
+use lib.ListN.{length}
+use Rattle.calls_main.proofs.set_questions.each_directory.Statement.{statement}
+use Rattle.calls_main.proofs.set_questions.each_directory.Tie as tie
+
+abbrev Inv-loop : tie.InvT-loop
+Inv-loop fs dirs text n out₀ used count at₀ i₀ out at i = length out ≡ length out₀
+
+abbrev μ-loop : tie.MeasureT-loop
+μ-loop fs dirs text n out₀ used count at₀ i₀ out at i = count - i
+
+get-requires : tie.Need-get-requires Inv-loop μ-loop
+get-requires c κs = search needs
+
+loop-holds : tie.Need-loop-holds Inv-loop μ-loop
+loop-holds c = search needs
+
+path-at-requires : tie.Need-path-at-requires Inv-loop μ-loop
+path-at-requires c κs = search needs
+
+directory-requires : tie.Need-directory-requires Inv-loop μ-loop
+directory-requires c κs = search needs
+
+add-i : tie.Need-add-i Inv-loop μ-loop
+add-i c = search needs
+
+loop-less : tie.Need-loop-less Inv-loop μ-loop
+loop-less c = search needs
+
+loop-again : tie.Need-loop-again Inv-loop μ-loop
+loop-again c = search needs
+
+same-length : tie.Need-same-length Inv-loop μ-loop
+same-length c = search needs
+
+returns : tie.Need-returns Inv-loop μ-loop
+returns c = search needs
+
+pub each-directory-spec : {M : Type 1} → statement M
+each-directory-spec =
+    tie.close
+    (tie.spec
+    Inv-loop
+    μ-loop
+    get-requires
+    loop-holds
+    path-at-requires
+    directory-requires
+    add-i
+    loop-less
+    loop-again
+    same-length
+    returns)

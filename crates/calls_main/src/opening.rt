@@ -1,0 +1,141 @@
+// Opening a set, turning to another, and forgetting all. Relies on `storage`, and on the modules for
+// words and output.
+ghost use Prim.Native.Nat.{_≤_};
+use crate::numbers;
+use crate::numbers::Number;
+use crate::numbers::Short;
+use crate::output;
+use crate::state;
+use crate::state::Room;
+use crate::words;
+use storage::StorageResult;
+
+// What a line says of one kind of room: whether a word names it, and how many places it has.
+struct Named {
+    is_named: bool,
+    is_formed: bool,
+    places: usize,
+}
+
+// `open LENGTH [files=N] [dirs=N] [text=N]`.
+pub(crate) fn open(line: &[u8], cards: &mut [u64], out: &mut [u8], used: usize) -> usize {
+    let Short::Is(piece_length) = numbers::short_word(line, 1) else {
+        return output::bad_call(out, used);
+    };
+    let usual = state::usual_room();
+    let files = room_of(line, b"files=", usual.files);
+    let dirs = room_of(line, b"dirs=", usual.dirs);
+    let text = room_of(line, b"text=", usual.text);
+    if words::has(
+        line,
+        2 + one(files.is_named) + one(dirs.is_named) + one(text.is_named),
+    ) {
+        return output::bad_call(out, used);
+    }
+    if !all(files.is_formed, dirs.is_formed, text.is_formed) {
+        return output::bad_call(out, used);
+    }
+    let room = Room {
+        files: files.places,
+        dirs: dirs.places,
+        text: text.places,
+    };
+    put_in(piece_length, room, cards, out, used)
+}
+
+// Puts a new set in place of the one that is spoken of, where its piece length is in range.
+fn put_in(piece_length: i32, room: Room, cards: &mut [u64], out: &mut [u8], used: usize) -> usize {
+    match storage::open(piece_length) {
+        StorageResult::Ok(fs) => {
+            state::put_room(cards, room);
+            state::put_record(cards, fs);
+            output::done(out, used)
+        }
+        StorageResult::Err(refusal) => output::refused(out, used, types::number(refusal)),
+    }
+}
+
+// A kind of room by its name, with `=` behind it. Three words may name room; of one kind the first counts.
+fn room_of(line: &[u8], name: &[u8], most: usize) -> Named {
+    if names(line, 2, name) {
+        return counted(line, 2, name, most);
+    }
+    if names(line, 3, name) {
+        return counted(line, 3, name, most);
+    }
+    if names(line, 4, name) {
+        return counted(line, 4, name, most);
+    }
+    Named {
+        is_named: false,
+        is_formed: true,
+        places: most,
+    }
+}
+
+// Whether a word of the line begins with a name.
+fn names(line: &[u8], number: usize, name: &[u8]) -> bool {
+    lists::same(lists::part(words::word(line, number), 0, name.len()), name)
+}
+
+// The room that a word of the line names; it is out of form where it is more than the program has.
+fn counted(line: &[u8], number: usize, name: &[u8], most: usize) -> Named {
+    let word = words::word(line, number);
+    let Number::Is(n) = numbers::parse(lists::part(word, name.len(), word.len())) else {
+        return Named {
+            is_named: true,
+            is_formed: false,
+            places: 0,
+        };
+    };
+    let places = n as usize;
+    Named {
+        is_named: true,
+        is_formed: places <= most,
+        places: places,
+    }
+}
+
+// 1 for what is so, and 0 for what isn't.
+fn one(is_so: bool) -> usize
+    ensures { λ r. ⌜ r ≤ 1 ⌝ }
+{
+    if is_so {
+        return 1;
+    }
+    0
+}
+
+// Whether three things are so.
+fn all(a: bool, b: bool, c: bool) -> bool {
+    if a {
+        if b {
+            return c;
+        }
+    }
+    false
+}
+
+// `use N`.
+pub(crate) fn turn_to(line: &[u8], cards: &mut [u64], out: &mut [u8], used: usize) -> usize {
+    if words::has(line, 2) {
+        return output::bad_call(out, used);
+    }
+    let Number::Is(place) = numbers::word(line, 1) else {
+        return output::bad_call(out, used);
+    };
+    if 3 < place {
+        return output::bad_call(out, used);
+    }
+    state::turn_to(cards, place);
+    output::done(out, used)
+}
+
+// `reset`.
+pub(crate) fn reset(line: &[u8], cards: &mut [u64], out: &mut [u8], used: usize) -> usize {
+    if words::has(line, 1) {
+        return output::bad_call(out, used);
+    }
+    state::reset(cards);
+    output::done(out, used)
+}

@@ -1,0 +1,39 @@
+//! The four sets of a script, and which of them is spoken of.
+
+use crate::answer::{Answer, done};
+use crate::set::{Room, Set};
+
+/// How many sets a script has.
+pub const SETS: usize = 4;
+
+/// The sets that were opened, and the place of the one that calls speak of.
+#[derive(Default)]
+pub struct Sets {
+    all: [Option<Set>; SETS],
+    at: usize,
+}
+
+impl Sets {
+    /// Puts a new set in place of the one that is spoken of.
+    pub fn open(&mut self, piece_length: i32, room: Room) -> Answer {
+        self.all[self.at] = Some(Set::open(piece_length, room)?);
+        done()
+    }
+
+    /// Speaks of another set, whose place is below SETS.
+    pub fn turn_to(&mut self, place: usize) -> Answer {
+        self.at = place;
+        done()
+    }
+
+    /// Forgets all sets, and speaks of the first again.
+    pub fn reset(&mut self) -> Answer {
+        *self = Self::default();
+        done()
+    }
+
+    /// The set that is spoken of, if it was opened.
+    pub fn current(&mut self) -> Option<&mut Set> {
+        self.all[self.at].as_mut()
+    }
+}

@@ -1,0 +1,189 @@
+//! Scripts on sets: random changes, and questions after each. Changes are tried out on sets of the driver, which
+//! say how many files there are to ask about, and how much room a set needs at each step.
+
+use std::io;
+
+use driver::{Room, SETS, Set, Sets, USUAL_ROOM};
+
+use crate::additions::{Taste, addition, plain};
+use crate::asking;
+use crate::random::Random;
+use crate::scenes::SCENES;
+use crate::script::{Script, Word, call};
+
+/// Piece lengths: the smallest, small ones, some by which the largest total can be divided, usual ones, the largest.
+const LENGTHS: [i32; 12] = [1, 2, 3, 7, 10, 10, 15, 255, 16384, 16384, 65536, i32::MAX];
+
+/// The words by which room is named.
+const KINDS: [&str; 3] = ["files", "dirs", "text"];
+
+/// A set to be built: its piece length, its changes, and what it has after each where there is room for all.
+struct Plan {
+    piece_length: i32,
+    changes: Vec<Vec<u8>>,
+    needs: Vec<Room>,
+}
+
+/// As many random changes as wanted, to sets that are built one at a time or side by side.
+pub fn random(script: &mut Script, random: &mut Random, count: usize) -> io::Result<()> {
+    let mut sets = Sets::default();
+    let mut left = count;
+    while left > 0 {
+        let sides = if random.once_in(6) { 1 + random.below(SETS) } else { 1 };
+        let mut plans = Vec::new();
+        while plans.len() < sides && left > 0 {
+            let plan = Plan::new(random, left);
+            left -= plan.changes.len();
+            plans.push(plan);
+        }
+        build(script, random, &mut sets, &plans)?;
+        if random.once_in(8) {
+            ask(script, &mut sets, b"reset")?;
+            asking::few(script, random)?;
+        }
+    }
+    Ok(())
+}
+
+/// The sets of SCENES, each with every question at the end. The first set is the one that is spoken of.
+pub fn scenes(script: &mut Script, random: &mut Random) -> io::Result<()> {
+    let mut sets = Sets::default();
+    for lines in SCENES {
+        for line in *lines {
+            ask(script, &mut sets, line.as_bytes())?;
+        }
+        asking::all(script, random, current(&mut sets))?;
+    }
+    Ok(())
+}
+
+/// Writes a line that changes something, and changes the sets that stand for the script's.
+pub fn ask(script: &mut Script, sets: &mut Sets, line: &[u8]) -> io::Result<bool> {
+    script.line(line)?;
+    Ok(play(sets, line))
+}
+
+/// Changes sets by a line, and says whether it was taken.
+fn play(sets: &mut Sets, line: &[u8]) -> bool {
+    let mut answer = Vec::new();
+    driver::answer(line, sets, &mut answer);
+    answer.starts_with(b"ok")
+}
+
+fn current(sets: &mut Sets) -> &mut Set {
+    sets.current().expect("a set was opened")
+}
+
+/// Opens a set for each plan, and makes the changes of all plans, mixed.
+fn build(script: &mut Script, random: &mut Random, sets: &mut Sets, plans: &[Plan]) -> io::Result<()> {
+    let first = if plans.len() == 1 { random.below(SETS) } else { 0 };
+    for (i, plan) in plans.iter().enumerate() {
+        turn_to(script, sets, first + i)?;
+        if random.once_in(16) {
+            let length = random.one_of(&[0, -1, i32::MIN]);
+            ask(script, sets, &call("open", &[Word::Number(length.into())]))?;
+            asking::few(script, random)?;
+        }
+        ask(script, sets, &plan.opening(random))?;
+        asking::all(script, random, current(sets))?;
+    }
+    let mut made = vec![0; plans.len()];
+    loop {
+        let open: Vec<usize> = (0..plans.len()).filter(|&i| made[i] < plans[i].changes.len()).collect();
+        if open.is_empty() {
+            return Ok(());
+        }
+        let i = random.one_of(&open);
+        if plans.len() > 1 {
+            turn_to(script, sets, i)?;
+        }
+        let is_made = ask(script, sets, &plans[i].changes[made[i]])?;
+        made[i] += 1;
+        let asked = if is_made { asking::all } else { asking::some };
+        asked(script, random, current(sets))?;
+    }
+}
+
+fn turn_to(script: &mut Script, sets: &mut Sets, place: usize) -> io::Result<()> {
+    ask(script, sets, &call("use", &[Word::Number(place as i128)]))?;
+    Ok(())
+}
+
+impl Plan {
+    /// A random plan of at most `most` changes, and at least one.
+    fn new(random: &mut Random, most: usize) -> Self {
+        let taste = Taste::new(random);
+        match random.below(200) {
+            0 => Self::by(random, most, 300, |random, set, _| addition(random, &taste, set)),
+            1 => Self::by(random, most, 600, many_directories),
+            2 => Self::by(random, most, 300, much_text),
+            _ => {
+                let count = 1 + random.below(12);
+                let trims = random.one_of(&[2, 4, 8, 30]);
+                Self::by(random, most, count, |random, set, _| {
+                    if random.once_in(trims) { b"trim".to_vec() } else { addition(random, &taste, set) }
+                })
+            }
+        }
+    }
+
+    /// A plan of at most `most` and at most `count` changes; each is chosen by the set before it and its place.
+    fn by(
+        random: &mut Random,
+        most: usize,
+        count: usize,
+        mut change: impl FnMut(&mut Random, &Set, usize) -> Vec<u8>,
+    ) -> Self {
+        let piece_length = match random.below(4) {
+            0 => 1 + random.below(40) as i32,
+            _ => random.one_of(&LENGTHS),
+        };
+        let mut sets = Sets::default();
+        play(&mut sets, format!("open {piece_length} files=65535 dirs=65535 text=1000000000").as_bytes());
+        let mut plan = Self { piece_length, changes: Vec::new(), needs: Vec::new() };
+        for i in 0..count.min(most) {
+            let line = change(random, current(&mut sets), i);
+            play(&mut sets, &line);
+            plan.changes.push(line);
+            plan.needs.push(current(&mut sets).need());
+        }
+        plan
+    }
+
+    /// The line that opens the set: with the usual room, or with what a late step needs, or one less or more.
+    fn opening(&self, random: &mut Random) -> Vec<u8> {
+        let mut line = call("open", &[Word::Number(self.piece_length.into())]);
+        if self.changes.len() > 20 || random.once_in(3) {
+            return line;
+        }
+        for (kind, (name, most)) in KINDS.into_iter().zip(numbers(&USUAL_ROOM)).enumerate() {
+            if random.once_in(3) {
+                let step = random.below(self.needs.len()).max(random.below(self.needs.len()));
+                let need = numbers(&self.needs[step])[kind];
+                let room = (need + random.below(3)).saturating_sub(1).min(most);
+                line.extend_from_slice(format!(" {name}={room}").as_bytes());
+            }
+        }
+        line
+    }
+}
+
+/// The numbers of a room, in the order of KINDS.
+fn numbers(room: &Room) -> [usize; 3] {
+    [room.files, room.directories, room.text]
+}
+
+/// A pad in a directory of its own, and its trim, in turn: directories without files.
+fn many_directories(_: &mut Random, _: &Set, i: usize) -> Vec<u8> {
+    if i % 2 == 1 {
+        return b"trim".to_vec();
+    }
+    plain(format!("s/d{i}/p").as_bytes(), 5, 1, if i.is_multiple_of(3) { b"t" } else { b"" })
+}
+
+/// Long names and link texts, which fill the text area before the table of files.
+fn much_text(random: &mut Random, _: &Set, i: usize) -> Vec<u8> {
+    let leaf = vec![b'n'; 1000 + random.below(3000)];
+    let link = vec![b'l'; random.below(2) * random.below(4000)];
+    plain(&[format!("s/{}/", i % 7).into_bytes(), leaf].concat(), 1, 8, &link)
+}
