@@ -1,0 +1,40 @@
+//! Compares what both sides built; a difference ends the program.
+
+use bitdaemon_common::FileIndex;
+use bitdaemon_core::file_storage::FileStorage;
+
+use crate::port::Set;
+
+/// The counts, the totals, the set's name, the directories, and each file's row, name, time and root.
+pub fn compare(rust: &FileStorage, port: &Set) {
+    counts(rust, port);
+    assert_eq!(rust.v2(), port.v2(), "v2");
+    assert_eq!(rust.name(), port.name(), "the set's name");
+    assert_eq!(rust.paths().len(), port.num_paths(), "number of directories");
+    for (i, path) in rust.paths().iter().enumerate() {
+        assert_eq!(path, port.directory(i), "directory {i}");
+    }
+    for i in 0..port.num_files() {
+        let (file, row) = (FileIndex(i as i32), port.row(i));
+        assert_eq!(rust.file_offset(file) as u64, row.offset, "offset of file {i}");
+        assert_eq!(rust.file_size(file) as u64, row.size, "size of file {i}");
+        assert_eq!(rust.file_name(file), port.part(row.name.0, row.name.1), "name of file {i}");
+        assert_eq!(rust.pad_file_at(file), row.flags & 1 == 1, "pad of file {i}");
+        assert_eq!(rust.mtime(file), port.time(i), "time of file {i}");
+        assert_eq!(rust.root(file).as_bytes(), port.root(i), "root of file {i}");
+    }
+}
+
+/// The number of files and both totals.
+fn counts(rust: &FileStorage, port: &Set) {
+    assert_eq!(rust.num_files() as usize, port.num_files(), "number of files");
+    assert_eq!(rust.total_size() as u64, port.total_size(), "total size");
+    assert_eq!(rust.size_on_disk() as u64, port.size_on_disk(), "size on disk");
+}
+
+/// The same once the pad at the end is removed.
+pub fn compare_trimmed(rust: &mut FileStorage, port: &mut Set) {
+    rust.remove_tail_padding();
+    assert_eq!(port.remove_tail_padding(), 0, "the trim is refused");
+    counts(rust, port);
+}

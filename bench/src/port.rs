@@ -1,0 +1,196 @@
+//! The port through its C interface, and the tables that are lent to it.
+
+use crate::inputs::{Input, PIECE_LENGTH};
+
+unsafe extern "C" {
+    /// A slice is a pointer and a length.
+    fn niflathen_add_file(
+        state: *mut u64,
+        state_len: usize,
+        rows: *mut u64,
+        rows_len: usize,
+        roots: *mut u8,
+        roots_len: usize,
+        times: *mut i64,
+        times_len: usize,
+        dirs: *mut u64,
+        dirs_len: usize,
+        text: *mut u8,
+        text_len: usize,
+        given: u8,
+        filename: *const u8,
+        filename_len: usize,
+        path: *const u8,
+        path_len: usize,
+        file_size: i64,
+        file_flags: u8,
+        mtime: i64,
+        symlink_path: *const u8,
+        symlink_path_len: usize,
+        rooted: u8,
+        root: *const u8,
+        root_len: usize,
+    ) -> u32;
+
+    fn niflathen_remove_tail_padding(
+        state: *mut u64,
+        state_len: usize,
+        rows: *mut u64,
+        rows_len: usize,
+        roots: *mut u8,
+        roots_len: usize,
+        times: *mut i64,
+        times_len: usize,
+        dirs: *mut u64,
+        dirs_len: usize,
+        text: *mut u8,
+        text_len: usize,
+    ) -> u32;
+}
+
+/// A file as its row says it.
+pub struct Row {
+    pub offset: u64,
+    pub size: u64,
+    pub name: (usize, usize),
+    pub flags: u64,
+}
+
+/// A set: its record's words and its tables.
+pub struct Set {
+    state: Vec<u64>,
+    rows: Vec<u64>,
+    roots: Vec<u8>,
+    times: Vec<i64>,
+    dirs: Vec<u64>,
+    text: Vec<u8>,
+}
+
+impl Set {
+    /// A set without files, with tables of zeros for so many files, directories and bytes of text.
+    pub fn new(files: usize, directories: usize, text: usize) -> Self {
+        let mut set = Self {
+            state: vec![0; 12],
+            rows: vec![0; files * 8],
+            roots: vec![0; files * 32],
+            times: vec![0; files],
+            dirs: vec![0; directories * 2],
+            text: vec![0; text],
+        };
+        set.clear();
+        set
+    }
+
+    /// The set without files again, and zeros in its tables.
+    pub fn clear(&mut self) {
+        self.state.fill(0);
+        self.state[0] = PIECE_LENGTH as u64;
+        self.rows.fill(0);
+        self.roots.fill(0);
+        self.times.fill(0);
+        self.dirs.fill(0);
+        self.text.fill(0);
+    }
+
+    /// Adds a file, and gives the number of the refusal, 0 for none.
+    #[inline]
+    pub fn add_file(&mut self, input: &Input) -> u32 {
+        let root: &[u8] = input.root.as_ref().map_or(&[], |root| root.as_bytes());
+        // SAFETY: each pointer and length are those of one slice, and slices that are written overlap with none.
+        unsafe {
+            niflathen_add_file(
+                self.state.as_mut_ptr(),
+                self.state.len(),
+                self.rows.as_mut_ptr(),
+                self.rows.len(),
+                self.roots.as_mut_ptr(),
+                self.roots.len(),
+                self.times.as_mut_ptr(),
+                self.times.len(),
+                self.dirs.as_mut_ptr(),
+                self.dirs.len(),
+                self.text.as_mut_ptr(),
+                self.text.len(),
+                0,
+                [].as_ptr(),
+                0,
+                input.path.as_ptr(),
+                input.path.len(),
+                input.size,
+                0,
+                input.time,
+                [].as_ptr(),
+                0,
+                u8::from(input.root.is_some()),
+                root.as_ptr(),
+                root.len(),
+            )
+        }
+    }
+
+    /// Removes the pad at the end, and gives the number of the refusal, 0 for none.
+    pub fn remove_tail_padding(&mut self) -> u32 {
+        // SAFETY: as above.
+        unsafe {
+            niflathen_remove_tail_padding(
+                self.state.as_mut_ptr(),
+                self.state.len(),
+                self.rows.as_mut_ptr(),
+                self.rows.len(),
+                self.roots.as_mut_ptr(),
+                self.roots.len(),
+                self.times.as_mut_ptr(),
+                self.times.len(),
+                self.dirs.as_mut_ptr(),
+                self.dirs.len(),
+                self.text.as_mut_ptr(),
+                self.text.len(),
+            )
+        }
+    }
+
+    pub fn v2(&self) -> bool {
+        self.state[1] != 0
+    }
+
+    pub fn num_files(&self) -> usize {
+        self.state[2] as usize
+    }
+
+    pub fn num_paths(&self) -> usize {
+        self.state[3] as usize
+    }
+
+    pub fn name(&self) -> &[u8] {
+        self.part(self.state[6] as usize, self.state[7] as usize)
+    }
+
+    pub fn total_size(&self) -> u64 {
+        self.state[9]
+    }
+
+    pub fn size_on_disk(&self) -> u64 {
+        self.state[10]
+    }
+
+    pub fn row(&self, i: usize) -> Row {
+        let w = &self.rows[i * 8..i * 8 + 8];
+        Row { offset: w[0], size: w[1], name: (w[2] as usize, w[3] as usize), flags: w[7] }
+    }
+
+    pub fn root(&self, i: usize) -> &[u8] {
+        &self.roots[i * 32..i * 32 + 32]
+    }
+
+    pub fn time(&self, i: usize) -> i64 {
+        if i < self.state[5] as usize { self.times[i] } else { 0 }
+    }
+
+    pub fn directory(&self, i: usize) -> &[u8] {
+        self.part(self.dirs[i * 2] as usize, self.dirs[i * 2 + 1] as usize)
+    }
+
+    pub fn part(&self, at: usize, len: usize) -> &[u8] {
+        &self.text[at..at + len]
+    }
+}

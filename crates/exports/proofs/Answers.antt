@@ -1,0 +1,10 @@
+-- An answer's number and words beside the tables: where the call's change is known, so is what is exported.
+use Prim.Native.Nat.{ℕ}
+use mathlib.Core.Path.{_≡_}
+use mathlib.Core.List.{List}
+use Rattle.storage.specs.Outcomes.{Changed}
+use Rattle.exports.specs.State.{Exported, exported, numberSaid, stateSaid}
+
+pub answered : (state words : List ℕ) (n : ℕ) (made known : Changed) → made ≡ known → n ≡ numberSaid (made .says) → words ≡ stateSaid (made .says) state
+    → _≡_ {A = Exported} (record { number = n; state = words; rows = made .rows; roots = made .roots; times = made .times; dirs = made .dirs; text = made .text }) (exported state known)
+answered state words n made known e p q = rw (p, q, e)

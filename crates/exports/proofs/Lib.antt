@@ -1,0 +1,2 @@
+-- The law that both functions of the interface cite.
+pub mod Answers

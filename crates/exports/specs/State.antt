@@ -1,0 +1,84 @@
+-- A set's record as twelve words, for programs in other languages: piece length, v2 (0 or 1), files, directories, link
+-- texts, times, the name's place and length, text held, total, size on disk, trimmed (0 or 1). Words past the end read 0.
+use Prim.Native.Nat.{ℕ}
+use mathlib.Core.Bool.{Bool, true, false, cond, not}
+use mathlib.Core.List.{List, [], _∷_}
+use lib.Dec.{eqb}
+use lib.IntN.{ℤ}
+use lib.ListN.{getD}
+use lib.Seq.{sets}
+use Rattle.types.specs.Refusals.{Outcome, value, refused}
+use Rattle.tables.specs.declared.storage.FileStorage.{FileStorage}
+use Rattle.tables.specs.declared.rows.Presence.{Presence}
+use Rattle.tables.specs.declared.rows.Presence.the-variants.{Absent, Present}
+use Rattle.storage.specs.Outcomes.{Changed}
+
+abbrev pub storageOf : List ℕ → FileStorage
+storageOf w =
+    record {
+      «piece_length» = getD w 0 0;
+      v2 = not (eqb (getD w 1 0) 0);
+      «num_files» = getD w 2 0;
+      «num_paths» = getD w 3 0;
+      «num_symlinks» = getD w 4 0;
+      «num_mtimes» = getD w 5 0;
+      name = record { at = getD w 6 0; len = getD w 7 0 };
+      «text_len» = getD w 8 0;
+      «total_size» = getD w 9 0;
+      «size_on_disk» = getD w 10 0;
+      trimmed = not (eqb (getD w 11 0) 0);
+    }
+
+abbrev pub bit : Bool → ℕ
+bit true = 1
+bit false = 0
+
+abbrev pub wordsOf : FileStorage → List ℕ
+wordsOf fs =
+    fs .«piece_length» ∷
+    bit (fs .v2) ∷
+    fs .«num_files» ∷
+    fs .«num_paths» ∷
+    fs .«num_symlinks» ∷
+    fs .«num_mtimes» ∷
+    fs .name .at ∷
+    fs .name .len ∷
+    fs .«text_len» ∷
+    fs .«total_size» ∷
+    fs .«size_on_disk» ∷
+    bit (fs .trimmed) ∷
+    []
+
+-- 0 and 1 for absent and present
+abbrev pub presenceOf : ℕ → Presence
+presenceOf n = cond (eqb n 0) Absent Present
+
+-- the number that is returned, 0 where the call was not refused; the record's words; each table
+pub record Exported : Type 0 where
+  pub number : ℕ
+  pub state : List ℕ
+  pub rows : List ℕ
+  pub roots : List ℕ
+  pub times : List ℤ
+  pub dirs : List ℕ
+  pub text : List ℕ
+
+abbrev pub numberSaid : Outcome FileStorage → ℕ
+numberSaid (value fs) = 0
+numberSaid (refused k) = k
+
+abbrev pub stateSaid : Outcome FileStorage → List ℕ → List ℕ
+stateSaid (value fs) state = sets state 0 (wordsOf fs)
+stateSaid (refused k) state = state
+
+abbrev pub exported : List ℕ → Changed → Exported
+exported state c =
+    record {
+      number = numberSaid (c .says);
+      state = stateSaid (c .says) state;
+      rows = c .rows;
+      roots = c .roots;
+      times = c .times;
+      dirs = c .dirs;
+      text = c .text;
+    }

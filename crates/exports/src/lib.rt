@@ -1,0 +1,139 @@
+// The C interface, for benchmarks and other languages: a set's record is twelve words of a lent slice,
+// and a call returns 0 or document 01's number. Relies on `storage` and `tables`.
+ghost use mathlib.Core.Path.{_≡_};
+ghost use lib.Seq.{sets};
+ghost use Rattle.tables.specs.Rows.{rootAt};
+ghost use Rattle.storage.specs.Outcomes.{storageSays, optionalOf, addStored, trimStored};
+ghost use Rattle.exports.specs.State.{Exported, exported, storageOf, wordsOf, bit, presenceOf, numberSaid, stateSaid};
+use storage::StorageResult;
+use tables::FileStorage;
+use tables::Presence;
+use tables::Span;
+
+// The record that a set's words hold.
+fn storage_at(state: &[u64]) -> FileStorage
+    ensures { λ r. ⌜ r ≡ storageOf (now (state .entry)) ⌝ }
+{
+    FileStorage {
+        piece_length: lists::word(state, 0),
+        v2: lists::word(state, 1) != 0,
+        num_files: lists::word(state, 2) as usize,
+        num_paths: lists::word(state, 3) as usize,
+        num_symlinks: lists::word(state, 4) as usize,
+        num_mtimes: lists::word(state, 5) as usize,
+        name: Span {
+            at: lists::word(state, 6) as usize,
+            len: lists::word(state, 7) as usize,
+        },
+        text_len: lists::word(state, 8) as usize,
+        total_size: lists::word(state, 9),
+        size_on_disk: lists::word(state, 10),
+        trimmed: lists::word(state, 11) != 0,
+    }
+}
+
+// 1 for true, 0 for false.
+fn bit_of(on: bool) -> u64
+    ensures { λ r. ⌜ r ≡ bit on ⌝ }
+{
+    if on { 1 } else { 0 }
+}
+
+// Writes a set's record as its words.
+fn put_state(state: &mut [u64], fs: FileStorage)
+    ensures { λ _. ⌜ now (state .exit) ≡ sets (now (state .entry)) 0 (wordsOf fs) ⌝ }
+{
+    lists::put_word(state, 0, fs.piece_length);
+    lists::put_word(state, 1, bit_of(fs.v2));
+    lists::put_word(state, 2, fs.num_files as u64);
+    lists::put_word(state, 3, fs.num_paths as u64);
+    lists::put_word(state, 4, fs.num_symlinks as u64);
+    lists::put_word(state, 5, fs.num_mtimes as u64);
+    lists::put_word(state, 6, fs.name.at as u64);
+    lists::put_word(state, 7, fs.name.len as u64);
+    lists::put_word(state, 8, fs.text_len as u64);
+    lists::put_word(state, 9, fs.total_size);
+    lists::put_word(state, 10, fs.size_on_disk);
+    lists::put_word(state, 11, bit_of(fs.trimmed));
+}
+
+// 0 is absent, any other number present.
+fn presence_of(n: u8) -> Presence
+    ensures { λ r. ⌜ r ≡ presenceOf n ⌝ }
+{
+    if n == 0 {
+        return Presence::Absent;
+    }
+    Presence::Present
+}
+
+// Writes the record that an answer holds, and gives the number of its refusal, 0 for none.
+fn put_answer(state: &mut [u64], answer: StorageResult) -> u32
+    ensures { λ r. ⌜ r ≡ numberSaid (storageSays answer) ⌝ }
+    ensures { λ _. ⌜ now (state .exit) ≡ stateSaid (storageSays answer) (now (state .entry)) ⌝ }
+{
+    match answer {
+        StorageResult::Ok(fs) => {
+            put_state(state, fs);
+            0
+        }
+        StorageResult::Err(e) => types::number(e),
+    }
+}
+
+// `storage::add_file`; `given` and `rooted` are 0 for none, and the root is the first 32 bytes of `root`.
+#[no_mangle]
+pub extern "C" fn niflathen_add_file(
+    state: &mut [u64],
+    rows: &mut [u64],
+    roots: &mut [u8],
+    times: &mut [i64],
+    dirs: &mut [u64],
+    text: &mut [u8],
+    given: u8,
+    filename: &[u8],
+    path: &[u8],
+    file_size: i64,
+    file_flags: u8,
+    mtime: i64,
+    symlink_path: &[u8],
+    rooted: u8,
+    root: &[u8],
+) -> u32
+    ensures { λ r. ⌜ _≡_ {A = Exported} (record { number = r; state = now (state .exit); rows = now (rows .exit); roots = now (roots .exit); times = now (times .exit); dirs = now (dirs .exit); text = now (text .exit) }) (exported (now (state .entry)) (addStored (record { fs = storageOf (now (state .entry)); rows = now (rows .entry); roots = now (roots .entry); times = now (times .entry); dirs = now (dirs .entry); text = now (text .entry) }) (record { given = optionalOf (presenceOf given) (now (filename .entry)); path = now (path .entry); size = «file_size»; flags = «file_flags»; time = mtime; link = now («symlink_path» .entry); root = optionalOf (presenceOf rooted) (rootAt (now (root .entry)) 0) }))) ⌝ }
+{
+    let answer = storage::add_file(
+        storage_at(state),
+        rows,
+        roots,
+        times,
+        dirs,
+        text,
+        presence_of(given),
+        filename,
+        path,
+        file_size,
+        file_flags,
+        mtime,
+        symlink_path,
+        presence_of(rooted),
+        tables::root_at(root, 0),
+    );
+    put_answer(state, answer)
+}
+
+// `storage::remove_tail_padding`.
+#[no_mangle]
+pub extern "C" fn niflathen_remove_tail_padding(
+    state: &mut [u64],
+    rows: &mut [u64],
+    roots: &mut [u8],
+    times: &mut [i64],
+    dirs: &mut [u64],
+    text: &mut [u8],
+) -> u32
+    ensures { λ r. ⌜ _≡_ {A = Exported} (record { number = r; state = now (state .exit); rows = now (rows .exit); roots = now (roots .exit); times = now (times .exit); dirs = now (dirs .exit); text = now (text .exit) }) (exported (now (state .entry)) (trimStored (record { fs = storageOf (now (state .entry)); rows = now (rows .entry); roots = now (roots .entry); times = now (times .entry); dirs = now (dirs .entry); text = now (text .entry) }))) ⌝ }
+{
+    let answer = storage::remove_tail_padding(storage_at(state), rows, roots, times, dirs, text);
+    put_answer(state, answer)
+}
