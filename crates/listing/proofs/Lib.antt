@@ -2,4 +2,5 @@
 pub mod Reading
 pub mod Printed
 pub mod Steps
+pub mod Short
 pub mod Vectors

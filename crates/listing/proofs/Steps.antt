@@ -66,26 +66,26 @@ size-is line size flags e =
     (λ n p. number-small (partOf line 0 15) n (omega (arith, part-length line 0 15)) p) in
     mod-eq-of-lt (omega (arith, q))
 
--- a root in a file line has 32 bytes
-abbrev Rooted : Addition → Type 0
-Rooted a = (r : List ℕ) → a .root ≡ present r → length r ≡ 32
+-- what a file line says is an addition of its numbers and its path
+in-form : (b : Bool) (o f : Optional ℕ) (path : List ℕ) (a : Addition) → when b (additionIn o f path) ≡ present a → (n : ℕ) × (m : ℕ) × (a ≡ additionOf n m path)
+in-form false o f path a e = let z : _≡_ {A = ℕ} 0 1 = cc in absurd (omega arith)
+in-form true absent f path a e = let z : _≡_ {A = ℕ} 0 1 = cc in absurd (omega arith)
+in-form true (present n) absent path a e = let z : _≡_ {A = ℕ} 0 1 = cc in absurd (omega arith)
+in-form true (present n) (present m) path a e = (n, m, cc)
 
+pub file-is : (line : List ℕ) (a : Addition) → fileIn line ≡ present a → (n : ℕ) × (m : ℕ) × (a ≡ additionOf n m (drop 19 line))
+file-is line a e =
+    in-form (both (leb 19 (length line)) (both (eqb (getD line 15 0) 32) (eqb (getD line 18 0) 32)))
+    (numberIn (partOf line 0 15)) (onlyIf areFlags (numberIn (partOf line 16 2))) (drop 19 line) a e
+
+-- a root in a file line has 32 bytes
 root-long : (b : Bool) (r : List ℕ) → presentIf b (replicate 32 1) ≡ present r → length r ≡ 32
 root-long true r e = let q : replicate 32 1 ≡ r = cc in sym (ap length q)
 root-long false r e = let z : _≡_ {A = ℕ} 0 1 = cc in absurd (omega arith)
 
-rooted-in : (b : Bool) (o f : Optional ℕ) (path : List ℕ) (a : Addition) → when b (additionIn o f path) ≡ present a → Rooted a
-rooted-in false o f path a e = let z : _≡_ {A = ℕ} 0 1 = cc in absurd (omega arith)
-rooted-in true absent f path a e = let z : _≡_ {A = ℕ} 0 1 = cc in absurd (omega arith)
-rooted-in true (present n) absent path a e = let z : _≡_ {A = ℕ} 0 1 = cc in absurd (omega arith)
-rooted-in true (present n) (present m) path a e =
-    let q : additionOf n m path ≡ a = cc in
-    λ r p. root-long (leb 16 m) r (ap (λ (x : Addition). x .root) q ∙ p)
-
-root-is : (line : List ℕ) (a : Addition) → fileIn line ≡ present a → Rooted a
-root-is line a e =
-    rooted-in (both (leb 19 (length line)) (both (eqb (getD line 15 0) 32) (eqb (getD line 18 0) 32)))
-    (numberIn (partOf line 0 15)) (onlyIf areFlags (numberIn (partOf line 16 2))) (drop 19 line) a e
+root-is : (line : List ℕ) (a : Addition) → fileIn line ≡ present a → (r : List ℕ) → a .root ≡ present r → length r ≡ 32
+root-is line a e r p =
+    let f = file-is line a e in root-long (leb 16 (f .1)) r (sym (ap (λ (x : Addition). x .root) (f .2)) ∙ p)
 
 -- what flags say of a root, as a call brings it
 pub root-by : (b : Bool) (root : List ℕ) → optionalOf (presenceIf b) root ≡ presentIf b root

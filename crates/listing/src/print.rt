@@ -201,18 +201,13 @@ pub(crate) fn put_set(
         return UsizeResult::Err(Refusal::NoRoom);
     }
     let at = put_lines(fs, rows, dirs, text, out);
-    let pieces = pieces_of(fs.total_size, fs.piece_length);
-    put_columns(
-        out,
-        at,
-        fs.num_files as u64,
-        fs.total_size,
-        fs.size_on_disk,
-        10,
-        pieces,
-        b'\n',
-    );
-    UsizeResult::Ok(at + 46)
+    let files = fs.num_files as u64;
+    let total = fs.total_size;
+    let disk = fs.size_on_disk;
+    let pieces = pieces_of(total, fs.piece_length);
+    put_columns(out, at, files, total, disk, 10, pieces, b'\n');
+    let end = at + 46;
+    UsizeResult::Ok(end)
 }
 
 // Writes what is printed of a refusal at a line to the start of `out`, and gives its length.

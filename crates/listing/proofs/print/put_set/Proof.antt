@@ -68,8 +68,8 @@ pieces-of-requires c κs = search needs
 put-columns-requires : tie.Need-put-columns-requires
 put-columns-requires c κs = omega (arith, room-is (c .before .before .before .before .before .before .before), c .before .before .before .before .before .before .if1 .left, c .before .before .before .before .put-lines .ensures .0, c .before .before .before .before .put-lines .kept .1 .1 .1 .1 .0)
 
-add-t10 : tie.Need-add-t10
-add-t10 c = omega (arith, room-is (c .before .before .before .before .before .before .before .before .before .before), c .before .before .before .before .before .before .before .before .before .if1 .left, c .before .before .before .before .before .before .before .put-lines .ensures .0, c .before .before .before .before .before .before .before .before .before .before .before .before .before .before .before .before .before .before .good .1 .1 .1 .1 .0)
+add-end : tie.Need-add-end
+add-end c = omega (arith, room-is (c .before .before .before .before .before .before .before .before .before .before), c .before .before .before .before .before .before .before .before .before .if1 .left, c .before .before .before .before .before .before .before .put-lines .ensures .0, c .before .before .before .before .before .before .before .before .before .before .before .before .before .before .before .before .before .before .good .1 .1 .1 .1 .0)
 
 same-length : tie.Need-same-length
 same-length c = search needs
@@ -94,6 +94,6 @@ put-set-spec =
     put-lines-requires
     pieces-of-requires
     put-columns-requires
-    add-t10
+    add-end
     same-length
     returns-3)
