@@ -7,3 +7,5 @@ pub mod Files
 pub mod Mapping
 pub mod Deciding
 pub mod Block
+pub mod Request
+pub mod Table

@@ -16,6 +16,7 @@ ghost use Rattle.answers.specs.Results.{i32Says, i64Says};
 ghost use Rattle.layout.specs.Results.{Range, pieceSays, fileSays, pieceRangeSays, numberRangeSays, requestSays};
 ghost use Rattle.layout.specs.Questions.{asked, numPieces, opened, noFile, manyPieces, noTree, badRange, short};
 ghost use Rattle.layout.specs.Mapping.{Request, requestAt, mapFile};
+ghost use Rattle.layout.specs.Request.{fileMapped};
 ghost use Rattle.layout.specs.Deciding.{Counted, requestOf};
 ghost use Rattle.layout.specs.Files.{lastQuotient, low31, afterQuotient, firstPiece, lastPiece, placeOf, exclusiveBegin, clamped, exclusiveEnd, inclusiveEnd, rootFrom, fileForRoot, piecesOf, blocksOf};
 use crate::decide::Check;
@@ -386,7 +387,7 @@ pub fn map_file(
     offset: i64,
     size: i32,
 ) -> RequestResult
-    ensures { λ r. ⌜ requestSays r ≡ asked (opened fs ∷ noFile fs (index .0) ∷ manyPieces fs ∷ badRange offset size ∷ short (rowsHeld fs (now (rows .entry))) ∷ []) (record { piece = pos (mapFile fs (now (rows .entry)) (indexOf (index .0)) (sizeOf offset) (sizeOf size) .piece % 2 ^ 31); start = pos (mapFile fs (now (rows .entry)) (indexOf (index .0)) (sizeOf offset) (sizeOf size) .start % 2 ^ 31); length = pos (mapFile fs (now (rows .entry)) (indexOf (index .0)) (sizeOf offset) (sizeOf size) .length % 2 ^ 31) }) ⌝ }
+    ensures { λ r. ⌜ requestSays r ≡ fileMapped fs (now (rows .entry)) (index .0) offset size ⌝ }
 {
     match ask_file(
         fs,
