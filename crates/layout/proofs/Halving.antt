@@ -102,8 +102,13 @@ module _ (f : ℕ → ℕ) (t n : ℕ) (ascends : (i : ℕ) → i + 1 < n → f 
 abbrev pub Ascending : List ℕ → ℕ → Type 0
 Ascending rows n = (i : ℕ) → i + 1 < n → rowAt rows i .offset ≤ rowAt rows (i + 1) .offset
 
+-- n halvings are enough for n rows
+pub enough : (n : ℕ) → n - 0 < 2 ^ n
+enough zero = omega arith
+enough (suc n) = omega (arith, enough n, two-pow-succ n)
+
 pub point-is : (rows : List ℕ) (n t : ℕ) → n < 2 ^ 64 → Ascending rows n → Point (λ i. rowAt rows i .offset) t n (partitionPoint rows n t)
-point-is rows n t h a = point (λ i. rowAt rows i .offset) t n a 64 0 n (omega arith) (omega arith) (omega arith) (λ i x. absurd (omega arith)) (λ i x y. absurd (omega arith))
+point-is rows n t h a = point (λ i. rowAt rows i .offset) t n a n 0 n (enough n) (omega arith) (omega arith) (λ i x. absurd (omega arith)) (λ i x y. absurd (omega arith))
 
 -- the file found is the last whose offset is at or below the target
 pub record Last (rows : List ℕ) (n t k : ℕ) : Type 0 where

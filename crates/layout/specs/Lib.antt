@@ -9,3 +9,4 @@ pub mod Deciding
 pub mod Block
 pub mod Request
 pub mod Table
+pub mod Given

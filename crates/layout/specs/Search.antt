@@ -15,9 +15,9 @@ halved (suc k) f t lo hi =
     (cond (leb (f ((lo + hi) / 2)) t) (halved k f t ((lo + hi) / 2 + 1) hi) (halved k f t lo ((lo + hi) / 2)))
     lo
 
--- the Rust's `partition_point`: how many of n rows begin at or before the target
+-- the Rust's `partition_point`: how many of n rows begin at or before the target; n halvings are always enough
 abbrev pub partitionPoint : List ℕ → ℕ → ℕ → ℕ
-partitionPoint rows n t = halved 64 (λ i. rowAt rows i .offset) t 0 n
+partitionPoint rows n t = halved n (λ i. rowAt rows i .offset) t 0 n
 
 -- the file found
 abbrev pub fileFound : List ℕ → ℕ → ℕ → ℕ

@@ -17,6 +17,7 @@ ghost use Rattle.layout.specs.Results.{Range, pieceSays, fileSays, piece
 ghost use Rattle.layout.specs.Questions.{asked, numPieces, opened, noFile, manyPieces, noTree, badRange, short};
 ghost use Rattle.layout.specs.Mapping.{Request, requestAt, mapFile};
 ghost use Rattle.layout.specs.Request.{fileMapped};
+ghost use Rattle.layout.specs.Given.{exclusiveGiven, inclusiveGiven};
 ghost use Rattle.layout.specs.Deciding.{Counted, requestOf};
 ghost use Rattle.layout.specs.Files.{lastQuotient, low31, afterQuotient, firstPiece, lastPiece, placeOf, exclusiveBegin, clamped, exclusiveEnd, inclusiveEnd, rootFrom, fileForRoot, piecesOf, blocksOf};
 use crate::decide::Check;
@@ -412,7 +413,7 @@ pub fn file_piece_range_exclusive(
     rows: &[u64],
     index: FileIndex,
 ) -> PieceRangeResult
-    ensures { λ r. ⌜ pieceRangeSays r ≡ asked (opened fs ∷ noFile fs (index .0) ∷ manyPieces fs ∷ short (rowsHeld fs (now (rows .entry))) ∷ []) (record { begin = pos (exclusiveBegin (mapFile fs (now (rows .entry)) (indexOf (index .0)) 0 1) % 2 ^ 31); end = pos (exclusiveEnd fs (indexOf (index .0)) (rowAt (now (rows .entry)) (indexOf (index .0)) .size) (mapFile fs (now (rows .entry)) (indexOf (index .0)) 0 1) % 2 ^ 31) }) ⌝ }
+    ensures { λ r. ⌜ pieceRangeSays r ≡ exclusiveGiven fs (now (rows .entry)) (index .0) ⌝ }
 {
     match ask_file(fs, index, has_many(fs), false, false, rows.len() / 8) {
         Check::Go => PieceRangeResult::Ok(exclusive(fs, rows, file_number(index))),
@@ -426,7 +427,7 @@ pub fn file_piece_range_inclusive(
     rows: &[u64],
     index: FileIndex,
 ) -> PieceRangeResult
-    ensures { λ r. ⌜ pieceRangeSays r ≡ asked (opened fs ∷ noFile fs (index .0) ∷ manyPieces fs ∷ short (rowsHeld fs (now (rows .entry))) ∷ []) (record { begin = pos (mapFile fs (now (rows .entry)) (indexOf (index .0)) 0 1 .piece % 2 ^ 31); end = pos (inclusiveEnd fs (rowAt (now (rows .entry)) (indexOf (index .0)) .size) (mapFile fs (now (rows .entry)) (indexOf (index .0)) 0 1) % 2 ^ 31) }) ⌝ }
+    ensures { λ r. ⌜ pieceRangeSays r ≡ inclusiveGiven fs (now (rows .entry)) (index .0) ⌝ }
 {
     match ask_file(fs, index, has_many(fs), false, false, rows.len() / 8) {
         Check::Go => PieceRangeResult::Ok(inclusive(fs, rows, file_number(index))),

@@ -11,6 +11,7 @@ ghost use Rattle.layout.specs.Results.{Range, pieceSays, fileSays, piece
 ghost use Rattle.layout.specs.Questions.{asked, numPieces, opened, manyPieces, noPiece, badOffset, short};
 ghost use Rattle.layout.specs.Search.{fileFound};
 ghost use Rattle.layout.specs.Pieces.{lessOne, startOf, pieceSize, pieceSize2, blocksIn, fileAtPiece, lastFileAtPiece};
+ghost use Rattle.layout.specs.Given.{numPiecesGiven, pieceSize2Given, fileAtOffsetGiven};
 use crate::decide::Check;
 use crate::decide::ask_piece;
 use crate::decide::ask_pieces;
@@ -89,7 +90,7 @@ fn last_byte(fs: FileStorage, p: u64) -> u64
 
 // How many pieces the set has.
 pub fn num_pieces(fs: FileStorage) -> I32Result
-    ensures { λ r. ⌜ i32Says r ≡ asked (opened fs ∷ manyPieces fs ∷ []) (pos (numPieces fs)) ⌝ }
+    ensures { λ r. ⌜ i32Says r ≡ numPiecesGiven fs ⌝ }
 {
     match ask_pieces(fs) {
         Check::Go => I32Result::Ok(types::signed32(count_pieces(fs))),
@@ -145,7 +146,7 @@ pub fn piece_size(fs: FileStorage, piece: PieceIndex) -> I32Result
 
 // The size of a piece, cut where the first file behind its start begins.
 pub fn piece_size2(fs: FileStorage, rows: &[u64], piece: PieceIndex) -> I32Result
-    ensures { λ r. ⌜ i32Says r ≡ asked (opened fs ∷ manyPieces fs ∷ noPiece fs (piece .0) ∷ short (rowsHeld fs (now (rows .entry))) ∷ []) (pos (pieceSize2 fs (now (rows .entry)) (indexOf (piece .0)) % 2 ^ 31)) ⌝ }
+    ensures { λ r. ⌜ i32Says r ≡ pieceSize2Given fs (now (rows .entry)) (piece .0) ⌝ }
 {
     match ask_piece(fs, piece, false, is_held(fs.num_files, rows.len() / 8)) {
         Check::Go => I32Result::Ok(types::signed32(size2_of(fs, rows, piece_number(piece)))),
@@ -178,7 +179,7 @@ pub fn blocks_per_piece(fs: FileStorage) -> I32Result
 
 // The file at an offset.
 pub fn file_index_at_offset(fs: FileStorage, rows: &[u64], offset: i64) -> FileResult
-    ensures { λ r. ⌜ fileSays r ≡ asked (opened fs ∷ badOffset fs offset ∷ short (rowsHeld fs (now (rows .entry))) ∷ []) (pos (fileFound (now (rows .entry)) (fs .«num_files») (sizeOf offset) % 2 ^ 31)) ⌝ }
+    ensures { λ r. ⌜ fileSays r ≡ fileAtOffsetGiven fs (now (rows .entry)) offset ⌝ }
 {
     match ask_set(
         fs,

@@ -6,7 +6,7 @@ use mathlib.Core.Path.{refl}
 use Prim.Native.Nat.{_≤_, _-_}
 use Rattle.tables.specs.Rows.{rowAt}
 use Rattle.layout.specs.Search.{partitionPoint}
-use Rattle.layout.proofs.Halving.{Halving, turn-up, turn-down, turn-end}
+use Rattle.layout.proofs.Halving.{Halving, enough, turn-up, turn-down, turn-end}
 use Rattle.layout.proofs.search.partition_point.Statement.{statement}
 use Rattle.layout.proofs.search.partition_point.Tie as tie
 
@@ -17,7 +17,7 @@ abbrev μ-loop : tie.MeasureT-loop
 μ-loop rows n target lo₀ hi₀ lo hi = hi - lo
 
 loop-holds : tie.Need-loop-holds Inv-loop μ-loop
-loop-holds c = (omega arith, omega arith, record { turns = 64; enough = omega arith; gives = refl })
+loop-holds c = (omega arith, omega arith, record { turns = _; enough = enough _; gives = refl })
 
 sub-mid : tie.Need-sub-mid Inv-loop μ-loop
 sub-mid c = omega arith

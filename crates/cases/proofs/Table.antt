@@ -1,0 +1,13 @@
+-- The starred cases of document 01 hold: one test over the whole table, by computing.
+use mathlib.Core.Path.{_≡_, refl}
+use mathlib.Core.Bool.{true}
+use Rattle.tables.specs.Rows.{filled}
+use Rattle.tables.specs.Model.{tabled}
+use Rattle.layout.specs.Search.{halved}
+use Rattle.layout.specs.Mapping.{walk}
+use Rattle.storage.specs.Write.{placeFrom}
+use Rattle.cases.specs.Cases.{table, allHold}
+
+pub starred : allHold table ≡ true
+unfolding halved walk filled tabled placeFrom
+starred = refl

@@ -1,0 +1,100 @@
+-- Document 01, 'Struck on the bench': the starred cases on sets, layout, mappings and refusals, in its order.
+use Prim.Native.Nat.{ℕ}
+use mathlib.Core.Bool.{Bool, true, _&&_}
+use mathlib.Core.List.{List, [], _∷_}
+use lib.IntN.{ℤ, pos}
+use lib.ListN.{replicate}
+use Rattle.types.specs.Refusals.{Outcome, value, refused}
+use Rattle.tables.specs.Model.{Optional, absent, present, Store}
+use Rattle.storage.specs.Addition.{Addition}
+use Rattle.cases.specs.Questions.{newStore, built, Question, addFile, fileOffset, numPieces, mapBlock, fileIndexAtOffset, mapFile, exclusive, inclusive, pieceSize2, answer, sameAnswer}
+
+-- a question, and the answer that document 01 gives
+pub record Case : Type 0 where
+  pub question : Question
+  pub expected : Outcome (List ℤ)
+
+-- a set's piece length and additions, and the cases struck on it
+pub record Bench : Type 0 where
+  pub pieceLength : ℕ
+  pub additions : List Addition
+  pub cases : List Case
+
+-- s/ and one letter
+abbrev pub under : ℕ → List ℕ
+under letter = 115 ∷ 47 ∷ letter ∷ []
+
+abbrev pub file : ℕ → ℕ → Optional (List ℕ) → Addition
+file letter size root =
+    record { given = absent; path = under letter; size = pos size; flags = 0; time = pos 0; link = []; root = root }
+
+-- 'Set A, v1, length 10: s/a 7, s/b 0, s/c 15, s/d 0'
+abbrev pub setA : List Addition
+setA = file 97 7 absent ∷ file 98 0 absent ∷ file 99 15 absent ∷ file 100 0 absent ∷ []
+
+abbrev pub asked : Question → Outcome (List ℤ) → Case
+asked q e = record { question = q; expected = e }
+
+abbrev pub says : List ℕ → Outcome (List ℤ)
+says ns = value (signed ns)
+  where
+    signed : List ℕ → List ℤ
+    signed [] = []
+    signed (n ∷ ns) = pos n ∷ signed ns
+
+abbrev pub casesOfA : List Case
+casesOfA =
+    -- offsets 0, 7, 7, 22; 3 pieces
+    asked (fileOffset (pos 0)) (says (0 ∷ [])) ∷
+    asked (fileOffset (pos 1)) (says (7 ∷ [])) ∷
+    asked (fileOffset (pos 2)) (says (7 ∷ [])) ∷
+    asked (fileOffset (pos 3)) (says (22 ∷ [])) ∷
+    asked numPieces (says (3 ∷ [])) ∷
+    -- piece 0, offset 5, size 4: file 0 at 5 for 2, file 2 at 0 for 2
+    asked (mapBlock (pos 0) (pos 5) (pos 4)) (says (2 ∷ 0 ∷ 5 ∷ 2 ∷ 2 ∷ 0 ∷ 2 ∷ [])) ∷
+    -- piece 2, offset 0, size 10: file 2 at 13 for 2; offset 2, size 0: none
+    asked (mapBlock (pos 2) (pos 0) (pos 10)) (says (1 ∷ 2 ∷ 13 ∷ 2 ∷ [])) ∷
+    asked (mapBlock (pos 2) (pos 2) (pos 0)) (says (0 ∷ [])) ∷
+    -- offset 7 is in file 2; offset 22 gives 14
+    asked (fileIndexAtOffset (pos 7)) (says (2 ∷ [])) ∷
+    asked (fileIndexAtOffset (pos 22)) (refused 14) ∷
+    -- `map_file` of 1 at 0: piece 0, start 7; of 3: 3, 0, 0
+    asked (mapFile (pos 1) (pos 0) (pos 5)) (says (0 ∷ 7 ∷ 5 ∷ [])) ∷
+    asked (mapFile (pos 3) (pos 0) (pos 5)) (says (3 ∷ 0 ∷ 0 ∷ [])) ∷
+    -- exclusive pieces of file 2: 1 to 2; inclusive: 0 to 3 (end not included)
+    asked (exclusive (pos 2)) (says (1 ∷ 2 ∷ [])) ∷
+    asked (inclusive (pos 2)) (says (0 ∷ 3 ∷ [])) ∷
+    -- `piece_size2` of 0 is 7, of 2 is 2
+    asked (pieceSize2 (pos 0)) (says (7 ∷ [])) ∷
+    asked (pieceSize2 (pos 2)) (says (2 ∷ [])) ∷
+    []
+
+abbrev pub casesOfEmpty : List Case
+casesOfEmpty =
+    -- on an empty v1 set, size 281474976710655 is taken, one more gives 3
+    asked (addFile (file 97 281474976710655 absent)) (says []) ∷
+    asked (addFile (file 97 281474976710656 absent)) (refused 3) ∷
+    []
+
+abbrev pub casesOfV2 : List Case
+casesOfV2 =
+    -- v2, length 16384, one file of 281474976710655: 4
+    asked (addFile (file 97 281474976710655 (present (replicate 32 1)))) (refused 4) ∷
+    []
+
+-- the table
+abbrev pub table : List Bench
+table =
+    record { pieceLength = 10; additions = setA; cases = casesOfA } ∷
+    record { pieceLength = 10; additions = []; cases = casesOfEmpty } ∷
+    record { pieceLength = 16384; additions = []; cases = casesOfV2 } ∷
+    []
+
+-- each answer is the one expected
+abbrev pub holds : Store → List Case → Bool
+holds s [] = true
+holds s (c ∷ cs) = sameAnswer (answer s (c .question)) (c .expected) && holds s cs
+
+abbrev pub allHold : List Bench → Bool
+allHold [] = true
+allHold (b ∷ bs) = holds (built (newStore (b .pieceLength)) (b .additions)) (b .cases) && allHold bs

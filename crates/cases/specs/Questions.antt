@@ -1,0 +1,111 @@
+-- A set built by additions, and a question to it: each answer is what the contract of the function of that name promises.
+use Prim.Native.Nat.{ℕ}
+use mathlib.Core.Bool.{Bool, true, false, cond, _&&_}
+use mathlib.Core.List.{List, [], _∷_, _++_, map}
+use lib.Dec.{eqb}
+use lib.IntN.{ℤ, pos, negsuc}
+use lib.ListN.{length, replicate, take}
+use Rattle.types.specs.Refusals.{Outcome, value, refused}
+use Rattle.types.specs.declared.index.FileSlice.{FileSlice}
+use Rattle.tables.specs.declared.storage.FileStorage.{FileStorage}
+use Rattle.tables.specs.Rows.{rowAt}
+use Rattle.tables.specs.Model.{Store}
+use Rattle.storage.specs.Addition.{Addition}
+use Rattle.storage.specs.Opening.{opened, empty}
+use Rattle.storage.specs.Outcomes.{Changed, addStored}
+use Rattle.answers.specs.Answers.{askedFile, rowsHeld}
+use Rattle.layout.specs.Results.{Range, Asked}
+use Rattle.layout.specs.Mapping.{Slice}
+use Rattle.layout.specs.Request.{fileMapped}
+use Rattle.layout.specs.Table.{Filled, recordOf, blockMapped}
+use Rattle.layout.specs.Given.{numPiecesGiven, pieceSize2Given, fileAtOffsetGiven, exclusiveGiven, inclusiveGiven}
+
+-- tables with places for 4 files, 1 directory and 5 bytes of text, and a table for 4 slices: just enough for set A
+abbrev pub newStore : ℕ → Store
+newStore n =
+    record {
+      fs = empty n;
+      rows = replicate 32 0;
+      roots = replicate 128 0;
+      times = [];
+      dirs = replicate 2 0;
+      text = replicate 5 0;
+    }
+
+abbrev pub lent : List FileSlice
+lent = replicate 4 (recordOf (record { file = 0; offset = 0; size = 0 }))
+
+-- the tables after an addition; a refused one leaves them
+abbrev pub kept : Store → Changed → Store
+kept s c = by (c .says)
+  where
+    by : Outcome FileStorage → Store
+    by (value fs) = record { fs = fs; rows = c .rows; roots = c .roots; times = c .times; dirs = c .dirs; text = c .text }
+    by (refused k) = s
+
+abbrev pub built : Store → List Addition → Store
+built s [] = s
+built s (a ∷ rest) = built (kept s (addStored s a)) rest
+
+pub data Question : Type 0 where
+  addFile : Addition → Question
+  fileOffset : ℤ → Question
+  numPieces : Question
+  mapBlock : ℤ → ℤ → ℤ → Question
+  fileIndexAtOffset : ℤ → Question
+  mapFile : ℤ → ℤ → ℤ → Question
+  exclusive : ℤ → Question
+  inclusive : ℤ → Question
+  pieceSize2 : ℤ → Question
+
+-- an answer as a row of numbers
+abbrev pub numbers : {A : Type 0} → (A → List ℤ) → Outcome A → Outcome (List ℤ)
+numbers f (value a) = value (f a)
+numbers f (refused k) = refused k
+
+abbrev pub one : ℤ → List ℤ
+one z = z ∷ []
+
+abbrev pub ends : Range → List ℤ
+ends r = r .begin ∷ r .end ∷ []
+
+abbrev pub request : Asked → List ℤ
+request r = r .piece ∷ r .start ∷ r .length ∷ []
+
+-- the table's first records, as many as the answer says: file, offset and size of each
+abbrev pub sliceNumbers : List FileSlice → List ℤ
+sliceNumbers [] = []
+sliceNumbers (p ∷ ps) = p .«file_index» .0 ∷ p .offset ∷ p .size ∷ sliceNumbers ps
+
+abbrev pub slices : Filled → Outcome (List ℤ)
+slices r = numbers (λ (n : ℕ). pos n ∷ sliceNumbers (take n (r .table))) (r .says)
+
+abbrev pub answer : Store → Question → Outcome (List ℤ)
+answer s (addFile a) = numbers (λ (fs : FileStorage). []) (addStored s a .says)
+answer s (fileOffset z) = numbers one (askedFile (s .fs) z (rowsHeld (s .fs) (s .rows)) (λ k. pos (rowAt (s .rows) k .offset)))
+answer s numPieces = numbers one (numPiecesGiven (s .fs))
+answer s (mapBlock p o n) = slices (blockMapped (s .fs) (s .rows) p o n lent)
+answer s (fileIndexAtOffset o) = numbers one (fileAtOffsetGiven (s .fs) (s .rows) o)
+answer s (mapFile f o n) = numbers request (fileMapped (s .fs) (s .rows) f o n)
+answer s (exclusive f) = numbers ends (exclusiveGiven (s .fs) (s .rows) f)
+answer s (inclusive f) = numbers ends (inclusiveGiven (s .fs) (s .rows) f)
+answer s (pieceSize2 p) = numbers one (pieceSize2Given (s .fs) (s .rows) p)
+
+-- whether two answers are the same
+abbrev pub sameNumber : ℤ → ℤ → Bool
+sameNumber (pos m) (pos n) = eqb m n
+sameNumber (pos m) (negsuc n) = false
+sameNumber (negsuc m) (pos n) = false
+sameNumber (negsuc m) (negsuc n) = eqb m n
+
+abbrev pub sameNumbers : List ℤ → List ℤ → Bool
+sameNumbers [] [] = true
+sameNumbers [] (y ∷ ys) = false
+sameNumbers (x ∷ xs) [] = false
+sameNumbers (x ∷ xs) (y ∷ ys) = sameNumber x y && sameNumbers xs ys
+
+abbrev pub sameAnswer : Outcome (List ℤ) → Outcome (List ℤ) → Bool
+sameAnswer (value xs) (value ys) = sameNumbers xs ys
+sameAnswer (value xs) (refused k) = false
+sameAnswer (refused k) (value ys) = false
+sameAnswer (refused j) (refused k) = eqb j k

@@ -1,0 +1,2 @@
+// The starred cases of document 01's 'Struck on the bench', in a single table. Definitions and one computed
+// test, no code; relies on the definitions that the contracts of `storage`, `answers` and `layout` cite.
