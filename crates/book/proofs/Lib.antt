@@ -1,0 +1,1 @@
+-- Theorems on the book of demand 3.

@@ -1,0 +1,37 @@
+-- Which calls, with which outcomes, lead from a newly opened set to which tables. Each step's premise is what the function
+-- called ensures: `addStored`, `trimStored` and `opened` are the definitions that the contracts of `storage` cite, so a
+-- refused call is a step like any other. Cleanings, renames and imports join here with their functions.
+use mathlib.Core.Path.{_≡_}
+use mathlib.Core.List.{List, [], _∷_}
+use Prim.Native.Nat.{ℕ, _≤_}
+use lib.IntN.{ℤ, pos}
+use Rattle.types.specs.Refusals.{Outcome, value, refused}
+use Rattle.tables.specs.declared.storage.FileStorage.{FileStorage}
+use Rattle.tables.specs.Model.{Store}
+use Rattle.storage.specs.Addition.{Addition}
+use Rattle.storage.specs.Opening.{opened}
+use Rattle.storage.specs.Outcomes.{Changed, addStored, trimStored}
+use Rattle.book.specs.Book.{Call, Came, Made}
+use Rattle.book.specs.Book as book
+
+abbrev pub cameOf : Outcome FileStorage → Came
+cameOf (value fs) = book.done
+cameOf (refused k) = book.refused k
+
+-- the caller keeps the record that an answer gives, and the old one after a refusal
+abbrev pub kept : Outcome FileStorage → FileStorage → FileStorage
+kept (value new) old = new
+kept (refused k) old = old
+
+abbrev pub storeAfter : FileStorage → Changed → Store
+storeAfter old c =
+    record { fs = kept (c .says) old; rows = c .rows; roots = c .roots; times = c .times; dirs = c .dirs; text = c .text }
+
+abbrev pub call : Call → Changed → Made
+call k c = record { call = k; came = cameOf (c .says) }
+
+-- the calls, the latest first, on a set of that piece length, which an i32 holds, and the tables that they lead to
+pub data Leads (n : ℕ) : List Made → Store → Type 0 where
+  opening : {s : Store} → n ≤ 2147483647 → opened (pos n) ≡ value (s .fs) → Leads n [] s
+  addition : {made : List Made} {s : Store} (a : Addition) (c : Changed) → Leads n made s → c ≡ addStored s a → Leads n (call (book.add a) c ∷ made) (storeAfter (s .fs) c)
+  trim : {made : List Made} {s : Store} (c : Changed) → Leads n made s → c ≡ trimStored s → Leads n (call book.trim c ∷ made) (storeAfter (s .fs) c)

@@ -1,0 +1,86 @@
+-- Demand 3: what is asked of the set that a list of calls led to, and what must hold of the answers. The questions' premises
+-- are what `map_block` and `map_file` ensure (`blockMapped` and `fileMapped` of layout).
+use Prim.Native.Nat.{ℕ, _+_, _*_, _≤_, _<_}
+use mathlib.Core.Path.{_≡_}
+use mathlib.Core.List.{List, [], _∷_, _++_, map}
+use lib.IntN.{ℤ, pos}
+use lib.ListN.{length, take, drop}
+use Rattle.lists.specs.Lists.{sum, partOf}
+use Rattle.types.specs.Refusals.{Outcome, value, refused}
+use Rattle.types.specs.declared.index.FileSlice.{FileSlice}
+use Rattle.tables.specs.Model.{Store}
+use Rattle.storage.specs.Addition.{sizeOf}
+use Rattle.layout.specs.Results.{Asked}
+use Rattle.layout.specs.Mapping.{Slice}
+use Rattle.layout.specs.Request.{fileMapped}
+use Rattle.layout.specs.Table.{Filled, blockMapped}
+use Rattle.book.specs.Slices.{slice, joined, whole as wholeFiles, bytesIn, AscendingFrom, meets, endToEnd, contentOf}
+
+-- a call of `map_block`: what it was asked, the table lent to it, and what came of it
+pub record Asking : Type 0 where
+  pub piece : ℕ
+  pub offset : ℕ
+  pub size : ℕ
+  pub lent : List FileSlice
+  pub says : Outcome ℕ
+  pub left : List FileSlice
+
+-- the slices that it gave: so many of the table's first records as it says
+abbrev pub counted : Outcome ℕ → ℕ
+counted (value n) = n
+counted (refused k) = 0
+
+abbrev pub sliceOf : FileSlice → Slice
+sliceOf p = slice (sizeOf (p .«file_index» .0)) (sizeOf (p .offset)) (sizeOf (p .size))
+
+abbrev pub given : Asking → List Slice
+given q = map sliceOf (take (counted (q .says)) (q .left))
+
+-- 'A block here has any size above 0, asked from any piece starting at or before it', with a table that has a place for each
+-- file that the block meets
+pub record Ask (pieceLength : ℕ) (sizes : List ℕ) (s : Store) (t : ℕ) (q : Asking) : Type 0 where
+  pub place : q .piece * pieceLength + q .offset ≡ t
+  pub nonempty : 0 < q .size
+  pub room : meets sizes t (q .size) ≤ length (q .lent)
+  pub call : _≡_ {A = Filled} (record { says = q .says; table = q .left }) (blockMapped (s .fs) (s .rows) (pos (q .piece)) (pos (q .offset)) (pos (q .size)) (q .lent))
+
+-- consecutive blocks from byte t to byte e
+abbrev pub Asks : ℕ → List ℕ → Store → ℕ → ℕ → List Asking → Type 0
+Asks n sizes s t e [] = t ≡ e
+Asks n sizes s t e (q ∷ qs) = Ask n sizes s t q × Asks n sizes s (t + q .size) e qs
+
+-- the answer of `map_file` is the piece that holds a byte of the set, and the byte's place in it
+pub record Back (pieceLength byte : ℕ) (r : Outcome Asked) : Type 0 where
+  pub piece : ℕ
+  pub start : ℕ
+  pub length : ℕ
+  pub answer : r ≡ value (record { piece = pos piece; start = pos start; length = pos length })
+  pub holds : piece * pieceLength + start ≡ byte
+  pub inside : start < pieceLength
+
+-- a slice whose first byte is that byte of the set; 'Mapping back is `map_file` at the slice's file and offset, any size from 0'
+pub record Right (pieceLength : ℕ) (sizes : List ℕ) (s : Store) (byte : ℕ) (p : Slice) : Type 0 where
+  pub nonempty : 0 < p .size
+  pub first : sum (take (p .file) sizes) + p .offset ≡ byte
+  pub back : (n : ℕ) (r : Outcome Asked) → r ≡ fileMapped (s .fs) (s .rows) (pos (p .file)) (pos (p .offset)) (pos n) → Back pieceLength byte r
+
+-- what must hold of a block at byte t
+pub record Block (pieceLength : ℕ) (sizes : List ℕ) (s : Store) (t : ℕ) (q : Asking) : Type 0 where
+  pub answered : q .says ≡ value (meets sizes t (q .size))
+  pub ascending : AscendingFrom 0 (given q)
+  pub all : bytesIn (given q) ≡ q .size
+  pub each : (a : List Slice) (p : Slice) (b : List Slice) → given q ≡ a ++ p ∷ b → Right pieceLength sizes s (t + bytesIn a) p
+  -- whatever the files hold, the slices stand for the block's bytes
+  pub content : (cs : List (List ℕ)) → map length cs ≡ sizes → contentOf cs (given q) ≡ partOf (endToEnd cs) t (q .size)
+
+abbrev pub Blocks : ℕ → List ℕ → Store → ℕ → List Asking → Type 0
+Blocks n sizes s t [] = Unit {0}
+Blocks n sizes s t (q ∷ qs) = Block n sizes s t q × Blocks n sizes s (t + q .size) qs
+
+abbrev pub allGiven : List Asking → List Slice
+allGiven [] = []
+allGiven (q ∷ qs) = given q ++ allGiven qs
+
+pub record Demand3 (pieceLength : ℕ) (sizes : List ℕ) (s : Store) (qs : List Asking) : Type 0 where
+  pub whole : joined (allGiven qs) ≡ wholeFiles sizes
+  pub blocks : Blocks pieceLength sizes s 0 qs

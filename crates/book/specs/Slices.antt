@@ -1,0 +1,62 @@
+-- Slices of files that lie end to end (BEP 3): what it is to join them, what each file once and whole is, and which bytes
+-- they stand for. The files are given by their sizes.
+use Prim.Native.Nat.{ℕ, zero, suc, _+_, _-_, _≤_, min, max}
+use mathlib.Core.Bool.{cond, _&&_}
+use mathlib.Core.List.{List, [], _∷_, _++_}
+use lib.Dec.{eqb}
+use lib.ListN.{getD}
+use Rattle.lists.specs.Lists.{partOf}
+use Rattle.layout.specs.Mapping.{Slice, before}
+
+abbrev pub slice : ℕ → ℕ → ℕ → Slice
+slice f o n = record { file = f; offset = o; size = n }
+
+-- a slice in front of others: one with the first of them where that goes on in the same file
+abbrev pub joinedTo : Slice → List Slice → List Slice
+joinedTo a [] = a ∷ []
+joinedTo a (b ∷ r) =
+    cond (eqb (a .file) (b .file) && eqb (a .offset + a .size) (b .offset)) (slice (a .file) (a .offset) (a .size + b .size) ∷ r)
+    (a ∷ b ∷ r)
+
+abbrev pub joined : List Slice → List Slice
+joined [] = []
+joined (a ∷ r) = joinedTo a (joined r)
+
+-- 'each nonempty file once, whole': 'Whole is offset 0 and the row's size'; the files are numbered from k
+abbrev pub wholeFrom : ℕ → List ℕ → List Slice
+wholeFrom k [] = []
+wholeFrom k (x ∷ xs) = before (slice k 0 x) (wholeFrom (suc k) xs)
+
+abbrev pub whole : List ℕ → List Slice
+whole xs = wholeFrom 0 xs
+
+abbrev pub bytesIn : List Slice → ℕ
+bytesIn [] = 0
+bytesIn (p ∷ r) = p .size + bytesIn r
+
+-- one slice a file at most, in file order: no file below k
+abbrev pub AscendingFrom : ℕ → List Slice → Type 0
+AscendingFrom k [] = Unit {0}
+AscendingFrom k (p ∷ r) = (k ≤ p .file) × AscendingFrom (suc (p .file)) r
+
+-- how many of the files, the first of which starts at byte o, have a byte of the n from byte t on
+abbrev pub oneIf : ℕ → ℕ
+oneIf zero = 0
+oneIf (suc n) = 1
+
+abbrev pub meetsFrom : ℕ → List ℕ → ℕ → ℕ → ℕ
+meetsFrom o [] t n = 0
+meetsFrom o (x ∷ xs) t n = oneIf (min (o + x) (t + n) - max o t) + meetsFrom (o + x) xs t n
+
+abbrev pub meets : List ℕ → ℕ → ℕ → ℕ
+meets xs t n = meetsFrom 0 xs t n
+
+-- the bytes of the set: BEP 3, the files' contents end to end
+abbrev pub endToEnd : List (List ℕ) → List ℕ
+endToEnd [] = []
+endToEnd (c ∷ cs) = c ++ endToEnd cs
+
+-- the bytes that slices stand for, out of the files' contents
+abbrev pub contentOf : List (List ℕ) → List Slice → List ℕ
+contentOf cs [] = []
+contentOf cs (p ∷ r) = partOf (getD cs (p .file) []) (p .offset) (p .size) ++ contentOf cs r
