@@ -1,1 +1,2 @@
 -- Theorems on the book of demand 3.
+pub mod Walks
