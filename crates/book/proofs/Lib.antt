@@ -1,2 +1,3 @@
 -- Theorems on the book of demand 3.
 pub mod Walks
+pub mod Blocks
