@@ -1,3 +1,4 @@
 -- Theorems on the book of demand 3.
 pub mod Walks
 pub mod Blocks
+pub mod Tables
