@@ -2,3 +2,5 @@
 pub mod Walks
 pub mod Blocks
 pub mod Tables
+pub mod Demand
+pub mod Cuts
