@@ -4,3 +4,4 @@ pub mod Blocks
 pub mod Tables
 pub mod Demand
 pub mod Cuts
+pub mod Entries

@@ -1,0 +1,189 @@
+-- What the book keeps of a set is, after an addition and after a trim, what the book enters for it. All on the model; it
+-- relies on what the search for a tail pad finds.
+use mathlib.Core.Path.{_≡_, refl, sym, ap, ap₂, _∙_}
+use mathlib.Core.Bool.{Bool, true, false, cond, not, _&&_, _||_}
+use mathlib.Core.List.{List, [], _∷_, _++_, map, map-append, map-map}
+use Prim.Native.Nat.{ℕ, zero, suc, _+_, _-_, _%_, _≤_, _<_}
+use native.Mathlib.Nat.{mod-lt}
+use native.Mathlib.Omega.{arith}
+use lib.Dec.{eqb, ltb}
+use lib.ListN.{length, take, drop}
+use borrow.Author.Tests.{eqb-true, eqb-false, eq-eqb, ne-eqb, lt-ltb}
+use native.Mathlib.Numerals.{add-one}
+use Rattle.lists.specs.Lists.{sum}
+use Rattle.path.specs.Join.{isEmpty}
+use Rattle.tables.specs.Model.{Optional, absent, present, File, Model}
+use Rattle.storage.specs.Rules.{both, either}
+use Rattle.storage.specs.Addition.{Addition, added, fileAdded, padAdded, padTo, padAfter, padOf, sizeAdded, flagsKept, keeps, isPresent, isV2, decides, isOpen, filesOf}
+use Rattle.storage.specs.Trim.{tailPad, sizeAt, beginningAt, without, trimmedIf, trimmedOf}
+use Rattle.storage.proofs.Rules.{pad-none, pad-some}
+use Rattle.model.specs.Documents.{sizes}
+use Rattle.model.proofs.Files.{sum-zero}
+use Rattle.model.proofs.Trimming.{flagsAt, Last, tail-pad, NoTailPad, bare, other, no-tail-pad}
+use Rattle.book.specs.Book.{Row, Book, sizesOf, bytesOf, hasLink, versionAfter, rowFor, filling, linksAfter, afterAddition, trimmedRows, afterTrim}
+
+-- ---- what the book keeps of a set
+
+abbrev pub rowOf : File → Row
+rowOf f = record { size = f .size; marked = eqb (f .flags % 2) 1 }
+
+abbrev pub rowsOf : List File → List Row
+rowsOf fs = map rowOf fs
+
+abbrev pub bookOf : Model → Book
+bookOf m = record { pieceLength = m .pieceLength; v2 = m .v2; rows = rowsOf (m .files); links = m .links }
+
+pub sizes-rows : (fs : List File) → sizesOf (rowsOf fs) ≡ map (λ (f : File). f .size) fs
+sizes-rows fs = map-map (λ (r : Row). r .size) rowOf fs
+
+length-rows : (fs : List File) → length (rowsOf fs) ≡ length fs
+length-rows [] = refl
+length-rows (f ∷ fs) = ap suc (length-rows fs)
+
+same-book : {n : ℕ} {v v′ : Bool} {r r′ : List Row} {l l′ : ℕ} → v ≡ v′ → r ≡ r′ → l ≡ l′
+    → _≡_ {A = Book} (record { pieceLength = n; v2 = v; rows = r; links = l }) (record { pieceLength = n; v2 = v′; rows = r′; links = l′ })
+same-book ev er el = cc
+
+-- ---- an addition
+
+empty-link : (l : List ℕ) → isEmpty l ≡ not (ltb 0 (length l))
+empty-link [] = refl
+empty-link (c ∷ l) = rw (lt-ltb 0 (suc (length l)) (omega arith))
+
+held-link : (l : List ℕ) → not (isEmpty l) ≡ ltb 0 (length l)
+held-link [] = refl
+held-link (c ∷ l) = rw (lt-ltb 0 (suc (length l)) (omega arith))
+
+both-and : (a b : Bool) → both a b ≡ (a && b)
+both-and true b = refl
+both-and false b = refl
+
+either-or : (a b : Bool) → either a b ≡ (a || b)
+either-or true b = refl
+either-or false b = refl
+
+-- the flag of a pad is kept
+marked-kept : (flags : ℕ) (keeps : Bool) → flagsKept flags keeps % 2 ≡ flags % 2
+marked-kept flags true = omega arith
+marked-kept flags false = omega arith
+
+-- the pad that follows is the row that fills up
+pad-rows : (n : ℕ) (v2 : Bool) (o t : ℕ) → 0 < n → rowsOf (padAdded o (padAfter v2 n t)) ≡ filling n v2 t
+pad-rows n false o t h = refl
+pad-rows n true o t h = at (eqb (t % n) 0) refl
+  where
+    at : (b : Bool) → eqb (t % n) 0 ≡ b → rowsOf (padAdded o (padTo n t)) ≡ cond (not b) (record { size = n - t % n; marked = true } ∷ []) []
+    at true e = rw (← pad-none n t (eqb-true (t % n) 0 e))
+    at false e =
+        let l = mod-lt t {m = n} h in
+        let k : eqb (n - t % n) 0 ≡ false = ne-eqb (n - t % n) 0 (λ q. omega arith) in
+        rw (← pad-some n t h (eqb-false (t % n) 0 e), k)
+
+link-counted : (a b : Bool) (n : ℕ) → n + cond (both a b) 1 0 ≡ cond (a && b) (n + 1) n
+link-counted true true n = refl
+link-counted true false n = omega arith
+link-counted false b n = omega arith
+
+module _ (m : Model) (a : Addition) (total : m .total ≡ sum (sizes m)) where
+  bytes-is : m .total ≡ bytesOf (rowsOf (m .files))
+  bytes-is = total ∙ ap sum (sym (sizes-rows (m .files)))
+
+  version-is : isV2 m a ≡ versionAfter (bookOf m) a
+  version-is = ap (λ (b : Bool). cond b (isPresent (a .root)) (m .v2)) fixed
+    where
+      first : decides (sizeAdded a) (a .link) ≡ (ltb 0 (sizeAdded a) && not (hasLink a))
+      first = both-and (ltb 0 (sizeAdded a)) (isEmpty (a .link)) ∙ ap (λ (b : Bool). ltb 0 (sizeAdded a) && b) (empty-link (a .link))
+
+      second : isOpen (m .total) (m .links) (filesOf m) ≡ (eqb (bytesOf (rowsOf (m .files))) 0 || eqb (m .links) (length (rowsOf (m .files))))
+      second =
+          either-or (eqb (m .total) 0) (eqb (m .links) (filesOf m))
+          ∙ ap₂ (λ (t k : ℕ). eqb t 0 || eqb (m .links) k) bytes-is (sym (length-rows (m .files)))
+
+      fixed : both (decides (sizeAdded a) (a .link)) (isOpen (m .total) (m .links) (filesOf m)) ≡ ((ltb 0 (sizeAdded a) && not (hasLink a)) && (eqb (bytesOf (rowsOf (m .files))) 0 || eqb (m .links) (length (rowsOf (m .files)))))
+      fixed = both-and (decides (sizeAdded a) (a .link)) (isOpen (m .total) (m .links) (filesOf m)) ∙ ap₂ _&&_ first second
+
+  links-is : added m a .links ≡ linksAfter (bookOf m) a
+  links-is =
+      ap (λ (b : Bool). m .links + cond (both b (ltb (m .links) 32766)) 1 0) (held-link (a .link))
+      ∙ link-counted (hasLink a) (ltb (m .links) 32766) (m .links)
+
+  module _ (some : 0 < m .pieceLength) where
+    rows-is : rowsOf (added m a .files) ≡ afterAddition (bookOf m) a .rows
+    rows-is =
+        map-append rowOf (m .files) (fileAdded m a ∷ padAdded (m .total + sizeAdded a) (padOf m a))
+        ∙ ap₂ (λ (r : Row) (l : List Row). rowsOf (m .files) ++ (r ∷ l)) file pad
+      where
+        file : rowOf (fileAdded m a) ≡ rowFor a
+        file = ap (λ (n : ℕ). record { size = sizeAdded a; marked = eqb n 1 }) (marked-kept (a .flags) (keeps m a))
+
+        pad : rowsOf (padAdded (m .total + sizeAdded a) (padOf m a)) ≡ filling (m .pieceLength) (versionAfter (bookOf m) a) (bytesOf (rowsOf (m .files)) + sizeAdded a)
+        pad =
+            pad-rows (m .pieceLength) (isV2 m a) (m .total + sizeAdded a) (m .total + sizeAdded a) some
+            ∙ ap₂ (λ (v : Bool) (t : ℕ). filling (m .pieceLength) v (t + sizeAdded a)) version-is bytes-is
+
+    pub book-added : bookOf (added m a) ≡ afterAddition (bookOf m) a
+    book-added = same-book version-is rows-is links-is
+
+-- ---- a trim
+
+sum-rows : (fs : List File) → bytesOf (rowsOf fs) ≡ sum (map (λ (f : File). f .size) fs)
+sum-rows fs = ap sum (sizes-rows fs)
+
+-- where all rows are empty, none goes
+trimmed-none : (fs : List File) → ((k : ℕ) → sizeAt k fs ≡ 0) → trimmedRows (rowsOf fs) ≡ rowsOf fs
+trimmed-none [] z = refl
+trimmed-none (f ∷ fs) z =
+    let e : eqb (bytesOf (rowsOf fs)) 0 ≡ true = eq-eqb (bytesOf (rowsOf fs)) 0 (sum-rows fs ∙ sum-zero (map (λ (g : File). g .size) fs) (λ k. z (suc k))) in
+    let d : f .size ≡ 0 = z 0 in
+    rw (e, d)
+
+-- the last nonempty row goes where it is marked
+trimmed-last : (fs : List File) (k : ℕ) → Last fs k → trimmedRows (rowsOf fs) ≡ cond (eqb (flagsAt k fs % 2) 1) (rowsOf (take k fs ++ drop (suc k) fs)) (rowsOf fs)
+trimmed-last [] k p = absurd (omega (arith, p .there))
+trimmed-last (f ∷ fs) zero p =
+    let e : eqb (bytesOf (rowsOf fs)) 0 ≡ true = eq-eqb (bytesOf (rowsOf fs)) 0 (sum-rows fs ∙ sum-zero (map (λ (g : File). g .size) fs) (λ k. p .behind (suc k) (omega arith))) in
+    let d : ltb 0 (f .size) ≡ true = lt-ltb 0 (f .size) (p .nonempty) in
+    rw (e, d)
+trimmed-last (f ∷ fs) (suc k) p =
+    let q : Last fs k = record { there = omega (arith, p .there); nonempty = p .nonempty; behind = λ i h. p .behind (suc i) (omega arith) } in
+    let e : eqb (bytesOf (rowsOf fs)) 0 ≡ false = ne-eqb (bytesOf (rowsOf fs)) 0 (λ z. omega (arith, sum-rows fs, size-in fs k, p .nonempty)) in
+    rw e (ap (λ (l : List Row). rowOf f ∷ l) (trimmed-last fs k q) ∙ by (eqb (flagsAt k fs % 2) 1))
+  where
+    size-in : (gs : List File) (i : ℕ) → sizeAt i gs ≤ sum (map (λ (g : File). g .size) gs)
+    size-in [] zero = omega arith
+    size-in [] (suc i) = omega arith
+    size-in (g ∷ gs) zero = omega arith
+    size-in (g ∷ gs) (suc i) = omega (arith, size-in gs i)
+
+    by : (b : Bool) → rowOf f ∷ cond b (rowsOf (take k fs ++ drop (suc k) fs)) (rowsOf fs) ≡ cond b (rowOf f ∷ rowsOf (take k fs ++ drop (suc k) fs)) (rowOf f ∷ rowsOf fs)
+    by true = refl
+    by false = refl
+
+pub book-trimmed : (m : Model) → bookOf (trimmedOf m) ≡ afterTrim (bookOf m)
+book-trimmed m = at (tailPad (m .files)) refl
+  where
+    none : NoTailPad (m .files) → rowsOf (m .files) ≡ trimmedRows (rowsOf (m .files))
+    none (bare z) = sym (trimmed-none (m .files) z)
+    none (other f p q) =
+        sym
+        (trimmed-last (m .files) f p
+        ∙ ap (λ (b : Bool). cond b (rowsOf (take f (m .files) ++ drop (suc f) (m .files))) (rowsOf (m .files))) (ne-eqb (flagsAt f (m .files) % 2) 1 q))
+
+    gone : (o f : ℕ) → rowsOf (take f (m .files) ++ map (beginningAt o) (drop (f + 1) (m .files))) ≡ rowsOf (take f (m .files) ++ drop (suc f) (m .files))
+    gone o f =
+        rw (add-one f)
+        (map-append rowOf (take f (m .files)) (map (beginningAt o) (drop (suc f) (m .files)))
+        ∙ ap (λ (l : List Row). rowsOf (take f (m .files)) ++ l) (map-map rowOf (beginningAt o) (drop (suc f) (m .files)))
+        ∙ sym (map-append rowOf (take f (m .files)) (drop (suc f) (m .files))))
+
+    at : (o : Optional ℕ) → tailPad (m .files) ≡ o → bookOf (trimmedIf o m) ≡ afterTrim (bookOf m)
+    at absent e = same-book refl (none (no-tail-pad (m .files) e)) refl
+    at (present f) e =
+        let p = tail-pad (m .files) f e in
+        same-book
+        refl
+        (gone (m .total - sizeAt f (m .files)) f
+        ∙ sym
+        (trimmed-last (m .files) f (p .last)
+        ∙ ap (λ (b : Bool). cond b (rowsOf (take f (m .files) ++ drop (suc f) (m .files))) (rowsOf (m .files))) (eq-eqb (flagsAt f (m .files) % 2) 1 (p .pad))))
+        refl
