@@ -5,3 +5,4 @@ pub mod Tables
 pub mod Demand
 pub mod Cuts
 pub mod Entries
+pub mod Rooted
