@@ -6,3 +6,4 @@ pub mod Demand
 pub mod Cuts
 pub mod Entries
 pub mod Rooted
+pub mod Agree

@@ -1,0 +1,188 @@
+-- The book agrees with the set over every list of calls, refused ones included, and every set that the calls lead to is one
+-- of those of which BEP 3, 47 and 52 are proved. Relies on Entries.antt, on Rooted.antt and on the theorems of `model`.
+use mathlib.Core.Path.{_≡_, refl, sym, ap, subst, _∙_}
+use mathlib.Core.Bool.{Bool, true, false, cond, not}
+use mathlib.Core.List.{List, [], _∷_, map}
+use Prim.Native.Nat.{ℕ, _≤_, _<_}
+use native.Mathlib.Omega.{arith}
+use lib.Dec.{eqb}
+use lib.IntN.{pos}
+use borrow.Author.Tests.{eqb-true, eqb-false}
+use Rattle.lists.specs.Lists.{sum}
+use Rattle.types.specs.Refusals.{Outcome, value, refused}
+use Rattle.tables.specs.declared.storage.FileStorage.{FileStorage}
+use Rattle.tables.specs.Model.{Optional, absent, present, File, Model, Store, fileOf, viewOf}
+use Rattle.storage.specs.Rules.{outcomeOf, firstOf, when}
+use Rattle.storage.specs.Addition.{Addition, added, badLength}
+use Rattle.storage.specs.Trim.{tailPad, trimmedOf}
+use Rattle.storage.specs.Write.{storeAdded}
+use Rattle.storage.specs.Opening.{empty, opened}
+use Rattle.storage.specs.Outcomes.{Changed, changedIf, roomsOf, holds, addingNumber, trimmedBy}
+use Rattle.model.specs.Sound.{Sound}
+use Rattle.model.specs.Documents.{sizes, EndToEnd, OnDisk, Marked, OnPiece, Each, LinkEmpty}
+use Rattle.model.specs.Reached.{Reached, fresh}
+use Rattle.model.specs.Reached as reach
+use Rattle.model.proofs.Common.{sum-tabled}
+use Rattle.model.proofs.Opened.{sound-opened, view-opened}
+use Rattle.model.proofs.Adding.{adding}
+use Rattle.model.proofs.Trimmed.{view-trimmed, sound-trimmed}
+use Rattle.model.proofs.Documents.{end-to-end, on-disk, marked, on-piece}
+use Rattle.book.specs.Book.{Call, add, trim, Came, Made, Book, sizesOf, afterAddition, afterTrim, book}
+use Rattle.book.specs.Book as books
+use Rattle.book.specs.Calls.{storeAfter, call, Leads}
+use Rattle.book.specs.Calls as calls
+use Rattle.book.proofs.Entries.{bookOf, sizes-rows, book-added, book-trimmed}
+use Rattle.book.proofs.Rooted.{Settled, settled}
+
+-- the book's rows are the set's files
+pub record Agrees (n : ℕ) (made : List Made) (s : Store) : Type 0 where
+  pub sound : Sound s
+  pub some : 0 < n
+  pub short : n ≤ 2147483647
+  pub lengths : s .fs .«piece_length» ≡ n
+  pub books : bookOf (viewOf s) ≡ book n made
+
+-- ---- what holds after a call
+
+-- it holds of a call that is done where its number is 0, and of a refused one, which changes nothing
+module _ {ℓ} (P : Made → Store → Type ℓ) (k : Call) (number : ℕ) (s t : Store) where
+  after-call : (number ≡ 0 → P (record { call = k; came = books.done }) t) → P (record { call = k; came = books.refused number }) s
+      → (c : Changed) → c ≡ changedIf number s t → P (call k c) (storeAfter (s .fs) c)
+  after-call d r c e = subst (λ (x : Changed). P (call k x) (storeAfter (s .fs) x)) (sym e) (at (eqb number 0) refl)
+    where
+      at : (b : Bool) → eqb number 0 ≡ b
+          → P (call k (cond b (record { says = value (t .fs); rows = t .rows; roots = t .roots; times = t .times; dirs = t .dirs; text = t .text }) (record { says = refused number; rows = s .rows; roots = s .roots; times = s .times; dirs = s .dirs; text = s .text })))
+          (storeAfter (s .fs) (cond b (record { says = value (t .fs); rows = t .rows; roots = t .roots; times = t .times; dirs = t .dirs; text = t .text }) (record { says = refused number; rows = s .rows; roots = s .roots; times = s .times; dirs = s .dirs; text = s .text })))
+      at true q = d (eqb-true number 0 q)
+      at false q = r
+
+-- what a trim is refused by, which on tables in order is nothing
+abbrev trimNumber : Store → ℕ
+trimNumber s = firstOf (when (badLength (s .fs .«piece_length»)) 1 ∷ when (not (holds s)) 10 ∷ [])
+
+-- ---- opening
+
+module _ (n : ℕ) (s : Store) (e : opened (pos n) ≡ value (s .fs)) where
+  opened-is : (0 < n) × (empty n ≡ s .fs)
+  opened-is = at (eqb n 0) refl e
+    where
+      at : (b : Bool) → eqb n 0 ≡ b → cond b (refused 1) (value (empty n)) ≡ value (s .fs) → (0 < n) × (empty n ≡ s .fs)
+      at true q e = let z : _≡_ {A = ℕ} 0 1 = cc in absurd (omega arith)
+      at false q e = (omega (arith, eqb-false n 0 q), cc)
+
+  abbrev with-record : FileStorage → Store
+  with-record fs = record { fs = fs; rows = s .rows; roots = s .roots; times = s .times; dirs = s .dirs; text = s .text }
+
+  opened-store : with-record (empty n) ≡ s
+  opened-store = ap with-record (opened-is .1)
+
+  opened-view : fresh n ≡ viewOf s
+  opened-view = sym (view-opened n (s .rows) (s .roots) (s .times) (s .dirs) (s .text)) ∙ ap viewOf opened-store
+
+  agrees-opened : n ≤ 2147483647 → Agrees n [] s
+  agrees-opened h =
+      record {
+        sound = subst Sound opened-store (sound-opened n (s .rows) (s .roots) (s .times) (s .dirs) (s .text));
+        some = opened-is .0;
+        short = h;
+        lengths = ap (λ (fs : FileStorage). fs .«piece_length») (sym (opened-is .1));
+        books = ap bookOf (sym opened-view);
+      }
+
+-- ---- one call
+
+total-is : (s : Store) → Sound s → viewOf s .total ≡ sum (sizes (viewOf s))
+total-is s ok = ok .total ∙ sym (sum-tabled (λ (f : File). f .size) (s .fs .«num_files») (fileOf s))
+
+agrees-refused : {n : ℕ} {made : List Made} {s : Store} (k : Call) (i : ℕ) → Agrees n made s → Agrees n (record { call = k; came = books.refused i } ∷ made) s
+agrees-refused k i g = record { sound = g .sound; some = g .some; short = g .short; lengths = g .lengths; books = g .books }
+
+agrees-added : {n : ℕ} {made : List Made} (s : Store) (a : Addition) → Agrees n made s → Settled s a → Agrees n (record { call = add a; came = books.done } ∷ made) (storeAdded s (viewOf s) a)
+agrees-added s a g st =
+    let l = g .lengths in
+    record {
+      sound = st .sound;
+      some = g .some;
+      short = g .short;
+      lengths = l;
+      books =
+          ap bookOf (st .view)
+          ∙ book-added (viewOf s) (st .like) (total-is s (g .sound)) (omega (arith, g .some))
+          ∙ st .entered (bookOf (viewOf s))
+          ∙ ap (λ (b : Book). afterAddition b a) (g .books);
+    }
+
+agrees-trimmed : {n : ℕ} {made : List Made} (s : Store) → Agrees n made s → Agrees n (record { call = trim; came = books.done } ∷ made) (trimmedBy (tailPad (viewOf s .files)) s)
+agrees-trimmed s g =
+    record {
+      sound = sound-trimmed s (g .sound);
+      some = g .some;
+      short = g .short;
+      lengths = same-length (tailPad (viewOf s .files)) ∙ g .lengths;
+      books = ap bookOf (view-trimmed s (g .sound)) ∙ book-trimmed (viewOf s) ∙ ap afterTrim (g .books);
+    }
+  where
+    same-length : (o : Optional ℕ) → trimmedBy o s .fs .«piece_length» ≡ s .fs .«piece_length»
+    same-length absent = refl
+    same-length (present f) = refl
+
+-- ---- every list of calls
+
+pub agrees : {n : ℕ} {made : List Made} {s : Store} → Leads n made s → Agrees n made s
+agrees {n} (calls.opening {s} h e) = agrees-opened n s e h
+agrees {n} (calls.addition {made} {s} a c p e) =
+    let g = agrees p in
+    after-call (λ (m : Made) (t : Store). Agrees n (m ∷ made) t) (add a) (addingNumber s (viewOf s) a) s (storeAdded s (viewOf s) a)
+    (λ z. agrees-added s a g (settled s a (g .sound) z))
+    (agrees-refused (add a) (addingNumber s (viewOf s) a) g)
+    c
+    e
+agrees {n} (calls.trim {made} {s} c p e) =
+    let g = agrees p in
+    after-call (λ (m : Made) (t : Store). Agrees n (m ∷ made) t) trim (trimNumber s) s (trimmedBy (tailPad (viewOf s .files)) s)
+    (λ z. agrees-trimmed s g)
+    (agrees-refused trim (trimNumber s) g)
+    c
+    e
+
+pub sizes-agree : {n : ℕ} {made : List Made} {s : Store} → Leads n made s → map (λ (f : File). f .size) (viewOf s .files) ≡ sizesOf (book n made .rows)
+sizes-agree {n} {made} {s} p = sym (sizes-rows (viewOf s .files)) ∙ ap (λ (b : Book). sizesOf (b .rows)) (agrees p .books)
+
+-- ---- the public documents
+
+pub reached : {n : ℕ} {made : List Made} {s : Store} → Leads n made s → Reached (viewOf s)
+reached {n} (calls.opening {s} h e) = subst Reached (opened-view n s e) (reach.opened n (opened-is n s e .0) h)
+reached (calls.addition {made} {s} a c p e) =
+    after-call (λ (m : Made) (t : Store). Reached (viewOf t)) (add a) (addingNumber s (viewOf s) a) s (storeAdded s (viewOf s) a)
+    (λ z. more (settled s a (agrees p .sound) z) (reached p))
+    (reached p)
+    c
+    e
+  where
+    more : Settled s a → Reached (viewOf s) → Reached (viewOf (storeAdded s (viewOf s) a))
+    more st r =
+        subst Reached (sym (st .view))
+        (reach.addition r (roomsOf s) (st .like)
+        (adding s (agrees p .sound) (st .like) ∙ ap (λ (k : ℕ). outcomeOf k (added (viewOf s) (st .like))) (st .number)))
+reached (calls.trim {made} {s} c p e) =
+    after-call (λ (m : Made) (t : Store). Reached (viewOf t)) trim (trimNumber s) s (trimmedBy (tailPad (viewOf s .files)) s)
+    (λ z. subst Reached (sym (view-trimmed s (agrees p .sound))) (reach.trim (reached p)))
+    (reached p)
+    c
+    e
+
+module _ {n : ℕ} {made : List Made} {s : Store} (p : Leads n made s) where
+  -- BEP 3
+  pub set-end-to-end : EndToEnd (viewOf s)
+  set-end-to-end = end-to-end (reached p)
+
+  -- BEP 47
+  pub set-on-disk : OnDisk (viewOf s)
+  set-on-disk = on-disk (reached p)
+
+  pub set-marked : Each Marked (viewOf s .files)
+  set-marked = marked (reached p)
+
+  -- BEP 52
+  pub set-on-piece : viewOf s .trimmed ≡ false → viewOf s .v2 ≡ true → Each LinkEmpty (viewOf s .files) → Each (OnPiece n) (viewOf s .files)
+  set-on-piece t v l = subst (λ (k : ℕ). Each (OnPiece k) (viewOf s .files)) (agrees p .lengths) (on-piece (reached p) t v l)
