@@ -7,3 +7,4 @@ pub mod Cuts
 pub mod Entries
 pub mod Rooted
 pub mod Agree
+pub mod Runs

@@ -1,0 +1,143 @@
+-- The relation of calls is not empty: on every store each call that it knows has exactly one outcome and store after it, and
+-- from every newly opened set, whatever its tables hold, every list of additions and trims has a run. Relies on the
+-- definitions alone, and for trims on Agree.antt.
+use mathlib.Core.Path.{_≡_, refl, sym, ap, subst, _∙_}
+use mathlib.Core.Bool.{Bool, true, false, cond, not}
+use mathlib.Core.List.{List, [], _∷_, _++_, map}
+use Prim.Native.Nat.{ℕ, _≤_, _<_}
+use native.Mathlib.Omega.{arith}
+use lib.Dec.{eqb, ltb}
+use lib.IntN.{pos}
+use borrow.Author.Tests.{ne-eqb, le-ltb}
+use Rattle.types.specs.Refusals.{Outcome, value, refused}
+use Rattle.tables.specs.declared.storage.FileStorage.{FileStorage}
+use Rattle.tables.specs.Model.{Store, viewOf}
+use Rattle.storage.specs.Rules.{either, firstOf, when}
+use Rattle.storage.specs.Addition.{Addition, badLength}
+use Rattle.storage.specs.Trim.{tailPad}
+use Rattle.storage.specs.Opening.{empty, opened}
+use Rattle.storage.specs.Outcomes.{Changed, addStored, trimStored, trimmedBy, holds}
+use Rattle.model.proofs.Adding.{sound-holds}
+use Rattle.book.specs.Book.{Call, add, trim, Came, Made}
+use Rattle.book.specs.Calls.{cameOf, storeAfter, Leads}
+use Rattle.book.specs.Calls as calls
+use Rattle.book.proofs.Agree.{Agrees, agrees}
+
+-- ---- one call
+
+-- the calls that the relation knows
+pub data Known : Type 0 where
+  adding : Addition → Known
+  trimming : Known
+
+abbrev pub callOf : Known → Call
+callOf (adding a) = add a
+callOf trimming = trim
+
+-- what the function called says, and leaves
+abbrev pub answerOf : Store → Known → Changed
+answerOf s (adding a) = addStored s a
+answerOf s trimming = trimStored s
+
+abbrev pub entered : Known → Came → Made
+entered k o = record { call = callOf k; came = o }
+
+-- one step of the relation
+pub record Step (s : Store) (k : Known) (o : Came) (t : Store) : Type 0 where
+  pub changed : Changed
+  pub ensured : changed ≡ answerOf s k
+  pub came : cameOf (changed .says) ≡ o
+  pub store : storeAfter (s .fs) changed ≡ t
+
+-- the relation goes on by such steps, and by no others
+pub stepped : {n : ℕ} {made : List Made} {s t : Store} {o : Came} (k : Known) → Leads n made s → Step s k o t → Leads n (entered k o ∷ made) t
+stepped {n} {made} {s} {t} {o} k p q =
+    subst (λ (u : Store). Leads n (entered k o ∷ made) u) (q .store) (subst (λ (x : Came). Leads n (entered k x ∷ made) (storeAfter (s .fs) (q .changed))) (q .came) (at k (q .ensured)))
+  where
+    at : (k : Known) → q .changed ≡ answerOf s k → Leads n (entered k (cameOf (q .changed .says)) ∷ made) (storeAfter (s .fs) (q .changed))
+    at (adding a) e = calls.addition a (q .changed) p e
+    at trimming e = calls.trim (q .changed) p e
+
+pub record LastStep (n : ℕ) (made : List Made) (m : Made) (t : Store) : Type 0 where
+  pub before : Store
+  pub known : Known
+  pub leads : Leads n made before
+  pub step : Step before known (m .came) t
+  pub call : callOf known ≡ m .call
+
+pub last-step : {n : ℕ} {made : List Made} {m : Made} {t : Store} → Leads n (m ∷ made) t → LastStep n made m t
+last-step (calls.addition {made} {s} a c p e) =
+    record {
+      before = s;
+      known = adding a;
+      leads = p;
+      step = record { changed = c; ensured = e; came = refl; store = refl };
+      call = refl;
+    }
+last-step (calls.trim {made} {s} c p e) =
+    record {
+      before = s;
+      known = trimming;
+      leads = p;
+      step = record { changed = c; ensured = e; came = refl; store = refl };
+      call = refl;
+    }
+
+-- exactly one outcome, and one store after it
+pub record One (s : Store) (k : Known) : Type 0 where
+  pub outcome : Came
+  pub store : Store
+  pub step : Step s k outcome store
+  pub only : (o : Came) (t : Store) → Step s k o t → (o ≡ outcome) × (t ≡ store)
+
+pub came : (s : Store) (k : Known) → One s k
+came s k =
+    record {
+      outcome = cameOf (answerOf s k .says);
+      store = storeAfter (s .fs) (answerOf s k);
+      step = record { changed = answerOf s k; ensured = refl; came = refl; store = refl };
+      only = λ o t q. (sym (q .came) ∙ ap (λ (c : Changed). cameOf (c .says)) (q .ensured), sym (q .store) ∙ ap (storeAfter (s .fs)) (q .ensured));
+    }
+
+-- ---- lists of calls
+
+-- calls one after another from a store on, the latest first
+pub data Chain (s : Store) : List Made → Store → Type 0 where
+  none : Chain s [] s
+  more : {made : List Made} {t u : Store} (k : Known) (o : Came) → Chain s made t → Step t k o u → Chain s (entered k o ∷ made) u
+
+pub led : {n : ℕ} {made : List Made} {s t : Store} → opened (pos n) ≡ value (s .fs) → n ≤ 2147483647 → Chain s made t → Leads n made t
+led e h none = calls.opening h e
+led e h (more k o c q) = stepped k (led e h c) q
+
+pub record Played (n : ℕ) (s : Store) (ks : List Known) : Type 0 where
+  pub made : List Made
+  pub last : Store
+  pub same : map (λ (m : Made). m .call) made ≡ map callOf ks
+  pub chain : Chain s made last
+  pub leads : Leads n made last
+
+-- a set can be opened with every piece length from 1 on
+pub opens : (n : ℕ) → 0 < n → opened (pos n) ≡ value (empty n)
+opens n h = rw (ne-eqb n 0 (λ e. omega arith))
+
+pub played : (n : ℕ) (s : Store) → opened (pos n) ≡ value (s .fs) → n ≤ 2147483647 → (ks : List Known) → Played n s ks
+played n s e h [] = record { made = []; last = s; same = refl; chain = none; leads = calls.opening h e }
+played n s e h (k ∷ ks) =
+    let r = played n s e h ks in
+    let x = came (r .last) k in
+    record {
+      made = entered k (x .outcome) ∷ r .made;
+      last = x .store;
+      same = ap (λ (l : List Call). callOf k ∷ l) (r .same);
+      chain = more k (x .outcome) (r .chain) (x .step);
+      leads = stepped k (r .leads) (x .step);
+    }
+
+-- ---- no trim is refused
+
+pub trim-done : {n : ℕ} {made : List Made} {s : Store} → Leads n made s → trimStored s .says ≡ value (trimmedBy (tailPad (viewOf s .files)) s .fs)
+trim-done {n} {made} {s} p =
+    let g = agrees p in
+    let a : badLength (s .fs .«piece_length») ≡ false = rw (g .lengths, le-ltb n 1 (g .some)) (le-ltb 2147483647 n (g .short)) in
+    rw (a, sound-holds s (g .sound))
