@@ -8,3 +8,4 @@ pub mod Entries
 pub mod Rooted
 pub mod Agree
 pub mod Runs
+pub mod Says

@@ -1,0 +1,111 @@
+-- What a caller learns from the contracts of `open`, `add_file`, `remove_tail_padding` and `map_file` is the very premise of
+-- the relation of calls and of the demand. `Learnt` is made of the source's own clauses, so a weakened `ensures` breaks
+-- these laws. They rely on nothing else.
+use contract.Lifetimes
+use denote.Ref.{now}
+use borrow.Fn.World
+use denote.Triple.Clauses
+use borrow.Fn.Kinds as kinds
+use mathlib.Core.Path.{_≡_}
+use mathlib.Core.List.{List, [], _∷_}
+use Prim.Native.Nat.{ℕ, _≤_}
+use lib.IntN.{pos}
+use Rattle.types.specs.Refusals.{value}
+use Rattle.tables.specs.Model.{Store}
+use Rattle.storage.specs.Addition.{Addition}
+use Rattle.storage.specs.Opening.{opened}
+use Rattle.storage.specs.Plan.{storeOf, additionOf}
+use Rattle.storage.specs.Outcomes.{Changed, storageSays, addStored, trimStored}
+use Rattle.layout.specs.Results.{requestSays}
+use Rattle.layout.specs.Request.{fileMapped}
+use Rattle.storage.proofs.open
+use Rattle.storage.proofs.open.Kinds as open-kinds
+use Rattle.storage.proofs.open.Reads as open-reads
+use Rattle.storage.proofs.add_file
+use Rattle.storage.proofs.add_file.Kinds as add-kinds
+use Rattle.storage.proofs.add_file.Reads as add-reads
+use Rattle.storage.proofs.remove_tail_padding
+use Rattle.storage.proofs.remove_tail_padding.Kinds as trim-kinds
+use Rattle.storage.proofs.remove_tail_padding.Reads as trim-reads
+use Rattle.layout.proofs.map_file
+use Rattle.layout.proofs.map_file.Kinds as map-kinds
+use Rattle.layout.proofs.map_file.Reads as map-reads
+use Rattle.book.specs.Book.{Made}
+use Rattle.book.specs.Book as book
+use Rattle.book.specs.Calls.{storeAfter, call, Leads}
+use Rattle.book.specs.Calls as calls
+
+-- ---- `open`
+
+module _ (κs : Lifetimes.Lfts 0) (a : World.ArgsD open.signature κs) (r : World.ResD open.signature κs) (s : Clauses.AtExit (kinds.endedOf 0 open-kinds.ps open-kinds.r) κs) where
+  pub open-says : open-reads.Learnt κs a r s → storageSays r ≡ opened (a .0)
+  open-says p = p
+
+-- ---- `add_file`
+
+module _ (κs : Lifetimes.Lfts 8) (a : World.ArgsD add_file.signature κs) (r : World.ResD add_file.signature κs) (s : Clauses.AtExit (kinds.endedOf 8 add-kinds.ps add-kinds.r) κs) where
+  -- the record and the tables that were lent
+  abbrev pub addedTo : Store
+  addedTo = storeOf (a .0) (now (a .1 .0)) (now (a .1 .1 .0)) (now (a .1 .1 .1 .0)) (now (a .1 .1 .1 .1 .0)) (now (a .1 .1 .1 .1 .1 .0))
+
+  -- the other arguments
+  abbrev pub asked : Addition
+  asked =
+      additionOf
+      (a .1 .1 .1 .1 .1 .1 .0)
+      (now (a .1 .1 .1 .1 .1 .1 .1 .0))
+      (now (a .1 .1 .1 .1 .1 .1 .1 .1 .0))
+      (a .1 .1 .1 .1 .1 .1 .1 .1 .1 .0)
+      (a .1 .1 .1 .1 .1 .1 .1 .1 .1 .1 .0)
+      (a .1 .1 .1 .1 .1 .1 .1 .1 .1 .1 .1 .0)
+      (now (a .1 .1 .1 .1 .1 .1 .1 .1 .1 .1 .1 .1 .0))
+      (a .1 .1 .1 .1 .1 .1 .1 .1 .1 .1 .1 .1 .1 .0)
+      (a .1 .1 .1 .1 .1 .1 .1 .1 .1 .1 .1 .1 .1 .1 .0)
+
+  -- the answer, and the tables as they were left
+  abbrev pub addedBy : Changed
+  addedBy =
+      record {
+        says = storageSays r;
+        rows = now (s .1 .0);
+        roots = now (s .1 .1 .0);
+        times = now (s .1 .1 .1 .0);
+        dirs = now (s .1 .1 .1 .1 .0);
+        text = now (s .1 .1 .1 .1 .1 .0);
+      }
+
+  pub add-file-says : add-reads.Learnt κs a r s → addedBy ≡ addStored addedTo asked
+  add-file-says p = p
+
+  -- a call on tables that calls led to is one call more
+  pub add-file-leads : {n : ℕ} {made : List Made} → Leads n made addedTo → add-reads.Learnt κs a r s → Leads n (call (book.add asked) addedBy ∷ made) (storeAfter (a .0) addedBy)
+  add-file-leads l p = calls.addition asked addedBy l (add-file-says p)
+
+-- ---- `remove_tail_padding`
+
+module _ (κs : Lifetimes.Lfts 5) (a : World.ArgsD remove_tail_padding.signature κs) (r : World.ResD remove_tail_padding.signature κs) (s : Clauses.AtExit (kinds.endedOf 5 trim-kinds.ps trim-kinds.r) κs) where
+  abbrev pub trimmedFrom : Store
+  trimmedFrom = storeOf (a .0) (now (a .1 .0)) (now (a .1 .1 .0)) (now (a .1 .1 .1 .0)) (now (a .1 .1 .1 .1 .0)) (now (a .1 .1 .1 .1 .1 .0))
+
+  abbrev pub trimmedBy : Changed
+  trimmedBy =
+      record {
+        says = storageSays r;
+        rows = now (s .1 .0);
+        roots = now (s .1 .1 .0);
+        times = now (s .1 .1 .1 .0);
+        dirs = now (s .1 .1 .1 .1 .0);
+        text = now (s .1 .1 .1 .1 .1 .0);
+      }
+
+  pub trim-says : trim-reads.Learnt κs a r s → trimmedBy ≡ trimStored trimmedFrom
+  trim-says p = p
+
+  pub trim-leads : {n : ℕ} {made : List Made} → Leads n made trimmedFrom → trim-reads.Learnt κs a r s → Leads n (call book.trim trimmedBy ∷ made) (storeAfter (a .0) trimmedBy)
+  trim-leads l p = calls.trim trimmedBy l (trim-says p)
+
+-- ---- `map_file`
+
+module _ (κs : Lifetimes.Lfts 1) (a : World.ArgsD map_file.signature κs) (r : World.ResD map_file.signature κs) (s : Clauses.AtExit (kinds.endedOf 1 map-kinds.ps map-kinds.r) κs) where
+  pub map-file-says : map-reads.Learnt κs a r s → requestSays r ≡ fileMapped (a .0) (now (a .1 .0)) (a .1 .1 .0 .0) (a .1 .1 .1 .0) (a .1 .1 .1 .1 .0)
+  map-file-says p = p
