@@ -9,12 +9,12 @@ use lib.Dec.{eqb}
 use lib.IntN.{pos}
 use borrow.Author.Tests.{eqb-true, eqb-false}
 use Rattle.lists.specs.Lists.{sum}
-use Rattle.types.specs.Refusals.{Outcome, value, refused}
+use Rattle.types.specs.Refusals.{value, refused}
 use Rattle.tables.specs.declared.storage.FileStorage.{FileStorage}
-use Rattle.tables.specs.Model.{Optional, absent, present, File, Model, Store, fileOf, viewOf}
+use Rattle.tables.specs.Model.{Optional, absent, present, File, Store, fileOf, viewOf}
 use Rattle.storage.specs.Rules.{outcomeOf, firstOf, when}
 use Rattle.storage.specs.Addition.{Addition, added, badLength}
-use Rattle.storage.specs.Trim.{tailPad, trimmedOf}
+use Rattle.storage.specs.Trim.{tailPad}
 use Rattle.storage.specs.Write.{storeAdded}
 use Rattle.storage.specs.Opening.{empty, opened}
 use Rattle.storage.specs.Outcomes.{Changed, changedIf, roomsOf, holds, addingNumber, trimmedBy}
@@ -27,7 +27,7 @@ use Rattle.model.proofs.Opened.{sound-opened, view-opened}
 use Rattle.model.proofs.Adding.{adding}
 use Rattle.model.proofs.Trimmed.{view-trimmed, sound-trimmed}
 use Rattle.model.proofs.Documents.{end-to-end, on-disk, marked, on-piece}
-use Rattle.book.specs.Book.{Call, add, trim, Came, Made, Book, sizesOf, afterAddition, afterTrim, book}
+use Rattle.book.specs.Book.{Call, add, trim, Made, Book, sizesOf, afterAddition, afterTrim, book}
 use Rattle.book.specs.Book as books
 use Rattle.book.specs.Calls.{storeAfter, call, Leads}
 use Rattle.book.specs.Calls as calls
@@ -44,15 +44,25 @@ pub record Agrees (n : ℕ) (made : List Made) (s : Store) : Type 0 where
 
 -- ---- what holds after a call
 
+-- the answer of a call that leaves the store t, and of one that is refused on the store s
+abbrev leaving : Store → Changed
+leaving t =
+    record { says = value (t .fs); rows = t .rows; roots = t .roots; times = t .times; dirs = t .dirs; text = t .text }
+
+abbrev refusing : ℕ → Store → Changed
+refusing k s =
+    record { says = refused k; rows = s .rows; roots = s .roots; times = s .times; dirs = s .dirs; text = s .text }
+
 -- it holds of a call that is done where its number is 0, and of a refused one, which changes nothing
 module _ {ℓ} (P : Made → Store → Type ℓ) (k : Call) (number : ℕ) (s t : Store) where
+  abbrev After : Changed → Type ℓ
+  After c = P (call k c) (storeAfter (s .fs) c)
+
   after-call : (number ≡ 0 → P (record { call = k; came = books.done }) t) → P (record { call = k; came = books.refused number }) s
-      → (c : Changed) → c ≡ changedIf number s t → P (call k c) (storeAfter (s .fs) c)
-  after-call d r c e = subst (λ (x : Changed). P (call k x) (storeAfter (s .fs) x)) (sym e) (at (eqb number 0) refl)
+      → (c : Changed) → c ≡ changedIf number s t → After c
+  after-call d r c e = subst After (sym e) (at (eqb number 0) refl)
     where
-      at : (b : Bool) → eqb number 0 ≡ b
-          → P (call k (cond b (record { says = value (t .fs); rows = t .rows; roots = t .roots; times = t .times; dirs = t .dirs; text = t .text }) (record { says = refused number; rows = s .rows; roots = s .roots; times = s .times; dirs = s .dirs; text = s .text })))
-          (storeAfter (s .fs) (cond b (record { says = value (t .fs); rows = t .rows; roots = t .roots; times = t .times; dirs = t .dirs; text = t .text }) (record { says = refused number; rows = s .rows; roots = s .roots; times = s .times; dirs = s .dirs; text = s .text })))
+      at : (b : Bool) → eqb number 0 ≡ b → After (cond b (leaving t) (refusing number s))
       at true q = d (eqb-true number 0 q)
       at false q = r
 

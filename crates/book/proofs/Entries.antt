@@ -15,7 +15,7 @@ use Rattle.path.specs.Join.{isEmpty}
 use Rattle.tables.specs.Model.{Optional, absent, present, File, Model}
 use Rattle.storage.specs.Rules.{both, either}
 use Rattle.storage.specs.Addition.{Addition, added, fileAdded, padAdded, padTo, padAfter, padOf, sizeAdded, flagsKept, keeps, isPresent, isV2, decides, isOpen, filesOf}
-use Rattle.storage.specs.Trim.{tailPad, sizeAt, beginningAt, without, trimmedIf, trimmedOf}
+use Rattle.storage.specs.Trim.{tailPad, sizeAt, beginningAt, trimmedIf, trimmedOf}
 use Rattle.storage.proofs.Rules.{pad-none, pad-some}
 use Rattle.model.specs.Documents.{sizes}
 use Rattle.model.proofs.Files.{sum-zero}

@@ -5,15 +5,15 @@ use mathlib.Core.Path.{_≡_, refl, sym, ap, _∙_}
 use mathlib.Core.Logic.{_⊎_, inl, inr}
 use mathlib.Core.Bool.{Bool, true, false, cond, not}
 use mathlib.Core.List.{List}
-use Prim.Native.Nat.{ℕ, _+_, _*_, _^_, _≤_, _<_, min}
+use Prim.Native.Nat.{ℕ, _+_, _*_, _≤_, _<_, min}
 use native.Mathlib.Omega.{arith}
 use lib.Dec.{eqb, ltb}
-use lib.ListN.{length, getD}
+use lib.ListN.{length}
 use Rattle.lists.proofs.Orders.{le-or-lt}
 use Rattle.lists.proofs.Runs.{getD-sets-below}
 use Rattle.tables.specs.declared.rows.Row.{Row}
 use Rattle.tables.specs.Rows.{rowAt, rootAt, putRoot, putRow, has}
-use Rattle.tables.specs.Model.{Optional, absent, present, presentIf, File, Model, Store, tabled, fileOf, viewOf}
+use Rattle.tables.specs.Model.{Optional, absent, present, presentIf, File, Model, Store, fileOf, viewOf}
 use Rattle.tables.proofs.Tabled.{tabled-same, length-tabled}
 use Rattle.tables.proofs.Words.{row-back, length-root, root-ext, root-back, length-put-root, length-put-row}
 use Rattle.storage.specs.Rules.{firstOf, either}

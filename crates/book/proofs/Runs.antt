@@ -2,26 +2,23 @@
 -- from every newly opened set, whatever its tables hold, every list of additions and trims has a run. Relies on the
 -- definitions alone, and for trims on Agree.antt.
 use mathlib.Core.Path.{_≡_, refl, sym, ap, subst, _∙_}
-use mathlib.Core.Bool.{Bool, true, false, cond, not}
-use mathlib.Core.List.{List, [], _∷_, _++_, map}
+use mathlib.Core.Bool.{false}
+use mathlib.Core.List.{List, [], _∷_, map}
 use Prim.Native.Nat.{ℕ, _≤_, _<_}
 use native.Mathlib.Omega.{arith}
-use lib.Dec.{eqb, ltb}
 use lib.IntN.{pos}
 use borrow.Author.Tests.{ne-eqb, le-ltb}
-use Rattle.types.specs.Refusals.{Outcome, value, refused}
-use Rattle.tables.specs.declared.storage.FileStorage.{FileStorage}
+use Rattle.types.specs.Refusals.{value}
 use Rattle.tables.specs.Model.{Store, viewOf}
-use Rattle.storage.specs.Rules.{either, firstOf, when}
 use Rattle.storage.specs.Addition.{Addition, badLength}
 use Rattle.storage.specs.Trim.{tailPad}
 use Rattle.storage.specs.Opening.{empty, opened}
-use Rattle.storage.specs.Outcomes.{Changed, addStored, trimStored, trimmedBy, holds}
+use Rattle.storage.specs.Outcomes.{Changed, addStored, trimStored, trimmedBy}
 use Rattle.model.proofs.Adding.{sound-holds}
 use Rattle.book.specs.Book.{Call, add, trim, Came, Made}
 use Rattle.book.specs.Calls.{cameOf, storeAfter, Leads}
 use Rattle.book.specs.Calls as calls
-use Rattle.book.proofs.Agree.{Agrees, agrees}
+use Rattle.book.proofs.Agree.{agrees}
 
 -- ---- one call
 

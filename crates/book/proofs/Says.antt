@@ -7,10 +7,8 @@ use borrow.Fn.World
 use denote.Triple.Clauses
 use borrow.Fn.Kinds as kinds
 use mathlib.Core.Path.{_≡_}
-use mathlib.Core.List.{List, [], _∷_}
-use Prim.Native.Nat.{ℕ, _≤_}
-use lib.IntN.{pos}
-use Rattle.types.specs.Refusals.{value}
+use mathlib.Core.List.{List, _∷_}
+use Prim.Native.Nat.{ℕ}
 use Rattle.tables.specs.Model.{Store}
 use Rattle.storage.specs.Addition.{Addition}
 use Rattle.storage.specs.Opening.{opened}
