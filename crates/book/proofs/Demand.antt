@@ -184,16 +184,16 @@ module _ {n : ℕ} {xs : List ℕ} (s : Store) (h : Holds n xs (s .fs) (s .rows)
         content = λ (cs : List (List ℕ)) (d : map length cs ≡ xs). rw e (walk-content cs xs t (q .size) d);
       }
 
-  -- blocks in a row: each as above, together the walks over them, and as many bytes as lie between their ends
   abbrev sizesAsked : List Asking → List ℕ
   sizesAsked qs = map (λ (q : Asking). q .size) qs
 
-  record Row (t e : ℕ) (qs : List Asking) : Type 0 where
+  -- blocks in a row from byte t to byte e: each as above, together the walks over them, and all the bytes between
+  record InRow (t e : ℕ) (qs : List Asking) : Type 0 where
     blocks : Blocks n xs s t qs
     slices : allGiven qs ≡ cut xs t (sizesAsked qs)
     bytes : t + sum (sizesAsked qs) ≡ e
 
-  row-is : (t e : ℕ) (qs : List Asking) → Asks n xs s t e qs → e ≤ sum xs → Row t e qs
+  row-is : (t e : ℕ) (qs : List Asking) → Asks n xs s t e qs → e ≤ sum xs → InRow t e qs
   row-is t e [] a l = record { blocks = tt; slices = refl; bytes = omega arith }
   row-is t e (q ∷ qs) (a, bs) l =
       let r = row-is (t + q .size) e qs bs l in

@@ -1,4 +1,5 @@
--- Theorems on the book of demand 3.
+-- Theorems on the book of demand 3: walks over files and their blocks, what tables hold, demand 3 of a set in order, and
+-- questions for every cut.
 pub mod Walks
 pub mod Blocks
 pub mod Tables

@@ -37,9 +37,11 @@ pub record Holds (n : ℕ) (xs : List ℕ) (fs : FileStorage) (rows : List ℕ) 
   pub long : fs .«piece_length» ≡ n
   pub some : 0 < n
   pub signed : n ≤ 2147483647
+  -- as many files as sizes, and a row for each
   pub count : fs .«num_files» ≡ length xs
   pub few : length xs ≤ 65535
   pub held : length xs * 8 ≤ length rows
+  -- each of its size, behind those before it
   pub sizes : (k : ℕ) → k < length xs → getD xs k 0 ≡ rowAt rows k .size
   pub offsets : (k : ℕ) → k < length xs → rowAt rows k .offset ≡ sum (take k xs)
   pub total : fs .«total_size» ≡ sum xs
@@ -107,6 +109,7 @@ module _ {n : ℕ} {xs : List ℕ} {fs : FileStorage} {rows : List ℕ} (h : Hol
   ascends : Ascending rows (length xs)
   ascends i b = rw (h .offsets i (omega arith), h .offsets (i + 1) b) (sum-take-mono xs i (i + 1) (omega arith))
 
+  -- from the file found, and where there is none
   from : (t m k : ℕ) → Last rows (length xs) t k → layout.walk (length xs - k) rows k (t - rowAt rows k .offset) (min m (sum xs - t)) ≡ walk 0 xs t m
   from t m k l =
       let o = h .offsets k (l .among) in

@@ -8,7 +8,7 @@
 use mathlib.Core.Path.{_≡_, refl, sym, ap, ap₂, _∙_}
 use mathlib.Core.Bool.{Bool, true, false, cond}
 use mathlib.Core.List.{List, [], _∷_, _++_}
-use Prim.Native.Nat.{ℕ, zero, suc, _+_, _-_, _≤_, _<_, min}
+use Prim.Native.Nat.{ℕ, suc, _+_, _-_, _≤_, _<_, min}
 use native.Mathlib.Omega.{arith}
 use native.Mathlib.Decide.{decLe, decLt}
 use lib.Dec.{eqb}
@@ -30,11 +30,7 @@ before-by P p r none some = at (eqb (p .size) 0) refl
   where
     at : (b : Bool) → eqb (p .size) 0 ≡ b → P (cond b r (p ∷ r))
     at true e = none (eqb-true (p .size) 0 e)
-    at false e = some (positive (p .size) (eqb-false (p .size) 0 e))
-      where
-        positive : (n : ℕ) → (n ≡ 0 → ⊥) → 0 < n
-        positive zero f = absurd (f refl)
-        positive (suc n) f = omega arith
+    at false e = some (omega (arith, eqb-false (p .size) 0 e))
 
 before-none : (f o n : ℕ) (r : List Slice) → n ≡ 0 → before (slice f o n) r ≡ r
 before-none f o n r e = rw e
