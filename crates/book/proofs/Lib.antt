@@ -1,5 +1,5 @@
--- Theorems on the book of demand 3: walks over files and their blocks, what tables hold, demand 3 of a set in order, and
--- questions for every cut.
+-- Theorems on the book of demand 3: walks over files and their blocks, what tables hold, demand 3 of a set in order,
+-- questions for every cut, the book's agreement with the set over every list of calls, and the demand itself.
 pub mod Walks
 pub mod Blocks
 pub mod Tables
@@ -10,3 +10,4 @@ pub mod Rooted
 pub mod Agree
 pub mod Runs
 pub mod Says
+pub mod Theorem

@@ -1,0 +1,46 @@
+-- Demand 3 of document 01: for every list of calls and every cut of the set's bytes into blocks. It relies on the book's
+-- agreement with the set (Agree.antt) and on demand 3 of a set in order (Demand.antt).
+--     demand-3            the demand
+--     demand-3-many       over 2147483647 pieces, where both mappings are refused by 13
+use mathlib.Core.Path.{_≡_}
+use mathlib.Core.List.{List}
+use Prim.Native.Nat.{ℕ, _≤_, _<_}
+use lib.IntN.{ℤ, pos}
+use lib.ListN.{length}
+use Rattle.lists.specs.Lists.{ceiling}
+use Rattle.types.specs.Refusals.{Outcome, refused}
+use Rattle.types.specs.declared.index.FileSlice.{FileSlice}
+use Rattle.tables.specs.Model.{Store}
+use Rattle.layout.specs.Results.{Asked}
+use Rattle.layout.specs.Table.{Filled, blockMapped}
+use Rattle.layout.specs.Request.{fileMapped}
+use Rattle.book.specs.Book.{Made, sizesOf, bytesOf, book}
+use Rattle.book.specs.Calls.{Leads}
+use Rattle.book.specs.Demand.{Asking, Asks, Demand3}
+use Rattle.book.proofs.Tables.{Holds, held-in-order}
+use Rattle.book.proofs.Agree.{agrees, sizes-agree}
+use Rattle.book.proofs.Demand.{demand-of, many-blocks, many-files}
+
+-- 'one claim about the whole list': the calls `made`, refused ones included, led to the tables s; the blocks of `qs` cut the
+-- book's bytes, from 0 to the last
+pub demand-3 :
+    (n : ℕ) (made : List Made) (s : Store) (qs : List Asking) → Leads n made s →
+    ceiling (bytesOf (book n made .rows)) n ≤ 2147483647 →
+    Asks n (sizesOf (book n made .rows)) s 0 (bytesOf (book n made .rows)) qs →
+    Demand3 n (sizesOf (book n made .rows)) s qs
+demand-3 n made s qs p few a =
+    let g = agrees p in
+    demand-of n (sizesOf (book n made .rows)) s qs (g .sound) (g .lengths) (g .some) (g .short) (sizes-agree p) few a
+
+-- the tables hold the book's rows
+holds : {n : ℕ} {made : List Made} {s : Store} → Leads n made s → Holds n (sizesOf (book n made .rows)) (s .fs) (s .rows)
+holds {n} {made} {s} p =
+    let g = agrees p in
+    held-in-order n (sizesOf (book n made .rows)) s (g .sound) (g .lengths) (g .some) (g .short) (sizes-agree p)
+
+module _ {n : ℕ} {made : List Made} {s : Store} (p : Leads n made s) (many : 2147483647 < ceiling (bytesOf (book n made .rows)) n) where
+  pub demand-3-many : (z offset size : ℤ) (out : List FileSlice) → blockMapped (s .fs) (s .rows) z offset size out ≡ record { says = refused 13; table = out }
+  demand-3-many z offset size out = many-blocks (holds p) many z offset size out
+
+  pub demand-3-many-back : (k : ℕ) (offset size : ℤ) → k < length (sizesOf (book n made .rows)) → fileMapped (s .fs) (s .rows) (pos k) offset size ≡ refused 13
+  demand-3-many-back k offset size h = many-files (holds p) many k h offset size
