@@ -6,9 +6,11 @@ use denote.Ref.{now}
 use borrow.Fn.World
 use denote.Triple.Clauses
 use borrow.Fn.Kinds as kinds
-use mathlib.Core.Path.{_≡_}
-use mathlib.Core.List.{List, _∷_}
-use Prim.Native.Nat.{ℕ}
+use mathlib.Core.Path.{_≡_, sym, ap, _∙_}
+use mathlib.Core.List.{List, [], _∷_}
+use Prim.Native.Nat.{ℕ, _≤_}
+use lib.IntN.{pos}
+use Rattle.types.specs.Refusals.{value}
 use Rattle.tables.specs.Model.{Store}
 use Rattle.storage.specs.Addition.{Addition}
 use Rattle.storage.specs.Opening.{opened}
@@ -38,6 +40,10 @@ use Rattle.book.specs.Calls as calls
 module _ (κs : Lifetimes.Lfts 0) (a : World.ArgsD open.signature κs) (r : World.ResD open.signature κs) (s : Clauses.AtExit (kinds.endedOf 0 open-kinds.ps open-kinds.r) κs) where
   pub open-says : open-reads.Learnt κs a r s → storageSays r ≡ opened (a .0)
   open-says p = p
+
+  -- the record that it gives, beside any tables, is where calls begin
+  pub open-leads : {n : ℕ} (t : Store) → n ≤ 2147483647 → a .0 ≡ pos n → storageSays r ≡ value (t .fs) → open-reads.Learnt κs a r s → Leads n [] t
+  open-leads t h e v p = calls.opening h (ap opened (sym e) ∙ sym (open-says p) ∙ v)
 
 -- ---- `add_file`
 
