@@ -3,8 +3,9 @@
 -- refused call is a step like any other. Cleanings, renames and imports join here with their functions.
 use mathlib.Core.Path.{_≡_}
 use mathlib.Core.List.{List, [], _∷_}
-use Prim.Native.Nat.{ℕ, _≤_}
+use Prim.Native.Nat.{ℕ, _*_, _≤_}
 use lib.IntN.{ℤ, pos}
+use lib.ListN.{take}
 use Rattle.types.specs.Refusals.{Outcome, value, refused}
 use Rattle.tables.specs.declared.storage.FileStorage.{FileStorage}
 use Rattle.tables.specs.Model.{Store}
@@ -30,8 +31,19 @@ storeAfter old c =
 abbrev pub call : Call → Changed → Made
 call k c = record { call = k; came = cameOf (c .says) }
 
+-- tables that hold the same set: other ones may be lent to the next call, longer or shorter, if the part that the set uses
+-- was copied over
+pub record SameSet (s t : Store) : Type 0 where
+  pub fs : t .fs ≡ s .fs
+  pub rows : take (s .fs .«num_files» * 8) (t .rows) ≡ take (s .fs .«num_files» * 8) (s .rows)
+  pub roots : take (s .fs .«num_files» * 32) (t .roots) ≡ take (s .fs .«num_files» * 32) (s .roots)
+  pub times : take (s .fs .«num_mtimes») (t .times) ≡ take (s .fs .«num_mtimes») (s .times)
+  pub dirs : take (s .fs .«num_paths» * 2) (t .dirs) ≡ take (s .fs .«num_paths» * 2) (s .dirs)
+  pub text : take (s .fs .«text_len») (t .text) ≡ take (s .fs .«text_len») (s .text)
+
 -- the calls, the latest first, on a set of that piece length, which an i32 holds, and the tables that they lead to
 pub data Leads (n : ℕ) : List Made → Store → Type 0 where
   opening : {s : Store} → n ≤ 2147483647 → opened (pos n) ≡ value (s .fs) → Leads n [] s
   addition : {made : List Made} {s : Store} (a : Addition) (c : Changed) → Leads n made s → c ≡ addStored s a → Leads n (call (book.add a) c ∷ made) (storeAfter (s .fs) c)
   trim : {made : List Made} {s : Store} (c : Changed) → Leads n made s → c ≡ trimStored s → Leads n (call book.trim c ∷ made) (storeAfter (s .fs) c)
+  lending : {made : List Made} {s t : Store} → Leads n made s → SameSet s t → Leads n made t
