@@ -1,5 +1,6 @@
 -- The book agrees with the set over every list of calls, refused ones included, and every set that the calls lead to is one
--- of those of which BEP 3, 47 and 52 are proved. Relies on Entries.antt, on Rooted.antt and on the theorems of `model`.
+-- of those of which BEP 3, 47 and 52 are proved. Relies on Entries.antt, Rooted.antt and Lent.antt, and on the theorems of
+-- `model`.
 use mathlib.Core.Path.{_≡_, refl, sym, ap, subst, _∙_}
 use mathlib.Core.Bool.{Bool, true, false, cond, not}
 use mathlib.Core.List.{List, [], _∷_, map}
@@ -29,10 +30,11 @@ use Rattle.model.proofs.Trimmed.{view-trimmed, sound-trimmed}
 use Rattle.model.proofs.Documents.{end-to-end, on-disk, marked, on-piece}
 use Rattle.book.specs.Book.{Call, add, trim, Made, Book, sizesOf, afterAddition, afterTrim, book}
 use Rattle.book.specs.Book as books
-use Rattle.book.specs.Calls.{storeAfter, call, Leads}
+use Rattle.book.specs.Calls.{storeAfter, call, SameSet, Leads}
 use Rattle.book.specs.Calls as calls
 use Rattle.book.proofs.Entries.{bookOf, sizes-rows, book-added, book-trimmed}
 use Rattle.book.proofs.Rooted.{Settled, settled}
+use Rattle.book.proofs.Lent.{lent-sound, lent-view}
 
 -- the book's rows are the set's files
 pub record Agrees (n : ℕ) (made : List Made) (s : Store) : Type 0 where
@@ -58,7 +60,7 @@ module _ {ℓ} (P : Made → Store → Type ℓ) (k : Call) (number : ℕ) (s t 
   abbrev After : Changed → Type ℓ
   After c = P (call k c) (storeAfter (s .fs) c)
 
-  after-call : (number ≡ 0 → P (record { call = k; came = books.done }) t) → P (record { call = k; came = books.refused number }) s
+  pub after-call : (number ≡ 0 → P (record { call = k; came = books.done }) t) → P (record { call = k; came = books.refused number }) s
       → (c : Changed) → c ≡ changedIf number s t → After c
   after-call d r c e = subst After (sym e) (at (eqb number 0) refl)
     where
@@ -67,7 +69,7 @@ module _ {ℓ} (P : Made → Store → Type ℓ) (k : Call) (number : ℕ) (s t 
       at false q = r
 
 -- what a trim is refused by, which on tables in order is nothing
-abbrev trimNumber : Store → ℕ
+abbrev pub trimNumber : Store → ℕ
 trimNumber s = firstOf (when (badLength (s .fs .«piece_length»)) 1 ∷ when (not (holds s)) 10 ∷ [])
 
 -- ---- opening
@@ -136,6 +138,17 @@ agrees-trimmed s g =
     same-length absent = refl
     same-length (present f) = refl
 
+-- other tables that hold the same set mean the same, so they agree with the same book
+agrees-lent : {n : ℕ} {made : List Made} (s t : Store) → Agrees n made s → SameSet s t → Agrees n made t
+agrees-lent s t g same =
+    record {
+      sound = lent-sound s t (g .sound) same;
+      some = g .some;
+      short = g .short;
+      lengths = ap (λ (fs : FileStorage). fs .«piece_length») (same .fs) ∙ g .lengths;
+      books = ap bookOf (lent-view s t (g .sound) same) ∙ g .books;
+    }
+
 -- ---- every list of calls
 
 pub agrees : {n : ℕ} {made : List Made} {s : Store} → Leads n made s → Agrees n made s
@@ -154,6 +167,7 @@ agrees {n} (calls.trim {made} {s} c p e) =
     (agrees-refused trim (trimNumber s) g)
     c
     e
+agrees (calls.lending {made} {s} {t} p same) = agrees-lent s t (agrees p) same
 
 pub sizes-agree : {n : ℕ} {made : List Made} {s : Store} → Leads n made s → map (λ (f : File). f .size) (viewOf s .files) ≡ sizesOf (book n made .rows)
 sizes-agree {n} {made} {s} p = sym (sizes-rows (viewOf s .files)) ∙ ap (λ (b : Book). sizesOf (b .rows)) (agrees p .books)
@@ -180,6 +194,7 @@ reached (calls.trim {made} {s} c p e) =
     (reached p)
     c
     e
+reached (calls.lending {made} {s} {t} p same) = subst Reached (sym (lent-view s t (agrees p .sound) same)) (reached p)
 
 module _ {n : ℕ} {made : List Made} {s : Store} (p : Leads n made s) where
   -- BEP 3

@@ -1,6 +1,6 @@
--- The relation of calls is not empty: on every store each call that it knows has exactly one outcome and store after it, and
--- from every newly opened set, whatever its tables hold, every list of additions and trims has a run. Relies on the
--- definitions alone, and for trims on Agree.antt.
+-- The relation of calls is not empty: on every store each call that it knows has exactly one outcome and store after it,
+-- from every newly opened set, whatever its tables hold, every list of additions and trims has a run, and a refused call can
+-- be made again on longer tables. Relies on the definitions, on Agree.antt and on Lent.antt.
 use mathlib.Core.Path.{_≡_, refl, sym, ap, subst, _∙_}
 use mathlib.Core.Bool.{false}
 use mathlib.Core.List.{List, [], _∷_, map}
@@ -13,12 +13,14 @@ use Rattle.tables.specs.Model.{Store, viewOf}
 use Rattle.storage.specs.Addition.{Addition, badLength}
 use Rattle.storage.specs.Trim.{tailPad}
 use Rattle.storage.specs.Opening.{empty, opened}
-use Rattle.storage.specs.Outcomes.{Changed, addStored, trimStored, trimmedBy}
+use Rattle.storage.specs.Write.{storeAdded}
+use Rattle.storage.specs.Outcomes.{Changed, changedIf, addingNumber, addStored, trimStored, trimmedBy}
 use Rattle.model.proofs.Adding.{sound-holds}
-use Rattle.book.specs.Book.{Call, add, trim, Came, Made}
-use Rattle.book.specs.Calls.{cameOf, storeAfter, Leads}
+use Rattle.book.specs.Book.{Call, add, trim, Came, refused, Made}
+use Rattle.book.specs.Calls.{cameOf, storeAfter, SameSet, Leads}
 use Rattle.book.specs.Calls as calls
-use Rattle.book.proofs.Agree.{agrees}
+use Rattle.book.proofs.Lent.{same-self, same-through, Longer, longer}
+use Rattle.book.proofs.Agree.{agrees, after-call, trimNumber}
 
 -- ---- one call
 
@@ -46,7 +48,7 @@ pub record Step (s : Store) (k : Known) (o : Came) (t : Store) : Type 0 where
   pub came : cameOf (changed .says) ≡ o
   pub store : storeAfter (s .fs) changed ≡ t
 
--- the relation goes on by such steps, and by no others
+-- the relation goes on by such steps and by lendings, and by nothing else
 pub stepped : {n : ℕ} {made : List Made} {s t : Store} {o : Came} (k : Known) → Leads n made s → Step s k o t → Leads n (entered k o ∷ made) t
 stepped {n} {made} {s} {t} {o} k p q =
     subst (λ (u : Store). Leads n (entered k o ∷ made) u) (q .store) (subst (λ (x : Came). Leads n (entered k x ∷ made) (storeAfter (s .fs) (q .changed))) (q .came) (at k (q .ensured)))
@@ -55,29 +57,47 @@ stepped {n} {made} {s} {t} {o} k p q =
     at (adding a) e = calls.addition a (q .changed) p e
     at trimming e = calls.trim (q .changed) p e
 
+-- the last call led to the tables `left`; those at the end are they, or others lent behind it that hold the same set
 pub record LastStep (n : ℕ) (made : List Made) (m : Made) (t : Store) : Type 0 where
   pub before : Store
+  pub left : Store
   pub known : Known
   pub leads : Leads n made before
-  pub step : Step before known (m .came) t
+  pub step : Step before known (m .came) left
   pub call : callOf known ≡ m .call
+  pub lent : SameSet left t
 
 pub last-step : {n : ℕ} {made : List Made} {m : Made} {t : Store} → Leads n (m ∷ made) t → LastStep n made m t
 last-step (calls.addition {made} {s} a c p e) =
     record {
       before = s;
+      left = storeAfter (s .fs) c;
       known = adding a;
       leads = p;
       step = record { changed = c; ensured = e; came = refl; store = refl };
       call = refl;
+      lent = same-self (storeAfter (s .fs) c);
     }
 last-step (calls.trim {made} {s} c p e) =
     record {
       before = s;
+      left = storeAfter (s .fs) c;
       known = trimming;
       leads = p;
       step = record { changed = c; ensured = e; came = refl; store = refl };
       call = refl;
+      lent = same-self (storeAfter (s .fs) c);
+    }
+last-step (calls.lending {made} {s} {t} p same) =
+    let l = last-step p in
+    record {
+      before = l .before;
+      left = l .left;
+      known = l .known;
+      leads = l .leads;
+      step = l .step;
+      call = l .call;
+      lent = same-through (l .left) s t (l .lent) same;
     }
 
 -- exactly one outcome, and one store after it
@@ -130,6 +150,26 @@ played n s e h (k ∷ ks) =
       chain = more k (x .outcome) (r .chain) (x .step);
       leads = stepped k (r .leads) (x .step);
     }
+
+-- ---- a refused call made again
+
+-- a refusal leaves the store as it was
+still : (number : ℕ) (s t : Store) (i : ℕ) → cameOf (changedIf number s t .says) ≡ refused i → storeAfter (s .fs) (changedIf number s t) ≡ s
+still number s t i =
+    after-call (λ (m : Made) (u : Store). m .came ≡ refused i → u ≡ s) trim number s t (λ z e. cc) (λ e. refl) (changedIf number s t) refl
+
+refused-step : (s : Store) (k : Known) (i : ℕ) → cameOf (answerOf s k .says) ≡ refused i → Step s k (refused i) s
+refused-step s k i r = record { changed = answerOf s k; ensured = refl; came = r; store = at k r }
+  where
+    at : (k : Known) → cameOf (answerOf s k .says) ≡ refused i → storeAfter (s .fs) (answerOf s k) ≡ s
+    at (adding a) = still (addingNumber s (viewOf s) a) s (storeAdded s (viewOf s) a) i
+    at trimming = still (trimNumber s) s (trimmedBy (tailPad (viewOf s .files)) s) i
+
+-- refused, by 10 for instance, on tables too short, it can be made again on longer ones, and the calls go on from there
+pub again : {n : ℕ} {made : List Made} {s t u : Store} {o : Came} (k : Known) (i : ℕ)
+    → Leads n made s → cameOf (answerOf s k .says) ≡ refused i → Longer s t → Step t k o u → Leads n (entered k o ∷ entered k (refused i) ∷ made) u
+again {s = s} {t = t} k i p r l q =
+    stepped k (calls.lending (stepped k p (refused-step s k i r)) (longer s t (agrees p .sound) l)) q
 
 -- ---- no trim is refused
 
