@@ -2,12 +2,12 @@
 use mathlib.Core.Path.{_≡_, refl, sym, ap, _∙_}
 use mathlib.Core.Bool.{Bool, true, false, cond, false≢true}
 use mathlib.Core.List.{List, [], _∷_}
-use Prim.Native.Nat.{ℕ, _+_, _≤_, _<_}
-use native.Mathlib.Numerals.{add-one}
+use Prim.Native.Nat.{ℕ, suc, _-_, _≤_, _<_}
+use native.Mathlib.Omega.{arith}
 use lib.Dec.{eqb}
 use lib.ListN.{length, getD, drop, drop-of-length-le}
 use lib.Seq.{drop-cons}
-use borrow.Author.Tests.{eqb-true, eq-eqb, ne-eqb}
+use borrow.Author.Tests.{eqb-true, eq-eqb}
 use Rattle.lists.specs.Lists.{equal}
 
 pub equal-refl : (a : List ℕ) → equal a a ≡ true
@@ -34,12 +34,21 @@ equal-length a b h = at (equal a b) refl
     at true e = absurd (h (ap length (equal-true a b e)))
     at false e = refl
 
--- one place of a comparison: the same, or not; and its end
-pub equal-turn : (a b : List ℕ) (i : ℕ) → i < length a → i < length b → getD a i 0 ≡ getD b i 0 → equal (drop i a) (drop i b) ≡ equal (drop (i + 1) a) (drop (i + 1) b)
-equal-turn a b i h k e = rw (add-one i, drop-cons a i 0 h, drop-cons b i 0 k, eq-eqb (getD a i 0) (getD b i 0) e)
+-- a comparison from the back: lists that are the same, lists that differ at a place, the start, and one place more
+pub equal-same : (a b : List ℕ) → a ≡ b → equal a b ≡ true
+equal-same a b e = rw e (equal-refl b)
 
-pub equal-stop : (a b : List ℕ) (i : ℕ) → i < length a → i < length b → (getD a i 0 ≡ getD b i 0 → ⊥) → equal (drop i a) (drop i b) ≡ false
-equal-stop a b i h k e = rw (drop-cons a i 0 h, drop-cons b i 0 k, ne-eqb (getD a i 0) (getD b i 0) e)
+pub equal-differs : (a b : List ℕ) (i : ℕ) → (getD a i 0 ≡ getD b i 0 → ⊥) → equal a b ≡ false
+equal-differs a b i h = at (equal a b) refl
+  where
+    at : (t : Bool) → equal a b ≡ t → t ≡ false
+    at true e = absurd (h (ap (λ (l : List ℕ). getD l i 0) (equal-true a b e)))
+    at false e = refl
 
-pub equal-end : (a b : List ℕ) (i : ℕ) → length a ≤ i → length b ≤ i → equal (drop i a) (drop i b) ≡ true
-equal-end a b i h k = rw (drop-of-length-le a {i = i} h, drop-of-length-le b {i = i} k)
+pub drop-ends : (a b : List ℕ) (i : ℕ) → length a ≤ i → length b ≤ i → drop i a ≡ drop i b
+drop-ends a b i h k = rw (drop-of-length-le a {i = i} h, drop-of-length-le b {i = i} k)
+
+pub drop-turn : (a b : List ℕ) (i : ℕ) → 0 < i → i ≤ length a → i ≤ length b → getD a (i - 1) 0 ≡ getD b (i - 1) 0 → drop i a ≡ drop i b → drop (i - 1) a ≡ drop (i - 1) b
+drop-turn a b i z h k e d =
+    let s : suc (i - 1) ≡ i = omega arith in
+    rw (drop-cons a (i - 1) 0 (omega arith), drop-cons b (i - 1) 0 (omega arith), s, e, d)

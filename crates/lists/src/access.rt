@@ -67,7 +67,7 @@ pub fn part(bytes: &[u8], at: usize, n: usize) -> &[u8]
     &bytes[from..to]
 }
 
-// Whether two slices hold the same bytes.
+// Whether two slices hold the same bytes. It goes from the back: texts of one set often begin alike.
 pub fn same(a: &[u8], b: &[u8]) -> bool
     ensures { λ r. ⌜ r ≡ equal (now (a .entry)) (now (b .entry)) ⌝ }
 {
@@ -75,12 +75,12 @@ pub fn same(a: &[u8], b: &[u8]) -> bool
     if n != b.len() {
         return false;
     }
-    let mut i = 0;
-    while i < n {
-        if a[i] != b[i] {
+    let mut i = n;
+    while 0 < i {
+        if a[i - 1] != b[i - 1] {
             return false;
         }
-        i += 1;
+        i -= 1;
     }
     true
 }
