@@ -97,11 +97,18 @@ pub fn flags_at(rows: &[u64], i: usize) -> u64
     lists::word(rows, i * 8 + 7)
 }
 
-// Stores four words side by side, from place `at` on.
+// Stores four words side by side, from place `at` on; one test of the length serves all four where they fit.
 fn put_four(words: &mut [u64], at: usize, w0: u64, w1: u64, w2: u64, w3: u64)
     requires { ⌜ at + 3 < 2 ^ 64 ⌝ }
     ensures { λ _. ⌜ now (words .exit) ≡ sets (now (words .entry)) at (w0 ∷ w1 ∷ w2 ∷ w3 ∷ []) ⌝ }
 {
+    if at + 3 < words.len() {
+        words[at] = w0;
+        words[at + 1] = w1;
+        words[at + 2] = w2;
+        words[at + 3] = w3;
+        return;
+    }
     lists::put_word(words, at, w0);
     lists::put_word(words, at + 1, w1);
     lists::put_word(words, at + 2, w2);
@@ -134,16 +141,22 @@ pub fn put_row(rows: &mut [u64], i: usize, row: Row)
     );
 }
 
-// Directory row i.
+// Directory row i, zeros past the end; one test of the length serves both words of a whole row.
 pub fn dir_at(dirs: &[u64], i: usize) -> Span
     ensures { λ r. ⌜ r ≡ dirAt (now (dirs .entry)) i ⌝ }
 {
+    if i < dirs.len() / 2 {
+        return Span {
+            at: dirs[i * 2] as usize,
+            len: dirs[i * 2 + 1] as usize,
+        };
+    }
     if dirs.len() <= i {
         return Span { at: 0, len: 0 };
     }
     Span {
         at: lists::word(dirs, i * 2) as usize,
-        len: lists::word(dirs, i * 2 + 1) as usize,
+        len: 0,
     }
 }
 
