@@ -8,6 +8,7 @@ ghost use Rattle.storage.specs.Outcomes.{Changed, storageSays, optionalO
 ghost use Rattle.storage.specs.Plan.{storeOf, additionOf, TextsOf};
 use crate::answer::StorageResult;
 use crate::parts::Lying;
+use crate::parts::branch_before;
 use crate::parts::directory_text;
 use crate::parts::is_given;
 use crate::parts::link_text;
@@ -124,14 +125,15 @@ pub fn add_file(
     ensures { λ r. ⌜ _≡_ {A = Changed} (record { says = storageSays r; rows = now (rows .exit); roots = now (roots .exit); times = now (times .exit); dirs = now (dirs .exit); text = now (text .exit) }) (addStored (record { fs = fs; rows = now (rows .entry); roots = now (roots .entry); times = now (times .entry); dirs = now (dirs .entry); text = now (text .entry) }) (record { given = optionalOf given (now (filename .entry)); path = now (path .entry); size = «file_size»; flags = «file_flags»; time = mtime; link = now («symlink_path» .entry); root = optionalOf rooted root })) ⌝ }
 {
     let leaf = path::rsplit_path_leaf(path);
-    let branch = path::rsplit_path_branch(path);
+    let branch = branch_before(path, leaf);
+    let first = path::lsplit_path_first(branch);
     let called = set_text(fs.num_files, path);
     let chosen = is_given(given, filename);
     let own = own_name(path, leaf);
     let link = link_text(fs.num_symlinks, symlink_path);
     let set_name = fs.name;
-    let lying = lying_of(path, branch, fs.num_files, called, text, set_name);
-    let dir = directory_text(lying, branch);
+    let lying = lying_of(path, branch, first, fs.num_files, called, text, set_name);
+    let dir = directory_text(lying, branch, first);
     add_parts(
         fs,
         rows,

@@ -5,7 +5,7 @@ ghost use mathlib.Core.Bool.{cond, not};
 ghost use lib.Dec.{eqb};
 ghost use lib.ListN.{length};
 ghost use Rattle.lists.specs.Lists.{equal};
-ghost use Rattle.path.specs.Split.{rsplitBranch, rsplitLeaf};
+ghost use Rattle.path.specs.Split.{rsplitBranch, rsplitLeaf, lsplitFirst, lsplitRest};
 ghost use Rattle.path.specs.Join.{isEmpty};
 ghost use Rattle.tables.specs.Span.{textAt};
 ghost use Rattle.storage.specs.Addition.{unled, pathName, keepsLink};
@@ -70,6 +70,30 @@ pub(crate) fn is_given(given: Presence, filename: &[u8]) -> bool
     false
 }
 
+// What stands before a path's last separator, one at the end dropped. `leaf` stands behind it, so no
+// second scan is needed.
+pub(crate) fn branch_before<'a>(path: &'a [u8], leaf: &[u8]) -> &'a [u8]
+    requires { ⌜ now leaf ≡ rsplitLeaf (now path) ⌝ }
+    ensures { λ r. ⌜ now r ≡ rsplitBranch (now (path .entry)) ⌝ }
+{
+    let last = lists::minus(path.len(), 1);
+    if lists::byte(path, last) == b'/' {
+        return lists::part(path, 0, lists::minus(last, leaf.len() + 1));
+    }
+    lists::part(path, 0, lists::minus(path.len(), leaf.len() + 1))
+}
+
+// What stands behind a path's first separator, a leading one skipped. `first` stands before it.
+fn rest_behind<'a>(path: &'a [u8], first: &[u8]) -> &'a [u8]
+    requires { ⌜ now first ≡ lsplitFirst (now path) ⌝ }
+    ensures { λ r. ⌜ now r ≡ lsplitRest (now (path .entry)) ⌝ }
+{
+    if path::is_complete(path) {
+        return lists::part(path, first.len() + 2, path.len());
+    }
+    lists::part(path, first.len() + 1, path.len())
+}
+
 // The name that a path gives its file: its last part, or an absolute path itself.
 pub(crate) fn own_name<'a>(path: &'a [u8], leaf: &'a [u8]) -> &'a [u8]
     requires { ⌜ now leaf ≡ rsplitLeaf (now path) ⌝ }
@@ -118,16 +142,18 @@ fn is_named(part: &[u8], files: usize, called: &[u8], text: &[u8], name: Span) -
     lists::same(part, tables::text_at(text, name))
 }
 
-// Where a file lies.
+// Where a file lies; `first` is the first part of the path's branch.
 pub(crate) fn lying_of(
     path: &[u8],
     branch: &[u8],
+    first: &[u8],
     files: usize,
     called: &[u8],
     text: &[u8],
     name: Span,
 ) -> Lying
     requires { ⌜ now branch ≡ rsplitBranch (now path) ⌝ }
+    requires { ⌜ now first ≡ lsplitFirst (now branch) ⌝ }
     ensures { λ r. ⌜ r ≡ lyingFor (cond (eqb files 0) (now (called .entry)) (textAt (now (text .entry)) name)) (now (path .entry)) ⌝ }
 {
     if path::is_complete(path) {
@@ -136,18 +162,19 @@ pub(crate) fn lying_of(
     if branch.len() == 0 {
         return Lying::Single;
     }
-    if is_named(path::lsplit_path_first(branch), files, called, text, name) {
+    if is_named(first, files, called, text, name) {
         return Lying::Inside;
     }
     Lying::Outside
 }
 
-// The directory's text, as a part of the path's branch.
-pub(crate) fn directory_text(lying: Lying, branch: &[u8]) -> &[u8]
+// The directory's text, as a part of the path's branch, whose first part is `first`.
+pub(crate) fn directory_text<'a>(lying: Lying, branch: &'a [u8], first: &[u8]) -> &'a [u8]
+    requires { ⌜ now first ≡ lsplitFirst (now branch) ⌝ }
     ensures { λ r. ⌜ now r ≡ textUnder lying (now (branch .entry)) ⌝ }
 {
     match lying {
-        Lying::Inside => strip_separators(path::lsplit_path_rest(branch)),
+        Lying::Inside => strip_separators(rest_behind(branch, first)),
         Lying::Outside => branch,
         Lying::Single => lists::part(branch, 0, 0),
         Lying::Absolute => lists::part(branch, 0, 0),

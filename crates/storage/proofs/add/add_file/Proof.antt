@@ -27,8 +27,11 @@ callWith c size time root = additionOf (c .args .given) (c .args .filename .now)
 rsplit-path-leaf-requires : tie.Need-rsplit-path-leaf-requires
 rsplit-path-leaf-requires c κs = search needs
 
-rsplit-path-branch-requires : tie.Need-rsplit-path-branch-requires
-rsplit-path-branch-requires c κs = search needs
+branch-before-requires : tie.Need-branch-before-requires
+branch-before-requires c κs = search needs
+
+lsplit-path-first-requires : tie.Need-lsplit-path-first-requires
+lsplit-path-first-requires c κs = search needs
 
 set-text-requires : tie.Need-set-text-requires
 set-text-requires c κs = search needs
@@ -50,10 +53,10 @@ directory-text-requires c κs = search needs
 
 add-parts-requires : tie.Need-add-parts-requires
 add-parts-requires c κs =
-    let a = c .before .before .before .before .before .before .before .before .before .before .before .before .before .before .before .before .before .before .before .before .before .before .args in
+    let a = c .before .before .before .before .before .before .before .before .before .before .before .before .before .before .before .before .before .before .before .before .before .before .before .args in
     let size = toZ w64 (ofZ w64 (a .file-size)) in
     let time = toZ w64 (ofZ w64 (a .mtime)) in
-    (c .before .before .before .before .before .before .before .before .before .before .before .before .before .before .rsplit-path-leaf .ensures, texts-of (tables (c .before .before .before .before .before .before .before .before .before .before .before .before .before .before .before .before .before .before .before .before .before .before)) (callWith (c .before .before .before .before .before .before .before .before .before .before .before .before .before .before .before .before .before .before .before .before .before .before) size time []) (c .before .before .before .before .before .before .before .before .before .before .before .before .set-text .result .now) (c .before .before .before .before .before .directory-text .result .now) (cond (c .before .before .before .before .before .before .before .before .before .before .before .is-given .result) (a .filename .now) (c .before .before .before .before .before .before .before .before .before .before .own-name .result .now)) (c .before .before .before .before .before .before .before .before .before .link-text .result .now) (c .before .before .before .before .before .before .before .before .before .before .before .before .before .rsplit-path-branch .result .now) (c .before .before .before .before .before .before .lying-of .result) (c .before .before .before .before .before .before .before .before .before .before .before .before .set-text .ensures) (c .before .before .before .before .before .before .before .before .before .before .before .before .before .rsplit-path-branch .ensures) (c .before .before .before .before .before .before .lying-of .ensures) (c .before .before .before .before .before .directory-text .ensures) (name-is (a .given) (a .filename .now) (a .path .now) (c .before .before .before .before .before .before .before .before .before .before .own-name .result .now) (c .before .before .before .before .before .before .before .before .before .before .before .is-given .result) (c .before .before .before .before .before .before .before .before .before .before .before .is-given .ensures) (c .before .before .before .before .before .before .before .before .before .before .own-name .ensures)) (c .before .before .before .before .before .before .before .before .before .link-text .ensures))
+    (c .before .before .before .before .before .before .before .before .before .before .before .before .before .before .before .rsplit-path-leaf .ensures, texts-of (tables (c .before .before .before .before .before .before .before .before .before .before .before .before .before .before .before .before .before .before .before .before .before .before .before)) (callWith (c .before .before .before .before .before .before .before .before .before .before .before .before .before .before .before .before .before .before .before .before .before .before .before) size time []) (c .before .before .before .before .before .before .before .before .before .before .before .before .set-text .result .now) (c .before .before .before .before .before .directory-text .result .now) (cond (c .before .before .before .before .before .before .before .before .before .before .before .is-given .result) (a .filename .now) (c .before .before .before .before .before .before .before .before .before .before .own-name .result .now)) (c .before .before .before .before .before .before .before .before .before .link-text .result .now) (c .before .before .before .before .before .before .before .before .before .before .before .before .before .before .branch-before .result .now) (c .before .before .before .before .before .before .lying-of .result) (c .before .before .before .before .before .before .before .before .before .before .before .before .set-text .ensures) (c .before .before .before .before .before .before .before .before .before .before .before .before .before .before .branch-before .ensures) (c .before .before .before .before .before .before .lying-of .ensures) (c .before .before .before .before .before .directory-text .ensures) (name-is (a .given) (a .filename .now) (a .path .now) (c .before .before .before .before .before .before .before .before .before .before .own-name .result .now) (c .before .before .before .before .before .before .before .before .before .before .before .is-given .result) (c .before .before .before .before .before .before .before .before .before .before .before .is-given .ensures) (c .before .before .before .before .before .before .before .before .before .before .own-name .ensures)) (c .before .before .before .before .before .before .before .before .before .link-text .ensures))
 
 same-length : tie.Need-same-length
 same-length c = search needs
@@ -72,7 +75,7 @@ same-length-5 c = search needs
 
 returns : tie.Need-returns
 returns c =
-    let a = c .before .before .before .before .before .before .before .before .before .before .before .before .before .before .before .before .before .before .before .before .before .before .before .before .before .before .before .before .before .before .before .before in
+    let a = c .before .before .before .before .before .before .before .before .before .before .before .before .before .before .before .before .before .before .before .before .before .before .before .before .before .before .before .before .before .before .before .before .before in
     c .before .before .before .before .before .before .before .before .before .add-parts .ensures
     ∙ ap (λ (z : ℤ). addStored (tables a) (callWith a z (toZ w64 (ofZ w64 (a .args .mtime))) (a .args .root))) (toZ-ofZ (a .fits .file-size))
     ∙ ap (λ (t : ℤ). addStored (tables a) (callWith a (a .args .file-size) t (a .args .root))) (toZ-ofZ (a .fits .mtime))
@@ -82,7 +85,8 @@ add-file-spec =
     tie.close
     (tie.spec
     rsplit-path-leaf-requires
-    rsplit-path-branch-requires
+    branch-before-requires
+    lsplit-path-first-requires
     set-text-requires
     is-given-requires
     own-name-requires

@@ -8,8 +8,8 @@ use Rattle.storage.proofs.parts.directory_text.Tie as tie
 enum-told : tie.Need-enum-told
 enum-told c = search needs
 
-lsplit-path-rest-requires : tie.Need-lsplit-path-rest-requires
-lsplit-path-rest-requires c κs = search needs
+rest-behind-requires : tie.Need-rest-behind-requires
+rest-behind-requires c κs = search needs
 
 strip-separators-requires : tie.Need-strip-separators-requires
 strip-separators-requires c κs = search needs
@@ -30,23 +30,23 @@ part-requires-2 : tie.Need-part-requires-2
 part-requires-2 c κs = search needs
 
 returns : tie.Need-returns
-returns c = rw (c .before .before .enum-told .given .1) (c .strip-separators .ensures ∙ ap unled (c .before .lsplit-path-rest .ensures))
+returns c = rw (c .before .before .enum-told .given .1) (c .strip-separators .ensures ∙ ap unled (c .before .rest-behind .ensures))
 
 returns-2 : tie.Need-returns-2
 returns-2 c = search needs
 
 returns-3 : tie.Need-returns-3
-returns-3 c = rw (c .before .enum-told3 .given .1) (c .part .ensures)
+returns-3 c = search needs
 
 returns-4 : tie.Need-returns-4
-returns-4 c = rw (c .before .enum-told4 .given .1) (c .part2 .ensures)
+returns-4 c = search needs
 
 pub directory-text-spec : {M : Type 1} → statement M
 directory-text-spec =
     tie.close
     (tie.spec
     enum-told
-    lsplit-path-rest-requires
+    rest-behind-requires
     strip-separators-requires
     enum-told-2
     enum-told-3

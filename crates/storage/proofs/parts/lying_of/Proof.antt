@@ -12,28 +12,18 @@ returns : tie.Need-returns
 returns c = search needs
 
 returns-2 : tie.Need-returns-2
-returns-2 c = rw (sym (c .before .before .is-complete .ensures) ∙ c .before .if1 .left, ← c .before .before .before .before .before .before .before .pre, empty-is (c .before .before .before .before .before .before .before .args .branch .now) (c .if2 .taken))
-
-lsplit-path-first-requires : tie.Need-lsplit-path-first-requires
-lsplit-path-first-requires c κs = search needs
+returns-2 c = rw (sym (c .before .before .is-complete .ensures) ∙ c .before .if1 .left, ← c .before .before .before .before .before .before .before .before .pre .0, empty-is (c .before .before .before .before .before .before .before .before .args .branch .now) (c .if2 .taken))
 
 is-named-requires : tie.Need-is-named-requires
 is-named-requires c κs = search needs
 
 returns-3 : tie.Need-returns-3
-returns-3 c = rw (sym (c .before .before .before .before .before .is-complete .ensures) ∙ c .before .before .before .before .if1 .left, ← c .before .before .before .before .before .before .before .before .before .before .pre, filled-is (c .before .before .before .before .before .before .before .before .before .before .args .branch .now) (c .before .before .before .if2 .left), ← c .before .before .lsplit-path-first .ensures, sym (c .before .is-named .ensures) ∙ c .if3 .taken)
+returns-3 c = rw (sym (c .before .before .before .before .is-complete .ensures) ∙ c .before .before .before .if1 .left, ← c .before .before .before .before .before .before .before .before .before .before .pre .0, filled-is (c .before .before .before .before .before .before .before .before .before .before .args .branch .now) (c .before .before .if2 .left), ← c .before .before .before .before .before .before .before .before .before .before .pre .1, sym (c .before .is-named .ensures) ∙ c .if3 .taken)
 
 returns-4 : tie.Need-returns-4
-returns-4 c = rw (sym (c .before .before .before .before .before .is-complete .ensures) ∙ c .before .before .before .before .if1 .left, ← c .before .before .before .before .before .before .before .before .before .before .pre, filled-is (c .before .before .before .before .before .before .before .before .before .before .args .branch .now) (c .before .before .before .if2 .left), ← c .before .before .lsplit-path-first .ensures, sym (c .before .is-named .ensures) ∙ c .if3 .left)
+returns-4 c = rw (sym (c .before .before .before .before .is-complete .ensures) ∙ c .before .before .before .if1 .left, ← c .before .before .before .before .before .before .before .before .before .before .pre .0, filled-is (c .before .before .before .before .before .before .before .before .before .before .args .branch .now) (c .before .before .if2 .left), ← c .before .before .before .before .before .before .before .before .before .before .pre .1, sym (c .before .is-named .ensures) ∙ c .if3 .left)
 
 pub lying-of-spec : {M : Type 1} → statement M
 lying-of-spec =
     tie.close
-    (tie.spec
-    is-complete-requires
-    returns
-    returns-2
-    lsplit-path-first-requires
-    is-named-requires
-    returns-3
-    returns-4)
+    (tie.spec is-complete-requires returns returns-2 is-named-requires returns-3 returns-4)
