@@ -10,10 +10,12 @@ use tables::FileStorage;
 use tables::Presence;
 use tables::Span;
 
-// The record that a set's words hold.
+// The record that a set's words hold. The last word is read first: where it is there, the others need no
+// test of their own.
 fn storage_at(state: &[u64]) -> FileStorage
     ensures { λ r. ⌜ r ≡ storageOf (now (state .entry)) ⌝ }
 {
+    let trimmed = lists::word(state, 11) != 0;
     FileStorage {
         piece_length: lists::word(state, 0),
         v2: lists::word(state, 1) != 0,
@@ -28,7 +30,7 @@ fn storage_at(state: &[u64]) -> FileStorage
         text_len: lists::word(state, 8) as usize,
         total_size: lists::word(state, 9),
         size_on_disk: lists::word(state, 10),
-        trimmed: lists::word(state, 11) != 0,
+        trimmed,
     }
 }
 
@@ -39,10 +41,11 @@ fn bit_of(on: bool) -> u64
     if on { 1 } else { 0 }
 }
 
-// Writes a set's record as its words.
+// Writes a set's record as its words, the last one first, as it is read.
 fn put_state(state: &mut [u64], fs: FileStorage)
     ensures { λ _. ⌜ now (state .exit) ≡ sets (now (state .entry)) 0 (wordsOf fs) ⌝ }
 {
+    lists::put_word(state, 11, bit_of(fs.trimmed));
     lists::put_word(state, 0, fs.piece_length);
     lists::put_word(state, 1, bit_of(fs.v2));
     lists::put_word(state, 2, fs.num_files as u64);
@@ -54,7 +57,6 @@ fn put_state(state: &mut [u64], fs: FileStorage)
     lists::put_word(state, 8, fs.text_len as u64);
     lists::put_word(state, 9, fs.total_size);
     lists::put_word(state, 10, fs.size_on_disk);
-    lists::put_word(state, 11, bit_of(fs.trimmed));
 }
 
 // 0 is absent, any other number present.

@@ -1,15 +1,24 @@
--- `exports::put_state` meets its contract: twelve stores in a row are the run of a record's words.
+-- `exports::put_state` meets its contract: eleven stores in a row are a run of words, and the last word, which is stored
+-- first, stands behind that run.
 use mathlib.Core.Path.{_≡_, ap, _∙_}
-use lib.ListN.{length}
+use mathlib.Core.List.{List}
+use Prim.Native.Nat.{ℕ}
+use native.Mathlib.Omega.{arith}
+use lib.ListN.{length, set, take}
 use lib.Seq.{sets, length-sets}
 use borrow.Author.Needs.{needs}
-use Rattle.exports.specs.State.{wordsOf}
+use Rattle.lists.proofs.Runs.{sets-set-above}
+use Rattle.tables.specs.declared.storage.FileStorage.{FileStorage}
+use Rattle.exports.specs.State.{bit, wordsOf}
 use Rattle.exports.proofs.put_state.Statement.{statement}
 use Rattle.exports.proofs.put_state.Tie as tie
 
+last-first : (l : List ℕ) (fs : FileStorage) → sets (set l 11 (bit (fs .trimmed))) 0 (take 11 (wordsOf fs)) ≡ sets l 0 (wordsOf fs)
+last-first l fs = sets-set-above (take 11 (wordsOf fs)) l 0 11 (bit (fs .trimmed)) (omega arith)
+
 stored : (c : tie.After-slice-known13) → c .before .before .put-word12 .last .0 ≡ sets (c .before .before .before .before .before .before .before .before .before .before .before .before .before .before .before .before .before .before .before .before .before .before .before .before .before .before .before .before .before .before .before .before .before .before .before .before .before .before .before .before .before .before .before .before .before .before .before .before .before .before .before .args .state .now) 0 (wordsOf (c .before .before .before .before .before .before .before .before .before .before .before .before .before .before .before .before .before .before .before .before .before .before .before .before .before .before .before .before .before .before .before .before .before .before .before .before .before .before .before .before .before .before .before .before .before .before .before .before .before .before .before .args .fs))
 stored c =
-    let w11 = c .before .before .before .before .before .before .before in
+    let w11 = c .before .before .before .before .before .before in
     let w10 = w11 .before .before .before .before in
     let w9 = w10 .before .before .before .before in
     let w8 = w9 .before .before .before .before in
@@ -18,18 +27,21 @@ stored c =
     let w5 = w6 .before .before .before .before in
     let w4 = w5 .before .before .before .before in
     let w3 = w4 .before .before .before .before in
-    let w2 = w3 .before .before .before .before in
-    let w1 = w2 .before .before .before .before .before in
-    c .before .before .put-word12 .ensures ∙ rw (w11 .put-word11 .ensures, w10 .put-word10 .ensures, w9 .put-word9 .ensures, w8 .put-word8 .ensures, w7 .put-word7 .ensures, w6 .put-word6 .ensures, w5 .put-word5 .ensures, w4 .put-word4 .ensures, w3 .put-word3 .ensures, w2 .put-word2 .ensures, w1 .put-word .ensures, c .before .before .before .bit-of2 .ensures, w2 .before .bit-of .ensures)
-
-put-word-requires : tie.Need-put-word-requires
-put-word-requires c κs = search needs
+    let w2 = w3 .before .before .before .before .before in
+    let w1 = w2 .before .before .before .before in
+    c .before .before .put-word12 .ensures ∙ rw (w11 .put-word11 .ensures, w10 .put-word10 .ensures, w9 .put-word9 .ensures, w8 .put-word8 .ensures, w7 .put-word7 .ensures, w6 .put-word6 .ensures, w5 .put-word5 .ensures, w4 .put-word4 .ensures, w3 .put-word3 .ensures, w2 .put-word2 .ensures, w1 .put-word .ensures, w3 .before .bit-of2 .ensures, w1 .before .bit-of .ensures) (last-first (c .before .before .before .before .before .before .before .before .before .before .before .before .before .before .before .before .before .before .before .before .before .before .before .before .before .before .before .before .before .before .before .before .before .before .before .before .before .before .before .before .before .before .before .before .before .before .before .before .before .before .before .args .state .now) (c .before .before .before .before .before .before .before .before .before .before .before .before .before .before .before .before .before .before .before .before .before .before .before .before .before .before .before .before .before .before .before .before .before .before .before .before .before .before .before .before .before .before .before .before .before .before .before .before .before .before .before .args .fs))
 
 bit-of-requires : tie.Need-bit-of-requires
 bit-of-requires c κs = search needs
 
+put-word-requires : tie.Need-put-word-requires
+put-word-requires c κs = search needs
+
 put-word-requires-2 : tie.Need-put-word-requires-2
 put-word-requires-2 c κs = search needs
+
+bit-of-requires-2 : tie.Need-bit-of-requires-2
+bit-of-requires-2 c κs = search needs
 
 put-word-requires-3 : tie.Need-put-word-requires-3
 put-word-requires-3 c κs = search needs
@@ -58,9 +70,6 @@ put-word-requires-10 c κs = search needs
 put-word-requires-11 : tie.Need-put-word-requires-11
 put-word-requires-11 c κs = search needs
 
-bit-of-requires-2 : tie.Need-bit-of-requires-2
-bit-of-requires-2 c κs = search needs
-
 put-word-requires-12 : tie.Need-put-word-requires-12
 put-word-requires-12 c κs = search needs
 
@@ -74,9 +83,10 @@ pub put-state-spec : {M : Type 1} → statement M
 put-state-spec =
     tie.close
     (tie.spec
-    put-word-requires
     bit-of-requires
+    put-word-requires
     put-word-requires-2
+    bit-of-requires-2
     put-word-requires-3
     put-word-requires-4
     put-word-requires-5
@@ -86,7 +96,6 @@ put-state-spec =
     put-word-requires-9
     put-word-requires-10
     put-word-requires-11
-    bit-of-requires-2
     put-word-requires-12
     same-length
     returns)
