@@ -7,11 +7,11 @@ use mathlib.Core.List.{List, [], _∷_}
 use native.Mathlib.Omega.{arith}
 use native.Mathlib.Numerals.{add-one}
 use lib.Dec.{ltb, eqb}
-use lib.ListN.{length, getD, take, drop, length-append, length-take, drop-of-length-le}
-use lib.Seq.{drop-cons, take-take, drop-drop, take-append-seam, drop-append-add}
+use lib.ListN.{length, getD, take, drop, length-append, drop-of-length-le}
+use lib.Seq.{length-take-le, take-length, drop-cons, take-take, drop-drop, take-append-seam, drop-append-add}
 use borrow.Author.Tests.{lt-ltb, eq-eqb, ne-eqb, not-true}
 use Rattle.lists.specs.Lists.{any}
-use Rattle.path.specs.Split.{isSeparator, trimmed, beforeLast, behindLast, beforeFirst, behindFirst, skipped, isComplete, rsplitBranch, rsplitLeaf, lsplitFirst, lsplitRest}
+use Rattle.path.specs.Split.{isSeparator, isEither, trimmedFrom, trimmed, hasParent, beforeLast, behindLast, beforeFirst, behindFirst, skipped, isComplete, rsplitBranch, rsplitLeaf, lsplitFirst, lsplitRest}
 use Rattle.path.specs.Join.{isEmpty}
 use Rattle.path.proofs.Splits.{last-parts, leaf-all, branch-none, first-parts, first-all, rest-none}
 use Rattle.path.proofs.Ends.{trim-yes, trim-no}
@@ -47,23 +47,57 @@ branch-at q = at (any isSeparator q) refl
         let n : length q - (length (behindLast q) + 1) ≡ 0 = omega (arith, ap length (leaf-all q e)) in
         rw (n, branch-none q e)
 
-module _ (p leaf : List ℕ) (e : leaf ≡ rsplitLeaf p) (k : ℕ) (z : k ≡ length p - 1) where
-  pub branch-closed : getD p k 0 ≡ 47 → take (k - (length leaf + 1)) p ≡ rsplitBranch p
-  branch-closed h =
-      let t : take k p ≡ trimmed isSeparator p = trim-yes isSeparator refl p k z (eq-eqb (getD p k 0) 47 h) in
-      let n : length (take k p) ≡ k = length-take k p ∙ omega arith in
-      let s : k - (length leaf + 1) ≤ k = omega arith in
-      sym (take-take (k - (length leaf + 1)) k p s)
-      ∙ ap (λ (j : ℕ). take (j - (length leaf + 1)) (take k p)) (sym n)
-      ∙ ap (λ (l : List ℕ). take (length (take k p) - (length l + 1)) (take k p)) e
-      ∙ ap (λ (q : List ℕ). take (length q - (length (rsplitLeaf p) + 1)) q) t
-      ∙ branch-at (trimmed isSeparator p)
+pub branch-is : (p leaf : List ℕ) → leaf ≡ rsplitLeaf p → (r : ℕ) → r ≤ length p → take r p ≡ trimmed isSeparator p
+    → take (r - (length leaf + 1)) p ≡ rsplitBranch p
+branch-is p leaf e r h t =
+    let s : r - (length leaf + 1) ≤ r = omega arith in
+    sym (take-take (r - (length leaf + 1)) r p s)
+    ∙ ap (λ (j : ℕ). take (j - (length leaf + 1)) (take r p)) (sym (length-take-le r p h))
+    ∙ ap (λ (l : List ℕ). take (length (take r p) - (length l + 1)) (take r p)) e
+    ∙ ap (λ (q : List ℕ). take (length q - (length (rsplitLeaf p) + 1)) q) t
+    ∙ branch-at (trimmed isSeparator p)
 
-  pub branch-open : (getD p k 0 ≡ 47 → ⊥) → take (length p - (length leaf + 1)) p ≡ rsplitBranch p
-  branch-open h =
-      ap (λ (l : List ℕ). take (length p - (length l + 1)) p) e
-      ∙ ap (λ (q : List ℕ). take (length q - (length (rsplitLeaf p) + 1)) q) (trim-no isSeparator refl p k z (ne-eqb (getD p k 0) 47 h))
-      ∙ branch-at (trimmed isSeparator p)
+module _ (p : List ℕ) (k : ℕ) (z : k ≡ length p - 1) where
+  pub end-closed : getD p k 0 ≡ 47 → (k ≤ length p) × (take k p ≡ trimmed isSeparator p)
+  end-closed h = (omega arith, trim-yes isSeparator refl p k z (eq-eqb (getD p k 0) 47 h))
+
+  pub end-open : (getD p k 0 ≡ 47 → ⊥) → (length p ≤ length p) × (take (length p) p ≡ trimmed isSeparator p)
+  end-open h = (omega arith, take-length p ∙ trim-no isSeparator refl p k z (ne-eqb (getD p k 0) 47 h))
+
+-- a path with no separator of either kind, but for one at its end, is no longer than its leaf and that one
+no-either : (s b r : Bool) → cond (cond s true b) true r ≡ false → (s ≡ false) × (r ≡ false)
+no-either true b r e = absurd (true≢false e)
+no-either false true r e = absurd (true≢false e)
+no-either false false r e = (refl, e)
+
+ends-clear : (c : ℕ) (s : Bool) → isSeparator c ≡ s → any isSeparator (cond s [] (c ∷ [])) ≡ false
+ends-clear c true e = refl
+ends-clear c false e = rw e
+
+clear-from : (c : ℕ) (t : List ℕ) → any isEither (trimmedFrom isEither c t) ≡ false → any isSeparator (trimmedFrom isSeparator c t) ≡ false
+clear-from c [] e = ends-clear c (isSeparator c) refl
+clear-from c (d ∷ t) e =
+    let n = no-either (isSeparator c) (eqb c 92) (any isEither (trimmedFrom isEither d t)) e in
+    rw (n .0) (clear-from d t (n .1))
+
+trimmed-clear : (p : List ℕ) → hasParent p ≡ false → any isSeparator (trimmed isSeparator p) ≡ false
+trimmed-clear [] e = refl
+trimmed-clear (c ∷ t) e = clear-from c t e
+
+length-from : (c : ℕ) (t : List ℕ) → length t ≤ length (trimmedFrom isSeparator c t)
+length-from c [] = omega arith
+length-from c (d ∷ t) = omega (arith, length-from d t)
+
+trimmed-length : (p : List ℕ) → length p ≤ length (trimmed isSeparator p) + 1
+trimmed-length [] = omega arith
+trimmed-length (c ∷ t) = omega (arith, length-from c t)
+
+pub parent-above : (p leaf : List ℕ) → leaf ≡ rsplitLeaf p → length leaf + 1 < length p → hasParent p ≡ true
+parent-above p leaf e h = at (hasParent p) refl
+  where
+    at : (t : Bool) → hasParent p ≡ t → t ≡ true
+    at true q = refl
+    at false q = absurd (omega (arith, trimmed-length p, ap length e ∙ ap length (leaf-all (trimmed isSeparator p) (trimmed-clear p q))))
 
 -- and what lies behind its first part and the separator between them, a leading one skipped, is the rest
 rest-at : (q : List ℕ) → drop (length (beforeFirst q) + 1) q ≡ behindFirst q

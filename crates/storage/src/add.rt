@@ -126,12 +126,12 @@ pub fn add_file(
 {
     let leaf = path::rsplit_path_leaf(path);
     let branch = branch_before(path, leaf);
-    let first = path::lsplit_path_first(branch);
     let called = set_text(fs.num_files, path);
     let chosen = is_given(given, filename);
     let own = own_name(path, leaf);
     let link = link_text(fs.num_symlinks, symlink_path);
     let set_name = fs.name;
+    let first = path::lsplit_path_first(branch);
     let lying = lying_of(path, branch, first, fs.num_files, called, text, set_name);
     let dir = directory_text(lying, branch, first);
     add_parts(

@@ -121,7 +121,7 @@ fn is_bad_name(given: Presence, filename: &[u8], path: &[u8]) -> bool
     false
 }
 
-// Refusals 5, 6, 7.
+// Refusals 5, 6, 7. A path longer than its leaf and one separator has a part above it, without a scan.
 fn check_names(files: usize, given: Presence, filename: &[u8], leaf: &[u8], path: &[u8]) -> Check
     requires { ⌜ now leaf ≡ rsplitLeaf (now path) ⌝ }
     ensures { λ r. ⌜ checkSays r ≡ firstOf (nameRules files (optionalOf given (now (filename .entry))) (now (path .entry))) ⌝ }
@@ -131,6 +131,9 @@ fn check_names(files: usize, given: Presence, filename: &[u8], leaf: &[u8], path
     }
     if is_bad_name(given, filename, path) {
         return Check::Stop(Refusal::InvalidName);
+    }
+    if leaf.len() + 1 < path.len() {
+        return Check::Go;
     }
     if path::has_parent_path(path) {
         return Check::Go;

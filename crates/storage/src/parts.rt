@@ -2,10 +2,11 @@
 // name and the link text. Relies on the splits of `path` and on the laws of proofs/Texts.antt.
 ghost use mathlib.Core.Path.{_≡_};
 ghost use mathlib.Core.Bool.{cond, not};
+ghost use Prim.Native.Nat.{_≤_};
 ghost use lib.Dec.{eqb};
-ghost use lib.ListN.{length};
+ghost use lib.ListN.{length, take};
 ghost use Rattle.lists.specs.Lists.{equal};
-ghost use Rattle.path.specs.Split.{rsplitBranch, rsplitLeaf, lsplitFirst, lsplitRest};
+ghost use Rattle.path.specs.Split.{isSeparator, trimmed, rsplitBranch, rsplitLeaf, lsplitFirst, lsplitRest};
 ghost use Rattle.path.specs.Join.{isEmpty};
 ghost use Rattle.tables.specs.Span.{textAt};
 ghost use Rattle.storage.specs.Addition.{unled, pathName, keepsLink};
@@ -70,17 +71,25 @@ pub(crate) fn is_given(given: Presence, filename: &[u8]) -> bool
     false
 }
 
+// Where a path ends once a separator at its end is dropped.
+fn trimmed_length(path: &[u8]) -> usize
+    ensures { λ r. ⌜ (r ≤ length (now (path .entry))) × (take r (now (path .entry)) ≡ trimmed isSeparator (now (path .entry))) ⌝ }
+{
+    let last = lists::minus(path.len(), 1);
+    if lists::byte(path, last) == b'/' {
+        return last;
+    }
+    path.len()
+}
+
 // What stands before a path's last separator, one at the end dropped. `leaf` stands behind it, so no
 // second scan is needed.
 pub(crate) fn branch_before<'a>(path: &'a [u8], leaf: &[u8]) -> &'a [u8]
     requires { ⌜ now leaf ≡ rsplitLeaf (now path) ⌝ }
     ensures { λ r. ⌜ now r ≡ rsplitBranch (now (path .entry)) ⌝ }
 {
-    let last = lists::minus(path.len(), 1);
-    if lists::byte(path, last) == b'/' {
-        return lists::part(path, 0, lists::minus(last, leaf.len() + 1));
-    }
-    lists::part(path, 0, lists::minus(path.len(), leaf.len() + 1))
+    let end = trimmed_length(path);
+    lists::part(path, 0, lists::minus(end, leaf.len() + 1))
 }
 
 // What stands behind a path's first separator, a leading one skipped. `first` stands before it.

@@ -30,9 +30,6 @@ rsplit-path-leaf-requires c κs = search needs
 branch-before-requires : tie.Need-branch-before-requires
 branch-before-requires c κs = search needs
 
-lsplit-path-first-requires : tie.Need-lsplit-path-first-requires
-lsplit-path-first-requires c κs = search needs
-
 set-text-requires : tie.Need-set-text-requires
 set-text-requires c κs = search needs
 
@@ -45,6 +42,9 @@ own-name-requires c κs = search needs
 link-text-requires : tie.Need-link-text-requires
 link-text-requires c κs = search needs
 
+lsplit-path-first-requires : tie.Need-lsplit-path-first-requires
+lsplit-path-first-requires c κs = search needs
+
 lying-of-requires : tie.Need-lying-of-requires
 lying-of-requires c κs = search needs
 
@@ -56,7 +56,7 @@ add-parts-requires c κs =
     let a = c .before .before .before .before .before .before .before .before .before .before .before .before .before .before .before .before .before .before .before .before .before .before .before .args in
     let size = toZ w64 (ofZ w64 (a .file-size)) in
     let time = toZ w64 (ofZ w64 (a .mtime)) in
-    (c .before .before .before .before .before .before .before .before .before .before .before .before .before .before .before .rsplit-path-leaf .ensures, texts-of (tables (c .before .before .before .before .before .before .before .before .before .before .before .before .before .before .before .before .before .before .before .before .before .before .before)) (callWith (c .before .before .before .before .before .before .before .before .before .before .before .before .before .before .before .before .before .before .before .before .before .before .before) size time []) (c .before .before .before .before .before .before .before .before .before .before .before .before .set-text .result .now) (c .before .before .before .before .before .directory-text .result .now) (cond (c .before .before .before .before .before .before .before .before .before .before .before .is-given .result) (a .filename .now) (c .before .before .before .before .before .before .before .before .before .before .own-name .result .now)) (c .before .before .before .before .before .before .before .before .before .link-text .result .now) (c .before .before .before .before .before .before .before .before .before .before .before .before .before .before .branch-before .result .now) (c .before .before .before .before .before .before .lying-of .result) (c .before .before .before .before .before .before .before .before .before .before .before .before .set-text .ensures) (c .before .before .before .before .before .before .before .before .before .before .before .before .before .before .branch-before .ensures) (c .before .before .before .before .before .before .lying-of .ensures) (c .before .before .before .before .before .directory-text .ensures) (name-is (a .given) (a .filename .now) (a .path .now) (c .before .before .before .before .before .before .before .before .before .before .own-name .result .now) (c .before .before .before .before .before .before .before .before .before .before .before .is-given .result) (c .before .before .before .before .before .before .before .before .before .before .before .is-given .ensures) (c .before .before .before .before .before .before .before .before .before .before .own-name .ensures)) (c .before .before .before .before .before .before .before .before .before .link-text .ensures))
+    (c .before .before .before .before .before .before .before .before .before .before .before .before .before .before .before .rsplit-path-leaf .ensures, texts-of (tables (c .before .before .before .before .before .before .before .before .before .before .before .before .before .before .before .before .before .before .before .before .before .before .before)) (callWith (c .before .before .before .before .before .before .before .before .before .before .before .before .before .before .before .before .before .before .before .before .before .before .before) size time []) (c .before .before .before .before .before .before .before .before .before .before .before .before .before .set-text .result .now) (c .before .before .before .before .before .directory-text .result .now) (cond (c .before .before .before .before .before .before .before .before .before .before .before .before .is-given .result) (a .filename .now) (c .before .before .before .before .before .before .before .before .before .before .before .own-name .result .now)) (c .before .before .before .before .before .before .before .before .before .before .link-text .result .now) (c .before .before .before .before .before .before .before .before .before .before .before .before .before .before .branch-before .result .now) (c .before .before .before .before .before .before .lying-of .result) (c .before .before .before .before .before .before .before .before .before .before .before .before .before .set-text .ensures) (c .before .before .before .before .before .before .before .before .before .before .before .before .before .before .branch-before .ensures) (c .before .before .before .before .before .before .lying-of .ensures) (c .before .before .before .before .before .directory-text .ensures) (name-is (a .given) (a .filename .now) (a .path .now) (c .before .before .before .before .before .before .before .before .before .before .before .own-name .result .now) (c .before .before .before .before .before .before .before .before .before .before .before .before .is-given .result) (c .before .before .before .before .before .before .before .before .before .before .before .before .is-given .ensures) (c .before .before .before .before .before .before .before .before .before .before .before .own-name .ensures)) (c .before .before .before .before .before .before .before .before .before .before .link-text .ensures))
 
 same-length : tie.Need-same-length
 same-length c = search needs
@@ -86,11 +86,11 @@ add-file-spec =
     (tie.spec
     rsplit-path-leaf-requires
     branch-before-requires
-    lsplit-path-first-requires
     set-text-requires
     is-given-requires
     own-name-requires
     link-text-requires
+    lsplit-path-first-requires
     lying-of-requires
     directory-text-requires
     add-parts-requires

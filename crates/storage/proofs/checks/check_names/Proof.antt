@@ -4,7 +4,7 @@ use lib.ListN.{length}
 use borrow.Author.Tests.{le-leb, lt-leb, lt-ltb, le-ltb}
 use Rattle.storage.specs.Addition.{limitedName}
 use Rattle.storage.specs.Outcomes.{optionalOf}
-use Rattle.storage.proofs.Texts.{limited-is}
+use Rattle.storage.proofs.Texts.{limited-is, parent-above}
 use borrow.Author.Needs.{needs}
 use Rattle.storage.proofs.checks.check_names.Statement.{statement}
 use Rattle.storage.proofs.checks.check_names.Tie as tie
@@ -25,17 +25,23 @@ is-bad-name-requires c κs = search needs
 returns-2 : tie.Need-returns-2
 returns-2 c = rw (lt-leb 4096 _ (rw (limited (c .before .before .before)) at (c .before .before .if1 .left)), sym (c .before .is-bad-name .ensures) ∙ c .if2 .taken)
 
+add-if3 : tie.Need-add-if3
+add-if3 c = search needs
+
+returns-3 : tie.Need-returns-3
+returns-3 c = rw (lt-leb 4096 _ (rw (limited (c .before .before .before .before)) at (c .before .before .before .if1 .left)), sym (c .before .before .is-bad-name .ensures) ∙ c .before .if2 .left, parent-above (c .before .before .before .before .before .before .before .before .args .path .now) (c .before .before .before .before .before .before .before .before .args .leaf .now) (c .before .before .before .before .before .before .before .before .pre) (c .if3 .taken))
+
 has-parent-path-requires : tie.Need-has-parent-path-requires
 has-parent-path-requires c κs = search needs
 
-returns-3 : tie.Need-returns-3
-returns-3 c = rw (lt-leb 4096 _ (rw (limited (c .before .before .before .before .before)) at (c .before .before .before .before .if1 .left)), sym (c .before .before .before .is-bad-name .ensures) ∙ c .before .before .if2 .left, sym (c .before .has-parent-path .ensures) ∙ c .if3 .taken)
-
 returns-4 : tie.Need-returns-4
-returns-4 c = rw (lt-leb 4096 _ (rw (limited (c .before .before .before .before .before .before)) at (c .before .before .before .before .before .if1 .left)), sym (c .before .before .before .before .is-bad-name .ensures) ∙ c .before .before .before .if2 .left, sym (c .before .before .has-parent-path .ensures) ∙ c .before .if3 .left, lt-ltb 0 (c .before .before .before .before .before .before .before .before .before .before .args .files) (c .if4 .taken))
+returns-4 c = rw (lt-leb 4096 _ (rw (limited (c .before .before .before .before .before .before)) at (c .before .before .before .before .before .if1 .left)), sym (c .before .before .before .before .is-bad-name .ensures) ∙ c .before .before .before .if2 .left, sym (c .before .has-parent-path .ensures) ∙ c .if4 .taken)
 
 returns-5 : tie.Need-returns-5
-returns-5 c = rw (lt-leb 4096 _ (rw (limited (c .before .before .before .before .before .before)) at (c .before .before .before .before .before .if1 .left)), sym (c .before .before .before .before .is-bad-name .ensures) ∙ c .before .before .before .if2 .left, sym (c .before .before .has-parent-path .ensures) ∙ c .before .if3 .left, le-ltb 0 (c .before .before .before .before .before .before .before .before .before .before .args .files) (c .if4 .left))
+returns-5 c = rw (lt-leb 4096 _ (rw (limited (c .before .before .before .before .before .before .before)) at (c .before .before .before .before .before .before .if1 .left)), sym (c .before .before .before .before .before .is-bad-name .ensures) ∙ c .before .before .before .before .if2 .left, sym (c .before .before .has-parent-path .ensures) ∙ c .before .if4 .left, lt-ltb 0 (c .before .before .before .before .before .before .before .before .before .before .before .args .files) (c .if5 .taken))
+
+returns-6 : tie.Need-returns-6
+returns-6 c = rw (lt-leb 4096 _ (rw (limited (c .before .before .before .before .before .before .before)) at (c .before .before .before .before .before .before .if1 .left)), sym (c .before .before .before .before .before .is-bad-name .ensures) ∙ c .before .before .before .before .if2 .left, sym (c .before .before .has-parent-path .ensures) ∙ c .before .if4 .left, le-ltb 0 (c .before .before .before .before .before .before .before .before .before .before .before .args .files) (c .if5 .left))
 
 pub check-names-spec : {M : Type 1} → statement M
 check-names-spec =
@@ -45,7 +51,9 @@ check-names-spec =
     returns
     is-bad-name-requires
     returns-2
-    has-parent-path-requires
+    add-if3
     returns-3
+    has-parent-path-requires
     returns-4
-    returns-5)
+    returns-5
+    returns-6)
