@@ -64,6 +64,34 @@ module _ (p : List ℕ) (k : ℕ) (z : k ≡ length p - 1) where
   pub end-open : (getD p k 0 ≡ 47 → ⊥) → (length p ≤ length p) × (take (length p) p ≡ trimmed isSeparator p)
   end-open h = (omega arith, take-length p ∙ trim-no isSeparator refl p k z (ne-eqb (getD p k 0) 47 h))
 
+-- and what lies behind its first part and the separator between them, a leading one skipped, is the rest
+rest-at : (q : List ℕ) → drop (length (beforeFirst q) + 1) q ≡ behindFirst q
+rest-at q = at (any isSeparator q) refl
+  where
+    at : (t : Bool) → any isSeparator q ≡ t → drop (length (beforeFirst q) + 1) q ≡ behindFirst q
+    at true e =
+        ap (drop (length (beforeFirst q) + 1)) (first-parts q e) ∙ drop-append-add (beforeFirst q) (47 ∷ behindFirst q) 1
+    at false e =
+        drop-of-length-le q {i = length (beforeFirst q) + 1} (omega (arith, ap length (first-all q e))) ∙ sym (rest-none q e)
+
+module _ (p first : List ℕ) (e : first ≡ lsplitFirst p) where
+  pub rest-led : isComplete p ≡ true → drop (length first + 2) p ≡ lsplitRest p
+  rest-led h =
+      let n : length first + 2 ≡ 1 + (length first + 1) = omega arith in
+      let s : drop 1 p ≡ skipped p = rw h in
+      ap (λ (k : ℕ). drop k p) n
+      ∙ sym (drop-drop (length first + 1) 1 p)
+      ∙ ap (λ (l : List ℕ). drop (length l + 1) (drop 1 p)) e
+      ∙ ap (drop (length (lsplitFirst p) + 1)) s
+      ∙ rest-at (skipped p)
+
+  pub rest-plain : isComplete p ≡ false → drop (length first + 1) p ≡ lsplitRest p
+  rest-plain h =
+      let s : p ≡ skipped p = rw h in
+      ap (λ (l : List ℕ). drop (length l + 1) p) e
+      ∙ ap (drop (length (lsplitFirst p) + 1)) s
+      ∙ rest-at (skipped p)
+
 -- a path with no separator of either kind, but for one at its end, is no longer than its leaf and that one
 no-either : (s b r : Bool) → cond (cond s true b) true r ≡ false → (s ≡ false) × (r ≡ false)
 no-either true b r e = absurd (true≢false e)
@@ -98,34 +126,6 @@ parent-above p leaf e h = at (hasParent p) refl
     at : (t : Bool) → hasParent p ≡ t → t ≡ true
     at true q = refl
     at false q = absurd (omega (arith, trimmed-length p, ap length e ∙ ap length (leaf-all (trimmed isSeparator p) (trimmed-clear p q))))
-
--- and what lies behind its first part and the separator between them, a leading one skipped, is the rest
-rest-at : (q : List ℕ) → drop (length (beforeFirst q) + 1) q ≡ behindFirst q
-rest-at q = at (any isSeparator q) refl
-  where
-    at : (t : Bool) → any isSeparator q ≡ t → drop (length (beforeFirst q) + 1) q ≡ behindFirst q
-    at true e =
-        ap (drop (length (beforeFirst q) + 1)) (first-parts q e) ∙ drop-append-add (beforeFirst q) (47 ∷ behindFirst q) 1
-    at false e =
-        drop-of-length-le q {i = length (beforeFirst q) + 1} (omega (arith, ap length (first-all q e))) ∙ sym (rest-none q e)
-
-module _ (p first : List ℕ) (e : first ≡ lsplitFirst p) where
-  pub rest-led : isComplete p ≡ true → drop (length first + 2) p ≡ lsplitRest p
-  rest-led h =
-      let n : length first + 2 ≡ 1 + (length first + 1) = omega arith in
-      let s : drop 1 p ≡ skipped p = rw h in
-      ap (λ (k : ℕ). drop k p) n
-      ∙ sym (drop-drop (length first + 1) 1 p)
-      ∙ ap (λ (l : List ℕ). drop (length l + 1) (drop 1 p)) e
-      ∙ ap (drop (length (lsplitFirst p) + 1)) s
-      ∙ rest-at (skipped p)
-
-  pub rest-plain : isComplete p ≡ false → drop (length first + 1) p ≡ lsplitRest p
-  rest-plain h =
-      let s : p ≡ skipped p = rw h in
-      ap (λ (l : List ℕ). drop (length l + 1) p) e
-      ∙ ap (drop (length (lsplitFirst p) + 1)) s
-      ∙ rest-at (skipped p)
 
 -- one place of the scan for separators at a path's start
 pub unled-turn : (l : List ℕ) (i : ℕ) → i < length l → getD l i 0 ≡ 47 → unled (drop i l) ≡ unled (drop (i + 1) l)
