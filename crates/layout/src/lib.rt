@@ -5,6 +5,7 @@ mod file;
 mod mapping;
 mod number;
 mod piece;
+mod plan;
 mod result;
 mod search;
 
@@ -31,6 +32,9 @@ pub use piece::num_pieces;
 pub use piece::piece_range;
 pub use piece::piece_size;
 pub use piece::piece_size2;
+pub use plan::Cursor;
+pub use plan::Plan;
+pub use plan::plan_block;
 pub use result::FileRangeResult;
 pub use result::FileResult;
 pub use result::I32RangeResult;

@@ -39,7 +39,7 @@ fn one(size: u64) -> usize
 }
 
 // How many slices `want` bytes from place `skip` of file `from` on have.
-fn count_slices(rows: &[u64], files: usize, from: usize, skip: u64, want: u64) -> usize
+pub(crate) fn count_slices(rows: &[u64], files: usize, from: usize, skip: u64, want: u64) -> usize
     ensures { λ r. ⌜ r ≡ length (walk (files - from) (now (rows .entry)) from skip want) ⌝ }
 {
     let mut n = 0;
