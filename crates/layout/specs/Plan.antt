@@ -42,9 +42,13 @@ pub record Planned : Type 0 where
 abbrev pub stayed : ℕ → Planned
 stayed k = record { says = refused k; count = 0; from = record { file = 0; files = 0; skip = 0; left = 0 } }
 
--- a refusal, or for 0 the slices that begin at a cursor
+-- all slices, which begin at a cursor
+abbrev pub whole : List Slice → Cursor → Planned
+whole ss c = record { says = value (length ss); count = length ss; from = c }
+
+-- a refusal, or for 0 all slices
 abbrev pub planned : ℕ → List Slice → Cursor → Planned
-planned k ss c = cond (eqb k 0) (record { says = value (length ss); count = length ss; from = c }) (stayed k)
+planned k ss c = cond (eqb k 0) (whole ss c) (stayed k)
 
 abbrev pub blockPlan : FileStorage → List ℕ → ℤ → ℤ → ℤ → ℕ → Planned
 blockPlan fs rows z offset size room =

@@ -1,0 +1,2 @@
+-- The definitions that the contracts of `mapping` cite, besides those of `layout`.
+pub mod Records
