@@ -5,3 +5,4 @@ pub mod Called
 pub mod Filling
 pub mod Steps
 pub mod Stored
+pub mod Vectors
