@@ -1,7 +1,7 @@
 -- Laws of deciding before an answer, of the search, of requests, and of slices and their sums.
 pub mod Deciding
 pub mod Halving
-pub mod Plans
 pub mod Requests
 pub mod Slices
+pub mod Starts
 pub mod Sums

@@ -11,3 +11,4 @@ pub mod Request
 pub mod Table
 pub mod Given
 pub mod Plan
+pub mod Start

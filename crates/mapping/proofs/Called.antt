@@ -39,14 +39,15 @@ use Rattle.types.proofs.index.PieceIndex.Laws as PI′
 use Rattle.tables.specs.declared.storage.FileStorage.{FileStorage}
 use Rattle.tables.proofs.storage.FileStorage as FS
 use Rattle.tables.proofs.storage.FileStorage.Laws as FS′
-use Rattle.layout.specs.declared.plan.Cursor.{Cursor}
-use Rattle.layout.specs.declared.plan.Plan.{Plan}
-use Rattle.layout.specs.Plan.{slicesFrom, Planned, blockPlan}
-use Rattle.layout.proofs.plan.Cursor as CU
-use Rattle.layout.proofs.plan.Cursor.Laws as CU′
-use Rattle.layout.proofs.plan.Plan as PL
-use Rattle.layout.proofs.plan.Plan.Laws as PL′
-use Rattle.layout.proofs.plan_block as plan-block
+use Rattle.layout.specs.declared.start.Cursor.{Cursor}
+use Rattle.mapping.specs.declared.Plan.{Plan}
+use Rattle.layout.specs.Start.{slicesFrom}
+use Rattle.mapping.specs.Plan.{Planned, blockPlan}
+use Rattle.layout.proofs.start.Cursor as CU
+use Rattle.layout.proofs.start.Cursor.Laws as CU′
+use Rattle.mapping.proofs.Plan as PL
+use Rattle.mapping.proofs.Plan.Laws as PL′
+use Rattle.mapping.proofs.plan_block as plan-block
 use Rattle.mapping.specs.declared.Step.{Step}
 use Rattle.mapping.specs.Records.{recordsFrom}
 use Rattle.mapping.proofs.Step as ST

@@ -10,9 +10,9 @@ use native.Mathlib.Numerals.{add-one}
 use lib.ListN.{length, set, length-set, length-map}
 use lib.Seq.{sets}
 use Rattle.types.specs.declared.index.FileSlice.{FileSlice}
-use Rattle.layout.specs.declared.plan.Cursor.{Cursor}
+use Rattle.layout.specs.declared.start.Cursor.{Cursor}
 use Rattle.layout.specs.Mapping.{Slice}
-use Rattle.layout.specs.Plan.{slicesFrom}
+use Rattle.layout.specs.Start.{slicesFrom}
 use Rattle.layout.specs.Table.{recordOf}
 use Rattle.mapping.specs.Records.{recordsFrom}
 

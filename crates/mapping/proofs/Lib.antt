@@ -3,6 +3,7 @@
 pub mod Again
 pub mod Called
 pub mod Filling
+pub mod Plans
 pub mod Steps
 pub mod Stored
 pub mod Vectors

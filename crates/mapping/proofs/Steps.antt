@@ -17,8 +17,8 @@ use Rattle.types.specs.declared.index.FileIndex.{FileIndex}
 use Rattle.types.specs.declared.index.FileSlice.{FileSlice}
 use Rattle.tables.specs.Rows.{rowAt}
 use Rattle.layout.specs.Mapping.{Slice, before, walk}
-use Rattle.layout.specs.declared.plan.Cursor.{Cursor}
-use Rattle.layout.specs.Plan.{slicesFrom}
+use Rattle.layout.specs.declared.start.Cursor.{Cursor}
+use Rattle.layout.specs.Start.{slicesFrom}
 use Rattle.layout.specs.Table.{recordOf}
 use Rattle.mapping.specs.Records.{recordsFrom}
 use Rattle.layout.proofs.Slices.{walk-none, walk-end, walk-turn}

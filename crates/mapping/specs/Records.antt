@@ -2,8 +2,8 @@
 use Prim.Native.Nat.{ℕ}
 use mathlib.Core.List.{List, map}
 use Rattle.types.specs.declared.index.FileSlice.{FileSlice}
-use Rattle.layout.specs.declared.plan.Cursor.{Cursor}
-use Rattle.layout.specs.Plan.{slicesFrom}
+use Rattle.layout.specs.declared.start.Cursor.{Cursor}
+use Rattle.layout.specs.Start.{slicesFrom}
 use Rattle.layout.specs.Table.{recordOf}
 
 abbrev pub recordsFrom : List ℕ → Cursor → List FileSlice

@@ -7,9 +7,9 @@ use native.Mathlib.Omega.{arith}
 use Prim.Native.Nat.{ℕ, _-_, _<_}
 use lib.ListN.{length}
 use Rattle.types.specs.declared.index.FileSlice.{FileSlice}
-use Rattle.layout.specs.declared.plan.Cursor.{Cursor}
+use Rattle.layout.specs.declared.start.Cursor.{Cursor}
 use Rattle.layout.specs.Mapping.{Slice, walk}
-use Rattle.layout.specs.Plan.{slicesFrom}
+use Rattle.layout.specs.Start.{slicesFrom}
 use Rattle.layout.specs.Table.{recordOf}
 use Rattle.mapping.specs.Records.{recordsFrom}
 use Rattle.mapping.proofs.Steps.{size-low, some-file, some-bytes, pass, found, taken}

@@ -1,4 +1,4 @@
--- `layout::plan::plan_block` meets its contract.
+-- `layout::start::start_block` meets its contract.
 use borrow.Author.Needs.{needs}
 use mathlib.Core.Path.{_≡_, sym, ap₂, _∙_}
 use native.Mathlib.Omega.{arith}
@@ -14,9 +14,9 @@ use Rattle.layout.specs.Questions.{opened, manyPieces, noPiece, badRange
 use Rattle.layout.specs.Pieces.{startOf}
 use Rattle.layout.specs.Deciding.{checkNumber}
 use Rattle.layout.proofs.Deciding.{piece-known, piece-range-good, offset-low}
-use Rattle.layout.proofs.Plans.{plan-stopped, plan-answered}
-use Rattle.layout.proofs.plan.plan_block.Statement.{statement}
-use Rattle.layout.proofs.plan.plan_block.Tie as tie
+use Rattle.layout.proofs.Starts.{start-stopped, start-answered}
+use Rattle.layout.proofs.start.start_block.Statement.{statement}
+use Rattle.layout.proofs.start.start_block.Tie as tie
 
 -- whether the range is bad, as the contract says it, and the decision on the rules of the contract
 range-of : (c : tie.After-is-bad-range) → c .is-bad-range .result ≡ badRange (c .before .before .before .args .offset) (c .before .before .before .args .size) .test
@@ -53,7 +53,7 @@ refuse-requires c κs = search needs
 returns : tie.Need-returns
 returns c =
     let a = c .before .before .before .before .before .before .before .before .before .args in
-    c .refuse .ensures ∙ plan-stopped (a .fs) (a .rows .now) (a .piece .0) (a .offset) (a .size) _ (decided (c .before .before .before .before)) (a .room) _ (c .before .before .check .given .1)
+    c .refuse .ensures ∙ start-stopped (a .fs) (a .rows .now) (a .piece .0) (a .offset) (a .size) _ (decided (c .before .before .before .before)) _ (c .before .before .check .given .1)
 
 enum-told : tie.Need-enum-told
 enum-told c = search needs
@@ -83,8 +83,8 @@ add-target c =
 size64-requires-2 : tie.Need-size64-requires-2
 size64-requires-2 c κs = search needs
 
-plan-bytes-requires : tie.Need-plan-bytes-requires
-plan-bytes-requires c κs = search needs
+start-at-requires : tie.Need-start-at-requires
+start-at-requires c κs = search needs
 
 returns-2 : tie.Need-returns-2
 returns-2 c =
@@ -94,11 +94,11 @@ returns-2 c =
     let p : c .before .before .before .start-of .result ≡ startOf (a .fs) (indexOf (a .piece .0)) = rw (c .before .before .before .before .piece-number .ensures) at (c .before .before .before .start-of .ensures) in
     let o : c .before .before .size64 .result ≡ sizeOf (a .offset) = rw (toZ-ofZ offset-fits) at (c .before .before .size64 .ensures) in
     let n : c .before .size642 .result ≡ sizeOf (a .size) = rw (toZ-ofZ size-fits) at (c .before .size642 .ensures) in
-    plan-answered (a .fs) (a .rows .now) (a .piece .0) (a .offset) (a .size) _ (decided (c .before .before .before .before .before .before .before)) (a .room)
-    (c .before .before .before .start-of .result + c .before .before .size64 .result) (c .before .size642 .result) (ap₂ _+_ p o) n (c .before .before .before .before .before .enum-told .given .1) (c .plan-bytes .ensures)
+    start-answered (a .fs) (a .rows .now) (a .piece .0) (a .offset) (a .size) _ (decided (c .before .before .before .before .before .before .before))
+    (c .before .before .before .start-of .result + c .before .before .size64 .result) (c .before .size642 .result) (ap₂ _+_ p o) n (c .before .before .before .before .before .enum-told .given .1) (c .start-at .ensures)
 
-pub plan-block-spec : {M : Type 1} → statement M
-plan-block-spec =
+pub start-block-spec : {M : Type 1} → statement M
+start-block-spec =
     tie.close
     (tie.spec
     is-negative64-requires
@@ -114,5 +114,5 @@ plan-block-spec =
     size64-requires
     add-target
     size64-requires-2
-    plan-bytes-requires
+    start-at-requires
     returns-2)

@@ -1,14 +1,14 @@
--- `layout::plan::plan_bytes` meets its contract.
+-- `layout::start::start_at` meets its contract.
 use borrow.Author.Needs.{needs}
 use mathlib.Core.Path.{_≡_, ap, _∙_}
 use lib.ListN.{length}
 use Prim.Native.Nat.{_-_}
-use Rattle.layout.specs.declared.plan.Cursor.{Cursor}
+use Rattle.layout.specs.declared.start.Cursor.{Cursor}
 use Rattle.layout.specs.Mapping.{slicesOf}
-use Rattle.layout.specs.Plan.{slicesFrom, cursorAt}
-use Rattle.layout.proofs.Plans.{cursor-is, plan-short, plan-whole}
-use Rattle.layout.proofs.plan.plan_bytes.Statement.{statement}
-use Rattle.layout.proofs.plan.plan_bytes.Tie as tie
+use Rattle.layout.specs.Start.{slicesFrom, cursorAt}
+use Rattle.layout.proofs.Starts.{cursor-is}
+use Rattle.layout.proofs.start.start_at.Statement.{statement}
+use Rattle.layout.proofs.start.start_at.Tie as tie
 
 -- the cursor that the code makes is that of the block, and the slices that it counts are the block's
 from-is : (c : tie.After-count-slices)
@@ -38,23 +38,14 @@ smaller-requires c κs = search needs
 count-slices-requires : tie.Need-count-slices-requires
 count-slices-requires c κs = search needs
 
-refuse-requires : tie.Need-refuse-requires
-refuse-requires c κs = search needs
-
 returns : tie.Need-returns
 returns c =
-    let a = c .before .before .before .before .before .before .before .before .before .args in
-    let n = c .before .before in
-    c .refuse .ensures ∙ plan-short (slicesOf (a .fs) (a .rows .now) (a .target) (a .size)) (cursorAt (a .fs) (a .rows .now) (a .target) (a .size)) (count-is n) (c .before .if1 .taken)
+    let n = count-is c in
+    let k = from-is c in
+    rw (n, k)
 
-returns-2 : tie.Need-returns-2
-returns-2 c =
-    let a = c .before .before .before .before .before .before .before .before .args in
-    let n = c .before in
-    plan-whole (slicesOf (a .fs) (a .rows .now) (a .target) (a .size)) (cursorAt (a .fs) (a .rows .now) (a .target) (a .size)) (count-is n) (c .if1 .left) (from-is n)
-
-pub plan-bytes-spec : {M : Type 1} → statement M
-plan-bytes-spec =
+pub start-at-spec : {M : Type 1} → statement M
+start-at-spec =
     tie.close
     (tie.spec
     find-requires
@@ -63,6 +54,4 @@ plan-bytes-spec =
     less-requires-2
     smaller-requires
     count-slices-requires
-    refuse-requires
-    returns
-    returns-2)
+    returns)

@@ -1,6 +1,6 @@
--- What `map_block` is to do before it writes, as code by value says it: its answer, how many slices it writes, and where
--- the first begins. The slices and the refusals are those of Block.antt.
-use Prim.Native.Nat.{ℕ, _+_, _-_}
+-- What `map_block` is to do, before it writes: its answer, how many slices it writes, and where the first begins. The slices
+-- and the refusals are those of `layout`.
+use Prim.Native.Nat.{ℕ, _+_}
 use mathlib.Core.Bool.{cond}
 use mathlib.Core.List.{List, [], _∷_}
 use lib.Dec.{eqb, leb}
@@ -8,30 +8,15 @@ use lib.IntN.{ℤ}
 use lib.ListN.{length}
 use Rattle.types.specs.Refusals.{Outcome, value, refused}
 use Rattle.tables.specs.declared.storage.FileStorage.{FileStorage}
-use Rattle.tables.specs.Rows.{rowAt}
 use Rattle.storage.specs.Rules.{firstOf}
 use Rattle.storage.specs.Addition.{sizeOf}
 use Rattle.answers.specs.Answers.{indexOf, rowsHeld}
-use Rattle.layout.specs.declared.plan.Cursor.{Cursor}
+use Rattle.layout.specs.declared.start.Cursor.{Cursor}
 use Rattle.layout.specs.Questions.{opened, manyPieces, noPiece, badRange, short}
 use Rattle.layout.specs.Pieces.{startOf}
-use Rattle.layout.specs.Search.{fileFound}
-use Rattle.layout.specs.Mapping.{Slice, walk, cut}
+use Rattle.layout.specs.Mapping.{Slice}
 use Rattle.layout.specs.Block.{blockOf}
-
--- the slices from a cursor on
-abbrev pub slicesFrom : List ℕ → Cursor → List Slice
-slicesFrom rows c = walk (c .files - c .file) rows (c .file) (c .skip) (c .left)
-
--- where the slices of `size` bytes from the target on begin
-abbrev pub cursorAt : FileStorage → List ℕ → ℕ → ℕ → Cursor
-cursorAt fs rows target size =
-    record {
-      file = fileFound rows (fs .«num_files») target;
-      files = fs .«num_files»;
-      skip = target - rowAt rows (fileFound rows (fs .«num_files») target) .offset;
-      left = cut (fs .«total_size») target size;
-    }
+use Rattle.layout.specs.Start.{cursorAt}
 
 pub record Planned : Type 0 where
   pub says : Outcome ℕ
@@ -50,6 +35,7 @@ whole ss c = record { says = value (length ss); count = length ss; from = c }
 abbrev pub planned : ℕ → List Slice → Cursor → Planned
 planned k ss c = cond (eqb k 0) (whole ss c) (stayed k)
 
+-- the plan for a table with `room` places
 abbrev pub blockPlan : FileStorage → List ℕ → ℤ → ℤ → ℤ → ℕ → Planned
 blockPlan fs rows z offset size room =
     planned

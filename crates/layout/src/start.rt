@@ -1,0 +1,93 @@
+// How many slices a block has, or why it is refused, and where the first begins: what a caller needs to
+// make the slices one by one. It relies on the search and on the count of the slices.
+ghost use mathlib.Core.Path.{_≡_};
+ghost use Rattle.types.specs.Refusals.{numberOf, usizeSays};
+ghost use Rattle.layout.specs.Mapping.{slicesOf};
+ghost use Rattle.layout.specs.Start.{cursorAt, Started, all, none, blockStart};
+use crate::decide::Check;
+use crate::decide::ask_piece;
+use crate::decide::is_bad_range;
+use crate::decide::is_held;
+use crate::mapping::count_slices;
+use crate::number::is_negative64;
+use crate::number::less;
+use crate::number::piece_number;
+use crate::number::size64;
+use crate::number::smaller;
+use crate::piece::start_of;
+use crate::search::find;
+use tables::FileStorage;
+use types::PieceIndex;
+use types::Refusal;
+use types::UsizeResult;
+
+// Where the bytes still to map begin: place `skip` of file `file` of `files`; `left` is how many they are.
+pub struct Cursor {
+    pub file: usize,
+    pub files: usize,
+    pub skip: u64,
+    pub left: u64,
+}
+
+// How many slices a block has, or why it is refused, and where the first begins.
+pub struct Start {
+    pub count: UsizeResult,
+    pub from: Cursor,
+}
+
+// The start of a block that is refused.
+fn refuse(e: Refusal) -> Start
+    ensures { λ r. ⌜ _≡_ {A = Started} (record { says = usizeSays (r .count); from = r .from }) (none (numberOf e)) ⌝ }
+{
+    Start {
+        count: UsizeResult::Err(e),
+        from: Cursor {
+            file: 0,
+            files: 0,
+            skip: 0,
+            left: 0,
+        },
+    }
+}
+
+// The start of `size` bytes from the target on.
+fn start_at(fs: FileStorage, rows: &[u64], target: u64, size: u64) -> Start
+    ensures { λ r. ⌜ _≡_ {A = Started} (record { says = usizeSays (r .count); from = r .from }) (all (slicesOf fs (now (rows .entry)) target size) (cursorAt fs (now (rows .entry)) target size)) ⌝ }
+{
+    let files = fs.num_files;
+    let file = find(rows, files, target);
+    let skip = less(target, tables::offset_at(rows, file));
+    let left = smaller(size, less(fs.total_size, target));
+    Start {
+        count: UsizeResult::Ok(count_slices(rows, files, file, skip, left)),
+        from: Cursor {
+            file,
+            files,
+            skip,
+            left,
+        },
+    }
+}
+
+// The start of a block of a piece.
+pub fn start_block(
+    fs: FileStorage,
+    rows: &[u64],
+    piece: PieceIndex,
+    offset: i64,
+    size: i64,
+) -> Start
+    ensures { λ r. ⌜ _≡_ {A = Started} (record { says = usizeSays (r .count); from = r .from }) (blockStart fs (now (rows .entry)) (piece .0) offset size) ⌝ }
+{
+    let check = ask_piece(
+        fs,
+        piece,
+        is_bad_range(offset, is_negative64(size)),
+        is_held(fs.num_files, rows.len() / 8),
+    );
+    if let Check::Stop(e) = check {
+        return refuse(e);
+    }
+    let target = start_of(fs, piece_number(piece)) + size64(offset);
+    start_at(fs, rows, target, size64(size))
+}
