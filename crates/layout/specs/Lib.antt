@@ -10,5 +10,4 @@ pub mod Block
 pub mod Request
 pub mod Table
 pub mod Given
-pub mod Plan
 pub mod Start

@@ -6,4 +6,3 @@ pub mod Filling
 pub mod Plans
 pub mod Steps
 pub mod Stored
-pub mod Vectors
