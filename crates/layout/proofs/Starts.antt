@@ -1,6 +1,6 @@
 -- Laws of the start of a block: the cursor that the code makes, and the start after the decision on its refusals. They rely
 -- on the laws of Deciding.antt and on the definitions of specs/Start.antt.
-use mathlib.Core.Path.{_≡_, refl, sym, ap, _∙_}
+use mathlib.Core.Path.{_≡_, sym, ap, _∙_}
 use mathlib.Core.Bool.{false}
 use mathlib.Core.List.{List, [], _∷_}
 use Prim.Native.Nat.{ℕ, _+_, _-_, min}

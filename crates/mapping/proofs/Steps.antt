@@ -1,22 +1,23 @@
 -- Laws of one step through the slices of a block, as `next_slice` makes it. They rely on the laws of a turn in `layout`.
---     slice-is            a slice's numbers as signed ones
---     some-file           where slices are to come, there is a file and there are bytes
---     pass                a file that has no byte of the block is passed over
---     found               a file that has one gives the next slice
+--     slice-is                 a slice's numbers as signed ones, which are exact below 2 ^ 63
+--     size-low                 a row's size is far below that
+--     some-file, some-bytes    where slices are to come, there is a file and there are bytes
+--     pass                     a file that has no byte of the block is passed over
+--     found, taken             a file that has one gives the next slice
 use mathlib.Core.Path.{_≡_, refl, sym, ap, _∙_}
-use mathlib.Core.Bool.{true, false}
-use mathlib.Core.List.{List, [], _∷_, _++_, map}
+use mathlib.Core.Bool.{false}
+use mathlib.Core.List.{List, _∷_, map}
 use Prim.Native.Nat.{ℕ, _+_, _-_, _%_, _^_, _≤_, _<_, min}
 use native.Mathlib.Nat.{mod-eq-of-lt, mod-lt, lt-of-not-le}
 use native.Mathlib.Omega.{arith}
 use lib.Dec.{eqb}
-use borrow.Author.Tests.{eq-eqb, ne-eqb}
+use borrow.Author.Tests.{ne-eqb}
 use lib.IntN.{ℤ, pos}
 use lib.ListN.{length}
 use Rattle.types.specs.declared.index.FileIndex.{FileIndex}
 use Rattle.types.specs.declared.index.FileSlice.{FileSlice}
 use Rattle.tables.specs.Rows.{rowAt}
-use Rattle.layout.specs.Mapping.{Slice, before, walk}
+use Rattle.layout.specs.Mapping.{Slice, walk}
 use Rattle.layout.specs.declared.start.Cursor.{Cursor}
 use Rattle.layout.specs.Start.{slicesFrom}
 use Rattle.layout.specs.Table.{recordOf}
@@ -30,7 +31,6 @@ slice-is file offset size {i} ho hs ei eo es =
     let f : i ≡ record { 0 = pos (file % 2 ^ 31) } = ap (λ (z : ℤ). record { 0 = z }) ei in
     rw (f, eo, es, mod-eq-of-lt ho, mod-eq-of-lt hs)
 
--- a row's size is read below 2 ^ 48
 pub size-low : (rows : List ℕ) (k : ℕ) → rowAt rows k .size < 2 ^ 48
 size-low rows k = mod-lt _ (omega arith)
 

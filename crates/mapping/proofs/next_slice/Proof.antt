@@ -1,17 +1,12 @@
 -- `mapping::next_slice` meets its contract. The loop's invariant: the slices from the file reached on are all that are to
 -- come, so there is a file and there are bytes.
 use borrow.Author.Needs.{needs}
-use mathlib.Core.Path.{_≡_, refl, sym, ap, _∙_}
-use mathlib.Core.List.{List, _∷_, map}
+use mathlib.Core.Path.{_≡_, refl, _∙_}
 use native.Mathlib.Omega.{arith}
-use Prim.Native.Nat.{ℕ, _-_, _<_}
+use Prim.Native.Nat.{_-_, _<_}
 use lib.ListN.{length}
-use Rattle.types.specs.declared.index.FileSlice.{FileSlice}
-use Rattle.layout.specs.declared.start.Cursor.{Cursor}
-use Rattle.layout.specs.Mapping.{Slice, walk}
+use Rattle.layout.specs.Mapping.{walk}
 use Rattle.layout.specs.Start.{slicesFrom}
-use Rattle.layout.specs.Table.{recordOf}
-use Rattle.mapping.specs.Records.{recordsFrom}
 use Rattle.mapping.proofs.Steps.{size-low, some-file, some-bytes, pass, found, taken}
 use Rattle.mapping.proofs.next_slice.Statement.{statement}
 use Rattle.mapping.proofs.next_slice.Tie as tie

@@ -1,9 +1,8 @@
 -- `mapping::step_in` meets its contract.
 use borrow.Author.Needs.{needs}
-use mathlib.Core.Path.{_≡_, refl, sym, ap, _∙_}
+use mathlib.Core.Path.{_≡_, refl}
 use native.Mathlib.Omega.{arith}
-use Prim.Native.Nat.{ℕ, _-_, min}
-use Rattle.layout.specs.Table.{recordOf}
+use Prim.Native.Nat.{_-_, min}
 use Rattle.mapping.proofs.step_in.Statement.{statement}
 use Rattle.mapping.proofs.step_in.Tie as tie
 
