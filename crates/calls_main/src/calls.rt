@@ -1,20 +1,23 @@
-// A line's answer: the first word says which call it is, and the module of its kind answers it. Relies
-// on paths.rt, widths.rt and on_sets.rt.
+// A line's answer: the first word says which call it is, the tables of the set that is spoken of are
+// lent, and the module of its kind answers it. Relies on the modules of the calls' kinds.
+use crate::changes;
+use crate::changes::Made;
+use crate::long_questions;
+use crate::names;
 use crate::names::Call;
-use crate::on_sets;
+use crate::opening;
 use crate::output;
 use crate::paths;
-use crate::widths;
+use crate::places;
+use crate::questions;
+use crate::state;
 use crate::words;
 
-// Answers the line of a length, of which as many bytes stand in its buffer as that has places. A
-// comment and a line of blanks have no answer, and a line that is too long is no call.
+// Answers the line of a length, of which as many bytes stand in its buffer as that has places. Each set
+// is lent its own part of every table.
 pub(crate) fn answer_line(
     line: &[u8],
     length: usize,
-    first: &mut [u8],
-    second: &mut [u8],
-    joined: &mut [u8],
     rows: &mut [u64],
     roots: &mut [u8],
     times: &mut [i64],
@@ -24,21 +27,84 @@ pub(crate) fn answer_line(
     out: &mut [u8],
     used: usize,
 ) -> usize {
+    let p = places::of_set(
+        cards,
+        rows.len(),
+        roots.len(),
+        times.len(),
+        dirs.len(),
+        text.len(),
+    );
+    let r0 = p.rows.start;
+    let r1 = p.rows.end;
+    let h0 = p.roots.start;
+    let h1 = p.roots.end;
+    let t0 = p.times.start;
+    let t1 = p.times.end;
+    let d0 = p.dirs.start;
+    let d1 = p.dirs.end;
+    let a0 = p.text.start;
+    let a1 = p.text.end;
+    answer(
+        line,
+        length,
+        &mut rows[r0..r1],
+        &mut roots[h0..h1],
+        &mut times[t0..t1],
+        &mut dirs[d0..d1],
+        &mut text[a0..a1],
+        cards,
+        out,
+        used,
+    )
+}
+
+// Which call a line is. A comment and a line of blanks have no answer, and a line that is too long is no
+// call.
+fn call_in(line: &[u8], length: usize) -> Call {
     let content = lists::part(line, 0, length);
     if lists::byte(content, 0) == b'#' {
-        return used;
+        return Call::Silent;
     }
     if line.len() < length {
-        return output::bad_call(out, used);
+        return Call::Unknown;
     }
     if !words::has(content, 0) {
-        return used;
+        return Call::Silent;
     }
-    answer(
+    names::find(words::word(content, 0))
+}
+
+// Makes the change that a call is, if it is one, and then writes the answer.
+fn answer(
+    line: &[u8],
+    length: usize,
+    rows: &mut [u64],
+    roots: &mut [u8],
+    times: &mut [i64],
+    dirs: &mut [u64],
+    text: &mut [u8],
+    cards: &mut [u64],
+    out: &mut [u8],
+    used: usize,
+) -> usize {
+    let call = call_in(line, length);
+    let content = lists::part(line, 0, length);
+    let change = changes::wanted(call, state::is_open(cards));
+    let made = changes::make(
+        change,
         content,
-        first,
-        second,
-        joined,
+        state::record(cards),
+        rows,
+        roots,
+        times,
+        dirs,
+        text,
+    );
+    reply(
+        call,
+        made,
+        content,
         rows,
         roots,
         times,
@@ -50,59 +116,45 @@ pub(crate) fn answer_line(
     )
 }
 
-// Answers a line by its first word.
-fn answer(
+// Writes the answer to a call, of which the change is made.
+fn reply(
+    call: Call,
+    made: Made,
     line: &[u8],
-    first: &mut [u8],
-    second: &mut [u8],
-    joined: &mut [u8],
-    rows: &mut [u64],
-    roots: &mut [u8],
-    times: &mut [i64],
-    dirs: &mut [u64],
-    text: &mut [u8],
+    rows: &[u64],
+    roots: &[u8],
+    times: &[i64],
+    dirs: &[u64],
+    text: &[u8],
     cards: &mut [u64],
     out: &mut [u8],
     used: usize,
 ) -> usize {
-    let call = crate::names::find(words::word(line, 0));
-    if let Call::OnSet(set_call) = call {
-        return on_sets::answer(
-            set_call,
-            line,
-            first,
-            second,
-            joined,
-            rows,
-            roots,
-            times,
-            dirs,
-            text,
-            cards,
-            out,
-            used,
-        );
+    match call {
+        Call::Ask(question) => {
+            questions::ask(question, line, rows, roots, times, text, cards, out, used)
+        }
+        Call::AskLong(question) => {
+            long_questions::ask(question, line, rows, roots, dirs, text, cards, out, used)
+        }
+        _ => reply_without_tables(call, made, line, cards, out, used),
     }
-    without_sets(call, line, first, second, joined, out, used)
 }
 
-// Answers a line that speaks of no set.
-fn without_sets(
+// Writes the answer to a call that is no question.
+fn reply_without_tables(
     call: Call,
+    made: Made,
     line: &[u8],
-    first: &mut [u8],
-    second: &mut [u8],
-    joined: &mut [u8],
+    cards: &mut [u64],
     out: &mut [u8],
     used: usize,
 ) -> usize {
     match call {
-        Call::String(string_call) => paths::on_string(string_call, line, first, out, used),
-        Call::LsplitAt => paths::lsplit_at(line, first, out, used),
-        Call::Append => paths::append(line, second, joined, out, used),
-        Call::Combine => paths::combine(line, first, second, joined, out, used),
-        Call::Width => widths::width(line, out, used),
-        Call::OnSet(_) => output::bad_call(out, used),
-        Call::Unknown => output::bad_call(out, used),
+        Call::Silent => used,
+        Call::String(string_call) => paths::on_string(string_call, line, out, used),
+        Call::Plain(plain_call) => paths::plain(plain_call, line, out, used),
+        Call::OnSets(set_call) => opening::answer(set_call, made, line, cards, out, used),
+        _ => output::bad_call(out, used),
     }
 }

@@ -2,79 +2,55 @@
 // call, in the form that the driver over the Rust speaks too. What it answers is the libraries' to
 // promise; proved here is that the program is safe and ends.
 mod addition;
+mod answer;
 mod calls;
 mod changes;
 mod file_questions;
 mod input;
+mod layout_questions;
+mod long_questions;
 mod names;
 mod numbers;
-mod on_sets;
 mod opening;
 mod output;
 mod paths;
 mod places;
+mod questions;
 mod roots;
 mod scan;
 mod set_questions;
 mod state;
 mod strings;
-mod values;
-mod widths;
 mod words;
 
-// Lends each set its quarter of every table, and its card.
+// The tables have four parts each, one for each set, and the sets have a card each.
 fn main() {
+    let mut block = io::large_buffer();
+    let mut line = io::large_buffer();
     let mut rows = [0u64; 8192];
     let mut roots = [0u8; 32768];
     let mut times = [0i64; 1024];
     let mut dirs = [0u64; 2048];
     let mut text = text_areas();
     let mut cards = [0u64; 65];
-    run(
+    let mut out = io::large_buffer();
+    let used = answer_all(
+        &mut block,
+        &mut line,
         &mut rows,
         &mut roots,
         &mut times,
         &mut dirs,
         &mut text,
         &mut cards,
+        &mut out,
     );
+    output::flush(&mut out, used);
 }
 
 // The text areas of the four sets.
 fn text_areas() -> [u8; 1048576] {
     [0u8; 1048576]
-}
-
-// Lends each part of the work its buffer.
-fn run(
-    rows: &mut [u64],
-    roots: &mut [u8],
-    times: &mut [i64],
-    dirs: &mut [u64],
-    text: &mut [u8],
-    cards: &mut [u64],
-) {
-    let mut block = io::large_buffer();
-    let mut line = io::large_buffer();
-    let mut first = io::large_buffer();
-    let mut second = io::large_buffer();
-    let mut joined = [0u8; 131072];
-    let mut out = io::large_buffer();
-    let used = answer_all(
-        &mut block,
-        &mut line,
-        &mut first,
-        &mut second,
-        &mut joined,
-        rows,
-        roots,
-        times,
-        dirs,
-        text,
-        cards,
-        &mut out,
-    );
-    output::flush(&mut out, used);
 }
 
 // Answers line by line, and gives how much of the output is not yet written. A proved loop has to
@@ -83,9 +59,6 @@ fn run(
 fn answer_all(
     block: &mut [u8],
     line: &mut [u8],
-    first: &mut [u8],
-    second: &mut [u8],
-    joined: &mut [u8],
     rows: &mut [u64],
     roots: &mut [u8],
     times: &mut [i64],
@@ -102,12 +75,10 @@ fn answer_all(
         if !cursor.is_line {
             return used;
         }
+        let length = cursor.length;
         used = calls::answer_line(
             line,
-            cursor.length,
-            first,
-            second,
-            joined,
+            length,
             rows,
             roots,
             times,

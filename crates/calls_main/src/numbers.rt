@@ -55,6 +55,14 @@ pub(crate) fn short_word(line: &[u8], number: usize) -> Short {
     Short::Is(types::signed32(n))
 }
 
+// The `i32` that is all that stands behind the name of a call.
+pub(crate) fn only(line: &[u8]) -> Short {
+    if words::has(line, 2) {
+        return Short::Malformed;
+    }
+    short_word(line, 1)
+}
+
 // Whether a word begins as a negative number does.
 fn is_negative(word: &[u8]) -> bool {
     lists::byte(word, 0) == b'-'

@@ -1,6 +1,9 @@
-// Opening a set, turning to another, and forgetting all. Relies on `storage`, and on the modules for
-// words and output.
+// Opening a set, turning to another, forgetting all, and noting a change. Relies on `storage`, and on the
+// modules for words and output.
 ghost use Prim.Native.Nat.{_≤_};
+use crate::changes;
+use crate::changes::Made;
+use crate::names::SetCall;
 use crate::numbers;
 use crate::numbers::Number;
 use crate::numbers::Short;
@@ -17,30 +20,68 @@ struct Named {
     places: usize,
 }
 
+// What a line says of the room of a set: whether all of it is in form, and how many places there are.
+struct Wanted {
+    is_formed: bool,
+    files: usize,
+    dirs: usize,
+    text: usize,
+}
+
+// Answers a call on sets, of which the change is made.
+pub(crate) fn answer(
+    call: SetCall,
+    made: Made,
+    line: &[u8],
+    cards: &mut [u64],
+    out: &mut [u8],
+    used: usize,
+) -> usize {
+    match call {
+        SetCall::Open => open(line, cards, out, used),
+        SetCall::Use => turn_to(line, cards, out, used),
+        SetCall::Reset => reset(line, cards, out, used),
+        _ => changes::put(made, cards, out, used),
+    }
+}
+
 // `open LENGTH [files=N] [dirs=N] [text=N]`.
-pub(crate) fn open(line: &[u8], cards: &mut [u64], out: &mut [u8], used: usize) -> usize {
+fn open(line: &[u8], cards: &mut [u64], out: &mut [u8], used: usize) -> usize {
     let Short::Is(piece_length) = numbers::short_word(line, 1) else {
         return output::bad_call(out, used);
     };
+    let wanted = wanted_room(line);
+    if !wanted.is_formed {
+        return output::bad_call(out, used);
+    }
+    let room = Room {
+        files: wanted.files,
+        dirs: wanted.dirs,
+        text: wanted.text,
+    };
+    put_in(piece_length, room, cards, out, used)
+}
+
+// The room that a line names.
+fn wanted_room(line: &[u8]) -> Wanted {
     let usual = state::usual_room();
     let files = room_of(line, b"files=", usual.files);
     let dirs = room_of(line, b"dirs=", usual.dirs);
     let text = room_of(line, b"text=", usual.text);
-    if words::has(
+    let is_long = words::has(
         line,
         2 + one(files.is_named) + one(dirs.is_named) + one(text.is_named),
-    ) {
-        return output::bad_call(out, used);
-    }
-    if !all(files.is_formed, dirs.is_formed, text.is_formed) {
-        return output::bad_call(out, used);
-    }
-    let room = Room {
+    );
+    Wanted {
+        is_formed: all(
+            files.is_formed,
+            dirs.is_formed,
+            all(text.is_formed, !is_long, true),
+        ),
         files: files.places,
         dirs: dirs.places,
         text: text.places,
-    };
-    put_in(piece_length, room, cards, out, used)
+    }
 }
 
 // Puts a new set in place of the one that is spoken of, where its piece length is in range.
@@ -117,7 +158,7 @@ fn all(a: bool, b: bool, c: bool) -> bool {
 }
 
 // `use N`.
-pub(crate) fn turn_to(line: &[u8], cards: &mut [u64], out: &mut [u8], used: usize) -> usize {
+fn turn_to(line: &[u8], cards: &mut [u64], out: &mut [u8], used: usize) -> usize {
     if words::has(line, 2) {
         return output::bad_call(out, used);
     }
@@ -132,7 +173,7 @@ pub(crate) fn turn_to(line: &[u8], cards: &mut [u64], out: &mut [u8], used: usiz
 }
 
 // `reset`.
-pub(crate) fn reset(line: &[u8], cards: &mut [u64], out: &mut [u8], used: usize) -> usize {
+fn reset(line: &[u8], cards: &mut [u64], out: &mut [u8], used: usize) -> usize {
     if words::has(line, 1) {
         return output::bad_call(out, used);
     }

@@ -65,6 +65,19 @@ pub(crate) fn number(out: &mut [u8], used: usize, n: u64) -> usize {
     digits(out, at, n)
 }
 
+// Puts a value that is a slice: `file:offset:size`.
+pub(crate) fn slice(out: &mut [u8], used: usize, file: u64, offset: u64, size: u64) -> usize {
+    let at = number(out, used, file);
+    let behind = part(out, at, offset);
+    part(out, behind, size)
+}
+
+// Puts a number behind `:`.
+fn part(out: &mut [u8], used: usize, n: u64) -> usize {
+    let at = put(out, used, b':');
+    digits(out, at, n)
+}
+
 // Puts a value that is an `i64`.
 pub(crate) fn long(out: &mut [u8], used: usize, n: i64) -> usize {
     match types::unsigned64(n) {

@@ -1,5 +1,8 @@
-// Calls on paths and byte strings. Each decodes its words, asks the library and puts the answer into the
-// output. Relies on `path` and `crc32c`, and on the modules for words and output.
+// Calls that speak of no set: on paths, byte strings and the width of a tree. Each decodes its words,
+// asks the library and writes the answer. Relies on `path`, `crc32c` and `merkle`, and on the modules for
+// words and answers.
+use crate::answer;
+use crate::names::PlainCall;
 use crate::names::StringCall;
 use crate::numbers;
 use crate::numbers::Number;
@@ -7,24 +10,18 @@ use crate::output;
 use crate::strings;
 use crate::strings::Decoded;
 use crate::words;
-use types::UsizeResult;
 
 // A call on one string.
-pub(crate) fn on_string(
-    call: StringCall,
-    line: &[u8],
-    first: &mut [u8],
-    out: &mut [u8],
-    used: usize,
-) -> usize {
+pub(crate) fn on_string(call: StringCall, line: &[u8], out: &mut [u8], used: usize) -> usize {
     if words::has(line, 2) {
         return output::bad_call(out, used);
     }
-    let Decoded::Bytes(n) = strings::word(line, 1, first) else {
+    let mut first = io::large_buffer();
+    let Decoded::Bytes(n) = strings::word(line, 1, &mut first) else {
         return output::bad_call(out, used);
     };
     let at = output::ok(out, used);
-    let behind = of_string(call, lists::part(first, 0, n), out, at);
+    let behind = of_string(call, lists::part(&first, 0, n), out, at);
     output::end(out, behind)
 }
 
@@ -56,80 +53,100 @@ fn two(a: &[u8], b: &[u8], out: &mut [u8], used: usize) -> usize {
     output::string(out, at, b)
 }
 
+// Another call that speaks of no set.
+pub(crate) fn plain(call: PlainCall, line: &[u8], out: &mut [u8], used: usize) -> usize {
+    match call {
+        PlainCall::LsplitAt => lsplit_at(line, out, used),
+        PlainCall::Append => append(line, out, used),
+        PlainCall::Combine => combine(line, out, used),
+        PlainCall::Width => width(line, out, used),
+    }
+}
+
 // `lsplit_at :P N`.
-pub(crate) fn lsplit_at(line: &[u8], first: &mut [u8], out: &mut [u8], used: usize) -> usize {
+fn lsplit_at(line: &[u8], out: &mut [u8], used: usize) -> usize {
     if words::has(line, 3) {
         return output::bad_call(out, used);
     }
-    let Decoded::Bytes(n) = strings::word(line, 1, first) else {
-        return output::bad_call(out, used);
-    };
     let Number::Is(place) = numbers::word(line, 2) else {
         return output::bad_call(out, used);
     };
-    let s = lists::part(first, 0, n);
-    let pos = place as usize;
+    let mut first = io::large_buffer();
+    let Decoded::Bytes(n) = strings::word(line, 1, &mut first) else {
+        return output::bad_call(out, used);
+    };
     let at = output::ok(out, used);
-    let behind = two(
-        path::lsplit_path_at_first(s, pos),
-        path::lsplit_path_at_rest(s, pos),
-        out,
-        at,
-    );
+    let behind = split_at(lists::part(&first, 0, n), place as usize, out, at);
     output::end(out, behind)
 }
 
+// The two parts of a path that is split at a place.
+fn split_at(s: &[u8], place: usize, out: &mut [u8], used: usize) -> usize {
+    two(
+        path::lsplit_path_at_first(s, place),
+        path::lsplit_path_at_rest(s, place),
+        out,
+        used,
+    )
+}
+
 // `append :A :B`: the branch stands in the buffer of the join.
-pub(crate) fn append(
-    line: &[u8],
-    second: &mut [u8],
-    joined: &mut [u8],
-    out: &mut [u8],
-    used: usize,
-) -> usize {
+fn append(line: &[u8], out: &mut [u8], used: usize) -> usize {
     if words::has(line, 3) {
         return output::bad_call(out, used);
     }
-    let Decoded::Bytes(n) = strings::word(line, 1, joined) else {
+    let mut joined = [0u8; 131072];
+    let Decoded::Bytes(n) = strings::word(line, 1, &mut joined) else {
         return output::bad_call(out, used);
     };
-    let Decoded::Bytes(m) = strings::word(line, 2, second) else {
+    let mut second = io::large_buffer();
+    let Decoded::Bytes(m) = strings::word(line, 2, &mut second) else {
         return output::bad_call(out, used);
     };
-    let result = path::append_path(joined, n, lists::part(second, 0, m));
-    join(result, joined, out, used)
+    let result = path::append_path(&mut joined, n, lists::part(&second, 0, m));
+    answer::put_composed(result, &joined, out, used)
 }
 
 // `combine :A :B`.
-pub(crate) fn combine(
-    line: &[u8],
-    first: &mut [u8],
-    second: &mut [u8],
-    joined: &mut [u8],
-    out: &mut [u8],
-    used: usize,
-) -> usize {
+fn combine(line: &[u8], out: &mut [u8], used: usize) -> usize {
     if words::has(line, 3) {
         return output::bad_call(out, used);
     }
-    let Decoded::Bytes(n) = strings::word(line, 1, first) else {
+    let mut first = io::large_buffer();
+    let Decoded::Bytes(n) = strings::word(line, 1, &mut first) else {
         return output::bad_call(out, used);
     };
-    let Decoded::Bytes(m) = strings::word(line, 2, second) else {
+    let mut second = io::large_buffer();
+    let Decoded::Bytes(m) = strings::word(line, 2, &mut second) else {
         return output::bad_call(out, used);
     };
-    let result = path::combine_path(lists::part(first, 0, n), lists::part(second, 0, m), joined);
-    join(result, joined, out, used)
+    combined(
+        lists::part(&first, 0, n),
+        lists::part(&second, 0, m),
+        out,
+        used,
+    )
 }
 
-// The answer to a join: the path at the buffer's start, or a refusal.
-fn join(result: UsizeResult, joined: &[u8], out: &mut [u8], used: usize) -> usize {
-    match result {
-        UsizeResult::Ok(n) => {
-            let at = output::ok(out, used);
-            let behind = output::string(out, at, lists::part(joined, 0, n));
-            output::end(out, behind)
-        }
-        UsizeResult::Err(refusal) => output::refused(out, used, types::number(refusal)),
+// Two paths combined.
+fn combined(a: &[u8], b: &[u8], out: &mut [u8], used: usize) -> usize {
+    let mut joined = [0u8; 131072];
+    let result = path::combine_path(a, b, &mut joined);
+    answer::put_composed(result, &joined, out, used)
+}
+
+// `width N`.
+fn width(line: &[u8], out: &mut [u8], used: usize) -> usize {
+    if words::has(line, 2) {
+        return output::bad_call(out, used);
     }
+    let Number::Is(n) = numbers::word(line, 1) else {
+        return output::bad_call(out, used);
+    };
+    answer::put(
+        answer::count(merkle::merkle_num_leafs(n as usize)),
+        b"",
+        out,
+        used,
+    )
 }

@@ -10,6 +10,15 @@ pub(crate) struct Place {
     pub end: usize,
 }
 
+// The parts of all tables.
+pub(crate) struct Places {
+    pub rows: Place,
+    pub roots: Place,
+    pub times: Place,
+    pub dirs: Place,
+    pub text: Place,
+}
+
 // The part of so many places from `start` on, as far as a table of that length has them.
 fn part_of(length: usize, start: usize, n: usize) -> Place
     ensures { λ r. ⌜ (r .start ≤ start) × (r .start ≤ r .end) × (r .end ≤ length) ⌝ }
@@ -22,42 +31,33 @@ fn part_of(length: usize, start: usize, n: usize) -> Place
     }
 }
 
-// The file rows of the set that is spoken of.
-pub(crate) fn rows(cards: &[u64], length: usize) -> Place
-    ensures { λ r. ⌜ (r .start ≤ 1000000) × (r .start ≤ r .end) × (r .end ≤ length) ⌝ }
+// The parts of the set that is spoken of, in tables of those lengths.
+pub(crate) fn of_set(
+    cards: &[u64],
+    rows: usize,
+    roots: usize,
+    times: usize,
+    dirs: usize,
+    text: usize,
+) -> Places
+    ensures { λ r. ⌜ (r .rows .start ≤ 1000000) × (r .rows .start ≤ r .rows .end) × (r .rows .end ≤ rows) ⌝ }
+    ensures { λ r. ⌜ (r .roots .start ≤ 1000000) × (r .roots .start ≤ r .roots .end) × (r .roots .end ≤ roots) ⌝ }
+    ensures { λ r. ⌜ (r .times .start ≤ 1000000) × (r .times .start ≤ r .times .end) × (r .times .end ≤ times) ⌝ }
+    ensures { λ r. ⌜ (r .dirs .start ≤ 1000000) × (r .dirs .start ≤ r .dirs .end) × (r .dirs .end ≤ dirs) ⌝ }
+    ensures { λ r. ⌜ (r .text .start ≤ 1000000) × (r .text .start ≤ r .text .end) × (r .text .end ≤ text) ⌝ }
 {
+    let at = state::at(cards);
     let room = state::lent(cards);
-    part_of(length, state::at(cards) * 2048, least(room.files, 256) * 8)
-}
-
-// Its roots.
-pub(crate) fn roots(cards: &[u64], length: usize) -> Place
-    ensures { λ r. ⌜ (r .start ≤ 1000000) × (r .start ≤ r .end) × (r .end ≤ length) ⌝ }
-{
-    let room = state::lent(cards);
-    part_of(length, state::at(cards) * 8192, least(room.files, 256) * 32)
-}
-
-// Its times.
-pub(crate) fn times(cards: &[u64], length: usize) -> Place
-    ensures { λ r. ⌜ (r .start ≤ 1000000) × (r .start ≤ r .end) × (r .end ≤ length) ⌝ }
-{
-    let room = state::lent(cards);
-    part_of(length, state::at(cards) * 256, room.files)
-}
-
-// Its directory rows.
-pub(crate) fn dirs(cards: &[u64], length: usize) -> Place
-    ensures { λ r. ⌜ (r .start ≤ 1000000) × (r .start ≤ r .end) × (r .end ≤ length) ⌝ }
-{
-    let room = state::lent(cards);
-    part_of(length, state::at(cards) * 512, least(room.dirs, 256) * 2)
-}
-
-// Its text area.
-pub(crate) fn text(cards: &[u64], length: usize) -> Place
-    ensures { λ r. ⌜ (r .start ≤ 1000000) × (r .start ≤ r .end) × (r .end ≤ length) ⌝ }
-{
-    let room = state::lent(cards);
-    part_of(length, state::at(cards) * 262144, room.text)
+    let of_rows = part_of(rows, at * 2048, least(room.files, 256) * 8);
+    let of_roots = part_of(roots, at * 8192, least(room.files, 256) * 32);
+    let of_times = part_of(times, at * 256, room.files);
+    let of_dirs = part_of(dirs, at * 512, least(room.dirs, 256) * 2);
+    let of_text = part_of(text, at * 262144, room.text);
+    Places {
+        rows: of_rows,
+        roots: of_roots,
+        times: of_times,
+        dirs: of_dirs,
+        text: of_text,
+    }
 }

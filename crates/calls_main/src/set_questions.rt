@@ -1,63 +1,44 @@
-// Questions on a set as a whole. Relies on `answers`, and on the modules for places and output.
+// Questions on a set as a whole. Relies on `answers` and `layout`, and on the modules for words and
+// answers.
+use crate::answer;
+use crate::answer::Answer;
 use crate::names::SetQuestion;
 use crate::output;
-use crate::places;
-use crate::state;
-use crate::values;
 use crate::words;
 use answers::I32Result;
 use answers::SpanResult;
 use tables::FileStorage;
 
-// Answers a question on the set that is spoken of.
-pub(crate) fn ask(
-    question: SetQuestion,
-    line: &[u8],
-    dirs: &[u64],
-    text: &[u8],
-    cards: &[u64],
-    out: &mut [u8],
-    used: usize,
-) -> usize {
+// The answer to a question on a set.
+pub(crate) fn answer(question: SetQuestion, line: &[u8], fs: FileStorage, text: &[u8]) -> Answer {
     if words::has(line, 1) {
-        return output::bad_call(out, used);
+        return Answer::BadCall;
     }
-    if !state::is_open(cards) {
-        return output::bad_call(out, used);
+    match question {
+        SetQuestion::Name => answer::text(answers::name(fs, text)),
+        SetQuestion::NumFiles => answer::short(answers::num_files(fs)),
+        SetQuestion::TotalSize => answer::long(answers::total_size(fs)),
+        SetQuestion::SizeOnDisk => answer::long(answers::size_on_disk(fs)),
+        SetQuestion::PieceLength => answer::short(answers::piece_length(fs)),
+        SetQuestion::V2 => answer::boolean(answers::v2(fs)),
+        SetQuestion::TextBytes => Answer::Number(fs.text_len as u64),
+        SetQuestion::NumPieces => answer::short(layout::num_pieces(fs)),
+        SetQuestion::BlocksPerPiece => answer::short(layout::blocks_per_piece(fs)),
     }
-    let fs = state::record(cards);
-    let d = places::dirs(cards, dirs.len());
-    let d0 = d.start;
-    let d1 = d.end;
-    let t = places::text(cards, text.len());
-    let t0 = t.start;
-    let t1 = t.end;
-    answer(question, fs, &dirs[d0..d1], &text[t0..t1], out, used)
 }
 
-// Answers a question on a set.
-fn answer(
-    question: SetQuestion,
+// `dirs`: the texts of all directories.
+pub(crate) fn directories(
+    line: &[u8],
     fs: FileStorage,
     dirs: &[u64],
     text: &[u8],
     out: &mut [u8],
     used: usize,
 ) -> usize {
-    match question {
-        SetQuestion::Name => values::text(answers::name(fs, text), text, out, used),
-        SetQuestion::NumFiles => values::short(answers::num_files(fs), out, used),
-        SetQuestion::TotalSize => values::long(answers::total_size(fs), out, used),
-        SetQuestion::SizeOnDisk => values::long(answers::size_on_disk(fs), out, used),
-        SetQuestion::PieceLength => values::short(answers::piece_length(fs), out, used),
-        SetQuestion::V2 => values::boolean(answers::v2(fs), out, used),
-        SetQuestion::Dirs => directories(fs, dirs, text, out, used),
-        SetQuestion::TextBytes => values::number(fs.text_len as u64, out, used),
+    if words::has(line, 1) {
+        return output::bad_call(out, used);
     }
-}
-
-// The texts of all directories.
-fn directories(fs: FileStorage, dirs: &[u64], text: &[u8], out: &mut [u8], used: usize) -> usize {
     match answers::num_paths(fs) {
         I32Result::Ok(n) => {
             let at = output::ok(out, used);

@@ -31,7 +31,7 @@ fn start_of(line: &[u8], number: usize) -> usize {
 }
 
 // Whether a word begins at a place: no blank stands there, and one before it, or nothing.
-fn begins_at(line: &[u8], i: usize) -> bool {
+pub(crate) fn begins_at(line: &[u8], i: usize) -> bool {
     if lists::byte(line, i) == b' ' {
         return false;
     }

@@ -9,6 +9,8 @@ pub enum Value {
     Number(i128),
     Boolean(bool),
     Root([u8; 32]),
+    /// The number of a file, the offset in it and the size of a slice.
+    Slice(i32, i64, i64),
 }
 
 /// Document 01's refusals, each with its number.
@@ -25,6 +27,9 @@ pub enum Refusal {
     UnwantedRoot = 9,
     NoRoom = 10,
     NoSuchFile = 11,
+    NoSuchPiece = 12,
+    TooManyPieces = 13,
+    OutOfRange = 14,
     NoLinkText = 15,
     NoTree = 16,
 }

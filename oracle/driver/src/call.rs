@@ -1,5 +1,5 @@
 //! A call's answer from the unchanged Rust. Calls on paths, hashes and widths are answered here, calls on sets in
-//! sets.rs, set.rs and questions.rs. Where document 01 has a refusal the Rust isn't asked if a debug assertion
+//! sets.rs, set.rs, questions.rs and layout.rs. Where document 01 has a refusal the Rust isn't asked if a debug assertion
 //! would fire there.
 
 use bitdaemon_common::crc32c::crc32c;
@@ -9,12 +9,13 @@ use bitdaemon_core::path::{
 };
 
 use crate::answer::{Answer, Refusal, Value, boolean, bytes, number};
+use crate::layout;
 use crate::parse::Call;
 use crate::questions;
 use crate::sets::Sets;
 
 /// The most leaves of a tree, from document 01's table.
-const MOST_LEAVES: usize = 1_073_741_823;
+pub const MOST_LEAVES: usize = 1_073_741_823;
 
 /// The answer to a call, or nothing if it speaks of a set that was never opened.
 pub fn answer(call: &Call, sets: &mut Sets) -> Option<Answer> {
@@ -36,6 +37,7 @@ pub fn answer(call: &Call, sets: &mut Sets) -> Option<Answer> {
         Call::Trim => sets.current()?.trim(),
         Call::AskSet(question) => questions::on_set(sets.current()?, question),
         Call::AskFile(question, file) => questions::on_file(sets.current()?, question, *file),
+        Call::AskLayout(question) => layout::on_layout(sets.current()?, question),
     })
 }
 

@@ -3,6 +3,7 @@
 
 mod answer;
 mod call;
+mod layout;
 mod parse;
 mod print;
 mod questions;
@@ -11,6 +12,8 @@ mod sets;
 mod words;
 
 pub use answer::Refusal;
+pub use bitdaemon_common::FileIndex;
+pub use layout::piece_count;
 pub use set::{Addition, Room, Set, USUAL_ROOM};
 pub use sets::{SETS, Sets};
 

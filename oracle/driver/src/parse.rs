@@ -1,7 +1,8 @@
 //! Lines of a script: which give no output, and which call a line is. What single words stand for is in words.rs.
 
-use bitdaemon_common::FileIndex;
+use bitdaemon_common::{FileIndex, PieceIndex};
 
+use crate::layout::{LayoutQuestion, PieceQuestion, RowQuestion};
 use crate::questions::{FileQuestion, SetQuestion};
 use crate::set::{Addition, Room, USUAL_ROOM};
 use crate::sets::SETS;
@@ -26,6 +27,7 @@ pub enum Call {
     Trim,
     AskSet(SetQuestion),
     AskFile(FileQuestion, FileIndex),
+    AskLayout(LayoutQuestion),
 }
 
 /// Whether a line gives no output: it has blanks only, or begins with `#`.
@@ -57,12 +59,15 @@ pub fn call(line: &[u8]) -> Option<Call> {
     words.next().is_none().then_some(call)
 }
 
-/// A question on a set or a file.
+/// A question on a set, a file or the layout.
 fn question(name: &[u8], words: &mut Words) -> Option<Call> {
     if let Some(question) = set_question(name) {
         return Some(Call::AskSet(question));
     }
-    Some(Call::AskFile(file_question(name)?, FileIndex(words.number()?)))
+    if let Some(question) = file_question(name) {
+        return Some(Call::AskFile(question, FileIndex(words.number()?)));
+    }
+    Some(Call::AskLayout(layout_question(name, words)?))
 }
 
 fn set_question(name: &[u8]) -> Option<SetQuestion> {
@@ -92,6 +97,50 @@ fn file_question(name: &[u8]) -> Option<FileQuestion> {
         b"internal_file_path" => FileQuestion::InternalFilePath,
         b"symlink" => FileQuestion::Symlink,
         b"internal_symlink" => FileQuestion::InternalSymlink,
+        _ => return None,
+    })
+}
+
+fn layout_question(name: &[u8], words: &mut Words) -> Option<LayoutQuestion> {
+    if let Some(question) = piece_question(name) {
+        return Some(LayoutQuestion::OnPiece(question, PieceIndex(words.number()?)));
+    }
+    if let Some(question) = row_question(name) {
+        return Some(LayoutQuestion::OnFile(question, FileIndex(words.number()?)));
+    }
+    Some(match name {
+        b"num_pieces" => LayoutQuestion::NumPieces,
+        b"blocks_per_piece" => LayoutQuestion::BlocksPerPiece,
+        b"file_index_at_offset" => LayoutQuestion::FileIndexAtOffset(words.number()?),
+        b"file_index_for_root" => LayoutQuestion::FileIndexForRoot(words.root()?),
+        b"map_block" => LayoutQuestion::MapBlock(PieceIndex(words.number()?), words.number()?, words.number()?),
+        b"map_file" => LayoutQuestion::MapFile(FileIndex(words.number()?), words.number()?, words.number()?),
+        _ => return None,
+    })
+}
+
+fn piece_question(name: &[u8]) -> Option<PieceQuestion> {
+    Some(match name {
+        b"piece_size" => PieceQuestion::PieceSize,
+        b"piece_size2" => PieceQuestion::PieceSize2,
+        b"blocks_in_piece2" => PieceQuestion::BlocksInPiece2,
+        b"file_index_at_piece" => PieceQuestion::FileIndexAtPiece,
+        b"last_file_index_at_piece" => PieceQuestion::LastFileIndexAtPiece,
+        _ => return None,
+    })
+}
+
+fn row_question(name: &[u8]) -> Option<RowQuestion> {
+    Some(match name {
+        b"exclusive" => RowQuestion::Exclusive,
+        b"inclusive" => RowQuestion::Inclusive,
+        b"file_piece_range" => RowQuestion::FilePieceRange,
+        b"piece_index_at_file" => RowQuestion::PieceIndexAtFile,
+        b"last_piece_index_at_file" => RowQuestion::LastPieceIndexAtFile,
+        b"file_num_pieces" => RowQuestion::FileNumPieces,
+        b"file_num_blocks" => RowQuestion::FileNumBlocks,
+        b"file_first_piece_node" => RowQuestion::FileFirstPieceNode,
+        b"file_first_block_node" => RowQuestion::FileFirstBlockNode,
         _ => return None,
     })
 }

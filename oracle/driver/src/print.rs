@@ -31,6 +31,7 @@ fn value(value: &Value, text: &mut Vec<u8>) {
         Value::Number(n) => number(*n, text),
         Value::Boolean(b) => text.push(if *b { b'1' } else { b'0' }),
         Value::Root(bytes) => root(bytes, text),
+        Value::Slice(file, offset, size) => slice(*file, *offset, *size, text),
     }
 }
 
@@ -48,6 +49,11 @@ fn string(bytes: &[u8], text: &mut Vec<u8>) {
             text.push(c);
         }
     }
+}
+
+/// `file:offset:size`.
+fn slice(file: i32, offset: i64, size: i64, text: &mut Vec<u8>) {
+    write!(text, "{file}:{offset}:{size}").expect("a Vec takes what is written");
 }
 
 /// The bytes in lower-case hex.

@@ -37,6 +37,11 @@ impl<'a> Words<'a> {
         optional(self.next()?, string)
     }
 
+    /// The next word as a root.
+    pub fn root(&mut self) -> Option<[u8; 32]> {
+        root(self.next()?)
+    }
+
     /// The next word as a root or none.
     pub fn optional_root(&mut self) -> Option<Option<[u8; 32]>> {
         optional(self.next()?, root)

@@ -1,12 +1,16 @@
 //! Prints a script of calls: `generate SEED COUNT` a long one with COUNT random inputs for each call without a set,
-//! `generate sets SEED COUNT` one with COUNT changes of sets, `generate links` one that passes the most link texts,
-//! `generate sample` and `generate sample sets` the short ones that are stored with their answers. The same arguments
-//! always give the same script.
+//! `generate sets SEED COUNT` one with COUNT changes of sets, `generate layout SEED COUNT` one with questions on the
+//! layout of COUNT random sets behind those of all small ones, `generate links` one that passes the most link texts,
+//! `generate sample`, `generate sample sets` and `generate sample layout` the short ones that are stored with their
+//! answers. The same arguments always give the same script.
 
 mod additions;
 mod asking;
 mod bytes;
 mod calls;
+mod layout;
+mod layout_questions;
+mod layout_scenes;
 mod links;
 mod malformed;
 mod random;
@@ -29,8 +33,10 @@ fn main() -> ExitCode {
     let written = match words.as_slice() {
         ["sample"] => sample::write(&mut script),
         ["sample", "sets"] => sample::write_sets(&mut script),
+        ["sample", "layout"] => sample::write_layout(&mut script),
         ["links"] => links::write(&mut script),
         ["sets", seed, count] => with_numbers(seed, count, |seed, count| sets(&mut script, seed, count)),
+        ["layout", seed, count] => with_numbers(seed, count, |seed, count| layout(&mut script, seed, count)),
         [seed, count] => with_numbers(seed, count, |seed, count| long(&mut script, seed, count)),
         _ => Err(wrong_use()),
     };
@@ -44,7 +50,7 @@ fn main() -> ExitCode {
 }
 
 fn wrong_use() -> io::Error {
-    io::Error::other("usage: generate [sets] SEED COUNT, generate links, or generate sample [sets]")
+    io::Error::other("usage: generate [sets|layout] SEED COUNT, generate links, or generate sample [sets|layout]")
 }
 
 /// Writes a script that depends on two numbers.
@@ -61,6 +67,15 @@ fn sets(script: &mut Script, seed: u64, count: usize) -> io::Result<()> {
     malformed::fixed_sets(script)?;
     sets::scenes(script, &mut random)?;
     sets::random(script, &mut random, count)
+}
+
+/// Lines out of form, then all small sets, then sets that show one corner each, then random ones.
+fn layout(script: &mut Script, seed: u64, count: usize) -> io::Result<()> {
+    let mut random = Random::new(seed);
+    malformed::fixed_layout(script)?;
+    layout::small(script, 3, 4, 5)?;
+    layout::scenes(script, &mut random)?;
+    layout::random(script, &mut random, count)
 }
 
 /// Published vectors, then short inputs exhaustively, then random ones.

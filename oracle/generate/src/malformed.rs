@@ -229,6 +229,72 @@ const SET_LINES: &[&[u8]] = &[
     b"reset",
 ];
 
+/// Lines of calls on layouts that each break one rule of the form, or come near it; they begin where no set is open.
+const LAYOUT_LINES: &[&[u8]] = &[
+    b"num_pieces",
+    b"map_block 0 0 1",
+    b"exclusive 0",
+    b"file_index_for_root *00",
+    b"open 10",
+    b"add - :s/a 7 0 0 : *01",
+    b"num_pieces 0",
+    b"num_piece",
+    b"blocks_per_piece 0",
+    b"map_block",
+    b"map_block 0",
+    b"map_block 0 0",
+    b"map_block 0 0 1 0",
+    b"  map_block  0  5  4  ",
+    b"map_block :0 0 1",
+    b"map_block 00 0 1",
+    b"map_block 2147483648 0 1",
+    b"map_block -2147483649 0 1",
+    b"map_block 2147483647 0 1",
+    b"map_block 0 9223372036854775808 1",
+    b"map_block 0 -9223372036854775809 1",
+    b"map_block 0 0 9223372036854775808",
+    b"map_block 0 0 9223372036854775807",
+    b"map_block 0 0 -9223372036854775808",
+    b"map_block 0 0 -0",
+    b"map_file",
+    b"map_file 0 0",
+    b"map_file 0 0 1 1",
+    b"map_file 0 0 2147483647",
+    b"map_file 0 0 2147483648",
+    b"map_file 0 0 -2147483648",
+    b"map_file 0 0 -2147483649",
+    b"map_file 2147483648 0 1",
+    b"map_file 0 9223372036854775808 1",
+    b"exclusive",
+    b"exclusive 0 0",
+    b"exclusive 2147483648",
+    b"inclusive -2147483649",
+    b"inclusive +0",
+    b"piece_size",
+    b"piece_size -0",
+    b"piece_size 4294967296",
+    b"piece_size3 0",
+    b"file_index_at_offset",
+    b"file_index_at_offset 01",
+    b"file_index_at_offset 9223372036854775807",
+    b"file_index_at_offset 9223372036854775808",
+    b"file_index_for_root",
+    b"file_index_for_root -",
+    b"file_index_for_root *1",
+    b"file_index_for_root *01 0",
+    b"file_index_for_root *01",
+    b"file_index_for_root 01",
+    b"file_index_for_root 0101010101010101010101010101010101010101010101010101010101010101",
+    b"file_num_blocks :0",
+    b"file_first_block_node 0 0",
+    b"reset",
+];
+
+/// One line for each rule of the form, of calls on layouts. No set is open behind it.
+pub fn fixed_layout(script: &mut Script) -> io::Result<()> {
+    LAYOUT_LINES.iter().try_for_each(|line| script.line(line))
+}
+
 /// One line for each rule of the form, of calls on sets. No set is open behind it.
 pub fn fixed_sets(script: &mut Script) -> io::Result<()> {
     SET_LINES.iter().try_for_each(|line| script.line(line))

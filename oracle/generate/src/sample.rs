@@ -3,6 +3,7 @@
 use std::io;
 
 use crate::calls;
+use crate::layout;
 use crate::malformed;
 use crate::random::Random;
 use crate::script::Script;
@@ -33,6 +34,24 @@ pub fn write_sets(script: &mut Script) -> io::Result<()> {
     malformed::fixed_sets(script)?;
     sets::scenes(script, &mut random)?;
     sets::random(script, &mut random, 50)
+}
+
+const LAYOUT_HEAD: &[&str] = &[
+    "# A sample of calls on layouts, printed by `generate sample layout` of the folder oracle; the answers beside it are those",
+    "# of the unchanged Rust. `oracle/store` writes both files. First come the lines out of form, then all sets of at most two",
+    "# files of at most one byte, then sets that show one corner each, then random ones.",
+];
+
+pub fn write_layout(script: &mut Script) -> io::Result<()> {
+    let mut random = Random::new(1);
+    script.keep_to_text();
+    for line in LAYOUT_HEAD {
+        script.line(line.as_bytes())?;
+    }
+    malformed::fixed_layout(script)?;
+    layout::small(script, 2, 2, 3)?;
+    layout::scenes(script, &mut random)?;
+    layout::random(script, &mut random, 5)
 }
 
 pub fn write(script: &mut Script) -> io::Result<()> {
