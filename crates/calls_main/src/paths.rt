@@ -90,21 +90,26 @@ fn split_at(s: &[u8], place: usize, out: &mut [u8], used: usize) -> usize {
     )
 }
 
-// `append :A :B`: the branch stands in the buffer of the join.
+// `append :A :B`.
 fn append(line: &[u8], out: &mut [u8], used: usize) -> usize {
     if words::has(line, 3) {
         return output::bad_call(out, used);
     }
-    let mut joined = [0u8; 131072];
-    let Decoded::Bytes(n) = strings::word(line, 1, &mut joined) else {
-        return output::bad_call(out, used);
-    };
     let mut second = io::large_buffer();
     let Decoded::Bytes(m) = strings::word(line, 2, &mut second) else {
         return output::bad_call(out, used);
     };
-    let result = path::append_path(&mut joined, n, lists::part(&second, 0, m));
-    answer::put_composed(result, &joined, out, used)
+    let mut joined = [0u8; 131072];
+    appended(line, lists::part(&second, 0, m), &mut joined, out, used)
+}
+
+// The first path of a line with a leaf appended: the branch stands in the buffer of the join.
+fn appended(line: &[u8], leaf: &[u8], joined: &mut [u8], out: &mut [u8], used: usize) -> usize {
+    let Decoded::Bytes(n) = strings::word(line, 1, joined) else {
+        return output::bad_call(out, used);
+    };
+    let result = path::append_path(joined, n, leaf);
+    answer::put_composed(result, joined, out, used)
 }
 
 // `combine :A :B`.

@@ -52,14 +52,15 @@ pub fn small(script: &mut Script, most: u32, sizes: i64, lengths: i32) -> io::Re
     Ok(())
 }
 
-/// The sets of SCENES, each with the questions at its boundaries.
+/// The sets of SCENES, each with the questions at its boundaries and a few random ones.
 pub fn scenes(script: &mut Script, random: &mut Random) -> io::Result<()> {
     let mut sets = Sets::default();
     for lines in SCENES {
         for line in *lines {
             ask(script, &mut sets, line.as_bytes())?;
         }
-        answered(script, random, current(&mut sets))?;
+        questions::boundary(script, random, current(&mut sets))?;
+        questions::random(script, random, current(&mut sets), ASKED / 6)?;
     }
     Ok(())
 }
