@@ -20,7 +20,7 @@ use Rattle.lists.proofs.Quotients.{ceiling-covers}
 use Rattle.types.specs.Refusals.{numberOf, Outcome, value, refused}
 use Rattle.types.specs.Signed.{unsignedOf, belowOr}
 use Rattle.types.specs.declared.refusal.Refusal.{Refusal}
-use Rattle.types.specs.declared.refusal.Refusal.the-variants.{InvalidPieceLength, NegativeSize, FileTooLarge, TorrentInvalidLength, FilenameTooLong, InvalidName, MissingParentPath, TorrentMissingPiecesRoot, TorrentInconsistentFiles, NoRoom, NoSuchFile, NoSuchPiece, TooManyPieces, OutOfRange, NotASymlink, NoTree, ParseFailed}
+use Rattle.types.proofs.Refusals.{numbered}
 use Rattle.types.specs.declared.signed.Unsigned.the-variants.{Of, Negative}
 use Rattle.tables.specs.declared.storage.FileStorage.{FileStorage}
 use Rattle.storage.specs.Rules.{Rule, when, firstOf, outcomeOf, either}
@@ -62,26 +62,6 @@ module _ (r count : ℕ) where
 pub below-is : (count : ℕ) (z : ℤ) → isBelow count z ≡ true → indexOf z < count
 below-is count (pos n) e = ltb-true n count e
 below-is count (negsuc n) e = absurd (true≢false (sym e))
-
--- no refusal has the number 0
-pub numbered : (e : Refusal) → eqb (numberOf e) 0 ≡ false
-numbered InvalidPieceLength = refl
-numbered NegativeSize = refl
-numbered FileTooLarge = refl
-numbered TorrentInvalidLength = refl
-numbered FilenameTooLong = refl
-numbered InvalidName = refl
-numbered MissingParentPath = refl
-numbered TorrentMissingPiecesRoot = refl
-numbered TorrentInconsistentFiles = refl
-numbered NoRoom = refl
-numbered NoSuchFile = refl
-numbered NoSuchPiece = refl
-numbered TooManyPieces = refl
-numbered OutOfRange = refl
-numbered NotASymlink = refl
-numbered NoTree = refl
-numbered ParseFailed = refl
 
 -- the answer after a decision d that says n
 module _ {A : Type 0} (a : A) {n : ℕ} {d : Check} (p : checkNumber d ≡ n) where

@@ -30,7 +30,8 @@ use Rattle.layout.specs.Search.{fileFound}
 use Rattle.layout.specs.Mapping.{Slice, before, walk, slicesOf}
 use Rattle.layout.specs.Deciding.{checkNumber}
 use Rattle.layout.specs.Block.{filesOf, offsetsOf, sizesOf, Mapped, mapped, hasPlaces, blockOf, mapBlock}
-use Rattle.layout.proofs.Deciding.{numbered, first-append}
+use Rattle.types.proofs.Refusals.{numbered}
+use Rattle.layout.proofs.Deciding.{first-append}
 
 -- a slice in front of others
 before-append : (s : Slice) (rest : List Slice) → before s rest ≡ before s [] ++ rest

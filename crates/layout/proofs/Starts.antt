@@ -23,7 +23,7 @@ use Rattle.layout.specs.Mapping.{slicesOf}
 use Rattle.layout.specs.Deciding.{checkNumber}
 use Rattle.layout.specs.Block.{blockOf}
 use Rattle.layout.specs.Start.{cursorAt, Started, all, none, started, blockStart}
-use Rattle.layout.proofs.Deciding.{numbered}
+use Rattle.types.proofs.Refusals.{numbered}
 
 pub cursor-is : (fs : FileStorage) (rows : List ℕ) (target size : ℕ) {k off skip rest left : ℕ}
     → k ≡ fileFound rows (fs .«num_files») target → off ≡ rowAt rows k .offset → skip ≡ target - off → rest ≡ fs .«total_size» - target → left ≡ min size rest

@@ -33,7 +33,8 @@ use Rattle.storage.specs.Outcomes.{optionalOf, roomsOf, holds, addingNum
 use Rattle.storage.specs.Parts.{isHere, directoryAt, isOut}
 use Rattle.storage.specs.Checks.{sizesFor, numberRules, filesRoom, dirsRoom}
 use Rattle.storage.specs.Plan.{dirPlanOf, dirsWith, padDirPlanOf, rowFlags, countsOf, shortOf, placesFor, planFrom, planOf, dirTexts, plannedIn, TextsOf}
-use Rattle.storage.proofs.Rules.{orElse, first-append, some-number, outcome-refused, either-false, passed, Held, held}
+use Rattle.types.proofs.Refusals.{numbered}
+use Rattle.storage.proofs.Rules.{orElse, first-append, outcome-refused, either-false, passed, Held, held}
 
 -- a model whose counts and sums are those of a set's record
 abbrev pub seen : FileStorage → List ℕ → List File → List (List ℕ) → List ℤ → Model
@@ -194,7 +195,7 @@ module _ (s : Store) (a : Addition) where
   pub add-stopped : {A : Type 0} (x : Refusal) (z : A) → refused (numberOf x) ≡ outcomeOf before z → refused (numberOf x) ≡ result
   add-stopped x z h =
       let k : before ≡ numberOf x = outcome-refused before (numberOf x) z h in
-      rw (number-is, k, some-number x, some-number x)
+      rw (number-is, k, numbered x, numbered x)
 
   module _ (p : before ≡ 0) where
     -- the tables do not hold what the set counts

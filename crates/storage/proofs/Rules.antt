@@ -13,33 +13,13 @@ use borrow.Author.Tests.{eqb-true, eqb-false, ltb-true, ltb-false, leb-true, lt-
 use Rattle.path.specs.Join.{isEmpty}
 use Rattle.types.specs.Refusals.{numberOf, Outcome, value, refused}
 use Rattle.types.specs.declared.refusal.Refusal.{Refusal}
-use Rattle.types.specs.declared.refusal.Refusal.the-variants.{InvalidPieceLength, NegativeSize, FileTooLarge, TorrentInvalidLength, FilenameTooLong, InvalidName, MissingParentPath, TorrentMissingPiecesRoot, TorrentInconsistentFiles, NoRoom, NoSuchFile, NoSuchPiece, TooManyPieces, OutOfRange, NotASymlink, NoTree, ParseFailed}
+use Rattle.types.proofs.Refusals.{numbered}
 use Rattle.tables.specs.declared.storage.FileStorage.{FileStorage}
 use Rattle.tables.specs.Model.{Optional}
 use Rattle.storage.specs.declared.checks.Sizes.{Sizes}
 use Rattle.storage.specs.Rules.{Rule, firstOf, outcomeOf, both, either}
 use Rattle.storage.specs.Addition.{limit, badLength, isNegative, sizeOf, decides, isOpen, padTo, keepsLink}
 use Rattle.storage.specs.Checks.{sizeRules, nameRules, kindRules, padRules, sizesFor, numberRules, filesRoom, dirsRoom, holdsIn}
-
--- every number of a refusal is above 0
-pub some-number : (e : Refusal) → eqb (numberOf e) 0 ≡ false
-some-number InvalidPieceLength = refl
-some-number NegativeSize = refl
-some-number FileTooLarge = refl
-some-number TorrentInvalidLength = refl
-some-number FilenameTooLong = refl
-some-number InvalidName = refl
-some-number MissingParentPath = refl
-some-number TorrentMissingPiecesRoot = refl
-some-number TorrentInconsistentFiles = refl
-some-number NoRoom = refl
-some-number NoSuchFile = refl
-some-number NoSuchPiece = refl
-some-number TooManyPieces = refl
-some-number OutOfRange = refl
-some-number NotASymlink = refl
-some-number NoTree = refl
-some-number ParseFailed = refl
 
 -- rules whose numbers are above 0
 abbrev pub Numbered : List Rule → Type 0
@@ -76,7 +56,7 @@ passed (r ∷ rs) h e = let p = passed-one (r .test) (r .number) (firstOf rs) (h
 -- a rule of the first list stops a call, or none does and the second list decides
 pub stopped : {A : Type 0} (rs ss : List Rule) (e : Refusal) (a : A) → Numbered rs → numberOf e ≡ firstOf rs
     → refused (numberOf e) ≡ outcomeOf (firstOf (rs ++ ss)) a
-stopped rs ss e a h k = rw (first-append rs ss h, ← k, some-number e, some-number e)
+stopped rs ss e a h k = rw (first-append rs ss h, ← k, numbered e, numbered e)
 
 pub after : (rs ss : List Rule) → Numbered rs → 0 ≡ firstOf rs → firstOf (rs ++ ss) ≡ firstOf ss
 after rs ss h k = rw (first-append rs ss h, ← k)

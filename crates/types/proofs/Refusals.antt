@@ -1,4 +1,5 @@
 -- Refusals and the answers that carry them: a refusal is known by its number, and an answer by what it says.
+--     numbered             no refusal has the number 0
 --     number-injective     two refusals with one number are one refusal
 --     says-value           an answer that says a value is `Ok` of it
 --     says-refused         an answer that says a refusal is `Err` of a refusal with that number
@@ -6,8 +7,10 @@
 -- Assumes nothing.
 use Prim.Native.Nat.{ℕ}
 use mathlib.Core.Path.{_≡_, refl, sym, ap, _∙_}
+use mathlib.Core.Bool.{false}
 use mathlib.Core.List.{List, [], _∷_}
 use native.Mathlib.Omega.{arith}
+use lib.Dec.{eqb}
 use lib.ListN.{getD}
 use Rattle.types.specs.Refusals.{numberOf, value, refused, usizeSays}
 use Rattle.types.specs.declared.refusal.Refusal.{Refusal}
@@ -44,6 +47,26 @@ again OutOfRange = refl
 again NotASymlink = refl
 again NoTree = refl
 again ParseFailed = refl
+
+-- no refusal has the number 0
+pub numbered : (e : Refusal) → eqb (numberOf e) 0 ≡ false
+numbered InvalidPieceLength = refl
+numbered NegativeSize = refl
+numbered FileTooLarge = refl
+numbered TorrentInvalidLength = refl
+numbered FilenameTooLong = refl
+numbered InvalidName = refl
+numbered MissingParentPath = refl
+numbered TorrentMissingPiecesRoot = refl
+numbered TorrentInconsistentFiles = refl
+numbered NoRoom = refl
+numbered NoSuchFile = refl
+numbered NoSuchPiece = refl
+numbered TooManyPieces = refl
+numbered OutOfRange = refl
+numbered NotASymlink = refl
+numbered NoTree = refl
+numbered ParseFailed = refl
 
 pub number-injective : (a b : Refusal) → numberOf a ≡ numberOf b → a ≡ b
 number-injective a b e = sym (again a) ∙ ap refusalOf e ∙ again b

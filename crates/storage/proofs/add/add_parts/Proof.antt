@@ -18,7 +18,8 @@ use Rattle.storage.specs.Addition.{Addition}
 use Rattle.storage.specs.Write.{storeAdded, timesAdded}
 use Rattle.storage.specs.Outcomes.{addingNumber}
 use Rattle.storage.specs.Plan.{storeOf, additionOf, TextsOf, planOf, planSays, rowsWritten, dirsWritten, textWritten}
-use Rattle.storage.proofs.Rules.{some-number, outcome-value, outcome-refused}
+use Rattle.types.proofs.Refusals.{numbered}
+use Rattle.storage.proofs.Rules.{outcome-value, outcome-refused}
 use Rattle.storage.proofs.Plans.{add-held}
 use Rattle.storage.proofs.Written.{text-is, rows-are, dirs-are, kept-all, wrote-all}
 use borrow.Author.Needs.{needs}
@@ -133,7 +134,7 @@ same-length-5 : tie.Need-same-length-5
 same-length-5 c = search needs
 
 returns : tie.Need-returns
-returns c = kept-all (number (c .before .before .before .before .before .before .before .before .before .before .before .before .before .before .before .before .before .before .before .before .before)) (numberOf (c .before .planned .given .0 .0)) (tables (c .before .before .before .before .before .before .before .before .before .before .before .before .before .before .before .before .before .before .before .before .before)) (after (c .before .before .before .before .before .before .before .before .before .before .before .before .before .before .before .before .before .before .before .before .before)) (stopped (c .before .before .before) (c .before .planned .given .0 .0) (c .before .planned .given .1)) (some-number (c .before .planned .given .0 .0))
+returns c = kept-all (number (c .before .before .before .before .before .before .before .before .before .before .before .before .before .before .before .before .before .before .before .before .before)) (numberOf (c .before .planned .given .0 .0)) (tables (c .before .before .before .before .before .before .before .before .before .before .before .before .before .before .before .before .before .before .before .before .before)) (after (c .before .before .before .before .before .before .before .before .before .before .before .before .before .before .before .before .before .before .before .before .before)) (stopped (c .before .before .before) (c .before .planned .given .0 .0) (c .before .planned .given .1)) (numbered (c .before .planned .given .0 .0))
 
 same-length-6 : tie.Need-same-length-6
 same-length-6 c = search needs
