@@ -1,0 +1,1 @@
+-- Laws of composed paths and hashes.

@@ -1,0 +1,5 @@
+-- The definitions that the contracts of `names` cite.
+pub mod Results
+pub mod Paths
+pub mod Hashes
+pub mod Compatible

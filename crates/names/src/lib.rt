@@ -1,0 +1,5 @@
+// Composed paths, path hashes and `files_compatible`, from file_storage.rs. Relies on `path` for joins, on
+// `crc32c` for the running hash and on `answers` for the refusals of a question.
+mod result;
+
+pub use result::U32Result;
