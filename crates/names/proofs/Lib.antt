@@ -1,1 +1,2 @@
 -- Laws of composed paths and hashes.
+pub mod Composed

@@ -1,0 +1,30 @@
+-- `names::compose::left_behind` meets its contract.
+use mathlib.Core.Path.{_≡_, _∙_}
+use native.Mathlib.Omega.{arith}
+use lib.ListN.{length}
+use borrow.Author.Needs.{needs}
+use Rattle.path.proofs.Joins.{no-bytes, some-bytes}
+use Rattle.names.proofs.compose.left_behind.Statement.{statement}
+use Rattle.names.proofs.compose.left_behind.Tie as tie
+
+returns : tie.Need-returns
+returns c = let a = c .before .before .args in rw (no-bytes (a .part .now) (c .if1 .taken)) (omega arith)
+
+minus-requires : tie.Need-minus-requires
+minus-requires c κs = search needs
+
+returns-2 : tie.Need-returns-2
+returns-2 c =
+    let a = c .before .before .before .before .args in
+    c .before .minus .ensures ∙ rw (some-bytes (a .part .now) (c .before .before .if1 .left), c .if2 .taken)
+
+minus-requires-2 : tie.Need-minus-requires-2
+minus-requires-2 c κs = search needs
+
+returns-3 : tie.Need-returns-3
+returns-3 c =
+    let a = c .before .before .before .before .before .args in
+    rw (some-bytes (a .part .now) (c .before .before .before .if1 .left), c .before .if2 .left) (omega arith)
+
+pub left-behind-spec : {M : Type 1} → statement M
+left-behind-spec = tie.close (tie.spec returns minus-requires returns-2 minus-requires-2 returns-3)
