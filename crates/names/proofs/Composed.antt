@@ -1,6 +1,6 @@
 -- Laws of `appended`: a path whose first part is kept only grows, by lengths that are known from the parts, and parts
 -- that are written one behind the other are the composed text. They rely on the laws of runs of stores of `lists`.
-use Prim.Native.Nat.{ℕ, suc, _+_, _-_, _≤_, _<_}
+use Prim.Native.Nat.{ℕ, _+_, _-_, _≤_, _<_}
 use mathlib.Core.Path.{_≡_, refl, sym, ap, _∙_}
 use mathlib.Core.Bool.{Bool, true, false, cond, true≢false}
 use mathlib.Core.List.{List, [], _∷_, _++_}
@@ -11,7 +11,6 @@ use lib.ListN.{length, take, length-append}
 use lib.Seq.{sets, length-sets}
 use Rattle.lists.specs.Lists.{equal}
 use Rattle.lists.proofs.Runs.{part-sets, sets-over}
-use Rattle.path.specs.Split.{isSeparator}
 use Rattle.path.specs.Join.{Joined, isAlone, isEmpty, closedFrom, isClosed, glued, appended, joinedIf, fits, appendInto}
 use Rattle.types.specs.Refusals.{numberOf, value, refused, usizeSays}
 use Rattle.types.specs.declared.refusal.Refusal.{Refusal}

@@ -1,7 +1,6 @@
 -- `names::compose::left_behind` meets its contract.
-use mathlib.Core.Path.{_≡_, _∙_}
+use mathlib.Core.Path.{_∙_}
 use native.Mathlib.Omega.{arith}
-use lib.ListN.{length}
 use borrow.Author.Needs.{needs}
 use Rattle.path.proofs.Joins.{no-bytes, some-bytes}
 use Rattle.names.proofs.compose.left_behind.Statement.{statement}

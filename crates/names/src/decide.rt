@@ -1,0 +1,91 @@
+// What a question about a file's names decides first, and the parts that lead a file's name: the set's name
+// and the file's directory. Relies on `answers` for the refusals, and on the laws of proofs/Deciding.antt.
+ghost use mathlib.Core.Path.{_≡_};
+ghost use mathlib.Core.Bool.{cond, not};
+ghost use Prim.Native.Nat.{_/_};
+ghost use lib.Dec.{eqb, leb};
+ghost use Rattle.types.specs.Refusals.{usizeSays};
+ghost use Rattle.storage.specs.Rules.{both};
+ghost use Rattle.tables.specs.Rows.{dirAt, has};
+ghost use Rattle.answers.specs.Answers.{askedFile, rowsHeld, isInside};
+use answers::BoolResult;
+use tables::FileStorage;
+use tables::Row;
+use tables::Span;
+use types::FileIndex;
+use types::Refusal;
+use types::UsizeResult;
+
+// The path index of a single name, which has no directory.
+const NO_PATH: u64 = 1073741823;
+
+// The path index of a file that was added by an absolute path.
+pub(crate) const PATH_IS_ABSOLUTE: u64 = 1073741822;
+
+// Whether so many words of directories and so many bytes of text hold the set's directories and texts.
+pub(crate) fn are_held(fs: FileStorage, words: usize, bytes: usize) -> bool
+    ensures { λ r. ⌜ r ≡ both (leb (fs .«num_paths») (words / 2)) (leb (fs .«text_len») bytes) ⌝ }
+{
+    if words / 2 < fs.num_paths {
+        return false;
+    }
+    fs.text_len <= bytes
+}
+
+// The number of a file that a question is about, or why the question isn't answered; `held` says whether
+// the tables besides the rows hold what the set counts.
+pub(crate) fn file_in(fs: FileStorage, rows: &[u64], index: FileIndex, held: bool) -> UsizeResult
+    ensures { λ r. ⌜ usizeSays r ≡ askedFile fs (index .0) (both (rowsHeld fs (now (rows .entry))) held) (λ k. k) ⌝ }
+{
+    match answers::pad_file_at(fs, rows, index) {
+        BoolResult::Ok(_) => {
+            if held {
+                UsizeResult::Ok(index.get())
+            } else {
+                UsizeResult::Err(Refusal::NoRoom)
+            }
+        }
+        BoolResult::Err(e) => UsizeResult::Err(e),
+    }
+}
+
+// Whether a path index is that of a stored directory.
+fn is_inside(path_index: u64) -> bool
+    ensures { λ r. ⌜ r ≡ both (not (eqb «path_index» 1073741823)) (not (eqb «path_index» 1073741822)) ⌝ }
+{
+    if path_index == NO_PATH {
+        return false;
+    }
+    path_index != PATH_IS_ABSOLUTE
+}
+
+// Whether the set's name leads a file's path.
+pub(crate) fn is_led(row: Row) -> bool
+    ensures { λ r. ⌜ r ≡ both (isInside row) (not (has (row .flags) 32)) ⌝ }
+{
+    if is_inside(row.path_index) {
+        return !tables::is_outside(row.flags);
+    }
+    false
+}
+
+// Where the set's name lies, nowhere where it doesn't lead the file's path.
+pub(crate) fn set_span(fs: FileStorage, row: Row) -> Span
+    ensures { λ r. ⌜ r ≡ cond (both (isInside row) (not (has (row .flags) 32))) (fs .name) (record { at = 0; len = 0 }) ⌝ }
+{
+    let name = fs.name;
+    if is_led(row) {
+        return name;
+    }
+    Span { at: 0, len: 0 }
+}
+
+// Where the text of a file's directory lies; nowhere for a single name and an absolute path.
+pub(crate) fn directory_span(dirs: &[u64], row: Row) -> Span
+    ensures { λ r. ⌜ r ≡ cond (isInside row) (dirAt (now (dirs .entry)) (row .«path_index»)) (record { at = 0; len = 0 }) ⌝ }
+{
+    if is_inside(row.path_index) {
+        return tables::dir_at(dirs, row.path_index as usize);
+    }
+    Span { at: 0, len: 0 }
+}
