@@ -17,6 +17,10 @@ use Rattle.types.specs.declared.refusal.Refusal.{Refusal}
 use Rattle.types.specs.declared.refusal.UsizeResult.{UsizeResult}
 use Rattle.types.specs.declared.refusal.UsizeResult.the-variants as usize
 
+-- a part that stands alone is dropped
+pub dropped : (a b : List ℕ) → isAlone a ≡ true → appended a b ≡ b
+dropped a b e = rw e
+
 -- no part is appended to another by leaving it out
 pub append-none : (a b : List ℕ) → appended (appended a []) b ≡ appended a b
 append-none a b = at (isAlone a) refl

@@ -1,4 +1,6 @@
--- Laws of composed paths and hashes, and of deciding before an answer.
+-- Laws of composed paths and hashes, of deciding before an answer, and of comparing paths and sets.
 pub mod Composed
 pub mod Deciding
 pub mod Paths
+pub mod Walks
+pub mod Sets

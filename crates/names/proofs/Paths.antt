@@ -4,6 +4,7 @@ use Prim.Native.Nat.{ℕ}
 use mathlib.Core.Path.{_≡_, refl, sym, ap, _∙_}
 use mathlib.Core.Bool.{Bool, true, false, cond, not}
 use mathlib.Core.List.{List, [], _∷_, _++_, map, append-assoc}
+use Rattle.lists.specs.Lists.{equal}
 use Rattle.path.specs.Join.{appended}
 use Rattle.crc32c.specs.Crc.{crcFrom, lower}
 use Rattle.crc32c.proofs.Parts.{crc-lower}
@@ -13,7 +14,7 @@ use Rattle.tables.specs.declared.span.Span.{Span}
 use Rattle.tables.specs.declared.rows.Row.{Row}
 use Rattle.tables.specs.Span.{textAt}
 use Rattle.tables.specs.Rows.{dirAt, has}
-use Rattle.answers.specs.Answers.{isAbsolute, isInside}
+use Rattle.answers.specs.Answers.{isAbsolute, isInside, symlinkPath}
 use Rattle.names.specs.Paths.{isSingle, nameOf, filePath, led, hashedPath, hashOf}
 use Rattle.names.proofs.Composed.{append-none}
 
@@ -42,7 +43,12 @@ module _ (text save name : List ℕ) (set dir : Span) where
   hashed-if false false false =
       sym (append-assoc (led save ++ (textAt text set ++ (47 ∷ []))) (led (textAt text dir)) name ∙ append-assoc (led save) (textAt text set ++ (47 ∷ [])) (led (textAt text dir) ++ name))
 
-module _ (fs : FileStorage) (dirs text save : List ℕ) (r : Row) where
+-- nothing, either way
+none-if : (b : Bool) → _≡_ {A = List ℕ} (cond b [] []) []
+none-if true = refl
+none-if false = refl
+
+module _ (fs : FileStorage) (dirs text : List ℕ) (r : Row) where
   -- the spans of the set's name and of the directory, where they lead the path
   abbrev pub setSpan : Span
   setSpan = cond (both (isInside r) (not (has (r .flags) 32))) (fs .name) nowhere
@@ -50,11 +56,23 @@ module _ (fs : FileStorage) (dirs text save : List ℕ) (r : Row) where
   abbrev pub dirSpan : Span
   dirSpan = cond (isInside r) (dirAt dirs (r .«path_index»)) nowhere
 
-  pub path-is : appended (appended (appended (cond (isAbsolute r) [] save) (textAt text setSpan)) (textAt text dirSpan)) (nameOf text r) ≡ filePath fs dirs text save r
-  path-is = path-if text save (nameOf text r) (fs .name) (dirAt dirs (r .«path_index»)) (isAbsolute r) (isSingle r) (has (r .flags) 32)
+  pub path-is : (save : List ℕ) → appended (appended (appended (cond (isAbsolute r) [] save) (textAt text setSpan)) (textAt text dirSpan)) (nameOf text r) ≡ filePath fs dirs text save r
+  path-is save = path-if text save (nameOf text r) (fs .name) (dirAt dirs (r .«path_index»)) (isAbsolute r) (isSingle r) (has (r .flags) 32)
 
-  pub hashed-is : led (cond (isAbsolute r) [] save) ++ (cond (both (isInside r) (not (has (r .flags) 32))) (textAt text (fs .name) ++ (47 ∷ [])) [] ++ (led (textAt text dirSpan) ++ nameOf text r)) ≡ hashedPath fs dirs text save r
-  hashed-is = hashed-if text save (nameOf text r) (fs .name) (dirAt dirs (r .«path_index»)) (isAbsolute r) (isSingle r) (has (r .flags) 32)
+  -- without a save path, two parts lead the name
+  pub path-unsaved : appended (appended (textAt text setSpan) (textAt text dirSpan)) (nameOf text r) ≡ filePath fs dirs text [] r
+  path-unsaved = ap (λ (l : List ℕ). appended (appended (appended l (textAt text setSpan)) (textAt text dirSpan)) (nameOf text r)) (sym (none-if (isAbsolute r))) ∙ path-is []
+
+  pub hashed-is : (save : List ℕ) → led (cond (isAbsolute r) [] save) ++ (cond (both (isInside r) (not (has (r .flags) 32))) (textAt text (fs .name) ++ (47 ∷ [])) [] ++ (led (textAt text dirSpan) ++ nameOf text r)) ≡ hashedPath fs dirs text save r
+  hashed-is save = hashed-if text save (nameOf text r) (fs .name) (dirAt dirs (r .«path_index»)) (isAbsolute r) (isSingle r) (has (r .flags) 32)
+
+  -- the parts of a link's path, nothing where no link text is held
+  pub link-is : appended (textAt text (cond (has (r .flags) 16) (fs .name) nowhere)) (textAt text (cond (has (r .flags) 16) (r .link) nowhere)) ≡ symlinkPath fs text r
+  link-is = at (has (r .flags) 16)
+    where
+      at : (b : Bool) → appended (textAt text (cond b (fs .name) nowhere)) (textAt text (cond b (r .link) nowhere)) ≡ cond b (appended (textAt text (fs .name)) (textAt text (r .link))) []
+      at true = refl
+      at false = refl
 
 -- four parts fed one after the other
 pub hash-four : (a b c d : List ℕ)
@@ -63,3 +81,8 @@ hash-four a b c d =
     crc-lower (crcFrom (crcFrom 0 (map lower a)) (map lower b)) c d
     ∙ crc-lower (crcFrom 0 (map lower a)) b (c ++ d)
     ∙ crc-lower 0 a (b ++ (c ++ d))
+
+-- two composed paths, compared
+pub compared : (r : Bool) (a b c d e f p q : List ℕ) → r ≡ equal (appended (appended a b) c) (appended (appended d e) f)
+    → appended (appended a b) c ≡ p → appended (appended d e) f ≡ q → r ≡ equal p q
+compared r a b c d e f p q h i j = h ∙ rw (i, j)

@@ -3,3 +3,4 @@ pub mod Results
 pub mod Paths
 pub mod Hashes
 pub mod Compatible
+pub mod Walk

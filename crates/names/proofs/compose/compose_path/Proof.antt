@@ -6,12 +6,9 @@ use mathlib.Core.List.{List, []}
 use borrow.Author.Needs.{needs}
 use borrow.Author.Tests.{not-true, not-false}
 use Rattle.path.specs.Join.{isAlone, appended}
-use Rattle.names.proofs.Composed.{append-none, retold}
+use Rattle.names.proofs.Composed.{append-none, dropped, retold}
 use Rattle.names.proofs.compose.compose_path.Statement.{statement}
 use Rattle.names.proofs.compose.compose_path.Tie as tie
-
-dropped : (a b : List ℕ) → isAlone a ≡ true → appended a b ≡ b
-dropped a b e = rw e
 
 -- without the first part, and without the first two
 without : (a b c d : List ℕ) → isAlone a ≡ true → appended (appended (appended b []) c) d ≡ appended (appended (appended a b) c) d

@@ -48,12 +48,12 @@ returns c =
     let a = c .before .before .before .before .before .before .before .before .before .before .before .args in
     let t = a .text .now in
     let r = a .row in
-    fed (led (cond (isAbsolute r) [] (a .save-path .now))) (cond (both (isInside r) (not (has (r .flags) 32))) (textAt t (a .fs .name) ++ (47 ∷ [])) []) (led (textAt t (dirSpan (a .fs) (a .dirs .now) t (a .save-path .now) r))) (nameOf t r)
+    fed (led (cond (isAbsolute r) [] (a .save-path .now))) (cond (both (isInside r) (not (has (r .flags) 32))) (textAt t (a .fs .name) ++ (47 ∷ [])) []) (led (textAt t (dirSpan (a .fs) (a .dirs .now) t r))) (nameOf t r)
     (c .before .before .before .hash-led .result) (c .before .before .hash-set .result) (c .before .hash-led2 .result) (c .crc32c-append-lowercase .result)
     (c .before .before .before .hash-led .ensures ∙ rw (c .before .before .before .before .before .before .before .save-of .ensures)) (c .before .before .hash-set .ensures)
     (c .before .hash-led2 .ensures ∙ rw (c .before .before .before .before .before .text-at .ensures, c .before .before .before .before .before .before .directory-span .ensures))
     (c .crc32c-append-lowercase .ensures ∙ rw (c .before .before .before .before .text-at2 .ensures))
-    ∙ ap hashOf (hashed-is (a .fs) (a .dirs .now) t (a .save-path .now) r)
+    ∙ ap hashOf (hashed-is (a .fs) (a .dirs .now) t r (a .save-path .now))
 
 pub hash-path-spec : {M : Type 1} → statement M
 hash-path-spec =

@@ -37,7 +37,7 @@ returns c =
     let t = a .text .now in
     let s = a .save-path .now in
     retold _ (appended (appended (appended (c .before .before .before .before .before .before .before .before .before .save-of .result .now) (c .before .before .before .before .before .before .before .text-at .result .now)) (c .before .before .before .before .before .text-at2 .result .now)) (c .before .before .before .before .text-at3 .result .now)) (filePath (a .fs) (a .dirs .now) t s (a .row)) (a .buf .now) (c .before .before .compose-path .ensures)
-    (rw (c .before .before .before .before .before .before .before .before .before .save-of .ensures, c .before .before .before .before .before .before .before .text-at .ensures, c .before .before .before .before .before .before .before .before .set-span .ensures, c .before .before .before .before .before .text-at2 .ensures, c .before .before .before .before .before .before .directory-span .ensures, c .before .before .before .before .text-at3 .ensures) (path-is (a .fs) (a .dirs .now) t s (a .row)))
+    (rw (c .before .before .before .before .before .before .before .before .before .save-of .ensures, c .before .before .before .before .before .before .before .text-at .ensures, c .before .before .before .before .before .before .before .before .set-span .ensures, c .before .before .before .before .before .text-at2 .ensures, c .before .before .before .before .before .before .directory-span .ensures, c .before .before .before .before .text-at3 .ensures) (path-is (a .fs) (a .dirs .now) t (a .row) s))
 
 pub put-path-spec : {M : Type 1} → statement M
 put-path-spec =
