@@ -4,3 +4,8 @@ pub mod Deciding
 pub mod Paths
 pub mod Walks
 pub mod Sets
+-- Laws of composed paths and hashes.
+pub mod Inserting
+pub mod Counting
+pub mod Hashing
+pub mod Listing

@@ -2,5 +2,6 @@
 pub mod Results
 pub mod Paths
 pub mod Hashes
+pub mod Gathering
 pub mod Compatible
 pub mod Walk
