@@ -1,12 +1,13 @@
--- Laws of a directory's beginnings and of their hashes. A running hash goes from one separator to the next. They rely on the
--- laws of `crc32c` about parts.
---     begin-first, begin-next, begin-end   the beginnings, one after the other
---     hash-next                            the hash of the next beginning from that of one
-use Prim.Native.Nat.{ℕ, zero, suc, _+_, _-_, _≤_, _<_}
+-- Laws of a directory's beginnings and of their hashes. A running hash goes on from one separator to the next, and starts anew
+-- with each directory. They rely on the laws of `crc32c` about parts.
+--     scan-turn, scan-stop, scan-end, scan-within   the scan for the next separator
+--     hashes-first, hashes-next, hashes-end         a directory's hashes, one after the other; hash-next gives the next one
+--     dirs-turn, dirs-end                           the directories, one after the other
+--     lead-none, lead-some, all-within              the hash of the set's name, and of what stands behind it
+use Prim.Native.Nat.{ℕ, suc, _+_, _-_, _≤_, _<_}
 use mathlib.Core.Path.{_≡_, refl, sym, ap, _∙_}
 use mathlib.Core.Bool.{Bool, true, false, cond}
 use mathlib.Core.List.{List, [], _∷_, _++_, map, append-nil, append-assoc}
-use native.Mathlib.Nat.{zero-add}
 use native.Mathlib.Numerals.{add-one}
 use native.Mathlib.Omega.{arith}
 use lib.ListN.{length, getD, take, drop, length-drop, drop-of-length-le}
@@ -52,7 +53,7 @@ before-part (c ∷ t) = at (isSeparator c) (before-part t)
     at true e = refl
     at false e = ap (λ (l : List ℕ). c ∷ l) e
 
-pub before-le : (t : List ℕ) → length (beforeFirst t) ≤ length t
+before-le : (t : List ℕ) → length (beforeFirst t) ≤ length t
 before-le [] = omega arith
 before-le (c ∷ t) = at (isSeparator c) (before-le t)
   where
@@ -83,17 +84,17 @@ module _ (d : List ℕ) (i k : ℕ) (e : k ≡ i + length (beforeFirst (drop i d
   pub scan-within : i ≤ length d → (i ≤ k) × (k ≤ length d)
   scan-within h = (omega arith, omega (arith, before-le (drop i d), length-drop i d))
 
-pub begin-first : (d : List ℕ) (k : ℕ) → 0 < length d → k ≡ 0 + length (beforeFirst (drop 0 d)) → beginnings d ≡ take k d ∷ beginningsBehind (take k d) (drop k d)
+begin-first : (d : List ℕ) (k : ℕ) → 0 < length d → k ≡ 0 + length (beforeFirst (drop 0 d)) → beginnings d ≡ take k d ∷ beginningsBehind (take k d) (drop k d)
 begin-first [] k h e = absurd (omega arith)
 begin-first (c ∷ t) k h e = from-place (c ∷ t) 0 k e
 
-pub begin-next : (d : List ℕ) (j k : ℕ) → j < length d → k ≡ (j + 1) + length (beforeFirst (drop (j + 1) d))
+begin-next : (d : List ℕ) (j k : ℕ) → j < length d → k ≡ (j + 1) + length (beforeFirst (drop (j + 1) d))
     → beginningsBehind (take j d) (drop j d) ≡ take k d ∷ beginningsBehind (take k d) (drop k d)
 begin-next d j k h e =
     let p = from-place d (j + 1) k e in
     rw (drop-cons d j 0 h, ← take-suc d j 0 h, ← add-one j) p
 
-pub begin-end : (d : List ℕ) (j : ℕ) → length d ≤ j → beginningsBehind (take j d) (drop j d) ≡ []
+begin-end : (d : List ℕ) (j : ℕ) → length d ≤ j → beginningsBehind (take j d) (drop j d) ≡ []
 begin-end d j h = rw (drop-of-length-le d {i = j} h)
 
 -- the hash of the first k bytes from that of the first j
@@ -139,7 +140,7 @@ map-same : (f g : List ℕ → ℕ) → ((b : List ℕ) → f b ≡ g b) → (bs
 map-same f g e [] = refl
 map-same f g e (b ∷ bs) = cc (e b, map-same f g e bs)
 
-pub behind-lead : (name d : List ℕ) → hashesBehind (hashOf (led name)) d ≡ directoryHashes name d
+behind-lead : (name d : List ℕ) → hashesBehind (hashOf (led name)) d ≡ directoryHashes name d
 behind-lead name d =
     map-same (λ (b : List ℕ). crcFrom (hashOf (led name)) (map lower b)) (λ (b : List ℕ). hashOf (led name ++ b)) (λ b. crc-lower 0 (led name) b) (beginnings d)
 

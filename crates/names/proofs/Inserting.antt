@@ -1,9 +1,10 @@
--- Laws of putting numbers into a list that rises. They rely on nothing but lists.
---     inserted-low, -same, -high   the three cases of one step
---     gathered-is                  what is gathered into an empty list is the list in order
---     gathered-append              two lists gathered one after the other
---     take-gathered                what falls off behind is not missed
---     rising-gathered              what is gathered rises
+-- Laws of putting numbers into a list that rises, and into a table whose first places hold such a list. They rely on the laws
+-- of `lists` about runs of stores.
+--     below-up, below-down, below-le   where a number belongs, by halving
+--     stays, goes, kept                one number put into a table, or none
+--     Going, going, gone-on, arrived   what is still to be gathered into a table, from the start to the end
+--     gathered-is                      what is gathered into an empty list is the list in order
+--     ascending-rises, above-next      that list rises; those above one of its numbers are those behind it
 use Prim.Native.Nat.{ℕ, zero, suc, _+_, _-_, _≤_, _<_, min}
 use mathlib.Core.Path.{_≡_, refl, sym, ap, _∙_}
 use mathlib.Core.Logic.{_⊎_, inl, inr, ⊎-elim}
@@ -34,13 +35,13 @@ order a b = ⊎-elim (λ h. ⊎-elim (λ k. same (omega arith)) (λ k. lower k) 
 
 -- one step, by how the number stands to the first
 module _ (h x : ℕ) (xs : List ℕ) where
-  pub inserted-low : h < x → inserted h (x ∷ xs) ≡ h ∷ x ∷ xs
+  inserted-low : h < x → inserted h (x ∷ xs) ≡ h ∷ x ∷ xs
   inserted-low p = rw (lt-ltb h x p)
 
-  pub inserted-same : h ≡ x → inserted h (x ∷ xs) ≡ x ∷ xs
+  inserted-same : h ≡ x → inserted h (x ∷ xs) ≡ x ∷ xs
   inserted-same p = rw (le-ltb h x (omega arith), eq-eqb h x p)
 
-  pub inserted-high : x < h → inserted h (x ∷ xs) ≡ x ∷ inserted h xs
+  inserted-high : x < h → inserted h (x ∷ xs) ≡ x ∷ inserted h xs
   inserted-high p = rw (le-ltb h x (omega arith), ne-eqb h x (λ e. omega arith))
 
 -- two numbers may be put in the one or the other first
@@ -72,7 +73,7 @@ swap a b xs = at (order a b)
     at (higher p) = sym (swap-low b a p xs)
 
 module _ (b : ℕ) where
-  pub gathered-append : (hs gs xs : List ℕ) → gathered b (hs ++ gs) xs ≡ gathered b gs (gathered b hs xs)
+  gathered-append : (hs gs xs : List ℕ) → gathered b (hs ++ gs) xs ≡ gathered b gs (gathered b hs xs)
   gathered-append [] gs xs = refl
   gathered-append (h ∷ hs) gs xs = gathered-append hs gs (cond (ltb h b) xs (inserted h xs))
 
@@ -121,7 +122,7 @@ module _ (b n : ℕ) where
   cut-step false hs xs h e =
       sym (e (inserted h (take n xs))) ∙ ap (λ (l : List ℕ). take n (gathered b hs l)) (take-inserted n h xs) ∙ e (inserted h xs)
 
-  pub take-gathered : (hs xs : List ℕ) → take n (gathered b hs (take n xs)) ≡ take n (gathered b hs xs)
+  take-gathered : (hs xs : List ℕ) → take n (gathered b hs (take n xs)) ≡ take n (gathered b hs xs)
   take-gathered [] xs = take-take n n xs (omega arith)
   take-gathered (h ∷ hs) xs = cut-step (ltb h b) hs xs h (take-gathered hs)
 
@@ -145,7 +146,7 @@ module _ (b : ℕ) where
   length-gathered (h ∷ hs) xs = omega (arith, length-step (ltb h b) h xs, length-gathered hs (cond (ltb h b) xs (inserted h xs)))
 
 -- numbers that rise
-pub rising-lower : (a b : ℕ) (xs : List ℕ) → a ≤ b → Rising b xs → Rising a xs
+rising-lower : (a b : ℕ) (xs : List ℕ) → a ≤ b → Rising b xs → Rising a xs
 rising-lower a b [] h r = tt
 rising-lower a b (x ∷ xs) h r = (omega (arith, r .0), r .1)
 
@@ -158,21 +159,26 @@ rising-inserted b h (x ∷ t) k r = at (order h x) (λ q. rising-inserted (x + 1
     at (same p) e = rw (inserted-same h x t p) r
     at (higher p) e = rw (inserted-high h x t p) (r .0, e (omega arith))
 
+-- a list in order rises, so that each number is there once
+pub ascending-rises : (hs : List ℕ) → Rising 0 (ascending hs)
+ascending-rises [] = tt
+ascending-rises (h ∷ hs) = rising-inserted 0 h (ascending hs) (omega arith) (ascending-rises hs)
+
 module _ (a b : ℕ) (k : a ≤ b) where
   rising-step : (t : Bool) (h : ℕ) (xs : List ℕ) → ltb h b ≡ t → Rising a xs → Rising a (cond t xs (inserted h xs))
   rising-step true h xs e r = r
   rising-step false h xs e r = rising-inserted a h xs (omega (arith, ltb-false h b e)) r
 
-  pub rising-gathered : (hs xs : List ℕ) → Rising a xs → Rising a (gathered b hs xs)
+  rising-gathered : (hs xs : List ℕ) → Rising a xs → Rising a (gathered b hs xs)
   rising-gathered [] xs r = r
   rising-gathered (h ∷ hs) xs r = rising-gathered hs (cond (ltb h b) xs (inserted h xs)) (rising-step (ltb h b) h xs refl r)
 
-pub rising-take : (n b : ℕ) (xs : List ℕ) → Rising b xs → Rising b (take n xs)
+rising-take : (n b : ℕ) (xs : List ℕ) → Rising b xs → Rising b (take n xs)
 rising-take zero b xs r = tt
 rising-take (suc n) b [] r = tt
 rising-take (suc n) b (x ∷ xs) r = (r .0, rising-take n (x + 1) xs (r .1))
 
-pub rising-at : (b : ℕ) (xs : List ℕ) (k : ℕ) → Rising b xs → k < length xs → b ≤ getD xs k 0
+rising-at : (b : ℕ) (xs : List ℕ) (k : ℕ) → Rising b xs → k < length xs → b ≤ getD xs k 0
 rising-at b [] k r h = absurd (omega arith)
 rising-at b (x ∷ xs) zero r h = r .0
 rising-at b (x ∷ xs) (suc k) r h = omega (arith, r .0, rising-at (x + 1) xs k (r .1) (omega arith))
@@ -204,7 +210,7 @@ below-down h (x ∷ xs) (suc k) q p = at (ltb x h) (below-down h xs k (omega ari
     at false e = omega arith
 
 -- the number is there already, or it goes between
-pub found : (h : ℕ) (xs : List ℕ) → belowCount h xs < length xs → getD xs (belowCount h xs) 0 ≡ h → inserted h xs ≡ xs
+found : (h : ℕ) (xs : List ℕ) → belowCount h xs < length xs → getD xs (belowCount h xs) 0 ≡ h → inserted h xs ≡ xs
 found h [] q e = absurd (omega arith)
 found h (x ∷ xs) q e = at (order x h) (found h xs)
   where
@@ -216,7 +222,7 @@ found h (x ∷ xs) q e = at (order x h) (found h xs)
     at (same p) f = inserted-same h x xs (sym p)
     at (higher p) f = let w : x ≡ h = rw (le-ltb x h (omega arith)) at e in absurd (omega arith)
 
-pub between : (h : ℕ) (xs : List ℕ) → (belowCount h xs < length xs → getD xs (belowCount h xs) 0 ≡ h → ⊥)
+between : (h : ℕ) (xs : List ℕ) → (belowCount h xs < length xs → getD xs (belowCount h xs) 0 ≡ h → ⊥)
     → inserted h xs ≡ take (belowCount h xs) xs ++ (h ∷ drop (belowCount h xs) xs)
 between h [] q = refl
 between h (x ∷ xs) q = at (order x h) (between h xs)
@@ -337,7 +343,7 @@ module _ (l : List ℕ) (n h p : ℕ) (w : Begun n l) (e : p ≡ belowCount h (t
       }
 
 -- those at or above a bound
-pub above-all : (b : ℕ) (xs : List ℕ) → Rising b xs → above b xs ≡ xs
+above-all : (b : ℕ) (xs : List ℕ) → Rising b xs → above b xs ≡ xs
 above-all b [] r = refl
 above-all b (x ∷ xs) r = rw (le-ltb x b (r .0)) (ap (λ (l : List ℕ). x ∷ l) (above-all b xs (rising-lower b (x + 1) xs (omega (arith, r .0)) (r .1))))
 

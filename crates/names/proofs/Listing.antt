@@ -6,7 +6,7 @@ use mathlib.Core.Bool.{Bool, true, false, not, false≢true, true≢false}
 use mathlib.Core.List.{List, [], _∷_}
 use lib.Dec.{eqb, leb}
 use lib.ListN.{length}
-use Rattle.types.specs.Refusals.{numberOf, refused}
+use Rattle.types.specs.Refusals.{numberOf, value, refused}
 use Rattle.types.specs.declared.refusal.Refusal.{Refusal}
 use Rattle.tables.specs.declared.storage.FileStorage.{FileStorage}
 use Rattle.tables.specs.declared.span.Span.{Span}
@@ -20,7 +20,8 @@ use Rattle.answers.specs.Answers.{askedHeld, dirsHeld, textHeld}
 use Rattle.answers.proofs.Deciding.{allowed, denied}
 use Rattle.names.specs.Paths.{led, hashOf}
 use Rattle.names.specs.Hashes.{hashesOf, ascending, Listed, listed, allPathHashes}
-use Rattle.names.specs.Gathering.{hashesWithin}
+use Rattle.names.specs.Gathering.{above, Holds, hashesWithin}
+use Rattle.names.proofs.Counting.{all-stored}
 use Rattle.names.proofs.Hashing.{all-within}
 
 -- the number of the first refusal of all, of those of the name, and of those behind
@@ -47,6 +48,23 @@ unnamed false false false room e = refl
 
 refused-is : (k n : ℕ) (hs out : List ℕ) → n ≡ k → eqb k 0 ≡ false → _≡_ {A = Listed} (record { says = refused n; table = out }) (listed k hs out)
 refused-is k n hs out e z = rw (z, e)
+
+-- the refusals behind, decided by whether the directories are held and by a test t of the room
+module _ (hs out : List ℕ) (held t : Bool) (q : t ≡ leb (length (ascending hs)) (length out)) where
+  abbrev outcome : Listed
+  outcome = listed (restNumber held (leb (length (ascending hs)) (length out))) (ascending hs) out
+
+  pub not-held : held ≡ false → _≡_ {A = Listed} (record { says = refused 10; table = out }) outcome
+  not-held e = rw e
+
+  pub no-room : held ≡ true → t ≡ false → _≡_ {A = Listed} (record { says = refused 10; table = out }) outcome
+  no-room e f = rw (e, ← q, f)
+
+  pub all-put : held ≡ true → t ≡ true → (n : ℕ) (after : List ℕ) → Holds out (ascending (above 0 hs)) after n
+      → _≡_ {A = Listed} (record { says = value n; table = after }) outcome
+  all-put e f n after h =
+      let w = all-stored hs out after n h (sym q ∙ f) in
+      rw (e, ← q, f, w .0, w .1)
 
 module _ (fs : FileStorage) (dirs text out : List ℕ) (d : SpanResult) (p : spanSays text d ≡ askedHeld fs (textHeld fs text) (textAt text (fs .name))) where
   abbrev room : Bool

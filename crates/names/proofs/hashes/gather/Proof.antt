@@ -13,7 +13,7 @@ use lib.Seq.{sets}
 use lib.ListN.{length, drop}
 use native.Mathlib.Omega.{arith}
 use mathlib.Core.List.{List, [], map}
-use mathlib.Core.Path.{_≡_, refl, sym, _∙_, ap}
+use mathlib.Core.Path.{_≡_, refl, _∙_, ap}
 use Prim.Native.Nat.{_-_, _≤_, min, ℕ, _+_}
 use Rattle.names.proofs.hashes.gather.Statement.{statement}
 use Rattle.names.proofs.hashes.gather.Tie as tie

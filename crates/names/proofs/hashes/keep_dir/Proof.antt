@@ -8,7 +8,7 @@ use borrow.Author.Needs.{needs}
 use lib.Seq.{sets, length-take-le}
 use lib.ListN.{length, take, drop}
 use native.Mathlib.Omega.{arith}
-use mathlib.Core.List.{[], _∷_, map, List}
+use mathlib.Core.List.{[], _∷_, map}
 use mathlib.Core.Path.{_≡_, refl, sym, _∙_, ap}
 use Prim.Native.Nat.{_+_, _-_, _≤_, min, ℕ, _<_}
 use Rattle.names.proofs.hashes.keep_dir.Statement.{statement}
