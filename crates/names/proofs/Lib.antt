@@ -1,10 +1,9 @@
--- Laws of composed paths and hashes, of deciding before an answer, and of comparing paths and sets.
+-- Laws of composed paths and hashes, of deciding before an answer, of comparing paths and sets, and of hashes in order.
 pub mod Composed
 pub mod Deciding
 pub mod Paths
 pub mod Walks
 pub mod Sets
--- Laws of composed paths and hashes.
 pub mod Inserting
 pub mod Counting
 pub mod Hashing
