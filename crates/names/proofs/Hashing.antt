@@ -3,7 +3,7 @@
 --     scan-turn, scan-stop, scan-end, scan-within   the scan for the next separator
 --     hashes-first, hashes-next, hashes-end         a directory's hashes, one after the other; hash-next gives the next one
 --     dirs-turn, dirs-end                           the directories, one after the other
---     lead-none, lead-some, all-within              the hash of the set's name, and of what stands behind it
+--     all-within                                    the hashes of what stands behind the set's name
 use Prim.Native.Nat.{ℕ, suc, _+_, _-_, _≤_, _<_}
 use mathlib.Core.Path.{_≡_, refl, sym, ap, _∙_}
 use mathlib.Core.Bool.{Bool, true, false, cond}
@@ -128,14 +128,7 @@ module _ (f : List ℕ → List ℕ) (n : ℕ) (g : ℕ → List ℕ) where
   pub dirs-end : (i : ℕ) → n ≤ i → joinedLists (map f (drop i (tabled n g))) ≡ []
   dirs-end i h = let k : length (tabled n g) ≤ i = omega (arith, length-tabled n g) in rw (drop-of-length-le (tabled n g) {i = i} k)
 
--- the hash of the set's name and a separator, and of what stands behind them
-pub lead-none : (name : List ℕ) → length name ≡ 0 → 0 ≡ hashOf (led name)
-lead-none name h = let e = empty-list name h in rw e (sym (crc-none 0))
-
-pub lead-some : (name : List ℕ) → (length name ≡ 0 → ⊥) → crcFrom (crcFrom 0 (map lower name)) (47 ∷ []) ≡ hashOf (led name)
-lead-some [] h = absurd (h refl)
-lead-some (c ∷ t) h = crc-lower 0 (c ∷ t) (47 ∷ [])
-
+-- the hashes of what stands behind the set's name and a separator
 map-same : (f g : List ℕ → ℕ) → ((b : List ℕ) → f b ≡ g b) → (bs : List (List ℕ)) → map f bs ≡ map g bs
 map-same f g e [] = refl
 map-same f g e (b ∷ bs) = cc (e b, map-same f g e bs)

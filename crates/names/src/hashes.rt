@@ -16,6 +16,7 @@ ghost use Rattle.storage.specs.Rules.{both, when, firstOf};
 ghost use Rattle.names.specs.Paths.{led, hashOf};
 ghost use Rattle.names.specs.Hashes.{inserted, ascending, Listed, listed, allPathHashes};
 ghost use Rattle.names.specs.Gathering.{above, gathered, belowCount, Begun, Holds, hashesBehind, hashesWithin};
+use crate::file::hash_led;
 use answers::SpanResult;
 use tables::FileStorage;
 use types::Refusal;
@@ -159,10 +160,7 @@ fn gather(
 fn lead(name: &[u8]) -> u32
     ensures { λ r. ⌜ r ≡ hashOf (led (now (name .entry))) ⌝ }
 {
-    if name.len() == 0 {
-        return 0;
-    }
-    crc32c::crc32c_append(crc32c::crc32c_append_lowercase(0, name), b"/")
+    hash_led(0, name)
 }
 
 // Whether `room` places hold the hashes of the first `count` directories, which are counted a table at a
