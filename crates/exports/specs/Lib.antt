@@ -1,2 +1,3 @@
 -- The definitions that the contracts of `exports` cite.
 pub mod State
+pub mod Layout

@@ -5,6 +5,9 @@ ghost use lib.Seq.{sets};
 ghost use Rattle.tables.specs.Rows.{rootAt};
 ghost use Rattle.storage.specs.Outcomes.{storageSays, optionalOf, addStored, trimStored};
 ghost use Rattle.exports.specs.State.{Exported, exported, storageOf, wordsOf, bit, presenceOf, numberSaid, stateSaid};
+
+mod mapping;
+
 use storage::StorageResult;
 use tables::FileStorage;
 use tables::Presence;
@@ -12,7 +15,7 @@ use tables::Span;
 
 // The record that a set's words hold. The last word is read first: where it is there, the others need no
 // test of their own.
-fn storage_at(state: &[u64]) -> FileStorage
+pub(crate) fn storage_at(state: &[u64]) -> FileStorage
     ensures { λ r. ⌜ r ≡ storageOf (now (state .entry)) ⌝ }
 {
     let trimmed = lists::word(state, 11) != 0;

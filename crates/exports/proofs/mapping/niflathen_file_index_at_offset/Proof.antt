@@ -1,0 +1,28 @@
+-- `exports::mapping::niflathen_file_index_at_offset` meets its contract: the question's own, at the record that was read.
+use mathlib.Core.Path.{_∙_}
+use mir.Syntax.{w64}
+use mir.Val.{SFits}
+use mir.Facts.{toZ-ofZ}
+use borrow.Author.Needs.{needs}
+use Rattle.exports.proofs.mapping.niflathen_file_index_at_offset.Statement.{statement}
+use Rattle.exports.proofs.mapping.niflathen_file_index_at_offset.Tie as tie
+
+storage-at-requires : tie.Need-storage-at-requires
+storage-at-requires c κs = search needs
+
+file-index-at-offset-requires : tie.Need-file-index-at-offset-requires
+file-index-at-offset-requires c κs = search needs
+
+file-in-requires : tie.Need-file-in-requires
+file-in-requires c κs = search needs
+
+returns : tie.Need-returns
+returns c =
+    let a = c .before .before .before .before .before .args in
+    let r : SFits w64 (c .file-in .result) = search needs in
+    let o : SFits w64 (a .offset) = search needs in
+    toZ-ofZ r ∙ (rw (c .before .file-index-at-offset .ensures, c .before .before .storage-at .ensures, toZ-ofZ o) at (c .file-in .ensures))
+
+pub niflathen-file-index-at-offset-spec : {M : Type 1} → statement M
+niflathen-file-index-at-offset-spec =
+    tie.close (tie.spec storage-at-requires file-index-at-offset-requires file-in-requires returns)

@@ -1,0 +1,33 @@
+-- `exports::mapping::niflathen_map_file` meets its contract: the question's own, at the record that was read.
+use mathlib.Core.Path.{_∙_}
+use mir.Syntax.{w32, w64}
+use mir.Val.{SFits}
+use mir.Facts.{toZ-ofZ}
+use borrow.Author.Needs.{needs}
+use Rattle.exports.proofs.mapping.niflathen_map_file.Statement.{statement}
+use Rattle.exports.proofs.mapping.niflathen_map_file.Tie as tie
+
+storage-at-requires : tie.Need-storage-at-requires
+storage-at-requires c κs = search needs
+
+map-file-requires : tie.Need-map-file-requires
+map-file-requires c κs = search needs
+
+put-request-requires : tie.Need-put-request-requires
+put-request-requires c κs = search needs
+
+same-length : tie.Need-same-length
+same-length c = search needs
+
+returns : tie.Need-returns
+returns c =
+    let a = c .before .before .before .before .before .before .before .args in
+    let i : SFits w32 (a .index) = search needs in
+    let o : SFits w64 (a .offset) = search needs in
+    let s : SFits w32 (a .size) = search needs in
+    rw (c .before .before .map-file .ensures, c .before .before .before .storage-at .ensures, toZ-ofZ i, toZ-ofZ o, toZ-ofZ s) at (c .before .put-request .ensures)
+
+pub niflathen-map-file-spec : {M : Type 1} → statement M
+niflathen-map-file-spec =
+    tie.close
+    (tie.spec storage-at-requires map-file-requires put-request-requires same-length returns)

@@ -1,0 +1,131 @@
+// The layout answers of the C interface: both mappings and the file at an offset. Relies on `layout`
+// and on the record that a set's words hold.
+ghost use mathlib.Core.Path.{_≡_};
+ghost use mathlib.Core.List.{[], _∷_};
+ghost use lib.IntN.{pos, negℤ};
+ghost use lib.Seq.{sets};
+ghost use Rattle.types.specs.Refusals.{usizeSays};
+ghost use Rattle.layout.specs.Results.{fileSays, requestSays};
+ghost use Rattle.layout.specs.Block.{mapBlock};
+ghost use Rattle.layout.specs.Request.{fileMapped};
+ghost use Rattle.layout.specs.Given.{fileAtOffsetGiven};
+ghost use Rattle.exports.specs.State.{storageOf};
+ghost use Rattle.exports.specs.Layout.{countSaid, placeSaid, BlockSaid, blockSaid, RequestSaid, requestSaid};
+use crate::storage_at;
+use layout::FileResult;
+use layout::RequestResult;
+use types::FileIndex;
+use types::PieceIndex;
+use types::UsizeResult;
+
+// Minus a number.
+fn minus(n: u32) -> i64
+    ensures { λ r. ⌜ r ≡ negℤ (pos n) ⌝ }
+{
+    -(n as i64)
+}
+
+// An `i32` as an `i64`.
+fn wide(x: i32) -> i64
+    ensures { λ r. ⌜ r ≡ x ⌝ }
+{
+    x as i64
+}
+
+// How many there are, or minus the number of the refusal.
+fn count_in(answer: UsizeResult) -> i64
+    ensures { λ r. ⌜ r ≡ countSaid (usizeSays answer) ⌝ }
+{
+    match answer {
+        UsizeResult::Ok(n) => types::signed64(n as u64),
+        UsizeResult::Err(e) => minus(types::number(e)),
+    }
+}
+
+// The number of a file, or minus the number of the refusal.
+fn file_in(answer: FileResult) -> i64
+    ensures { λ r. ⌜ r ≡ placeSaid (fileSays answer) ⌝ }
+{
+    match answer {
+        FileResult::Ok(f) => wide(f.0),
+        FileResult::Err(e) => minus(types::number(e)),
+    }
+}
+
+// Puts three numbers into the first three places of a table that has them.
+fn put_three(out: &mut [i64], a: i64, b: i64, c: i64)
+    ensures { λ _. ⌜ now (out .exit) ≡ sets (now (out .entry)) 0 (a ∷ b ∷ c ∷ []) ⌝ }
+{
+    tables::put_time(out, 0, a);
+    tables::put_time(out, 1, b);
+    tables::put_time(out, 2, c);
+}
+
+// Puts a request into a table's first three places, and gives the number of the refusal, 0 for none.
+fn put_request(out: &mut [i64], answer: RequestResult) -> u32
+    ensures { λ r. ⌜ _≡_ {A = RequestSaid} (record { number = r; out = now (out .exit) }) (requestSaid (requestSays answer) (now (out .entry))) ⌝ }
+{
+    match answer {
+        RequestResult::Ok(r) => {
+            if out.len() < 3 {
+                return 10;
+            }
+            put_three(out, wide(r.piece.0), wide(r.start), wide(r.length));
+            0
+        }
+        RequestResult::Err(e) => types::number(e),
+    }
+}
+
+// `layout::map_block_core`: the number of slices, or minus the number of the refusal.
+#[no_mangle]
+pub extern "C" fn niflathen_map_block(
+    state: &[u64],
+    rows: &[u64],
+    piece: i32,
+    offset: i64,
+    size: i64,
+    out_file: &mut [u64],
+    out_offset: &mut [u64],
+    out_size: &mut [u64],
+) -> i64
+    ensures { λ r. ⌜ _≡_ {A = BlockSaid} (record { answer = r; file = now («out_file» .exit); offset = now («out_offset» .exit); size = now («out_size» .exit) }) (blockSaid (mapBlock (storageOf (now (state .entry))) (now (rows .entry)) piece offset size (now («out_file» .entry)) (now («out_offset» .entry)) (now («out_size» .entry)))) ⌝ }
+{
+    count_in(layout::map_block_core(
+        storage_at(state),
+        rows,
+        PieceIndex(piece),
+        offset,
+        size,
+        out_file,
+        out_offset,
+        out_size,
+    ))
+}
+
+// `layout::file_index_at_offset`: the file's number, or minus the number of the refusal.
+#[no_mangle]
+pub extern "C" fn niflathen_file_index_at_offset(state: &[u64], rows: &[u64], offset: i64) -> i64
+    ensures { λ r. ⌜ r ≡ placeSaid (fileAtOffsetGiven (storageOf (now (state .entry))) (now (rows .entry)) offset) ⌝ }
+{
+    file_in(layout::file_index_at_offset(storage_at(state), rows, offset))
+}
+
+// `layout::map_file`: 0, and piece, start and length in `out`'s first three places; or the number of
+// the refusal.
+#[no_mangle]
+pub extern "C" fn niflathen_map_file(
+    state: &[u64],
+    rows: &[u64],
+    index: i32,
+    offset: i64,
+    size: i32,
+    out: &mut [i64],
+) -> u32
+    ensures { λ r. ⌜ _≡_ {A = RequestSaid} (record { number = r; out = now (out .exit) }) (requestSaid (fileMapped (storageOf (now (state .entry))) (now (rows .entry)) index offset size) (now (out .entry))) ⌝ }
+{
+    put_request(
+        out,
+        layout::map_file(storage_at(state), rows, FileIndex(index), offset, size),
+    )
+}
