@@ -1,4 +1,4 @@
-//! The additions that both sides are given, made before any clock starts.
+//! The additions that both sides are given, and random numbers, made before any clock starts.
 
 use bitdaemon_common::Sha256Hash;
 
@@ -54,6 +54,35 @@ pub fn inputs(case: Case) -> Vec<Input> {
             size: size(i),
             time: if case.timed { 1_700_000_000 + i as i64 } else { 0 },
             root: case.v2.then(|| root(i)),
+        })
+        .collect()
+}
+
+/// Random numbers, the same in every run (the generator SplitMix64).
+pub struct Random(u64);
+
+impl Random {
+    pub fn new() -> Self {
+        Self(16384)
+    }
+
+    pub fn next(&mut self) -> u64 {
+        self.0 = self.0.wrapping_add(0x9e37_79b9_7f4a_7c15);
+        let mut x = self.0;
+        x = (x ^ (x >> 30)).wrapping_mul(0xbf58_476d_1ce4_e5b9);
+        x = (x ^ (x >> 27)).wrapping_mul(0x94d0_49bb_1331_11eb);
+        x ^ (x >> 31)
+    }
+}
+
+/// The additions of a v1 set whose sizes vary from a few bytes to a million; one file in sixteen is empty.
+pub fn layout_inputs(files: usize) -> Vec<Input> {
+    let mut random = Random::new();
+    (0..files)
+        .map(|i| {
+            let (most, size) = (1 << (8 + random.next() % 13), random.next() as i64);
+            let path = format!("set/name{i:06}.wav").into_bytes();
+            Input { path, size: if i % 16 == 5 { 0 } else { 1 + (size & (most - 1)) }, time: 0, root: None }
         })
         .collect()
 }

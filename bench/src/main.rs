@@ -1,136 +1,25 @@
-//! Measures `add_file` of the unchanged Rust and of the port on the same additions, and compares all that both built.
-//! Prints a table in Markdown: nanoseconds for one addition, the best of the repetitions.
+//! Measures the unchanged Rust and the port on the same inputs, and compares all that both built and answered.
+//! Prints tables in Markdown: `add` that of additions, `layout` that of questions, no word both.
 
+mod additions;
+mod best;
 mod compare;
 mod inputs;
+mod layout;
 mod port;
 
-use std::time::{Duration, Instant};
-
-use bitdaemon_core::file_storage::{FileFlags, FileStorage};
-
-use crate::inputs::{Case, Input, PIECE_LENGTH, inputs};
-use crate::port::Set;
-
-/// So many files, so many sets at a time, and so many repetitions.
-const SIZES: [(usize, usize, usize); 3] = [(10, 400, 400), (1_000, 8, 400), (65_000, 1, 60)];
-
-/// How many additions stand between two looks at the clock: few enough that most stretches run undisturbed.
-const STRETCH: usize = 1_000;
-
-/// The best time of each stretch of additions.
-#[derive(Default)]
-struct Best(Vec<Duration>);
-
-impl Best {
-    /// Runs `add` for each addition to each set, and keeps the best time of each stretch.
-    fn run<S>(&mut self, sets: &mut [S], inputs: &[Input], add: impl Fn(&mut S, &Input)) {
-        let mut times = Vec::with_capacity(self.0.len());
-        for group in sets.chunks_mut(STRETCH.div_ceil(inputs.len())) {
-            for stretch in inputs.chunks(STRETCH) {
-                let start = Instant::now();
-                for set in &mut *group {
-                    for input in stretch {
-                        add(set, input);
-                    }
-                }
-                times.push(start.elapsed());
-            }
-        }
-        if self.0.is_empty() {
-            self.0 = times;
-        } else {
-            self.0.iter_mut().zip(times).for_each(|(best, time)| *best = time.min(*best));
-        }
-    }
-
-    /// Nanoseconds for each of so many additions.
-    fn each(&self, additions: usize) -> f64 {
-        self.0.iter().sum::<Duration>().as_nanos() as f64 / additions as f64
-    }
-}
-
-/// The best times of a case.
-#[derive(Default)]
-struct Times {
-    rust: Best,
-    reserved: Best,
-    port: Best,
-}
-
-/// Sets of the Rust without files, with room for so many files if `reserved`.
-fn rust_sets(count: usize, files: usize, reserved: bool) -> Vec<FileStorage> {
-    (0..count)
-        .map(|_| {
-            let mut set = FileStorage::new();
-            set.set_piece_length(PIECE_LENGTH);
-            if reserved {
-                set.reserve(files);
-            }
-            set
-        })
-        .collect()
-}
-
-/// One addition by the Rust.
-fn add_rust(set: &mut FileStorage, i: &Input) {
-    let answer = set.add_file(None, &i.path, i.size, FileFlags::NONE, i.time, &[], i.root);
-    assert!(answer.is_ok(), "the Rust refuses");
-}
-
-/// One addition by the port.
-fn add_port(set: &mut Set, i: &Input) {
-    assert_eq!(set.add_file(i), 0, "the port refuses");
-}
-
-/// Runs a case: in each repetition the Rust, the Rust with `reserve`, the port, and the comparison.
-fn run(case: Case, sets: usize, repetitions: usize) -> Times {
-    let inputs = inputs(case);
-    let text = inputs.iter().map(|i| i.path.len() + 8).sum::<usize>() + 64;
-    let mut port: Vec<Set> = (0..sets).map(|_| Set::new(case.files, case.directories + 1, text)).collect();
-    let mut times = Times::default();
-    for _ in 0..repetitions {
-        let mut rust = rust_sets(sets, case.files, false);
-        times.rust.run(&mut rust, &inputs, add_rust);
-        let mut reserved = rust_sets(sets, case.files, true);
-        times.reserved.run(&mut reserved, &inputs, add_rust);
-        port.iter_mut().for_each(Set::clear);
-        times.port.run(&mut port, &inputs, add_port);
-        for (rust, port) in rust.iter_mut().zip(&mut port) {
-            compare::compare(rust, port);
-            compare::compare_trimmed(rust, port);
-        }
-    }
-    times
-}
-
-/// Prints a case's row of the table.
-fn print(case: Case, sets: usize, times: &Times) {
-    let additions = sets * case.additions();
-    let (rust, reserved) = (times.rust.each(additions), times.reserved.each(additions));
-    let port = times.port.each(additions);
-    println!(
-        "| {} | {} | {} | {} | {rust:.1} | {reserved:.1} | {port:.1} | {:.2} | {:.2} |",
-        if case.v2 { "v2" } else { "v1" },
-        case.directories,
-        if case.timed { "set" } else { "0" },
-        case.files,
-        port / rust,
-        port / reserved,
-    );
-}
-
 fn main() {
-    println!("| kind | directories | time | files | Rust | Rust, `reserve` | port | port / Rust | port / `reserve` |");
-    println!("|---|---:|---|---:|---:|---:|---:|---:|---:|");
-    for v2 in [false, true] {
-        for directories in [1, 50] {
-            for timed in [false, true] {
-                for (files, sets, repetitions) in SIZES {
-                    let case = Case { v2, directories, timed, files };
-                    print(case, sets, &run(case, sets, repetitions));
-                }
-            }
+    match std::env::args().nth(1).as_deref() {
+        Some("add") => additions::table(),
+        Some("layout") => layout::table(),
+        None => {
+            additions::table();
+            println!();
+            layout::table();
+        }
+        Some(word) => {
+            eprintln!("{word}: add, layout, or no word for both");
+            std::process::exit(2);
         }
     }
 }

@@ -46,6 +46,42 @@ unsafe extern "C" {
         text: *mut u8,
         text_len: usize,
     ) -> u32;
+
+    fn niflathen_map_block(
+        state: *const u64,
+        state_len: usize,
+        rows: *const u64,
+        rows_len: usize,
+        piece: i32,
+        offset: i64,
+        size: i64,
+        out_file: *mut u64,
+        out_file_len: usize,
+        out_offset: *mut u64,
+        out_offset_len: usize,
+        out_size: *mut u64,
+        out_size_len: usize,
+    ) -> i64;
+
+    fn niflathen_file_index_at_offset(
+        state: *const u64,
+        state_len: usize,
+        rows: *const u64,
+        rows_len: usize,
+        offset: i64,
+    ) -> i64;
+
+    fn niflathen_map_file(
+        state: *const u64,
+        state_len: usize,
+        rows: *const u64,
+        rows_len: usize,
+        index: i32,
+        offset: i64,
+        size: i32,
+        out: *mut i64,
+        out_len: usize,
+    ) -> u32;
 }
 
 /// A file as its row says it.
@@ -54,6 +90,25 @@ pub struct Row {
     pub size: u64,
     pub name: (usize, usize),
     pub flags: u64,
+}
+
+/// The columns that `map_block` puts its slices into.
+pub struct Columns {
+    file: Vec<u64>,
+    offset: Vec<u64>,
+    size: Vec<u64>,
+}
+
+impl Columns {
+    /// Columns with so many places.
+    pub fn new(places: usize) -> Self {
+        Self { file: vec![0; places], offset: vec![0; places], size: vec![0; places] }
+    }
+
+    /// File, offset and size of a slice.
+    pub fn slice(&self, i: usize) -> (u64, u64, u64) {
+        (self.file[i], self.offset[i], self.size[i])
+    }
 }
 
 /// A set: its record's words and its tables.
@@ -145,6 +200,63 @@ impl Set {
                 self.dirs.len(),
                 self.text.as_mut_ptr(),
                 self.text.len(),
+            )
+        }
+    }
+
+    /// Puts a block's slices into the columns, and gives their number, or minus the number of the refusal.
+    #[inline]
+    pub fn map_block(&self, piece: i32, offset: i64, size: i64, out: &mut Columns) -> i64 {
+        // SAFETY: as above.
+        unsafe {
+            niflathen_map_block(
+                self.state.as_ptr(),
+                self.state.len(),
+                self.rows.as_ptr(),
+                self.rows.len(),
+                piece,
+                offset,
+                size,
+                out.file.as_mut_ptr(),
+                out.file.len(),
+                out.offset.as_mut_ptr(),
+                out.offset.len(),
+                out.size.as_mut_ptr(),
+                out.size.len(),
+            )
+        }
+    }
+
+    /// The file at an offset, or minus the number of the refusal.
+    #[inline]
+    pub fn file_index_at_offset(&self, offset: i64) -> i64 {
+        // SAFETY: as above.
+        unsafe {
+            niflathen_file_index_at_offset(
+                self.state.as_ptr(),
+                self.state.len(),
+                self.rows.as_ptr(),
+                self.rows.len(),
+                offset,
+            )
+        }
+    }
+
+    /// Puts piece, start and length into `out`, and gives the number of the refusal, 0 for none.
+    #[inline]
+    pub fn map_file(&self, index: i32, offset: i64, size: i32, out: &mut [i64; 3]) -> u32 {
+        // SAFETY: as above.
+        unsafe {
+            niflathen_map_file(
+                self.state.as_ptr(),
+                self.state.len(),
+                self.rows.as_ptr(),
+                self.rows.len(),
+                index,
+                offset,
+                size,
+                out.as_mut_ptr(),
+                out.len(),
             )
         }
     }

@@ -1,0 +1,170 @@
+//! `map_block`, `map_file` and `file_index_at_offset` of the unchanged Rust and of the port on the same sets and the same
+//! questions; all answers are compared before any clock starts.
+
+use std::hint::black_box;
+use std::time::{Duration, Instant};
+
+use bitdaemon_common::{FileIndex, PieceIndex};
+use bitdaemon_core::file_storage::{FileStorage, calc_num_pieces};
+
+use crate::additions::{add_port, add_rust, rust_sets};
+use crate::best::{Best, STRETCH};
+use crate::compare;
+use crate::inputs::{Input, PIECE_LENGTH, Random, layout_inputs};
+use crate::port::{Columns, Set};
+
+/// How many files the sets have.
+const FILES: [usize; 3] = [10, 1_000, 65_000];
+
+/// How many questions of a kind are asked: too many for a processor to remember which way each goes.
+const QUESTIONS: usize = 64_000;
+
+/// How often they are asked.
+const REPETITIONS: usize = 120;
+
+/// The size of a block, and what `map_file` is asked for.
+const BLOCK: i64 = 16384;
+
+/// A block of a piece.
+struct Block {
+    piece: i32,
+    offset: i64,
+}
+
+/// A place in a file.
+struct Place {
+    file: i32,
+    offset: i64,
+}
+
+/// The same files on both sides, and the questions.
+struct Sets {
+    rust: FileStorage,
+    port: Set,
+    blocks: Vec<Block>,
+    places: Vec<Place>,
+    offsets: Vec<i64>,
+}
+
+/// Both sets with so many files, compared, and questions about them.
+fn sets(files: usize) -> Sets {
+    let inputs = layout_inputs(files);
+    let text = inputs.iter().map(|i| i.path.len()).sum::<usize>() + 64;
+    let mut rust = rust_sets(1, files, false).remove(0);
+    let mut port = Set::new(files, 1, text);
+    for input in &inputs {
+        add_rust(&mut rust, input);
+        add_port(&mut port, input);
+    }
+    rust.set_num_pieces(calc_num_pieces(&rust));
+    compare::compare(&rust, &port);
+    let (blocks, places, offsets) = questions(&inputs);
+    Sets { rust, port, blocks, places, offsets }
+}
+
+/// Random blocks, places in files, and offsets.
+fn questions(inputs: &[Input]) -> (Vec<Block>, Vec<Place>, Vec<i64>) {
+    let total: i64 = inputs.iter().map(|i| i.size).sum();
+    let mut random = Random::new();
+    let mut below = |n: i64| (random.next() % n as u64) as i64;
+    let mut blocks = Vec::new();
+    let mut places = Vec::new();
+    let mut offsets = Vec::new();
+    for _ in 0..QUESTIONS {
+        let at = below((total + BLOCK - 1) / BLOCK) * BLOCK;
+        let length = i64::from(PIECE_LENGTH);
+        blocks.push(Block { piece: (at / length) as i32, offset: at % length });
+        let file = below(inputs.len() as i64);
+        places.push(Place { file: file as i32, offset: below(inputs[file as usize].size + 1) });
+        offsets.push(below(total));
+    }
+    (blocks, places, offsets)
+}
+
+/// Asks both sides every question, and compares the answers.
+fn check(sets: &Sets, columns: &mut Columns) {
+    for b in &sets.blocks {
+        let rust = sets.rust.map_block(PieceIndex(b.piece), b.offset, BLOCK);
+        assert_eq!(sets.port.map_block(b.piece, b.offset, BLOCK, columns), rust.len() as i64, "number of slices");
+        for (i, slice) in rust.iter().enumerate() {
+            let answer = (slice.file_index.0 as u64, slice.offset as u64, slice.size as u64);
+            assert_eq!(columns.slice(i), answer, "slice {i}");
+        }
+    }
+    let mut out = [0; 3];
+    for p in &sets.places {
+        let rust = sets.rust.map_file(FileIndex(p.file), p.offset, BLOCK as i32);
+        assert_eq!(sets.port.map_file(p.file, p.offset, BLOCK as i32, &mut out), 0, "`map_file` is refused");
+        assert_eq!(out, [rust.piece.0, rust.start, rust.length].map(i64::from), "request");
+    }
+    for &offset in &sets.offsets {
+        let rust = sets.rust.file_index_at_offset(offset);
+        assert_eq!(sets.port.file_index_at_offset(offset), i64::from(rust.0), "file at an offset");
+    }
+}
+
+/// Asks each question, and gives the time of each stretch.
+fn stretches<Q>(questions: &[Q], mut ask: impl FnMut(&Q)) -> Vec<Duration> {
+    let mut times = Vec::new();
+    for stretch in questions.chunks(STRETCH) {
+        let start = Instant::now();
+        for question in stretch {
+            ask(question);
+        }
+        times.push(start.elapsed());
+    }
+    times
+}
+
+/// Prints a row: nanoseconds for one question.
+fn print(question: &str, files: usize, rust: &Best, port: &Best) {
+    let (rust, port) = (rust.each(QUESTIONS), port.each(QUESTIONS));
+    println!("| `{question}` | {files} | {rust:.1} | {port:.1} | {:.2} |", port / rust);
+}
+
+/// Asks both sides the same questions in turn, keeps the best times and prints their row.
+fn measure<Q>(question: &str, files: usize, questions: &[Q], mut rust: impl FnMut(&Q), mut port: impl FnMut(&Q)) {
+    let (mut best_rust, mut best_port) = (Best::default(), Best::default());
+    for _ in 0..REPETITIONS {
+        best_rust.keep(stretches(questions, &mut rust));
+        best_port.keep(stretches(questions, &mut port));
+    }
+    print(question, files, &best_rust, &best_port);
+}
+
+/// Prints the table.
+pub fn table() {
+    println!("| question | files | Rust | port | port / Rust |");
+    println!("|---|---:|---:|---:|---:|");
+    let sets: Vec<Sets> = FILES.iter().map(|&files| sets(files)).collect();
+    let mut columns = Columns::new(BLOCK as usize);
+    sets.iter().for_each(|s| check(s, &mut columns));
+    for s in &sets {
+        measure(
+            "map_block",
+            s.port.num_files(),
+            &s.blocks,
+            |b| drop(black_box(s.rust.map_block(PieceIndex(b.piece), b.offset, BLOCK))),
+            |b| _ = black_box(s.port.map_block(b.piece, b.offset, BLOCK, &mut columns)),
+        );
+    }
+    for s in &sets {
+        let mut out = [0; 3];
+        measure(
+            "map_file",
+            s.port.num_files(),
+            &s.places,
+            |p| _ = black_box(s.rust.map_file(FileIndex(p.file), p.offset, BLOCK as i32)),
+            |p| _ = black_box(s.port.map_file(p.file, p.offset, BLOCK as i32, &mut out)),
+        );
+    }
+    for s in &sets {
+        measure(
+            "file_index_at_offset",
+            s.port.num_files(),
+            &s.offsets,
+            |&offset| _ = black_box(s.rust.file_index_at_offset(offset)),
+            |&offset| _ = black_box(s.port.file_index_at_offset(offset)),
+        );
+    }
+}
