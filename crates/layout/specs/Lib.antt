@@ -1,6 +1,7 @@
 -- The definitions that the contracts of `layout` cite.
 pub mod Results
 pub mod Search
+pub mod Level
 pub mod Questions
 pub mod Pieces
 pub mod Files

@@ -1,68 +1,61 @@
--- `layout::search::partition_point` meets its contract. The loop's invariant: lo is at most hi, hi at most n, and some
--- number of halvings from here is enough and gives what the search from 0 and n gives.
-use borrow.Author.Needs.{needs}
-use native.Mathlib.Omega.{arith}
+-- `layout::search::partition_point` meets its contract.
 use mathlib.Core.Path.{refl}
-use Prim.Native.Nat.{_≤_, _-_}
-use Rattle.tables.specs.Rows.{rowAt}
-use Rattle.layout.specs.Search.{partitionPoint}
-use Rattle.layout.proofs.Halving.{Halving, enough, turn-up, turn-down, turn-end}
+use native.Mathlib.Omega.{arith}
+use borrow.Author.Needs.{needs}
+use Rattle.layout.proofs.Levels.{all-rows}
 use Rattle.layout.proofs.search.partition_point.Statement.{statement}
 use Rattle.layout.proofs.search.partition_point.Tie as tie
 
-abbrev Inv-loop : tie.InvT-loop
-Inv-loop rows n target lo₀ hi₀ lo hi = (lo ≤ hi) × (hi ≤ n) × Halving (λ i. rowAt rows i .offset) target lo hi (partitionPoint rows n target)
+count-before-requires : tie.Need-count-before-requires
+count-before-requires c κs = search needs
 
-abbrev μ-loop : tie.MeasureT-loop
-μ-loop rows n target lo₀ hi₀ lo hi = hi - lo
+returns : tie.Need-returns
+returns c = search needs
 
-loop-holds : tie.Need-loop-holds Inv-loop μ-loop
-loop-holds c = (omega arith, omega arith, record { turns = _; enough = enough _; gives = refl })
+count-before-requires-2 : tie.Need-count-before-requires-2
+count-before-requires-2 c κs = search needs
 
-sub-mid : tie.Need-sub-mid Inv-loop μ-loop
-sub-mid c = omega arith
+returns-2 : tie.Need-returns-2
+returns-2 c = search needs
 
-add-mid : tie.Need-add-mid Inv-loop μ-loop
-add-mid c = omega arith
+count-before-requires-3 : tie.Need-count-before-requires-3
+count-before-requires-3 c κs = search needs
 
-offset-at-requires : tie.Need-offset-at-requires Inv-loop μ-loop
-offset-at-requires c κs = search needs
+returns-3 : tie.Need-returns-3
+returns-3 c = search needs
 
-add-lo : tie.Need-add-lo Inv-loop μ-loop
-add-lo c = omega arith
+mul-t8 : tie.Need-mul-t8
+mul-t8 c = search needs
 
-loop-less : tie.Need-loop-less Inv-loop μ-loop
-loop-less c = omega arith
+turns-requires : tie.Need-turns-requires
+turns-requires c κs =
+    (omega arith, omega arith, omega arith, omega arith, all-rows _ _ _ 15 _ refl refl (omega arith))
 
-loop-again : tie.Need-loop-again Inv-loop μ-loop
-loop-again c =
-    let l = c .before .before .before .loop in
-    (omega arith, omega arith, turn-up _ _ (l .inv .2) _ _ (c .before .before .loop-test .taken) refl (c .before .offset-at .ensures) (c .if1 .taken))
+turns-requires-2 : tie.Need-turns-requires-2
+turns-requires-2 c κs = search needs
 
-loop-less-2 : tie.Need-loop-less-2 Inv-loop μ-loop
-loop-less-2 c = omega arith
+turns-requires-3 : tie.Need-turns-requires-3
+turns-requires-3 c κs = search needs
 
-loop-again-2 : tie.Need-loop-again-2 Inv-loop μ-loop
-loop-again-2 c =
-    let l = c .before .before .before .loop in
-    (omega arith, omega arith, turn-down _ _ (l .inv .2) _ _ (c .before .before .loop-test .taken) refl (c .before .offset-at .ensures) (c .if1 .left))
+last-turn-requires : tie.Need-last-turn-requires
+last-turn-requires c κs = search needs
 
-returns : tie.Need-returns Inv-loop μ-loop
-returns c = turn-end _ _ (c .before .loop .inv .2) (c .loop-test .left)
+returns-4 : tie.Need-returns-4
+returns-4 c = search needs
 
 pub partition-point-spec : {M : Type 1} → statement M
 partition-point-spec =
     tie.close
     (tie.spec
-    Inv-loop
-    μ-loop
-    loop-holds
-    sub-mid
-    add-mid
-    offset-at-requires
-    add-lo
-    loop-less
-    loop-again
-    loop-less-2
-    loop-again-2
-    returns)
+    count-before-requires
+    returns
+    count-before-requires-2
+    returns-2
+    count-before-requires-3
+    returns-3
+    mul-t8
+    turns-requires
+    turns-requires-2
+    turns-requires-3
+    last-turn-requires
+    returns-4)
