@@ -2,6 +2,8 @@
 -- or that number. Stated once for every list of rules; they rely on the definitions of specs/Questions.antt.
 --     unsigned-of, unsigned-negative      what a signed number is, by its unsigned reading
 --     below-yes, below-no                 what `within` says of a number
+--     below-not, below-as, index-low      what its sign says of it
+--     over-is                             whether there are more than k pieces, by a product
 --     go, stop                            the answer after a decision
 --     passed                              after `Go` no rule's test holds
 --     pieces-known, piece-known           what that means for the set and a piece of it
@@ -15,8 +17,11 @@ use native.Mathlib.Numerals.{add-one}
 use native.Mathlib.Omega.{arith}
 use lib.Dec.{eqb, ltb, leb}
 use lib.IntN.{ℤ, pos, negsuc}
-use borrow.Author.Tests.{ltb-true, ltb-false, eqb-true, ne-eqb, not-false}
-use Rattle.lists.proofs.Quotients.{ceiling-covers}
+use mir.Syntax.{w32}
+use mir.Val.{SFits}
+use borrow.Author.Tests.{lt-ltb, le-ltb, ltb-true, ltb-false, eqb-true, ne-eqb, not-false}
+use Rattle.lists.specs.Lists.{ceiling}
+use Rattle.lists.proofs.Quotients.{ceiling-above, ceiling-le, ceiling-covers}
 use Rattle.types.specs.Refusals.{numberOf, Outcome, value, refused}
 use Rattle.types.specs.Signed.{unsignedOf, belowOr}
 use Rattle.types.specs.declared.refusal.Refusal.{Refusal}
@@ -62,6 +67,26 @@ module _ (r count : ℕ) where
 pub below-is : (count : ℕ) (z : ℤ) → isBelow count z ≡ true → indexOf z < count
 below-is count (pos n) e = ltb-true n count e
 below-is count (negsuc n) e = absurd (true≢false (sym e))
+
+pub below-not : (count : ℕ) (z : ℤ) → isNegative z ≡ true → isBelow count z ≡ false
+below-not count (pos n) e = absurd (true≢false (sym e))
+below-not count (negsuc n) e = refl
+
+pub below-as : (count : ℕ) (z : ℤ) → isNegative z ≡ false → isBelow count z ≡ ltb (indexOf z) count
+below-as count (pos n) e = refl
+below-as count (negsuc n) e = absurd (true≢false e)
+
+pub index-low : (z : ℤ) → SFits w32 z → indexOf z < 2147483648
+index-low (pos n) f = f .sfits
+index-low (negsuc n) f = omega arith
+
+-- more than k pieces, by a product
+pub over-is : (t n k : ℕ) → 0 < n → ltb (k * n) t ≡ ltb k (ceiling t n)
+over-is t n k p = by (ltb (k * n) t) refl
+  where
+    by : (b : Bool) → ltb (k * n) t ≡ b → b ≡ ltb k (ceiling t n)
+    by true e = sym (lt-ltb k (ceiling t n) (ceiling-above t n p k (ltb-true (k * n) t e)))
+    by false e = sym (le-ltb k (ceiling t n) (ceiling-le t n p k (ltb-false (k * n) t e)))
 
 -- the answer after a decision d that says n
 module _ {A : Type 0} (a : A) {n : ℕ} {d : Check} (p : checkNumber d ≡ n) where
@@ -111,7 +136,7 @@ offset-low o n e =
     let q = neither (isNegative o) (either (isNegative n) (ltb limit (sizeOf o))) e .1 in
     ltb-false limit (sizeOf o) (neither (isNegative n) (ltb limit (sizeOf o)) q .1)
 
-length-good : (n : ℕ) → badLength n ≡ false → (0 < n) × (n ≤ 2147483647)
+pub length-good : (n : ℕ) → badLength n ≡ false → (0 < n) × (n ≤ 2147483647)
 length-good n e =
     let p = neither (ltb n 1) (ltb 2147483647 n) e in
     (omega (arith, ltb-false n 1 (p .0)), ltb-false 2147483647 n (p .1))

@@ -2,6 +2,7 @@
 // `types` for file and piece numbers and on the laws of proofs/Deciding.antt.
 ghost use mathlib.Core.Path.{_≡_};
 ghost use mathlib.Core.Bool.{not};
+ghost use Prim.Native.Nat.{_<_};
 ghost use mathlib.Core.List.{[], _∷_};
 ghost use lib.Dec.{ltb, leb};
 ghost use Rattle.tables.specs.Rows.{rowAt};
@@ -11,7 +12,9 @@ ghost use Rattle.answers.specs.Answers.{isBelow};
 ghost use Rattle.layout.specs.Questions.{numPieces, opened, noFile, manyPieces, noPiece, noTree, short};
 ghost use Rattle.layout.specs.Deciding.{checkNumber};
 use crate::number::ceil;
+use crate::number::is_negative32;
 use crate::number::is_negative64;
+use crate::number::piece_number;
 use crate::number::rest;
 use crate::number::size64;
 use tables::FileStorage;
@@ -43,11 +46,23 @@ pub(crate) fn count_pieces(fs: FileStorage) -> u64
     ceil(fs.total_size, fs.piece_length)
 }
 
+// Whether the set has more than k pieces: for a length in range by a product, which costs less than a
+// quotient.
+fn has_over(fs: FileStorage, k: u64) -> bool
+    requires { ⌜ k < 2147483648 ⌝ }
+    ensures { λ r. ⌜ r ≡ ltb k (numPieces fs) ⌝ }
+{
+    if is_bad_length(fs.piece_length) {
+        return k < count_pieces(fs);
+    }
+    k * fs.piece_length < fs.total_size
+}
+
 // Whether the set has more pieces than an `i32` counts.
 pub(crate) fn has_many(fs: FileStorage) -> bool
     ensures { λ r. ⌜ r ≡ ltb 2147483647 (numPieces fs) ⌝ }
 {
-    2147483647 < count_pieces(fs)
+    has_over(fs, 2147483647)
 }
 
 // Whether there is no such file.
@@ -64,10 +79,10 @@ fn is_no_file(fs: FileStorage, index: FileIndex) -> bool
 fn is_no_piece(fs: FileStorage, piece: PieceIndex) -> bool
     ensures { λ r. ⌜ r ≡ not (isBelow (numPieces fs) (piece .0)) ⌝ }
 {
-    match piece.within(count_pieces(fs) as usize) {
-        UsizeResult::Ok(_) => false,
-        UsizeResult::Err(_) => true,
+    if is_negative32(piece.0) {
+        return true;
     }
+    !has_over(fs, piece_number(piece))
 }
 
 // Whether an offset is negative or past the limit, or a size is negative.

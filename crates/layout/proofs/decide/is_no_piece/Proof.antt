@@ -1,35 +1,43 @@
 -- `layout::decide::is_no_piece` meets its contract.
-use borrow.Author.Needs.{needs}
-use mathlib.Core.Path.{sym, ap, _∙_}
-use Rattle.types.specs.Refusals.{usizeSays}
+use mathlib.Core.Path.{_≡_, sym, ap, _∙_}
+use mathlib.Core.Bool.{true, false}
+use mir.Syntax.{w32}
+use mir.Val.{SFits}
+use mir.Facts.{toZ-ofZ}
+use Rattle.storage.specs.Addition.{isNegative}
 use Rattle.layout.specs.Questions.{numPieces}
-use Rattle.layout.proofs.Deciding.{below-yes, below-no}
+use Rattle.layout.proofs.Deciding.{below-not, below-as, index-low}
+use borrow.Author.Needs.{needs}
 use Rattle.layout.proofs.decide.is_no_piece.Statement.{statement}
 use Rattle.layout.proofs.decide.is_no_piece.Tie as tie
 
-count-pieces-requires : tie.Need-count-pieces-requires
-count-pieces-requires c κs = search needs
-
-within-requires : tie.Need-within-requires
-within-requires c κs = search needs
-
-enum-told : tie.Need-enum-told
-enum-told c = search needs
-
-enum-told-2 : tie.Need-enum-told-2
-enum-told-2 c = search needs
+is-negative32-requires : tie.Need-is-negative32-requires
+is-negative32-requires c κs = search needs
 
 returns : tie.Need-returns
 returns c =
+    let a = c .before .before .before .args in
+    let f : SFits w32 (a .piece .0) = search needs in
+    let n : isNegative (a .piece .0) ≡ true = sym (c .before .is-negative32 .ensures ∙ ap isNegative (toZ-ofZ f)) ∙ c .if1 .taken in
+    rw (below-not (numPieces (a .fs)) (a .piece .0) n)
+
+piece-number-requires : tie.Need-piece-number-requires
+piece-number-requires c κs = search needs
+
+has-over-requires : tie.Need-has-over-requires
+has-over-requires c κs =
     let a = c .before .before .before .before .args in
-    rw (below-yes 12 (numPieces (a .fs)) (a .piece .0) _ (sym (ap usizeSays (c .enum-told .given .1)) ∙ (rw (c .before .before .before .count-pieces .ensures) at (c .before .before .within .ensures))))
+    let f : SFits w32 (a .piece .0) = search needs in
+    rw (c .piece-number .ensures) (index-low (a .piece .0) f)
 
 returns-2 : tie.Need-returns-2
 returns-2 c =
-    let a = c .before .before .before .before .args in
-    rw (below-no 12 (numPieces (a .fs)) (a .piece .0) _ (sym (ap usizeSays (c .enum-told2 .given .1)) ∙ (rw (c .before .before .before .count-pieces .ensures) at (c .before .before .within .ensures))))
+    let a = c .before .before .before .before .before .args in
+    let f : SFits w32 (a .piece .0) = search needs in
+    let n : isNegative (a .piece .0) ≡ false = sym (c .before .before .before .is-negative32 .ensures ∙ ap isNegative (toZ-ofZ f)) ∙ c .before .before .if1 .left in
+    rw (below-as (numPieces (a .fs)) (a .piece .0) n, c .has-over .ensures, c .before .piece-number .ensures)
 
 pub is-no-piece-spec : {M : Type 1} → statement M
 is-no-piece-spec =
     tie.close
-    (tie.spec count-pieces-requires within-requires enum-told enum-told-2 returns returns-2)
+    (tie.spec is-negative32-requires returns piece-number-requires has-over-requires returns-2)
