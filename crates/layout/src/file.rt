@@ -5,6 +5,7 @@ ghost use mathlib.Core.Bool.{not};
 ghost use mathlib.Core.List.{[], _∷_};
 ghost use Prim.Native.Nat.{_+_, _-_, _*_, _%_, _^_, _≤_, _<_};
 ghost use lib.IntN.{pos};
+ghost use lib.ListN.{length};
 ghost use Rattle.types.specs.Refusals.{usizeSays};
 ghost use Rattle.lists.specs.Lists.{equal};
 ghost use Rattle.tables.specs.Rows.{rowAt};
@@ -380,6 +381,14 @@ fn signed_request(r: Place) -> PeerRequest
     }
 }
 
+// The offset of a row that is there.
+fn offset_of(rows: &[u64], k: usize) -> u64
+    requires { ⌜ k * 8 < length (now rows) ⌝ }
+    ensures { λ r. ⌜ r ≡ rowAt (now (rows .entry)) k .offset ⌝ }
+{
+    rows[k * 8] % 0x1_0000_0000_0000
+}
+
 // Where bytes of a file lie: the piece, the start in it, and how many are left in the set. It does not stop at the file's end.
 pub fn map_file(
     fs: FileStorage,
@@ -400,7 +409,7 @@ pub fn map_file(
     ) {
         Check::Go => RequestResult::Ok(signed_request(request_at(
             fs,
-            tables::offset_at(rows, file_number(index)) + size64(offset),
+            offset_of(rows, file_number(index)) + size64(offset),
             size32(size),
         ))),
         Check::Stop(e) => RequestResult::Err(e),

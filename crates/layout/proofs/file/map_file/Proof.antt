@@ -12,7 +12,7 @@ use Rattle.answers.specs.Answers.{indexOf}
 use Rattle.layout.specs.Questions.{badRange}
 use Rattle.layout.specs.Mapping.{Request, mapFile}
 use Rattle.layout.specs.Deciding.{requestOf}
-use Rattle.layout.proofs.Deciding.{go, stop, offset-low, file-known, low-as}
+use Rattle.layout.proofs.Deciding.{go, stop, offset-low, file-known, file-held, low-as}
 use Rattle.layout.proofs.file.map_file.Statement.{statement}
 use Rattle.layout.proofs.file.map_file.Tie as tie
 
@@ -43,8 +43,14 @@ enum-told c = search needs
 file-number-requires : tie.Need-file-number-requires
 file-number-requires c κs = search needs
 
-offset-at-requires : tie.Need-offset-at-requires
-offset-at-requires c κs = search needs
+offset-of-requires : tie.Need-offset-of-requires
+offset-of-requires c κs =
+    let a = c .before .before .before .before .before .before .before .before .args in
+    let many = c .before .before .before .before .before .before .has-many .result in
+    let bad = c .before .before .before .before .is-bad-range .result in
+    let k = file-known (a .fs) (a .index .0) many bad false _ (c .before .before .before .ask-file .ensures) (c .before .enum-told .given .1) in
+    let h = file-held (a .fs) (a .index .0) many bad false _ (c .before .before .before .ask-file .ensures) (c .before .enum-told .given .1) in
+    omega (arith, k .below, h, c .file-number .ensures)
 
 size64-requires : tie.Need-size64-requires
 size64-requires c κs = search needs
@@ -56,7 +62,7 @@ add-request-at c =
     let fits : SFits w64 (a .offset) = search needs in
     let s : c .size64 .result ≡ sizeOf (a .offset) = rw (toZ-ofZ fits) at (c .size64 .ensures) in
     let l = offset-low (a .offset) (a .size) (sym (range-of (c .before .before .before .before .before .before)) ∙ k .not-bad) in
-    omega (arith, c .before .offset-at .ensures)
+    omega (arith, c .before .offset-of .ensures)
 
 size32-requires : tie.Need-size32-requires
 size32-requires c κs = search needs
@@ -77,7 +83,7 @@ returns c =
     let size-fits : SFits w32 (a .size) = search needs in
     let s : c .before .before .before .size64 .result ≡ sizeOf (a .offset) = rw (toZ-ofZ offset-fits) at (c .before .before .before .size64 .ensures) in
     let n : c .before .before .size32 .result ≡ sizeOf (a .size) = rw (toZ-ofZ size-fits) at (c .before .before .size32 .ensures) in
-    let o : c .before .before .before .before .offset-at .result ≡ rowAt (a .rows .now) (indexOf (a .index .0)) .offset = rw (c .before .before .before .before .before .file-number .ensures) at (c .before .before .before .before .offset-at .ensures) in
+    let o : c .before .before .before .before .offset-of .result ≡ rowAt (a .rows .now) (indexOf (a .index .0)) .offset = rw (c .before .before .before .before .before .file-number .ensures) at (c .before .before .before .before .offset-of .ensures) in
     let e : requestOf (c .before .request-at .result) ≡ mapFile (a .fs) (a .rows .now) (indexOf (a .index .0)) (sizeOf (a .offset)) (sizeOf (a .size)) = rw (o, s, n) at (c .before .request-at .ensures) in
     let h = c .signed-request .ensures in
     go _ (rw (c .before .before .before .before .before .before .before .before .before .before .before .has-many .ensures, range-of (c .before .before .before .before .before .before .before .before .before)) at (c .before .before .before .before .before .before .before .before .ask-file .ensures)) (c .before .before .before .before .before .before .enum-told .given .1) _
@@ -100,7 +106,7 @@ map-file-spec =
     ask-file-requires
     enum-told
     file-number-requires
-    offset-at-requires
+    offset-of-requires
     size64-requires
     add-request-at
     size32-requires
