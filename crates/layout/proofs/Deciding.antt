@@ -108,9 +108,9 @@ abbrev pub Passed : List Rule → Type 0
 Passed [] = Unit
 Passed (r ∷ rs) = (r .test ≡ false) × Passed rs
 
-named-first : (b c : Bool) → cond b c false ≡ true → (b ≡ true) × (c ≡ true)
-named-first true c e = (refl, e)
-named-first false c e = absurd (true≢false (sym e))
+pub each : (b c : Bool) → cond b c false ≡ true → (b ≡ true) × (c ≡ true)
+each true c e = (refl, e)
+each false c e = absurd (true≢false (sym e))
 
 passed-one : (t : Bool) (n m : ℕ) → 0 < n → cond t n m ≡ 0 → (t ≡ false) × (m ≡ 0)
 passed-one true n m h e = absurd (omega arith)
@@ -119,7 +119,7 @@ passed-one false n m h e = (refl, e)
 none : (rs : List Rule) → named rs ≡ true → firstOf rs ≡ 0 → Passed rs
 none [] h e = tt
 none (r ∷ rs) h e =
-    let q = named-first (ltb 0 (r .number)) (named rs) h in
+    let q = each (ltb 0 (r .number)) (named rs) h in
     let p = passed-one (r .test) (r .number) (firstOf rs) (ltb-true 0 (r .number) (q .0)) e in
     (p .0, none rs (q .1) (p .1))
 
@@ -238,5 +238,5 @@ first-behind false n a b h = refl
 pub first-append : (rs qs : List Rule) → named rs ≡ true → firstOf (rs ++ qs) ≡ cond (eqb (firstOf rs) 0) (firstOf qs) (firstOf rs)
 first-append [] qs h = refl
 first-append (r ∷ rs) qs h =
-    let q = named-first (ltb 0 (r .number)) (named rs) h in
+    let q = each (ltb 0 (r .number)) (named rs) h in
     ap (cond (r .test) (r .number)) (first-append rs qs (q .1)) ∙ first-behind (r .test) (r .number) (firstOf rs) (firstOf qs) (ltb-true 0 (r .number) (q .0))

@@ -2,7 +2,9 @@
 // the laws of proofs/Halving.antt and proofs/Levels.antt.
 ghost use mathlib.Core.Path.{_≡_};
 ghost use Prim.Native.Nat.{_+_, _-_, _*_, _/_, _≤_, _<_};
+ghost use lib.Dec.{leb};
 ghost use lib.ListN.{length};
+ghost use Rattle.storage.specs.Rules.{both};
 ghost use Rattle.layout.specs.Search.{partitionPoint, fileFound};
 ghost use Rattle.layout.specs.Level.{Level};
 
@@ -82,18 +84,25 @@ fn last_turn(rows: &[u64], n: usize, target: u64, at: Ends) -> usize
     at.lo / 32
 }
 
+// Whether n rows, of those that are there, are searched in turns.
+fn is_plain(n: usize, room: usize) -> bool
+    ensures { λ r. ⌜ r ≡ both (both (leb 2 n) (leb n 65535)) (leb n room) ⌝ }
+{
+    if n < 2 {
+        return false;
+    }
+    if 65535 < n {
+        return false;
+    }
+    n <= room
+}
+
 // How many of the first n rows begin at or before the target. Up to 65,535 rows that are there are
 // searched in a number of turns that depends on n alone.
 pub(crate) fn partition_point(rows: &[u64], n: usize, target: u64) -> usize
     ensures { λ r. ⌜ r ≡ partitionPoint (now (rows .entry)) n target ⌝ }
 {
-    if n < 2 {
-        return count_before(rows, n, target);
-    }
-    if 65535 < n {
-        return count_before(rows, n, target);
-    }
-    if rows.len() / 8 < n {
+    if !is_plain(n, rows.len() / 8) {
         return count_before(rows, n, target);
     }
     let all = Ends { lo: 0, hi: n * 32 };
