@@ -4,8 +4,8 @@
 use std::hint::black_box;
 use std::time::{Duration, Instant};
 
-use bitdaemon_common::{FileIndex, PieceIndex};
-use bitdaemon_core::file_storage::{FileStorage, calc_num_pieces};
+use bitdaemon_common::{FileIndex, PeerRequest, PieceIndex};
+use bitdaemon_core::file_storage::{FileSlice, FileStorage, calc_num_pieces};
 
 use crate::additions::{add_port, add_rust, rust_sets};
 use crate::best::{Best, STRETCH};
@@ -103,6 +103,23 @@ fn check(sets: &Sets, columns: &mut Columns) {
     }
 }
 
+/// The Rust behind one call, as the port is: what a caller in another crate has where the compiler does not take the
+/// function into its own loop.
+#[inline(never)]
+fn map_block(set: &FileStorage, piece: i32, offset: i64, size: i64) -> Vec<FileSlice> {
+    set.map_block(PieceIndex(piece), offset, size)
+}
+
+#[inline(never)]
+fn map_file(set: &FileStorage, file: i32, offset: i64, size: i32) -> PeerRequest {
+    set.map_file(FileIndex(file), offset, size)
+}
+
+#[inline(never)]
+fn file_index_at_offset(set: &FileStorage, offset: i64) -> FileIndex {
+    set.file_index_at_offset(offset)
+}
+
 /// Asks each question, and gives the time of each stretch.
 fn stretches<Q>(questions: &[Q], mut ask: impl FnMut(&Q)) -> Vec<Duration> {
     let mut times = Vec::new();
@@ -116,26 +133,47 @@ fn stretches<Q>(questions: &[Q], mut ask: impl FnMut(&Q)) -> Vec<Duration> {
     times
 }
 
-/// Prints a row: nanoseconds for one question.
-fn print(question: &str, files: usize, rust: &Best, port: &Best) {
-    let (rust, port) = (rust.each(QUESTIONS), port.each(QUESTIONS));
-    println!("| `{question}` | {files} | {rust:.1} | {port:.1} | {:.2} |", port / rust);
+/// The best times of a row: the Rust as the compiler places it in the loop, the Rust behind a call, and the port.
+#[derive(Default)]
+struct Times {
+    rust: Best,
+    called: Best,
+    port: Best,
 }
 
-/// Asks both sides the same questions in turn, keeps the best times and prints their row.
-fn measure<Q>(question: &str, files: usize, questions: &[Q], mut rust: impl FnMut(&Q), mut port: impl FnMut(&Q)) {
-    let (mut best_rust, mut best_port) = (Best::default(), Best::default());
+/// Prints a row: nanoseconds for one question.
+fn print(question: &str, files: usize, times: &Times) {
+    let (rust, called) = (times.rust.each(QUESTIONS), times.called.each(QUESTIONS));
+    let port = times.port.each(QUESTIONS);
+    println!(
+        "| `{question}` | {files} | {rust:.1} | {called:.1} | {port:.1} | {:.2} | {:.2} |",
+        port / rust,
+        port / called,
+    );
+}
+
+/// Asks all three the same questions in turn, keeps the best times and prints their row.
+fn measure<Q>(
+    question: &str,
+    files: usize,
+    questions: &[Q],
+    mut rust: impl FnMut(&Q),
+    mut called: impl FnMut(&Q),
+    mut port: impl FnMut(&Q),
+) {
+    let mut times = Times::default();
     for _ in 0..REPETITIONS {
-        best_rust.keep(stretches(questions, &mut rust));
-        best_port.keep(stretches(questions, &mut port));
+        times.rust.keep(stretches(questions, &mut rust));
+        times.called.keep(stretches(questions, &mut called));
+        times.port.keep(stretches(questions, &mut port));
     }
-    print(question, files, &best_rust, &best_port);
+    print(question, files, &times);
 }
 
 /// Prints the table.
 pub fn table() {
-    println!("| question | files | Rust | port | port / Rust |");
-    println!("|---|---:|---:|---:|---:|");
+    println!("| question | files | Rust | Rust, called | port | port / Rust | port / called |");
+    println!("|---|---:|---:|---:|---:|---:|---:|");
     let sets: Vec<Sets> = FILES.iter().map(|&files| sets(files)).collect();
     let mut columns = Columns::new(BLOCK as usize);
     sets.iter().for_each(|s| check(s, &mut columns));
@@ -145,6 +183,7 @@ pub fn table() {
             s.port.num_files(),
             &s.blocks,
             |b| drop(black_box(s.rust.map_block(PieceIndex(b.piece), b.offset, BLOCK))),
+            |b| drop(black_box(map_block(&s.rust, b.piece, b.offset, BLOCK))),
             |b| _ = black_box(s.port.map_block(b.piece, b.offset, BLOCK, &mut columns)),
         );
     }
@@ -155,6 +194,7 @@ pub fn table() {
             s.port.num_files(),
             &s.places,
             |p| _ = black_box(s.rust.map_file(FileIndex(p.file), p.offset, BLOCK as i32)),
+            |p| _ = black_box(map_file(&s.rust, p.file, p.offset, BLOCK as i32)),
             |p| _ = black_box(s.port.map_file(p.file, p.offset, BLOCK as i32, &mut out)),
         );
     }
@@ -164,6 +204,7 @@ pub fn table() {
             s.port.num_files(),
             &s.offsets,
             |&offset| _ = black_box(s.rust.file_index_at_offset(offset)),
+            |&offset| _ = black_box(file_index_at_offset(&s.rust, offset)),
             |&offset| _ = black_box(s.port.file_index_at_offset(offset)),
         );
     }

@@ -5,9 +5,9 @@
 --     below-not, below-as, index-low      what its sign says of it
 --     over-is                             whether there are more than k pieces, by a product
 --     go, stop                            the answer after a decision
---     passed                              after `Go` no rule's test holds
+--     none, passed                        where no refusal is said, as after `Go`, no rule's test holds
 --     pieces-known, piece-known           what that means for the set and a piece of it
---     file-known, file-held, file-counted what it means for a file, the rows and its set
+--     file-known, file-counted            what it means for a file and its set
 use Prim.Native.Nat.{ℕ, _+_, _-_, _*_, _%_, _^_, _≤_, _<_}
 use mathlib.Core.Path.{_≡_, refl, sym, ap, _∙_}
 use mathlib.Core.Bool.{Bool, true, false, cond, not, true≢false}
@@ -19,7 +19,7 @@ use lib.Dec.{eqb, ltb, leb}
 use lib.IntN.{ℤ, pos, negsuc}
 use mir.Syntax.{w32}
 use mir.Val.{SFits}
-use borrow.Author.Tests.{leb-true, lt-ltb, le-ltb, ltb-true, ltb-false, eqb-true, ne-eqb, not-false}
+use borrow.Author.Tests.{lt-ltb, le-ltb, ltb-true, ltb-false, eqb-true, ne-eqb, not-false}
 use Rattle.lists.specs.Lists.{ceiling}
 use Rattle.lists.proofs.Quotients.{ceiling-above, ceiling-le, ceiling-covers}
 use Rattle.types.specs.Refusals.{numberOf, Outcome, value, refused}
@@ -116,7 +116,7 @@ passed-one : (t : Bool) (n m : ℕ) → 0 < n → cond t n m ≡ 0 → (t ≡ fa
 passed-one true n m h e = absurd (omega arith)
 passed-one false n m h e = (refl, e)
 
-none : (rs : List Rule) → named rs ≡ true → firstOf rs ≡ 0 → Passed rs
+pub none : (rs : List Rule) → named rs ≡ true → firstOf rs ≡ 0 → Passed rs
 none [] h e = tt
 none (r ∷ rs) h e =
     let q = each (ltb 0 (r .number)) (named rs) h in
@@ -209,14 +209,6 @@ file-known fs z many bad tree room c e =
       not-bad = q .1 .1 .1 .0;
       not-tree = q .1 .1 .1 .1 .0;
     }
-
--- and that the rows are there
-pub file-held : (fs : FileStorage) (z : ℤ) (many bad tree : Bool) (room : ℕ) {d : Check}
-    → checkNumber d ≡ firstOf (opened fs ∷ noFile fs z ∷ when many 13 ∷ when bad 14 ∷ when tree 16 ∷ short (leb (fs .«num_files») room) ∷ []) → d ≡ Go
-    → fs .«num_files» ≤ room
-file-held fs z many bad tree room c e =
-    let q = passed (opened fs ∷ noFile fs z ∷ when many 13 ∷ when bad 14 ∷ when tree 16 ∷ short (leb (fs .«num_files») room) ∷ []) refl c e in
-    leb-true (fs .«num_files») room (not-false (leb (fs .«num_files») room) (q .1 .1 .1 .1 .1 .0))
 
 pub file-counted : (fs : FileStorage) (z : ℤ) (many bad tree : Bool) → many ≡ ltb 2147483647 (numPieces fs) → FilePassed fs z many bad tree → Counted fs
 file-counted fs z many bad tree h k = counted fs (k .length) (sym h ∙ k .not-many)

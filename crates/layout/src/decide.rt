@@ -30,7 +30,7 @@ pub(crate) enum Check {
 }
 
 // Whether a piece length is out of range.
-fn is_bad_length(piece_length: u64) -> bool
+pub(crate) fn is_bad_length(piece_length: u64) -> bool
     ensures { λ r. ⌜ r ≡ badLength «piece_length» ⌝ }
 {
     if piece_length < 1 {
@@ -66,7 +66,7 @@ pub(crate) fn has_many(fs: FileStorage) -> bool
 }
 
 // Whether there is no such file.
-fn is_no_file(fs: FileStorage, index: FileIndex) -> bool
+pub(crate) fn is_no_file(fs: FileStorage, index: FileIndex) -> bool
     ensures { λ r. ⌜ r ≡ not (isBelow (fs .«num_files») (index .0)) ⌝ }
 {
     match index.within(fs.num_files) {

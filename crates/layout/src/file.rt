@@ -4,13 +4,14 @@ ghost use mathlib.Core.Path.{_≡_};
 ghost use mathlib.Core.Bool.{not};
 ghost use mathlib.Core.List.{[], _∷_};
 ghost use Prim.Native.Nat.{_+_, _-_, _*_, _%_, _^_, _≤_, _<_};
+ghost use lib.Dec.{eqb};
 ghost use lib.IntN.{pos};
 ghost use lib.ListN.{length};
-ghost use Rattle.types.specs.Refusals.{usizeSays};
+ghost use Rattle.types.specs.Refusals.{numberOf, usizeSays};
 ghost use Rattle.lists.specs.Lists.{equal};
 ghost use Rattle.tables.specs.Rows.{rowAt};
 ghost use Rattle.merkle.specs.Width.{widthOf, hasTree};
-ghost use Rattle.storage.specs.Rules.{when, both};
+ghost use Rattle.storage.specs.Rules.{when, firstOf, both};
 ghost use Rattle.storage.specs.Addition.{sizeOf};
 ghost use Rattle.answers.specs.Answers.{indexOf, rowsHeld, rootsHeld, rootOf};
 ghost use Rattle.answers.specs.Results.{i32Says, i64Says};
@@ -19,7 +20,7 @@ ghost use Rattle.layout.specs.Questions.{asked, numPieces, opened, noFil
 ghost use Rattle.layout.specs.Mapping.{Request, requestAt, mapFile};
 ghost use Rattle.layout.specs.Request.{fileMapped};
 ghost use Rattle.layout.specs.Given.{exclusiveGiven, inclusiveGiven};
-ghost use Rattle.layout.specs.Deciding.{Counted, requestOf};
+ghost use Rattle.layout.specs.Deciding.{Counted, requestOf, refusedBy, bytesAsked};
 ghost use Rattle.layout.specs.Files.{lastQuotient, low31, afterQuotient, firstPiece, lastPiece, placeOf, exclusiveBegin, clamped, exclusiveEnd, inclusiveEnd, rootFrom, fileForRoot, piecesOf, blocksOf};
 use crate::decide::Check;
 use crate::decide::are_both;
@@ -27,9 +28,11 @@ use crate::decide::ask_file;
 use crate::decide::ask_set;
 use crate::decide::count_pieces;
 use crate::decide::has_many;
+use crate::decide::is_bad_length;
 use crate::decide::is_bad_range;
 use crate::decide::is_either;
 use crate::decide::is_held;
+use crate::decide::is_no_file;
 use crate::decide::is_no_tree;
 use crate::number::ceil;
 use crate::number::file_number;
@@ -54,6 +57,7 @@ use types::I32Range;
 use types::PeerRequest;
 use types::PieceIndex;
 use types::PieceIndexRange;
+use types::Refusal;
 use types::UsizeResult;
 
 // A request in unsigned numbers.
@@ -389,6 +393,43 @@ fn offset_of(rows: &[u64], k: usize) -> u64
     rows[k * 8] % 0x1_0000_0000_0000
 }
 
+// Whether a question about bytes of a file is answered. The tests stand one behind another, so that no
+// answer waits for the number of a refusal.
+fn is_answered(fs: FileStorage, index: FileIndex, offset: i64, size: i32, room: usize) -> bool
+    ensures { λ r. ⌜ r ≡ eqb (firstOf (bytesAsked fs (index .0) offset size room)) 0 ⌝ }
+{
+    if is_bad_length(fs.piece_length) {
+        return false;
+    }
+    if is_no_file(fs, index) {
+        return false;
+    }
+    if has_many(fs) {
+        return false;
+    }
+    if is_bad_range(offset, is_negative32(size)) {
+        return false;
+    }
+    is_held(fs.num_files, room)
+}
+
+// Why a question about bytes of a file that has no answer has none; 10 is given where it has one.
+fn refused_bytes(fs: FileStorage, index: FileIndex, offset: i64, size: i32, room: usize) -> Refusal
+    ensures { λ r. ⌜ numberOf r ≡ refusedBy (bytesAsked fs (index .0) offset size room) ⌝ }
+{
+    match ask_file(
+        fs,
+        index,
+        has_many(fs),
+        is_bad_range(offset, is_negative32(size)),
+        false,
+        room,
+    ) {
+        Check::Go => Refusal::NoRoom,
+        Check::Stop(e) => e,
+    }
+}
+
 // Where bytes of a file lie: the piece, the start in it, and how many are left in the set. It does not stop at the file's end.
 pub fn map_file(
     fs: FileStorage,
@@ -399,21 +440,14 @@ pub fn map_file(
 ) -> RequestResult
     ensures { λ r. ⌜ requestSays r ≡ fileMapped fs (now (rows .entry)) (index .0) offset size ⌝ }
 {
-    match ask_file(
-        fs,
-        index,
-        has_many(fs),
-        is_bad_range(offset, is_negative32(size)),
-        false,
-        rows.len() / 8,
-    ) {
-        Check::Go => RequestResult::Ok(signed_request(request_at(
+    if is_answered(fs, index, offset, size, rows.len() / 8) {
+        return RequestResult::Ok(signed_request(request_at(
             fs,
             offset_of(rows, file_number(index)) + size64(offset),
             size32(size),
-        ))),
-        Check::Stop(e) => RequestResult::Err(e),
+        )));
     }
+    RequestResult::Err(refused_bytes(fs, index, offset, size, rows.len() / 8))
 }
 
 // The pieces that lie wholly in a file.

@@ -1,0 +1,68 @@
+-- `layout::file::refused_bytes` meets its contract.
+use mathlib.Core.Path.{_≡_, sym, ap, _∙_}
+use mir.Syntax.{w32, w64}
+use mir.Val.{SFits}
+use mir.Facts.{toZ-ofZ}
+use Rattle.storage.specs.Addition.{isNegative}
+use Rattle.storage.specs.Rules.{firstOf}
+use Rattle.layout.specs.Questions.{badRange}
+use Rattle.layout.specs.Deciding.{checkNumber, bytesAsked}
+use Rattle.layout.proofs.Deciding.{numbered}
+use borrow.Author.Needs.{needs}
+use Rattle.layout.proofs.file.refused_bytes.Statement.{statement}
+use Rattle.layout.proofs.file.refused_bytes.Tie as tie
+
+-- whether the range is bad, as the contract says it
+range-of : (c : tie.After-is-bad-range) → c .is-bad-range .result ≡ badRange (c .before .before .before .args .offset) (c .before .before .before .args .size) .test
+range-of c =
+    let a = c .before .before .before .args in
+    let offset-fits : SFits w64 (a .offset) = search needs in
+    let size-fits : SFits w32 (a .size) = search needs in
+    let n : c .before .is-negative32 .result ≡ isNegative (a .size) = rw (toZ-ofZ size-fits) at (c .before .is-negative32 .ensures) in
+    rw (toZ-ofZ offset-fits, n) at (c .is-bad-range .ensures)
+
+-- what the decision says, as the contract says it
+asked-is : (c : tie.After-ask-file) → checkNumber (c .ask-file .result) ≡ firstOf (bytesAsked (c .before .before .before .before .args .fs) (c .before .before .before .before .args .index .0) (c .before .before .before .before .args .offset) (c .before .before .before .before .args .size) (c .before .before .before .before .args .room))
+asked-is c = rw (c .before .before .before .has-many .ensures, range-of (c .before)) at (c .ask-file .ensures)
+
+has-many-requires : tie.Need-has-many-requires
+has-many-requires c κs = search needs
+
+is-negative32-requires : tie.Need-is-negative32-requires
+is-negative32-requires c κs = search needs
+
+is-bad-range-requires : tie.Need-is-bad-range-requires
+is-bad-range-requires c κs = search needs
+
+ask-file-requires : tie.Need-ask-file-requires
+ask-file-requires c κs = search needs
+
+enum-told : tie.Need-enum-told
+enum-told c = search needs
+
+enum-known-e : tie.Need-enum-known-e
+enum-known-e c = search needs
+
+returns : tie.Need-returns
+returns c =
+    let z = sym (asked-is (c .before .before)) ∙ ap checkNumber (c .enum-told .given .1) in
+    rw z
+
+returns-2 : tie.Need-returns-2
+returns-2 c =
+    let e = c .before .e .given in
+    let z = sym (asked-is (c .before .before .before)) ∙ ap checkNumber (e .1) in
+    rw (z, numbered (e .0 .0))
+
+pub refused-bytes-spec : {M : Type 1} → statement M
+refused-bytes-spec =
+    tie.close
+    (tie.spec
+    has-many-requires
+    is-negative32-requires
+    is-bad-range-requires
+    ask-file-requires
+    enum-told
+    enum-known-e
+    returns
+    returns-2)
