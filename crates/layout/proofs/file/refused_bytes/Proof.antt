@@ -7,7 +7,7 @@ use Rattle.storage.specs.Addition.{isNegative}
 use Rattle.storage.specs.Rules.{firstOf}
 use Rattle.layout.specs.Questions.{badRange}
 use Rattle.layout.specs.Deciding.{checkNumber, bytesAsked}
-use Rattle.layout.proofs.Deciding.{numbered}
+use Rattle.types.proofs.Refusals.{numbered}
 use borrow.Author.Needs.{needs}
 use Rattle.layout.proofs.file.refused_bytes.Statement.{statement}
 use Rattle.layout.proofs.file.refused_bytes.Tie as tie
