@@ -1,0 +1,4 @@
+-- The definitions that the contracts of `renames` cite.
+pub mod Renames
+pub mod Results
+pub mod Questions

@@ -1,0 +1,77 @@
+-- Document 01, 'Names': what a set's names are through its renames. Refusals 1, 11, 10: 'a question on one past the end is 11,
+-- but the export gives it'.
+use Prim.Native.Nat.{ℕ}
+use mathlib.Core.Bool.{Bool, true, false, cond, not}
+use mathlib.Core.List.{List, [], _∷_}
+use lib.Dec.{eqb, leb}
+use lib.IntN.{ℤ}
+use lib.ListN.{length, getD}
+use Rattle.types.specs.Refusals.{Outcome}
+use Rattle.path.specs.Split.{rsplitLeaf}
+use Rattle.path.specs.Join.{Joined, appended}
+use Rattle.tables.specs.declared.storage.FileStorage.{FileStorage}
+use Rattle.tables.specs.Span.{textAt}
+use Rattle.tables.specs.Rows.{rowAt}
+use Rattle.tables.specs.Model.{Optional, absent, present}
+use Rattle.storage.specs.Rules.{when, firstOf, outcomeOf, both}
+use Rattle.answers.specs.Answers.{askedFile, composedFile, isAbsolute, rowsHeld, textHeld}
+use Rattle.names.specs.Paths.{filePath, namesHeld}
+use Rattle.renames.specs.declared.rename.RenameMode.{RenameMode}
+use Rattle.renames.specs.declared.rename.RenameMode.the-variants.{FullPath, NoRootPath, AbsolutePath}
+use Rattle.renames.specs.declared.rename.RenamedFiles.{RenamedFiles}
+use Rattle.renames.specs.Renames.{Renamed, renamesOf, inOrder}
+
+-- the rename of file k, where there is one
+abbrev pub renameFor : ℕ → List Renamed → Optional Renamed
+renameFor k [] = absent
+renameFor k (r ∷ rs) = cond (eqb (r .file) k) (present r) (renameFor k rs)
+
+-- `file_path`: the three modes, or the set's own path
+abbrev pub pathBy : RenameMode → List ℕ → List ℕ → List ℕ → List ℕ
+pathBy FullPath save setName name = appended (appended save setName) name
+pathBy NoRootPath save setName name = appended save name
+pathBy AbsolutePath save setName name = name
+
+abbrev pub renamedPath : Optional Renamed → List ℕ → List ℕ → List ℕ → List ℕ
+renamedPath absent own save setName = own
+renamedPath (present r) own save setName = pathBy (r .mode) save setName (r .name)
+
+-- `file_name`: the leaf of the rename, or the set's own name
+abbrev pub renamedName : Optional Renamed → List ℕ → List ℕ
+renamedName absent own = own
+renamedName (present r) own = rsplitLeaf (r .name)
+
+-- `file_absolute_path`
+abbrev pub isByItself : RenameMode → Bool
+isByItself FullPath = false
+isByItself NoRootPath = false
+isByItself AbsolutePath = true
+
+abbrev pub renamedAbsolute : Optional Renamed → Bool → Bool
+renamedAbsolute absent own = own
+renamedAbsolute (present r) own = isByItself (r .mode)
+
+abbrev pub pathInto : FileStorage → List ℕ → List ℕ → List ℕ → RenamedFiles → List ℕ → List ℕ → ℤ → List ℕ → List ℕ → Joined
+pathInto fs rows dirs text rf entries names z save buf =
+    composedFile fs z (both (namesHeld fs rows dirs text) (inOrder rf entries names))
+    (λ k. renamedPath (renameFor k (renamesOf rf entries names)) (filePath fs dirs text save (rowAt rows k)) save (textAt text (fs .name)))
+    buf
+
+abbrev pub nameGiven : FileStorage → List ℕ → List ℕ → RenamedFiles → List ℕ → List ℕ → ℤ → Outcome (List ℕ)
+nameGiven fs rows text rf entries names z =
+    askedFile fs z (both (both (rowsHeld fs rows) (textHeld fs text)) (inOrder rf entries names))
+    (λ k. renamedName (renameFor k (renamesOf rf entries names)) (textAt text (rowAt rows k .name)))
+
+abbrev pub absoluteGiven : FileStorage → List ℕ → RenamedFiles → List ℕ → List ℕ → ℤ → Outcome Bool
+absoluteGiven fs rows rf entries names z =
+    askedFile fs z (both (rowsHeld fs rows) (inOrder rf entries names))
+    (λ k. renamedAbsolute (renameFor k (renamesOf rf entries names)) (isAbsolute (rowAt rows k)))
+
+-- `export_filenames`, one rename at a time, ascending: rename i, 11 where there is none
+abbrev pub nothing : Renamed
+nothing = record { file = 0; mode = FullPath; name = [] }
+
+abbrev pub exported : RenamedFiles → List ℕ → List ℕ → ℕ → Outcome Renamed
+exported rf entries names i =
+    outcomeOf (firstOf (when (leb (rf .«num_renames») i) 11 ∷ when (not (inOrder rf entries names)) 10 ∷ []))
+    (getD (renamesOf rf entries names) i nothing)

@@ -1,0 +1,10 @@
+// `RenamedFiles`, from file_storage.rs: other paths for a set's files, in lent tables of their own, the set
+// untouched. Relies on `names` for composed paths and on `answers` for the refusals of a question.
+mod rename;
+
+pub use rename::FileNameResult;
+pub use rename::Rename;
+pub use rename::RenameMode;
+pub use rename::RenameResult;
+pub use rename::RenamedFiles;
+pub use rename::RenamesResult;

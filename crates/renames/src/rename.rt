@@ -1,0 +1,44 @@
+// A set's renames: the record, an entry, and the answers that hold them. It relies on `types` and `tables`.
+use tables::Span;
+use types::FileIndex;
+use types::Refusal;
+
+// How a rename's text is to be read: behind the save path and the set's name, behind the save path, or alone.
+pub enum RenameMode {
+    FullPath,
+    NoRootPath,
+    AbsolutePath,
+}
+
+// A rename: its file, its mode, and its text's place in the renames' text area.
+pub struct Rename {
+    pub file_index: FileIndex,
+    pub mode: RenameMode,
+    pub name: Span,
+}
+
+// How many renames there are, and how many bytes of text they have. The entries, three words each (file, mode,
+// length of the text), and the text area are slices that the caller lends.
+pub struct RenamedFiles {
+    pub num_renames: usize,
+    pub text_len: usize,
+}
+
+// The renames after a change, or why there is none.
+pub enum RenamesResult {
+    Ok(RenamedFiles),
+    Err(Refusal),
+}
+
+// A rename, or why there is none.
+pub enum RenameResult {
+    Ok(Rename),
+    Err(Refusal),
+}
+
+// The place of a file's name in the set's text area, or in that of the renames, or why there is none.
+pub enum FileNameResult {
+    InSet(Span),
+    InRenames(Span),
+    Err(Refusal),
+}
