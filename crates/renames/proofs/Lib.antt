@@ -1,1 +1,6 @@
 -- Laws of renames.
+pub mod Ordered
+pub mod Places
+pub mod Splices
+pub mod Readings
+pub mod Changes

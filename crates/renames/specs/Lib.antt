@@ -1,4 +1,5 @@
 -- The definitions that the contracts of `renames` cite.
 pub mod Renames
+pub mod Places
 pub mod Results
 pub mod Questions

@@ -1,6 +1,9 @@
 // `RenamedFiles`, from file_storage.rs: other paths for a set's files, in lent tables of their own, the set
 // untouched. Relies on `names` for composed paths and on `answers` for the refusals of a question.
+mod check;
+mod place;
 mod rename;
+mod splice;
 
 pub use rename::FileNameResult;
 pub use rename::Rename;

@@ -1,0 +1,115 @@
+-- What a rename more makes of tables in order: both are spliced at its place. These laws rely on those of proofs/Readings.antt,
+-- proofs/Ordered.antt, proofs/Places.antt and proofs/Splices.antt.
+use Prim.Native.Nat.{ℕ, _+_, _-_, _*_, _≤_, _<_}
+use mathlib.Core.Path.{_≡_, refl, sym, ap, _∙_}
+use mathlib.Core.Bool.{Bool, true, false, cond}
+use mathlib.Core.List.{List, [], _∷_, _++_}
+use native.Mathlib.Nat.{zero-add}
+use native.Mathlib.Omega.{arith}
+use lib.Dec.{eqb, ltb}
+use lib.ListN.{length, getD, take, drop, length-append, length-take, length-drop}
+use lib.Seq.{sets, length-take-le}
+use Rattle.lists.proofs.Parts.{drop-take}
+use Rattle.renames.specs.declared.place.Place.{Place}
+use Rattle.renames.specs.Renames.{Renamed, modeWord, renamesFrom, orderedFrom, wordsOf, textsOf, withRename}
+use Rattle.renames.specs.Places.{belowFrom, bytesFrom, sameAt, oldAt, placeOf, spliced}
+use Rattle.renames.proofs.Ordered.{order-mode, order-bytes}
+use Rattle.renames.proofs.Places.{below-le, same-le, same-one, bytes-place, bytes-first}
+use Rattle.renames.proofs.Readings.{length-renames, texts-back, words-back, words-append, texts-append, with-rename}
+use Rattle.renames.proofs.Splices.{sets-own}
+
+-- the place of a file among n entries in order, whose texts have u bytes
+module _ (n u file : ℕ) (e : List ℕ) (ordered : orderedFrom n 0 0 u e ≡ true) where
+  abbrev p : Place
+  p = placeOf n file e
+
+  -- how many bytes stand behind what the rename has already
+  abbrev more : ℕ
+  more = bytesFrom (n - (p .entry + p .same)) (p .entry + p .same) e
+
+  pub place-entry : p .entry + p .same ≤ n
+  place-entry = same-le n file (p .entry) e (below-le n 0 file e)
+
+  pub place-one : p .same ≤ 1
+  place-one = same-one n file (p .entry) e
+
+  place-bytes : u ≡ p .at + p .old + more
+  place-bytes = sym (order-bytes n 0 0 u e ordered) ∙ bytes-place n file (p .entry) e (below-le n 0 file e)
+
+  pub place-text : p .at + p .old ≤ u
+  place-text = omega (arith, place-bytes)
+
+-- the list with a rename more, and what it makes of the tables
+module _ (n u : ℕ) (r : Renamed) (e t : List ℕ) (ordered : orderedFrom n 0 0 u e ≡ true) (held : n * 3 ≤ length e) (room : u ≤ length t) where
+  abbrev q : Place
+  q = placeOf n (r .file) e
+
+  abbrev before : List Renamed
+  before = renamesFrom (q .entry) 0 e t
+
+  abbrev behind : List Renamed
+  behind = renamesFrom (n - (q .entry + q .same)) (q .entry + q .same) e (drop (q .at + q .old) t)
+
+  abbrev after : List Renamed
+  after = withRename r (renamesFrom n 0 e t)
+
+  abbrev words : List ℕ
+  words = r .file ∷ modeWord (r .mode) ∷ length (r .name) ∷ []
+
+  with-place : after ≡ before ++ (r ∷ behind)
+  with-place =
+      let w = with-rename r n 0 e t in
+      rw (zero-add (q .entry), zero-add (q .entry + q .same)) at w
+
+  words-before : wordsOf before ≡ take (q .entry * 3) e
+  words-before =
+      let k = place-entry n u (r .file) e ordered in
+      words-back (q .entry) 0 e t (λ j a b. order-mode n 0 0 u e ordered j (omega arith) (omega arith)) (omega arith)
+      (omega (arith, bytes-first (q .entry) n e (below-le n 0 (r .file) e), order-bytes n 0 0 u e ordered))
+
+  words-behind : wordsOf behind ≡ drop (q .entry * 3 + q .same * 3) (take (n * 3) e)
+  words-behind =
+      let k = place-entry n u (r .file) e ordered in
+      let b = place-bytes n u (r .file) e ordered in
+      let x : q .entry * 3 + q .same * 3 ≡ (q .entry + q .same) * 3 = omega arith in
+      let y : n * 3 - (q .entry + q .same) * 3 ≡ (n - (q .entry + q .same)) * 3 = omega arith in
+      words-back (n - (q .entry + q .same)) (q .entry + q .same) e (drop (q .at + q .old) t)
+      (λ j a c. order-mode n 0 0 u e ordered j (omega arith) (omega arith))
+      (omega arith)
+      (omega (arith, length-drop (q .at + q .old) t))
+      ∙ rw (x, drop-take ((q .entry + q .same) * 3) (n * 3) e, y)
+
+  words-with : wordsOf after ≡ take (q .entry * 3) e ++ (words ++ drop (q .entry * 3 + q .same * 3) (take (n * 3) e))
+  words-with = rw (with-place, words-append before (r ∷ behind), words-before, words-behind)
+
+  texts-behind : textsOf behind ≡ drop (q .at + q .old) (take u t)
+  texts-behind =
+      let b = place-bytes n u (r .file) e ordered in
+      let y : u - (q .at + q .old) ≡ more n u (r .file) e ordered = omega arith in
+      texts-back (n - (q .entry + q .same)) (q .entry + q .same) e (drop (q .at + q .old) t) ∙ rw (drop-take (q .at + q .old) u t, y)
+
+  texts-with : textsOf after ≡ take (q .at) t ++ (r .name ++ drop (q .at + q .old) (take u t))
+  texts-with = rw (with-place, texts-append before (r ∷ behind), texts-back (q .entry) 0 e t, texts-behind)
+
+  -- both tables, and the counts
+  pub entries-after : sets e 0 (wordsOf after) ≡ spliced e (n * 3) (q .entry * 3) (q .same * 3) words
+  entries-after =
+      let k = place-entry n u (r .file) e ordered in
+      rw words-with (sets-own e (words ++ drop (q .entry * 3 + q .same * 3) (take (n * 3) e)) (q .entry * 3) (omega arith))
+
+  pub text-after : sets t 0 (textsOf after) ≡ spliced t u (q .at) (q .old) (r .name)
+  text-after =
+      let k = place-text n u (r .file) e ordered in
+      rw texts-with (sets-own t (r .name ++ drop (q .at + q .old) (take u t)) (q .at) (omega arith))
+
+  pub count-after : length after ≡ n + 1 - q .same
+  count-after =
+      let k = place-entry n u (r .file) e ordered in
+      rw (with-place, length-append before (r ∷ behind), length-renames (q .entry) 0 e t, length-renames (n - (q .entry + q .same)) (q .entry + q .same) e (drop (q .at + q .old) t))
+      (omega (arith, place-one n u (r .file) e ordered))
+
+  pub bytes-after : length (textsOf after) ≡ u - q .old + length (r .name)
+  bytes-after =
+      let k = place-text n u (r .file) e ordered in
+      rw (texts-with, length-append (take (q .at) t) (r .name ++ drop (q .at + q .old) (take u t)), length-append (r .name) (drop (q .at + q .old) (take u t)), length-drop (q .at + q .old) (take u t), length-take-le u t room, length-take-le (q .at) t (omega arith))
+      (omega arith)

@@ -1,0 +1,61 @@
+// Whether the lent tables of renames are in order. Relies on the total accessors of `lists` and on the laws of
+// proofs/Orders.antt.
+ghost use mathlib.Core.Path.{_≡_};
+ghost use mathlib.Core.Bool.{cond};
+ghost use Prim.Native.Nat.{_+_, _*_, _/_, _≤_};
+ghost use lib.Dec.{leb};
+ghost use lib.ListN.{length, getD};
+ghost use Rattle.storage.specs.Rules.{both};
+ghost use Rattle.renames.specs.Renames.{orderedFrom};
+use crate::rename::RenamedFiles;
+
+// Whether an entry is in order: its number at least `least` and of 31 bits, its mode one of three, its text
+// within the `left` bytes.
+fn is_entry_in_order(file: u64, mode: u64, len: u64, least: u64, left: usize) -> bool
+    ensures { λ r. ⌜ r ≡ both (both (leb least file) (leb file 2147483647)) (both (leb mode 2) (leb len left)) ⌝ }
+{
+    if file < least {
+        return false;
+    }
+    if 2147483647 < file {
+        return false;
+    }
+    if 2 < mode {
+        return false;
+    }
+    len <= left as u64
+}
+
+// Whether n entries are in order and their texts have `len` bytes together.
+fn are_in_order(entries: &[u64], n: usize, len: usize) -> bool
+    requires { ⌜ n * 3 ≤ length (now entries) ⌝ }
+    ensures { λ r. ⌜ r ≡ orderedFrom n 0 0 len (now (entries .entry)) ⌝ }
+{
+    let mut i = 0;
+    let mut least: u64 = 0;
+    let mut left = len;
+    while i < n {
+        let file = lists::word(entries, i * 3);
+        let size = lists::word(entries, i * 3 + 2);
+        if !is_entry_in_order(file, lists::word(entries, i * 3 + 1), size, least, left) {
+            return false;
+        }
+        least = file + 1;
+        left -= size as usize;
+        i += 1;
+    }
+    left == 0
+}
+
+// Whether the lent tables, the text area being of `room` bytes, hold what the record counts, in order.
+pub(crate) fn is_in_order(renames: RenamedFiles, entries: &[u64], room: usize) -> bool
+    ensures { λ r. ⌜ r ≡ both (leb (renames .«num_renames») (length (now (entries .entry)) / 3)) (both (leb (renames .«text_len») room) (orderedFrom (renames .«num_renames») 0 0 (renames .«text_len») (now (entries .entry)))) ⌝ }
+{
+    if entries.len() / 3 < renames.num_renames {
+        return false;
+    }
+    if room < renames.text_len {
+        return false;
+    }
+    are_in_order(entries, renames.num_renames, renames.text_len)
+}

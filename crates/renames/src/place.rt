@@ -1,0 +1,87 @@
+// Where the rename of a file stands in the lent tables, or would stand. Relies on the total accessors of
+// `lists` and on the laws of proofs/Places.antt.
+ghost use mathlib.Core.Path.{_≡_};
+ghost use mathlib.Core.Bool.{cond};
+ghost use Prim.Native.Nat.{_+_, _*_, _≤_, _<_, _^_};
+ghost use lib.ListN.{length, getD};
+ghost use Rattle.renames.specs.Places.{belowFrom, bytesFrom, isNamed, placeAt, placeOf};
+
+// The entry of a rename, how many entries it has already (one or none), its text's place, and how many bytes
+// of text it has already.
+pub(crate) struct Place {
+    pub entry: usize,
+    pub same: usize,
+    pub at: usize,
+    pub old: usize,
+}
+
+// How many of n entries stand before the first whose number is `file` or above.
+fn entries_below(entries: &[u64], n: usize, file: u64) -> usize
+    requires { ⌜ n * 3 ≤ length (now entries) ⌝ }
+    ensures { λ r. ⌜ r ≡ belowFrom n 0 file (now (entries .entry)) ⌝ }
+{
+    let mut i = 0;
+    while i < n {
+        if file <= lists::word(entries, i * 3) {
+            return i;
+        }
+        i += 1;
+    }
+    i
+}
+
+// How many bytes of text the first n entries have together.
+fn bytes_of(entries: &[u64], n: usize) -> usize
+    requires { ⌜ (n * 3 ≤ length (now entries)) × (bytesFrom n 0 (now entries) < 2 ^ 64) ⌝ }
+    ensures { λ r. ⌜ r ≡ bytesFrom n 0 (now (entries .entry)) ⌝ }
+{
+    let mut i = 0;
+    let mut sum: usize = 0;
+    while i < n {
+        sum += lists::word(entries, i * 3 + 2) as usize;
+        i += 1;
+    }
+    sum
+}
+
+// Whether entry i is one of n, and has the number `file`.
+fn is_named(entries: &[u64], n: usize, file: u64, i: usize) -> bool
+    requires { ⌜ n * 3 ≤ length (now entries) ⌝ }
+    ensures { λ r. ⌜ r ≡ isNamed n file i (now (entries .entry)) ⌝ }
+{
+    if i < n {
+        return lists::word(entries, i * 3) == file;
+    }
+    false
+}
+
+// The place of a file whose rename stands at entry i, or would stand there.
+fn place_at(entries: &[u64], n: usize, file: u64, i: usize) -> Place
+    requires { ⌜ (n * 3 ≤ length (now entries)) × (i ≤ n) × (bytesFrom i 0 (now entries) < 2 ^ 64) ⌝ }
+    ensures { λ r. ⌜ r ≡ placeAt n file i (now (entries .entry)) ⌝ }
+{
+    let at = bytes_of(entries, i);
+    if is_named(entries, n, file, i) {
+        return Place {
+            entry: i,
+            same: 1,
+            at,
+            old: lists::word(entries, i * 3 + 2) as usize,
+        };
+    }
+    Place {
+        entry: i,
+        same: 0,
+        at,
+        old: 0,
+    }
+}
+
+// The place of a file among n entries.
+pub(crate) fn place_of(entries: &[u64], n: usize, file: u64) -> Place
+    requires { ⌜ (n * 3 ≤ length (now entries)) × (bytesFrom n 0 (now entries) < 2 ^ 64) ⌝ }
+    ensures { λ r. ⌜ r ≡ placeOf n file (now (entries .entry)) ⌝ }
+{
+    let i = entries_below(entries, n, file);
+    place_at(entries, n, file, i)
+}
