@@ -11,7 +11,8 @@ use lib.ListN.{length, getD, take, drop, length-append, length-take, length-drop
 use lib.Seq.{sets, length-take-le}
 use Rattle.lists.proofs.Parts.{drop-take}
 use Rattle.renames.specs.declared.place.Place.{Place}
-use Rattle.renames.specs.Renames.{Renamed, modeWord, renamesFrom, orderedFrom, wordsOf, textsOf, withRename}
+use Rattle.renames.specs.declared.rename.RenamedFiles.{RenamedFiles}
+use Rattle.renames.specs.Renames.{Renamed, modeWord, renamesFrom, orderedFrom, wordsOf, textsOf, stateOf, withRename}
 use Rattle.renames.specs.Places.{belowFrom, bytesFrom, sameAt, oldAt, placeOf, spliced}
 use Rattle.renames.proofs.Ordered.{order-mode, order-bytes}
 use Rattle.renames.proofs.Places.{below-le, same-le, same-one, bytes-place, bytes-first}
@@ -38,6 +39,10 @@ module _ (n u file : ℕ) (e : List ℕ) (ordered : orderedFrom n 0 0 u e ≡ tr
 
   pub place-text : p .at + p .old ≤ u
   place-text = omega (arith, place-bytes)
+
+  -- the same of a place that is known to be that one
+  pub place-in : (x : Place) → x ≡ placeOf n file e → (x .entry + x .same ≤ n) × (x .same ≤ 1) × (x .at + x .old ≤ u)
+  place-in x h = rw h (place-entry, place-one, place-text)
 
 -- the list with a rename more, and what it makes of the tables
 module _ (n u : ℕ) (r : Renamed) (e t : List ℕ) (ordered : orderedFrom n 0 0 u e ≡ true) (held : n * 3 ≤ length e) (room : u ≤ length t) where
@@ -113,3 +118,23 @@ module _ (n u : ℕ) (r : Renamed) (e t : List ℕ) (ordered : orderedFrom n 0 0
       let k = place-text n u (r .file) e ordered in
       rw (texts-with, length-append (take (q .at) t) (r .name ++ drop (q .at + q .old) (take u t)), length-append (r .name) (drop (q .at + q .old) (take u t)), length-drop (q .at + q .old) (take u t), length-take-le u t room, length-take-le (q .at) t (omega arith))
       (omega arith)
+
+  -- the same of a place that is known to be that one
+  module _ (x : Place) (h : x ≡ placeOf n (r .file) e) where
+    pub put-state : _≡_ {A = RenamedFiles} (record { «num_renames» = n + 1 - x .same; «text_len» = u - x .old + length (r .name) }) (stateOf after)
+    put-state =
+        let a : x .same ≡ q .same = ap (λ (y : Place). y .same) h in
+        let b : x .old ≡ q .old = ap (λ (y : Place). y .old) h in
+        rw (a, b, count-after, bytes-after)
+
+    pub put-entries : spliced e (n * 3) (x .entry * 3) (x .same * 3) words ≡ sets e 0 (wordsOf after)
+    put-entries =
+        let a : x .same ≡ q .same = ap (λ (y : Place). y .same) h in
+        let b : x .entry ≡ q .entry = ap (λ (y : Place). y .entry) h in
+        rw (a, b) (sym entries-after)
+
+    pub put-text : spliced t u (x .at) (x .old) (r .name) ≡ sets t 0 (textsOf after)
+    put-text =
+        let a : x .at ≡ q .at = ap (λ (y : Place). y .at) h in
+        let b : x .old ≡ q .old = ap (λ (y : Place). y .old) h in
+        rw (a, b) (sym text-after)

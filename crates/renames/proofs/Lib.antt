@@ -4,3 +4,4 @@ pub mod Places
 pub mod Splices
 pub mod Readings
 pub mod Changes
+pub mod Decisions

@@ -1,5 +1,6 @@
 -- The definitions that the contracts of `renames` cite.
 pub mod Renames
 pub mod Places
+pub mod Changing
 pub mod Results
 pub mod Questions

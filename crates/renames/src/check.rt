@@ -1,11 +1,11 @@
 // Whether the lent tables of renames are in order. Relies on the total accessors of `lists` and on the laws of
 // proofs/Orders.antt.
 ghost use mathlib.Core.Path.{_≡_};
-ghost use mathlib.Core.Bool.{cond};
-ghost use Prim.Native.Nat.{_+_, _*_, _/_, _≤_};
+ghost use Prim.Native.Nat.{_*_, _≤_};
 ghost use lib.Dec.{leb};
-ghost use lib.ListN.{length, getD};
+ghost use lib.ListN.{length};
 ghost use Rattle.storage.specs.Rules.{both};
+ghost use Rattle.renames.specs.Changing.{inOrderIn};
 ghost use Rattle.renames.specs.Renames.{orderedFrom};
 use crate::rename::RenamedFiles;
 
@@ -49,7 +49,7 @@ fn are_in_order(entries: &[u64], n: usize, len: usize) -> bool
 
 // Whether the lent tables, the text area being of `room` bytes, hold what the record counts, in order.
 pub(crate) fn is_in_order(renames: RenamedFiles, entries: &[u64], room: usize) -> bool
-    ensures { λ r. ⌜ r ≡ both (leb (renames .«num_renames») (length (now (entries .entry)) / 3)) (both (leb (renames .«text_len») room) (orderedFrom (renames .«num_renames») 0 0 (renames .«text_len») (now (entries .entry)))) ⌝ }
+    ensures { λ r. ⌜ r ≡ inOrderIn renames (now (entries .entry)) room ⌝ }
 {
     if entries.len() / 3 < renames.num_renames {
         return false;

@@ -1,10 +1,12 @@
 // `RenamedFiles`, from file_storage.rs: other paths for a set's files, in lent tables of their own, the set
 // untouched. Relies on `names` for composed paths and on `answers` for the refusals of a question.
+mod change;
 mod check;
 mod place;
 mod rename;
 mod splice;
 
+pub use change::rename_file;
 pub use rename::FileNameResult;
 pub use rename::Rename;
 pub use rename::RenameMode;

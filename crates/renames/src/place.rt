@@ -5,6 +5,7 @@ ghost use mathlib.Core.Bool.{cond};
 ghost use Prim.Native.Nat.{_+_, _*_, _≤_, _<_, _^_};
 ghost use lib.ListN.{length, getD};
 ghost use Rattle.renames.specs.Places.{belowFrom, bytesFrom, isNamed, placeAt, placeOf};
+use types::Refusal;
 
 // The entry of a rename, how many entries it has already (one or none), its text's place, and how many bytes
 // of text it has already.
@@ -13,6 +14,12 @@ pub(crate) struct Place {
     pub same: usize,
     pub at: usize,
     pub old: usize,
+}
+
+// The place of a rename, or why there is none.
+pub(crate) enum PlaceResult {
+    At(Place),
+    Err(Refusal),
 }
 
 // How many of n entries stand before the first whose number is `file` or above.

@@ -1,8 +1,8 @@
 -- `renames::check::are_in_order` meets its contract. The loop's invariant: the check of the entries from i on, with what is
 -- asked of them by then, says what the whole check says.
-use Prim.Native.Nat.{ℕ, suc, zero, _+_, _-_, _*_, _≤_, _<_}
-use mathlib.Core.Path.{_≡_, refl, sym, ap, _∙_}
-use mathlib.Core.Bool.{Bool, true, false, cond, not}
+use Prim.Native.Nat.{ℕ, suc, _+_, _-_, _*_, _≤_, _<_}
+use mathlib.Core.Path.{_≡_, sym, _∙_}
+use mathlib.Core.Bool.{true, false}
 use mathlib.Core.List.{List}
 use native.Mathlib.Nat.{sub-zero}
 use native.Mathlib.Omega.{arith}
@@ -10,15 +10,10 @@ use borrow.Author.Needs.{needs}
 use borrow.Author.Tests.{not-true, not-false}
 use lib.Dec.{eqb}
 use lib.ListN.{length, getD}
-use Rattle.storage.specs.Rules.{both}
 use Rattle.renames.specs.Renames.{orderedFrom}
 use Rattle.renames.proofs.Ordered.{entryOrdered, entry-in, order-step}
 use Rattle.renames.proofs.check.are_in_order.Statement.{statement}
 use Rattle.renames.proofs.check.are_in_order.Tie as tie
-use Rattle.renames.proofs.check.are_in_order.Reads as reads
-use Rattle.renames.proofs.check.are_in_order.Lts as lts
-use Rattle.lists.proofs.word.Reads as word-reads
-use Rattle.renames.proofs.check.is_entry_in_order.Reads as is-entry-in-order-reads
 
 abbrev Inv-loop : tie.InvT-loop
 Inv-loop entries n len i₀ least₀ left₀ i least left = (i ≤ n) × (n * 3 ≤ length entries) × (orderedFrom (n - i) i least left entries ≡ orderedFrom n 0 0 len entries)
@@ -50,69 +45,53 @@ tested c = c .is-entry-in-order .ensures ∙ rw (c .before .before .before .word
 known : (c : tie.Else1 Inv-loop μ-loop) → let l = c .before .before .before .before .before .before .loop in (l .least ≤ c .before .before .before .before .word .result) × (c .before .before .before .before .word .result ≤ 2147483647) × (c .before .before .word3 .result ≤ 2) × (c .before .before .before .word2 .result ≤ l .left)
 known c = entry-in (c .before .before .before .before .word .result) (c .before .before .word3 .result) (c .before .before .before .word2 .result) (c .before .before .before .before .before .before .loop .least) (c .before .before .before .before .before .before .loop .left) (sym (c .before .is-entry-in-order .ensures) ∙ not-false _ (c .if1 .left))
 
--- src/check.rt:37:5
 loop-holds : tie.Need-loop-holds Inv-loop μ-loop
 loop-holds c = (omega arith, c .before .pre, rw (sub-zero (c .before .args .n)))
 
--- src/check.rt:38:41
 mul-word : tie.Need-mul-word Inv-loop μ-loop
 mul-word c = search needs
 
--- src/check.rt:38:13
 word-requires : tie.Need-word-requires Inv-loop μ-loop
 word-requires c κs = search needs
 
--- src/check.rt:39:41
 mul-word-2 : tie.Need-mul-word-2 Inv-loop μ-loop
 mul-word-2 c = search needs
 
--- src/check.rt:39:41
 add-word : tie.Need-add-word Inv-loop μ-loop
 add-word c = search needs
 
--- src/check.rt:39:13
 word-requires-2 : tie.Need-word-requires-2 Inv-loop μ-loop
 word-requires-2 c κs = search needs
 
--- src/check.rt:40:58
 mul-word-3 : tie.Need-mul-word-3 Inv-loop μ-loop
 mul-word-3 c = search needs
 
--- src/check.rt:40:58
 add-word-2 : tie.Need-add-word-2 Inv-loop μ-loop
 add-word-2 c = search needs
 
--- src/check.rt:40:37
 word-requires-3 : tie.Need-word-requires-3 Inv-loop μ-loop
 word-requires-3 c κs = search needs
 
--- src/check.rt:40:13
 is-entry-in-order-requires : tie.Need-is-entry-in-order-requires Inv-loop μ-loop
 is-entry-in-order-requires c κs = search needs
 
--- src/check.rt:41:13
 returns : tie.Need-returns Inv-loop μ-loop
 returns c =
     let l = c .before .before .before .before .before .before .loop in
     sym (stop (c .before .before .before .before .before .before .before .before .args .n) (l .i) (l .least) (l .left) (c .before .before .before .before .before .before .before .before .args .entries .now) (c .before .before .before .before .before .loop-test .taken) (sym (tested (c .before)) ∙ not-true _ (c .if1 .taken))) ∙ l .inv .2
 
--- src/check.rt:43:17
 add-least : tie.Need-add-least Inv-loop μ-loop
 add-least c = record { fits = omega (arith, known c .1) }
 
--- src/check.rt:44:9
 sub-left : tie.Need-sub-left Inv-loop μ-loop
 sub-left c = omega (arith, known c .3)
 
--- src/check.rt:45:9
 add-i : tie.Need-add-i Inv-loop μ-loop
 add-i c = search needs
 
--- src/check.rt:37:5
 loop-less : tie.Need-loop-less Inv-loop μ-loop
 loop-less c = search needs
 
--- src/check.rt:37:5
 loop-again : tie.Need-loop-again Inv-loop μ-loop
 loop-again c =
     let l = c .before .before .before .before .before .before .loop in
@@ -121,7 +100,6 @@ loop-again c =
     let on = turn n (l .i) (l .least) (l .left) e (c .before .before .before .before .before .loop-test .taken) (sym (tested (c .before)) ∙ not-false _ (c .if1 .left)) in
     (omega arith, l .inv .1, rw (c .before .before .before .before .word .ensures, c .before .before .before .word2 .ensures) (sym on ∙ l .inv .2))
 
--- src/check.rt:30:1
 returns-2 : tie.Need-returns-2 Inv-loop μ-loop
 returns-2 c =
     let l = c .before .loop in

@@ -1,31 +1,24 @@
 -- `renames::check::is_entry_in_order` meets its contract.
-use Prim.Native.Nat.{ℕ}
 use mathlib.Core.Path.{_≡_, refl}
-use mathlib.Core.Bool.{Bool, true, false, cond}
+use mathlib.Core.Bool.{Bool, true, false}
 use borrow.Author.Tests.{lt-leb, le-leb}
 use Rattle.storage.specs.Rules.{both}
 use Rattle.renames.proofs.check.is_entry_in_order.Statement.{statement}
 use Rattle.renames.proofs.check.is_entry_in_order.Tie as tie
-use Rattle.renames.proofs.check.is_entry_in_order.Reads as reads
-use Rattle.renames.proofs.check.is_entry_in_order.Lts as lts
 
 no-more : (a : Bool) → both a false ≡ false
 no-more true = refl
 no-more false = refl
 
--- src/check.rt:18:9
 returns : tie.Need-returns
 returns c = rw (lt-leb _ _ (c .if1 .taken))
 
--- src/check.rt:21:9
 returns-2 : tie.Need-returns-2
 returns-2 c = rw (lt-leb _ _ (c .if2 .taken), no-more _)
 
--- src/check.rt:24:9
 returns-3 : tie.Need-returns-3
 returns-3 c = rw (lt-leb _ _ (c .if3 .taken), no-more _)
 
--- src/check.rt:14:1
 returns-4 : tie.Need-returns-4
 returns-4 c = rw (le-leb _ _ (c .before .before .if1 .left), le-leb _ _ (c .before .if2 .left), le-leb _ _ (c .if3 .left))
 

@@ -3,23 +3,16 @@ use borrow.Author.Needs.{needs}
 use borrow.Author.Tests.{le-leb, lt-leb}
 use Rattle.renames.proofs.check.is_in_order.Statement.{statement}
 use Rattle.renames.proofs.check.is_in_order.Tie as tie
-use Rattle.renames.proofs.check.is_in_order.Reads as reads
-use Rattle.renames.proofs.check.is_in_order.Lts as lts
-use Rattle.renames.proofs.check.are_in_order.Reads as are-in-order-reads
 
--- src/check.rt:55:9
 returns : tie.Need-returns
 returns c = rw (lt-leb _ _ (c .if1 .taken))
 
--- src/check.rt:58:9
 returns-2 : tie.Need-returns-2
 returns-2 c = rw (le-leb _ _ (c .before .before .if1 .left), lt-leb _ _ (c .if2 .taken))
 
--- src/check.rt:60:5
 are-in-order-requires : tie.Need-are-in-order-requires
 are-in-order-requires c κs = search needs
 
--- src/check.rt:51:1
 returns-3 : tie.Need-returns-3
 returns-3 c = rw (le-leb _ _ (c .before .before .before .if1 .left), le-leb _ _ (c .before .if2 .left)) (c .are-in-order .ensures)
 

@@ -1,6 +1,6 @@
 -- `renames::place::bytes_of` meets its contract. The loop's invariant: the sum and the bytes of the entries from i on give the
 -- whole, which fits.
-use Prim.Native.Nat.{ℕ, _+_, _-_, _*_, _≤_, _<_, _^_}
+use Prim.Native.Nat.{_+_, _-_, _*_, _≤_, _<_, _^_}
 use mathlib.Core.Path.{_≡_, sym, _∙_}
 use native.Mathlib.Nat.{sub-zero, zero-add}
 use native.Mathlib.Omega.{arith}
@@ -10,9 +10,6 @@ use Rattle.renames.specs.Places.{bytesFrom}
 use Rattle.renames.proofs.Places.{bytes-turn, bytes-end}
 use Rattle.renames.proofs.place.bytes_of.Statement.{statement}
 use Rattle.renames.proofs.place.bytes_of.Tie as tie
-use Rattle.renames.proofs.place.bytes_of.Reads as reads
-use Rattle.renames.proofs.place.bytes_of.Lts as lts
-use Rattle.lists.proofs.word.Reads as word-reads
 
 abbrev Inv-loop : tie.InvT-loop
 Inv-loop entries n i₀ sum₀ i sum = (i ≤ n) × (n * 3 ≤ length entries) × (bytesFrom n 0 entries < 2 ^ 64) × (sum + bytesFrom (n - i) i entries ≡ bytesFrom n 0 entries)
@@ -20,45 +17,36 @@ Inv-loop entries n i₀ sum₀ i sum = (i ≤ n) × (n * 3 ≤ length entries) �
 abbrev μ-loop : tie.MeasureT-loop
 μ-loop entries n i₀ sum₀ i sum = n - i
 
--- src/place.rt:40:5
 loop-holds : tie.Need-loop-holds Inv-loop μ-loop
 loop-holds c = (omega arith, c .before .pre .0, c .before .pre .1, rw (sub-zero (c .before .args .n), zero-add))
 
--- src/place.rt:41:37
 mul-word : tie.Need-mul-word Inv-loop μ-loop
 mul-word c = search needs
 
--- src/place.rt:41:37
 add-word : tie.Need-add-word Inv-loop μ-loop
 add-word c = search needs
 
--- src/place.rt:41:16
 word-requires : tie.Need-word-requires Inv-loop μ-loop
 word-requires c κs = search needs
 
--- src/place.rt:41:9
 add-sum : tie.Need-add-sum Inv-loop μ-loop
 add-sum c =
     let a = c .before .before .before .before .args in
     let l = c .before .before .loop in
     record { fits = omega (arith, c .word .ensures, bytes-turn (a .n) (l .i) (l .sum) (a .entries .now) (c .before .loop-test .taken)) }
 
--- src/place.rt:42:9
 add-i : tie.Need-add-i Inv-loop μ-loop
 add-i c = search needs
 
--- src/place.rt:40:5
 loop-less : tie.Need-loop-less Inv-loop μ-loop
 loop-less c = search needs
 
--- src/place.rt:40:5
 loop-again : tie.Need-loop-again Inv-loop μ-loop
 loop-again c =
     let a = c .before .before .before .before .args in
     let l = c .before .before .loop in
     (omega arith, l .inv .1, l .inv .2, rw (c .word .ensures) (sym (bytes-turn (a .n) (l .i) (l .sum) (a .entries .now) (c .before .loop-test .taken)) ∙ l .inv .3))
 
--- src/place.rt:34:1
 returns : tie.Need-returns Inv-loop μ-loop
 returns c =
     let a = c .before .before .before .args in

@@ -1,6 +1,6 @@
 -- `renames::place::entries_below` meets its contract. The loop's invariant: i and the entries from i on that stand below give the
 -- whole count.
-use Prim.Native.Nat.{ℕ, _+_, _-_, _*_, _≤_}
+use Prim.Native.Nat.{_+_, _-_, _*_, _≤_}
 use mathlib.Core.Path.{_≡_, sym, _∙_}
 use native.Mathlib.Nat.{sub-zero, zero-add}
 use native.Mathlib.Omega.{arith}
@@ -10,9 +10,6 @@ use Rattle.renames.specs.Places.{belowFrom}
 use Rattle.renames.proofs.Places.{below-turn, below-stop, below-end}
 use Rattle.renames.proofs.place.entries_below.Statement.{statement}
 use Rattle.renames.proofs.place.entries_below.Tie as tie
-use Rattle.renames.proofs.place.entries_below.Reads as reads
-use Rattle.renames.proofs.place.entries_below.Lts as lts
-use Rattle.lists.proofs.word.Reads as word-reads
 
 abbrev Inv-loop : tie.InvT-loop
 Inv-loop entries n file i₀ i = (i ≤ n) × (n * 3 ≤ length entries) × (i + belowFrom (n - i) i file entries ≡ belowFrom n 0 file entries)
@@ -20,41 +17,33 @@ Inv-loop entries n file i₀ i = (i ≤ n) × (n * 3 ≤ length entries) × (i +
 abbrev μ-loop : tie.MeasureT-loop
 μ-loop entries n file i₀ i = n - i
 
--- src/place.rt:24:5
 loop-holds : tie.Need-loop-holds Inv-loop μ-loop
 loop-holds c = (omega arith, c .before .pre, rw (sub-zero (c .before .args .n), zero-add))
 
--- src/place.rt:25:41
 mul-word : tie.Need-mul-word Inv-loop μ-loop
 mul-word c = search needs
 
--- src/place.rt:25:20
 word-requires : tie.Need-word-requires Inv-loop μ-loop
 word-requires c κs = search needs
 
--- src/place.rt:26:13
 returns : tie.Need-returns Inv-loop μ-loop
 returns c =
     let a = c .before .before .before .before .before .args in
     let l = c .before .before .before .loop in
     sym (below-stop (a .n) (l .i) (a .file) (a .entries .now) (c .before .before .loop-test .taken) (omega (arith, c .before .word .ensures))) ∙ l .inv .2
 
--- src/place.rt:28:9
 add-i : tie.Need-add-i Inv-loop μ-loop
 add-i c = search needs
 
--- src/place.rt:24:5
 loop-less : tie.Need-loop-less Inv-loop μ-loop
 loop-less c = search needs
 
--- src/place.rt:24:5
 loop-again : tie.Need-loop-again Inv-loop μ-loop
 loop-again c =
     let a = c .before .before .before .before .before .args in
     let l = c .before .before .before .loop in
     (omega arith, l .inv .1, sym (below-turn (a .n) (l .i) (a .file) (a .entries .now) (c .before .before .loop-test .taken) (omega (arith, c .before .word .ensures))) ∙ l .inv .2)
 
--- src/place.rt:19:1
 returns-2 : tie.Need-returns-2 Inv-loop μ-loop
 returns-2 c =
     let a = c .before .before .before .args in

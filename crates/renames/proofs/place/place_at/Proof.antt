@@ -5,40 +5,28 @@ use Rattle.renames.specs.Places.{isNamed}
 use borrow.Author.Needs.{needs}
 use Rattle.renames.proofs.place.place_at.Statement.{statement}
 use Rattle.renames.proofs.place.place_at.Tie as tie
-use Rattle.renames.proofs.place.place_at.Reads as reads
-use Rattle.renames.proofs.place.place_at.Lts as lts
-use Rattle.lists.proofs.word.Reads as word-reads
-use Rattle.renames.proofs.place.bytes_of.Reads as bytes-of-reads
-use Rattle.renames.proofs.place.is_named.Reads as is-named-reads
 
--- src/place.rt:63:9
 bytes-of-requires : tie.Need-bytes-of-requires
 bytes-of-requires c κs = search needs
 
--- src/place.rt:64:8
 is-named-requires : tie.Need-is-named-requires
 is-named-requires c κs = search needs
 
--- src/place.rt:69:39
 mul-word : tie.Need-mul-word
 mul-word c = search needs
 
--- src/place.rt:69:39
 add-word : tie.Need-add-word
 add-word c = search needs
 
--- src/place.rt:69:18
 word-requires : tie.Need-word-requires
 word-requires c κs = search needs
 
--- src/place.rt:65:9
 returns : tie.Need-returns
 returns c =
     let a = c .before .before .before .before .before .args in
     let e : isNamed (a .n) (a .file) (a .i) (a .entries .now) ≡ true = sym (c .before .before .is-named .ensures) ∙ c .before .if1 .taken in
     rw (e, c .before .before .before .bytes-of .ensures, c .word .ensures)
 
--- src/place.rt:59:1
 returns-2 : tie.Need-returns-2
 returns-2 c =
     let a = c .before .before .before .before .args in

@@ -1,31 +1,24 @@
 -- `renames::splice::make_room` meets its contract. Where the entry stands there already, nothing moves.
-use Prim.Native.Nat.{ℕ, _+_, _*_, _≤_}
-use mathlib.Core.Path.{_≡_, refl, sym, _∙_}
+use Prim.Native.Nat.{_+_, _*_}
+use mathlib.Core.Path.{_≡_, sym}
 use native.Mathlib.Omega.{arith}
 use Rattle.renames.proofs.Splices.{sets-still}
 use borrow.Author.Needs.{needs}
 use Rattle.renames.proofs.splice.make_room.Statement.{statement}
 use Rattle.renames.proofs.splice.make_room.Tie as tie
-use Rattle.renames.proofs.splice.make_room.Reads as reads
-use Rattle.renames.proofs.splice.make_room.Lts as lts
-use Rattle.renames.proofs.splice.move_words.Reads as move-words-reads
 
--- src/splice.rt:72:9
 move-words-requires : tie.Need-move-words-requires
 move-words-requires c κs = search needs
 
--- src/splice.rt:67:1
 same-length : tie.Need-same-length
 same-length c = search needs
 
--- src/splice.rt:67:1
 returns : tie.Need-returns
 returns c =
     let a = c .before .before .before .before .before .before .args in
     let z : a .at + a .same * 3 ≡ a .at = omega arith in
     rw z (c .before .before .move-words .ensures)
 
--- src/splice.rt:67:1
 returns-2 : tie.Need-returns-2
 returns-2 c =
     let a = c .before .before .args in

@@ -1,13 +1,9 @@
 -- `renames::splice::move_up` meets its contract. The loop's invariant: the cells from i on are moved, the rest is untouched, and
 -- what is left to move gives the whole.
-use Prim.Native.Nat.{ℕ}
-use native.Mathlib.Omega.{arith}
 use borrow.Author.Needs.{needs}
 use Rattle.renames.proofs.Splices.{Moving, moving-start, moving-turn, moving-end}
 use Rattle.renames.proofs.splice.move_up.Statement.{statement}
 use Rattle.renames.proofs.splice.move_up.Tie as tie
-use Rattle.renames.proofs.splice.move_up.Reads as reads
-use Rattle.renames.proofs.splice.move_up.Lts as lts
 
 abbrev Inv-loop : tie.InvT-loop
 Inv-loop text₀ used from by i₀ text i = Moving used from by text₀ text i
@@ -15,42 +11,33 @@ Inv-loop text₀ used from by i₀ text i = Moving used from by text₀ text i
 abbrev μ-loop : tie.MeasureT-loop
 μ-loop text₀ used from by i₀ text i = i
 
--- src/splice.rt:17:5
 loop-holds : tie.Need-loop-holds Inv-loop μ-loop
 loop-holds c = moving-start (c .args .used) (c .args .from) (c .args .by) (c .args .text .now) (c .pre .0) (c .pre .1)
 
--- src/splice.rt:18:9
 sub-i : tie.Need-sub-i Inv-loop μ-loop
 sub-i c = search needs
 
--- src/splice.rt:19:24
 slice-read-text : tie.Need-slice-read-text Inv-loop μ-loop
 slice-read-text c = search needs
 
--- src/splice.rt:19:14
 add-text : tie.Need-add-text Inv-loop μ-loop
 add-text c = search needs
 
--- src/splice.rt:19:9
 slice-write-text : tie.Need-slice-write-text Inv-loop μ-loop
 slice-write-text c = search needs
 
--- src/splice.rt:17:5
 loop-less : tie.Need-loop-less Inv-loop μ-loop
 loop-less c = search needs
 
--- src/splice.rt:17:5
 loop-again : tie.Need-loop-again Inv-loop μ-loop
 loop-again c =
     let a = c .before .before .before .args in
     let l = c .before .before .loop in
     moving-turn (a .used) (a .from) (a .by) (a .text .now) (l .text) (l .i) (l .inv) (c .before .loop-test .taken)
 
--- src/splice.rt:12:1
 same-length : tie.Need-same-length Inv-loop μ-loop
 same-length c = c .before .loop .inv .3
 
--- src/splice.rt:12:1
 returns : tie.Need-returns Inv-loop μ-loop
 returns c =
     let a = c .before .before .args in

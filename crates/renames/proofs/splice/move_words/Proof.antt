@@ -1,13 +1,9 @@
 -- `renames::splice::move_words` meets its contract. The loop's invariant: the cells from i on are moved, the rest is untouched, and
 -- what is left to move gives the whole.
-use Prim.Native.Nat.{ℕ}
-use native.Mathlib.Omega.{arith}
 use borrow.Author.Needs.{needs}
 use Rattle.renames.proofs.Splices.{Moving, moving-start, moving-turn, moving-end}
 use Rattle.renames.proofs.splice.move_words.Statement.{statement}
 use Rattle.renames.proofs.splice.move_words.Tie as tie
-use Rattle.renames.proofs.splice.move_words.Reads as reads
-use Rattle.renames.proofs.splice.move_words.Lts as lts
 
 abbrev Inv-loop : tie.InvT-loop
 Inv-loop words₀ used from i₀ words i = Moving used from 3 words₀ words i
@@ -15,50 +11,39 @@ Inv-loop words₀ used from i₀ words i = Moving used from 3 words₀ words i
 abbrev μ-loop : tie.MeasureT-loop
 μ-loop words₀ used from i₀ words i = i
 
--- src/splice.rt:50:5
 loop-holds : tie.Need-loop-holds Inv-loop μ-loop
 loop-holds c = moving-start (c .args .used) (c .args .from) 3 (c .args .words .now) (c .pre .0) (c .pre .1)
 
--- src/splice.rt:51:9
 sub-i : tie.Need-sub-i Inv-loop μ-loop
 sub-i c = search needs
 
--- src/splice.rt:52:24
 mul-words : tie.Need-mul-words Inv-loop μ-loop
 mul-words c = search needs
 
--- src/splice.rt:52:24
 slice-read-words : tie.Need-slice-read-words Inv-loop μ-loop
 slice-read-words c = search needs
 
--- src/splice.rt:52:15
 add-words : tie.Need-add-words Inv-loop μ-loop
 add-words c = search needs
 
--- src/splice.rt:52:9
 mul-words-2 : tie.Need-mul-words-2 Inv-loop μ-loop
 mul-words-2 c = search needs
 
--- src/splice.rt:52:9
 slice-write-words : tie.Need-slice-write-words Inv-loop μ-loop
 slice-write-words c = search needs
 
--- src/splice.rt:50:5
 loop-less : tie.Need-loop-less Inv-loop μ-loop
 loop-less c = search needs
 
--- src/splice.rt:50:5
 loop-again : tie.Need-loop-again Inv-loop μ-loop
 loop-again c =
     let a = c .before .before .before .args in
     let l = c .before .before .loop in
     moving-turn (a .used) (a .from) 3 (a .words .now) (l .words) (l .i) (l .inv) (c .before .loop-test .taken)
 
--- src/splice.rt:45:1
 same-length : tie.Need-same-length Inv-loop μ-loop
 same-length c = c .before .loop .inv .3
 
--- src/splice.rt:45:1
 returns : tie.Need-returns Inv-loop μ-loop
 returns c =
     let a = c .before .before .args in

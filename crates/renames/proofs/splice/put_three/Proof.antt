@@ -8,9 +8,6 @@ use lib.Seq.{sets}
 use borrow.Author.Needs.{needs}
 use Rattle.renames.proofs.splice.put_three.Statement.{statement}
 use Rattle.renames.proofs.splice.put_three.Tie as tie
-use Rattle.renames.proofs.splice.put_three.Reads as reads
-use Rattle.renames.proofs.splice.put_three.Lts as lts
-use Rattle.lists.proofs.put_word.Reads as put-word-reads
 
 three : (l : List ℕ) (b x y z : ℕ) → set (set (set l b x) (b + 1) y) (b + 2) z ≡ sets l b (x ∷ y ∷ z ∷ [])
 three l b x y z =
@@ -18,31 +15,24 @@ three l b x y z =
     let q : b + 2 ≡ suc (suc b) = omega arith in
     rw (p, q)
 
--- src/splice.rt:61:5
 put-word-requires : tie.Need-put-word-requires
 put-word-requires c κs = search needs
 
--- src/splice.rt:62:28
 add-put-word : tie.Need-add-put-word
 add-put-word c = search needs
 
--- src/splice.rt:62:5
 put-word-requires-2 : tie.Need-put-word-requires-2
 put-word-requires-2 c κs = search needs
 
--- src/splice.rt:63:28
 add-put-word-2 : tie.Need-add-put-word-2
 add-put-word-2 c = search needs
 
--- src/splice.rt:63:5
 put-word-requires-3 : tie.Need-put-word-requires-3
 put-word-requires-3 c κs = search needs
 
--- src/splice.rt:57:1
 same-length : tie.Need-same-length
 same-length c = search needs
 
--- src/splice.rt:57:1
 returns : tie.Need-returns
 returns c =
     let a = c .before .before .before .before .before .before .before .before .before .before .before .before .before .args in

@@ -1,27 +1,19 @@
 -- `renames::splice::replace_text` meets its contract.
-use mathlib.Core.Path.{_≡_, _∙_}
+use mathlib.Core.Path.{_∙_}
 use Rattle.renames.proofs.Splices.{splice-is}
 use borrow.Author.Needs.{needs}
 use Rattle.renames.proofs.splice.replace_text.Statement.{statement}
 use Rattle.renames.proofs.splice.replace_text.Tie as tie
-use Rattle.renames.proofs.splice.replace_text.Reads as reads
-use Rattle.renames.proofs.splice.replace_text.Lts as lts
-use Rattle.lists.proofs.copy_behind.Reads as copy-behind-reads
-use Rattle.renames.proofs.splice.shift.Reads as shift-reads
 
--- src/splice.rt:40:5
 shift-requires : tie.Need-shift-requires
 shift-requires c κs = search needs
 
--- src/splice.rt:41:5
 copy-behind-requires : tie.Need-copy-behind-requires
 copy-behind-requires c κs = search needs
 
--- src/splice.rt:36:1
 same-length : tie.Need-same-length
 same-length c = search needs
 
--- src/splice.rt:36:1
 returns : tie.Need-returns
 returns c =
     let a = c .before .before .before .before .before .before .before .before .before .before .args in

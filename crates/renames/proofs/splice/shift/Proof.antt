@@ -1,51 +1,38 @@
 -- `renames::splice::shift` meets its contract: up where the new part is longer, else down.
-use Prim.Native.Nat.{ℕ, _+_, _-_}
-use mathlib.Core.Path.{_≡_, _∙_}
+use Prim.Native.Nat.{_+_, _-_}
+use mathlib.Core.Path.{_≡_}
 use native.Mathlib.Omega.{arith}
 use borrow.Author.Needs.{needs}
 use Rattle.renames.proofs.splice.shift.Statement.{statement}
 use Rattle.renames.proofs.splice.shift.Tie as tie
-use Rattle.renames.proofs.splice.shift.Reads as reads
-use Rattle.renames.proofs.splice.shift.Lts as lts
-use Rattle.renames.proofs.splice.move_up.Reads as move-up-reads
-use Rattle.tables.proofs.remove_text.Reads as remove-text-reads
 
--- src/splice.rt:29:29
 add-move-up : tie.Need-add-move-up
 add-move-up c = search needs
 
--- src/splice.rt:29:39
 sub-move-up : tie.Need-sub-move-up
 sub-move-up c = search needs
 
--- src/splice.rt:29:9
 move-up-requires : tie.Need-move-up-requires
 move-up-requires c κs = search needs
 
--- src/splice.rt:30:9
 same-length : tie.Need-same-length
 same-length c = search needs
 
--- src/splice.rt:30:9
 returns : tie.Need-returns
 returns c =
     let a = c .before .before .before .before .before .before .args in
     let p : a .at + a .old + (a .new - a .old) ≡ a .at + a .new = omega arith in
     rw p at (c .before .before .move-up .ensures)
 
--- src/splice.rt:32:48
 add-t15 : tie.Need-add-t15
 add-t15 c = search needs
 
--- src/splice.rt:32:5
 remove-text-requires : tie.Need-remove-text-requires
 remove-text-requires c κs = search needs
 
--- src/splice.rt:24:1
 same-length-2 : tie.Need-same-length-2
 same-length-2 c = search needs
 
--- src/splice.rt:24:1
 returns-2 : tie.Need-returns-2
 returns-2 c =
     let a = c .before .before .before .before .before .before .args in

@@ -1,0 +1,171 @@
+-- Deciding before a change: the order of the refusals, what is known once none stops the call, and that the decision on numbers is
+-- that of the change. These laws rely on those of proofs/Changes.antt.
+use Prim.Native.Nat.{ℕ, _+_, _-_, _*_, _/_, _≤_, _<_}
+use mathlib.Core.Path.{_≡_, refl, sym, ap, _∙_}
+use mathlib.Core.Bool.{Bool, true, false, cond, not, true≢false}
+use mathlib.Core.List.{List, []}
+use native.Mathlib.Omega.{arith}
+use borrow.Author.Tests.{leb-true, ltb-false}
+use lib.Dec.{eqb, ltb, leb}
+use lib.IntN.{ℤ, pos, negsuc}
+use lib.ListN.{length}
+use lib.Seq.{sets}
+use Rattle.types.specs.Refusals.{Outcome, value, refused}
+use Rattle.types.specs.Signed.{belowOr, clampedOf}
+use Rattle.tables.specs.declared.storage.FileStorage.{FileStorage}
+use Rattle.storage.specs.Rules.{outcomeOf, both, either}
+use Rattle.storage.specs.Addition.{badLength}
+use Rattle.storage.proofs.Rules.{either-false}
+use Rattle.answers.specs.Answers.{indexOf, isBelow, askedSet, askedFile}
+use Rattle.renames.specs.declared.rename.RenamedFiles.{RenamedFiles}
+use Rattle.renames.specs.declared.place.Place.{Place}
+use Rattle.renames.specs.Renames.{Renamed, Changed, orderedFrom, renamesOf, renamedTo, lacksRoom, inOrder, stateOf, wordsOf, textsOf, renameFile}
+use Rattle.renames.specs.Places.{placeOf}
+use Rattle.renames.specs.Changing.{inOrderIn, isShort, placeNumber, placeAsked, renameOf}
+use Rattle.renames.proofs.Ordered.{both-true}
+use Rattle.renames.proofs.Changes.{count-after, bytes-after}
+
+-- ---- the set's refusals
+
+good : {A : Type 0} (bad : Bool) (x a : A) → value x ≡ outcomeOf (cond bad 1 0) a → bad ≡ false
+good true x a e = absurd (let z : _≡_ {A = ℕ} 0 1 = cc in omega arith)
+good false x a e = refl
+
+ill : {A : Type 0} (bad : Bool) (m : ℕ) (a : A) → refused m ≡ outcomeOf (cond bad 1 0) a → (bad ≡ true) × (m ≡ 1)
+ill true m a e = (refl, cc)
+ill false m a e = absurd (let z : _≡_ {A = ℕ} 0 1 = cc in omega arith)
+
+below-asked : (n i : ℕ) (b : Bool) → cond b (value i) (refused 11) ≡ outcomeOf (cond (not b) 11 0) i
+below-asked n i true = refl
+below-asked n i false = refl
+
+below-or : (count : ℕ) (z : ℤ) → belowOr 11 count z ≡ outcomeOf (cond (not (isBelow count z)) 11 0) (indexOf z)
+below-or count (pos n) = below-asked n n (ltb n count)
+below-or count (negsuc n) = refl
+
+-- a file's number, behind the test of the piece length
+module _ {A : Type 0} (fs : FileStorage) (z : ℤ) (a : A) where
+  pub file-below : (x : A) → value x ≡ askedSet fs a → (o : Outcome ℕ) → o ≡ belowOr 11 (fs .«num_files») z → o ≡ askedFile fs z true (λ k. k)
+  file-below x e o h = h ∙ below-or (fs .«num_files») z ∙ rw (good (badLength (fs .«piece_length»)) x a e)
+
+  pub file-ill : (m : ℕ) → refused m ≡ askedSet fs a → refused m ≡ askedFile fs z true (λ k. k)
+  file-ill m e = let t = ill (badLength (fs .«piece_length»)) m a e in rw (t .0, t .1)
+
+-- the number of a file is the index's own
+pub clamped-is : (z : ℤ) → clampedOf z ≡ indexOf z
+clamped-is (pos n) = refl
+clamped-is (negsuc n) = refl
+
+-- ---- what follows the set's refusals
+
+goes : (a b : Bool) (k i : ℕ) → value k ≡ outcomeOf (cond a 1 (cond b 11 0)) i → (a ≡ false) × (b ≡ false) × (k ≡ i)
+goes true b k i e = absurd (let z : _≡_ {A = ℕ} 0 1 = cc in omega arith)
+goes false true k i e = absurd (let z : _≡_ {A = ℕ} 0 1 = cc in omega arith)
+goes false false k i e = (refl, refl, cc)
+
+stops : {A : Type 0} (a b : Bool) (m i r : ℕ) (x : A) → refused m ≡ outcomeOf (cond a 1 (cond b 11 0)) i → refused m ≡ outcomeOf (cond a 1 (cond b 11 r)) x
+stops true b m i r x e = cc
+stops false true m i r x e = cc
+stops false false m i r x e = absurd (let z : _≡_ {A = ℕ} 0 1 = cc in omega arith)
+
+module _ (fs : FileStorage) (rf : RenamedFiles) (e : List ℕ) (room : ℕ) (z : ℤ) (len : ℕ) where
+  abbrev own : Place
+  own = placeOf (rf .«num_renames») (indexOf z) e
+
+  abbrev tests : Bool → Bool → ℕ
+  tests o s = cond (not o) 10 (cond s 10 0)
+
+  pub place-number : (k : ℕ) → value k ≡ askedFile fs z true (λ k. k) → k ≡ indexOf z
+  place-number k h = goes (badLength (fs .«piece_length»)) (not (isBelow (fs .«num_files») z)) k (indexOf z) h .2
+
+  pub place-goes : (k : ℕ) → value k ≡ askedFile fs z true (λ k. k) → (o s : Bool) → inOrderIn rf e room ≡ o → isShort rf own (length e) room len ≡ s
+      → outcomeOf (tests o s) own ≡ placeAsked fs rf e room z len
+  place-goes k h o s p q =
+      let g = goes (badLength (fs .«piece_length»)) (not (isBelow (fs .«num_files») z)) k (indexOf z) h in
+      rw (g .0, g .1, p, q)
+
+  pub place-disorder : (k : ℕ) → value k ≡ askedFile fs z true (λ k. k) → inOrderIn rf e room ≡ false → refused 10 ≡ placeAsked fs rf e room z len
+  place-disorder k h p = place-goes k h false (isShort rf own (length e) room len) p refl
+
+  pub place-stops : (m : ℕ) → refused m ≡ askedFile fs z true (λ k. k) → refused m ≡ placeAsked fs rf e room z len
+  place-stops m h =
+      stops (badLength (fs .«piece_length»)) (not (isBelow (fs .«num_files») z)) m (indexOf z) (tests (inOrderIn rf e room) (isShort rf own (length e) room len)) own h
+
+-- what tables in order hold
+pub order-in : (rf : RenamedFiles) (e : List ℕ) (room : ℕ) → inOrderIn rf e room ≡ true
+    → (rf .«num_renames» ≤ length e / 3) × (rf .«text_len» ≤ room) × (orderedFrom (rf .«num_renames») 0 0 (rf .«text_len») e ≡ true)
+order-in rf e room h =
+    let a = both-true (leb (rf .«num_renames») (length e / 3)) (both (leb (rf .«text_len») room) (orderedFrom (rf .«num_renames») 0 0 (rf .«text_len») e)) h in
+    let b = both-true (leb (rf .«text_len») room) (orderedFrom (rf .«num_renames») 0 0 (rf .«text_len») e) (a .1) in
+    (leb-true _ _ (a .0), leb-true _ _ (b .0), b .1)
+
+-- ---- the decision is that of the change
+
+module _ (fs : FileStorage) (rf : RenamedFiles) (e t : List ℕ) (z : ℤ) (name : List ℕ) where
+  abbrev after : List Renamed
+  after = renamedTo z name (renamesOf rf e t)
+
+  abbrev there : Place
+  there = placeOf (rf .«num_renames») (indexOf z) e
+
+  room-is : inOrderIn rf e (length t) ≡ true → lacksRoom after e t ≡ isShort rf there (length e) (length t) (length name)
+  room-is h =
+      let o = order-in rf e (length t) h in
+      let r : Renamed = renameOf (indexOf z) name in
+      let n = rf .«num_renames» in
+      let u = rf .«text_len» in
+      let held : n * 3 ≤ length e = omega arith in
+      rw (count-after n u r e t (o .2) held (o .1), bytes-after n u r e t (o .2) held (o .1))
+
+  same-test : (o x y : Bool) → (o ≡ true → x ≡ y) → _≡_ {A = ℕ} (cond (not o) 10 (cond x 10 0)) (cond (not o) 10 (cond y 10 0))
+  same-test true x y h = rw (h refl)
+  same-test false x y h = refl
+
+  abbrev changeNumber : ℕ
+  changeNumber =
+      cond (badLength (fs .«piece_length»)) 1
+      (cond (not (isBelow (fs .«num_files») z)) 11 (cond (not (inOrder rf e t)) 10 (cond (lacksRoom after e t) 10 0)))
+
+  number-is : changeNumber ≡ placeNumber fs rf e (length t) z (length name)
+  number-is =
+      rw (same-test (inOrderIn rf e (length t)) (lacksRoom after e t) (isShort rf there (length e) (length t) (length name)) room-is)
+
+  -- none stops it: what is known, and what the change is
+  passes : (a b o s : Bool) (p q : Place) → value p ≡ outcomeOf (cond a 1 (cond b 11 (cond (not o) 10 (cond s 10 0)))) q
+      → (eqb (cond a 1 (cond b 11 (cond (not o) 10 (cond s 10 0)))) 0 ≡ true) × (o ≡ true) × (s ≡ false) × (p ≡ q)
+  passes true b o s p q h = absurd (let z : _≡_ {A = ℕ} 0 1 = cc in omega arith)
+  passes false true o s p q h = absurd (let z : _≡_ {A = ℕ} 0 1 = cc in omega arith)
+  passes false false false s p q h = absurd (let z : _≡_ {A = ℕ} 0 1 = cc in omega arith)
+  passes false false true true p q h = absurd (let z : _≡_ {A = ℕ} 0 1 = cc in omega arith)
+  passes false false true false p q h = (refl, refl, refl, cc)
+
+  module _ (p : Place) (h : value p ≡ placeAsked fs rf e (length t) z (length name)) where
+    abbrev known : (eqb (placeNumber fs rf e (length t) z (length name)) 0 ≡ true) × (inOrderIn rf e (length t) ≡ true) × (isShort rf there (length e) (length t) (length name) ≡ false) × (p ≡ there)
+    known =
+        passes (badLength (fs .«piece_length»)) (not (isBelow (fs .«num_files») z)) (inOrderIn rf e (length t)) (isShort rf there (length e) (length t) (length name)) p there h
+
+    pub place-known : (orderedFrom (rf .«num_renames») 0 0 (rf .«text_len») e ≡ true) × (p ≡ there)
+        × (rf .«num_renames» ≤ length e / 3) × (rf .«text_len» ≤ length t)
+        × (rf .«num_renames» + 1 - p .same ≤ length e / 3) × (rf .«text_len» - p .old + length name ≤ length t)
+    place-known =
+        let o = order-in rf e (length t) (known .1) in
+        let s = either-false (ltb (length e / 3) (rf .«num_renames» + 1 - there .same)) (ltb (length t) (rf .«text_len» - there .old + length name)) (known .2) in
+        (o .2, known .3, o .0, o .1, rw (known .3) (ltb-false _ _ (s .0)), rw (known .3) (ltb-false _ _ (s .1)))
+
+    pub place-changed : (rf′ : RenamedFiles) (e′ t′ : List ℕ) → rf′ ≡ stateOf after → e′ ≡ sets e 0 (wordsOf after) → t′ ≡ sets t 0 (textsOf after)
+        → _≡_ {A = Changed} (record { says = value rf′; entries = e′; text = t′ }) (renameFile fs rf e t z name)
+    place-changed rf′ e′ t′ a b d = rw (number-is, known .0, a, b, d)
+
+  -- one stops it
+  refuses : (n m : ℕ) (q : Place) → refused m ≡ outcomeOf n q → (eqb n 0 ≡ false) × (m ≡ n)
+  refuses n m q h = at (eqb n 0) h
+    where
+      at : (b : Bool) → refused m ≡ cond b (value q) (refused n) → (b ≡ false) × (m ≡ n)
+      at true h = absurd (let z : _≡_ {A = ℕ} 0 1 = cc in omega arith)
+      at false h = (refl, cc)
+
+  pub place-refused : (m : ℕ) → refused m ≡ placeAsked fs rf e (length t) z (length name)
+      → _≡_ {A = Changed} (record { says = refused m; entries = e; text = t }) (renameFile fs rf e t z name)
+  place-refused m h =
+      let r = refuses (placeNumber fs rf e (length t) z (length name)) m there h in
+      rw (number-is, r .0, r .1)

@@ -1,0 +1,98 @@
+-- `renames::change::place_in` meets its contract.
+use Prim.Native.Nat.{ℕ}
+use mathlib.Core.Path.{_≡_, sym, ap, _∙_}
+use mathlib.Core.Bool.{true, false}
+use native.Mathlib.Omega.{arith}
+use borrow.Author.Tests.{not-true, not-false}
+use lib.ListN.{length}
+use Rattle.types.specs.Refusals.{numberOf, value, usizeSays}
+use Rattle.answers.specs.Answers.{indexOf, askedFile}
+use Rattle.renames.specs.declared.place.Place.{Place}
+use Rattle.renames.specs.Places.{placeOf}
+use Rattle.renames.specs.Changing.{inOrderIn, isShort}
+use Rattle.renames.proofs.Ordered.{order-bytes}
+use Rattle.renames.proofs.Changes.{place-in}
+use Rattle.renames.proofs.Decisions.{order-in, place-number, place-goes, place-disorder, place-stops}
+use borrow.Author.Needs.{needs}
+use Rattle.renames.proofs.change.place_in.Statement.{statement}
+use Rattle.renames.proofs.change.place_in.Tie as tie
+
+-- the file's number
+file-is : (c : tie.After-file) → value (c .file .given .0 .0) ≡ askedFile (c .before .before .before .before .args .fs) (c .before .before .before .before .args .index .0) true (λ k. k)
+file-is c = ap usizeSays (sym (c .file .given .1)) ∙ c .before .before .file-in .ensures
+
+-- the tables are in order
+ordered : (c : tie.Else1) → inOrderIn (c .before .before .before .before .before .before .before .args .renames) (c .before .before .before .before .before .before .before .args .entries .now) (c .before .before .before .before .before .before .before .args .room) ≡ true
+ordered c = sym (c .before .is-in-order .ensures) ∙ not-false _ (c .if1 .left)
+
+-- the place is the file's
+place-is : (c : tie.After-place-of) → c .place-of .result ≡ placeOf (c .before .before .before .before .before .before .before .before .args .renames .«num_renames») (indexOf (c .before .before .before .before .before .before .before .before .args .index .0)) (c .before .before .before .before .before .before .before .before .args .entries .now)
+place-is c =
+    let a = c .before .before .before .before .before .before .before .before .args in
+    c .place-of .ensures ∙ ap (λ (i : ℕ). placeOf (a .renames .«num_renames») i (a .entries .now)) (place-number (a .fs) (a .renames) (a .entries .now) (a .room) (a .index .0) (a .len) _ (file-is (c .before .before .before .before)))
+
+-- whether the tables are too short for it
+short-is : (c : tie.After-is-short) → c .is-short .result ≡ isShort (c .before .before .before .before .before .before .before .before .before .args .renames) (placeOf (c .before .before .before .before .before .before .before .before .before .args .renames .«num_renames») (indexOf (c .before .before .before .before .before .before .before .before .before .args .index .0)) (c .before .before .before .before .before .before .before .before .before .args .entries .now)) (length (c .before .before .before .before .before .before .before .before .before .args .entries .now)) (c .before .before .before .before .before .before .before .before .before .args .room) (c .before .before .before .before .before .before .before .before .before .args .len)
+short-is c =
+    let a = c .before .before .before .before .before .before .before .before .before .args in
+    c .is-short .ensures ∙ ap (λ (p : Place). isShort (a .renames) p (length (a .entries .now)) (a .room) (a .len)) (place-is (c .before))
+
+file-in-requires : tie.Need-file-in-requires
+file-in-requires c κs = search needs
+
+enum-known-file : tie.Need-enum-known-file
+enum-known-file c = search needs
+
+is-in-order-requires : tie.Need-is-in-order-requires
+is-in-order-requires c κs = search needs
+
+returns : tie.Need-returns
+returns c =
+    let a = c .before .before .before .before .before .before .before .args in
+    place-disorder (a .fs) (a .renames) (a .entries .now) (a .room) (a .index .0) (a .len) _ (file-is (c .before .before .before)) (sym (c .before .is-in-order .ensures) ∙ not-true _ (c .if1 .taken))
+
+place-of-requires : tie.Need-place-of-requires
+place-of-requires c κs =
+    let a = c .before .before .before .before .before .before .before .args in
+    let o = order-in (a .renames) (a .entries .now) (a .room) (ordered c) in
+    (omega arith, omega (arith, order-bytes (a .renames .«num_renames») 0 0 (a .renames .«text_len») (a .entries .now) (o .2)))
+
+is-short-requires : tie.Need-is-short-requires
+is-short-requires c κs =
+    let a = c .before .before .before .before .before .before .before .before .args in
+    let o = order-in (a .renames) (a .entries .now) (a .room) (ordered (c .before)) in
+    let k = place-in (a .renames .«num_renames») (a .renames .«text_len») (indexOf (a .index .0)) (a .entries .now) (o .2) (c .place-of .result) (place-is c) in
+    (o .0, o .1, omega (arith, k .2), k .1)
+
+returns-2 : tie.Need-returns-2
+returns-2 c =
+    let a = c .before .before .before .before .before .before .before .before .before .before .args in
+    place-goes (a .fs) (a .renames) (a .entries .now) (a .room) (a .index .0) (a .len) _ (file-is (c .before .before .before .before .before .before)) true true (ordered (c .before .before .before)) (sym (short-is (c .before)) ∙ c .if2 .taken)
+
+enum-known-e : tie.Need-enum-known-e
+enum-known-e c = search needs
+
+returns-3 : tie.Need-returns-3
+returns-3 c =
+    let a = c .before .before .before .before .before .before .before .before .before .before .args in
+    ap value (place-is (c .before .before)) ∙ place-goes (a .fs) (a .renames) (a .entries .now) (a .room) (a .index .0) (a .len) _ (file-is (c .before .before .before .before .before .before)) true false (ordered (c .before .before .before)) (sym (short-is (c .before)) ∙ c .if2 .left)
+
+returns-4 : tie.Need-returns-4
+returns-4 c =
+    let a = c .before .before .before .before .before .args in
+    place-stops (a .fs) (a .renames) (a .entries .now) (a .room) (a .index .0) (a .len) (numberOf (c .before .e .given .0 .0)) (ap usizeSays (sym (c .before .e .given .1)) ∙ c .before .before .before .file-in .ensures)
+
+pub place-in-spec : {M : Type 1} → statement M
+place-in-spec =
+    tie.close
+    (tie.spec
+    file-in-requires
+    enum-known-file
+    is-in-order-requires
+    returns
+    place-of-requires
+    is-short-requires
+    returns-2
+    enum-known-e
+    returns-3
+    returns-4)

@@ -1,0 +1,137 @@
+// `rename_file`: a rename is decided first and written after. Relies on check.rt, place.rt and splice.rt, on
+// `answers` for the set's refusals and on the laws of proofs/Changes.antt and proofs/Decisions.antt.
+ghost use mathlib.Core.Path.{_≡_};
+ghost use mathlib.Core.Bool.{true};
+ghost use Prim.Native.Nat.{_+_, _-_, _*_, _/_, _≤_};
+ghost use lib.ListN.{length};
+ghost use lib.Seq.{sets};
+ghost use Rattle.types.specs.Refusals.{usizeSays};
+ghost use Rattle.answers.specs.Answers.{askedFile};
+ghost use Rattle.renames.specs.Renames.{Changed, modeWord, modeFor, orderedFrom, renamesOf, withRename, wordsOf, textsOf, stateOf, renameFile};
+ghost use Rattle.renames.specs.Results.{renamesSays};
+ghost use Rattle.renames.specs.Places.{placeOf};
+ghost use Rattle.renames.specs.Changing.{placeSays, placeAsked, isShort, renameOf};
+use crate::check::is_in_order;
+use crate::place::Place;
+use crate::place::PlaceResult;
+use crate::place::place_of;
+use crate::rename::RenamedFiles;
+use crate::rename::RenamesResult;
+use crate::splice::put_entry;
+use crate::splice::replace_text;
+use answers::I32Result;
+use tables::FileStorage;
+use types::FileIndex;
+use types::Refusal;
+use types::UsizeResult;
+
+// The number of a file, or why there is none.
+fn file_in(fs: FileStorage, index: FileIndex) -> UsizeResult
+    ensures { λ r. ⌜ usizeSays r ≡ askedFile fs (index .0) true (λ k. k) ⌝ }
+{
+    match answers::piece_length(fs) {
+        I32Result::Ok(_) => index.within(fs.num_files),
+        I32Result::Err(e) => UsizeResult::Err(e),
+    }
+}
+
+// Whether tables of so many words and bytes are too short for a text of `len` bytes at that place.
+fn is_short(renames: RenamedFiles, p: Place, words: usize, room: usize, len: usize) -> bool
+    requires { ⌜ (renames .«num_renames» ≤ words / 3) × (renames .«text_len» ≤ room) × (p .old ≤ renames .«text_len») × (p .same ≤ 1) ⌝ }
+    ensures { λ r. ⌜ r ≡ isShort renames p words room len ⌝ }
+{
+    if words / 3 < renames.num_renames + 1 - p.same {
+        return true;
+    }
+    room - (renames.text_len - p.old) < len
+}
+
+// Where the rename of a file goes, its text being of `len` bytes, or why it is refused.
+fn place_in(
+    fs: FileStorage,
+    renames: RenamedFiles,
+    entries: &[u64],
+    room: usize,
+    index: FileIndex,
+    len: usize,
+) -> PlaceResult
+    ensures { λ r. ⌜ placeSays r ≡ placeAsked fs renames (now (entries .entry)) room (index .0) len ⌝ }
+{
+    match file_in(fs, index) {
+        UsizeResult::Ok(file) => {
+            if !is_in_order(renames, entries, room) {
+                return PlaceResult::Err(Refusal::NoRoom);
+            }
+            let p = place_of(entries, renames.num_renames, file as u64);
+            if is_short(renames, p, entries.len(), room, len) {
+                return PlaceResult::Err(Refusal::NoRoom);
+            }
+            PlaceResult::At(p)
+        }
+        UsizeResult::Err(e) => PlaceResult::Err(e),
+    }
+}
+
+// The word of a name's mode: an absolute name is read alone.
+fn mode_for(name: &[u8]) -> u64
+    ensures { λ r. ⌜ r ≡ modeWord (modeFor (now (name .entry))) ⌝ }
+{
+    if path::is_complete(name) { 2 } else { 0 }
+}
+
+// Writes a rename at its place, for which there is room, and gives the record.
+fn put_rename(
+    renames: RenamedFiles,
+    entries: &mut [u64],
+    text: &mut [u8],
+    file: u64,
+    p: Place,
+    name: &[u8],
+) -> RenamedFiles
+    requires { ⌜ (orderedFrom (renames .«num_renames») 0 0 (renames .«text_len») (now entries) ≡ true) × (p ≡ placeOf (renames .«num_renames») file (now entries)) × (renames .«num_renames» ≤ length (now entries) / 3) × (renames .«text_len» ≤ length (now text)) × (renames .«num_renames» + 1 - p .same ≤ length (now entries) / 3) × (renames .«text_len» - p .old + length (now name) ≤ length (now text)) ⌝ }
+    ensures { λ r. ⌜ r ≡ stateOf (withRename (renameOf file (now (name .entry))) (renamesOf renames (now (entries .entry)) (now (text .entry)))) ⌝ }
+    ensures { λ _. ⌜ now (entries .exit) ≡ sets (now (entries .entry)) 0 (wordsOf (withRename (renameOf file (now (name .entry))) (renamesOf renames (now (entries .entry)) (now (text .entry))))) ⌝ }
+    ensures { λ _. ⌜ now (text .exit) ≡ sets (now (text .entry)) 0 (textsOf (withRename (renameOf file (now (name .entry))) (renamesOf renames (now (entries .entry)) (now (text .entry))))) ⌝ }
+{
+    let n = renames.num_renames;
+    let used = renames.text_len;
+    replace_text(text, used, p.at, p.old, name);
+    put_entry(
+        entries,
+        n * 3,
+        p.entry * 3,
+        p.same,
+        file,
+        mode_for(name),
+        name.len() as u64,
+    );
+    RenamedFiles {
+        num_renames: n + 1 - p.same,
+        text_len: used - p.old + name.len(),
+    }
+}
+
+// Records another path for a file, or why not.
+pub fn rename_file(
+    fs: FileStorage,
+    renames: RenamedFiles,
+    entries: &mut [u64],
+    text: &mut [u8],
+    index: FileIndex,
+    new_filename: &[u8],
+) -> RenamesResult
+    ensures { λ r. ⌜ _≡_ {A = Changed} (record { says = renamesSays r; entries = now (entries .exit); text = now (text .exit) }) (renameFile fs renames (now (entries .entry)) (now (text .entry)) (index .0) (now («new_filename» .entry))) ⌝ }
+{
+    let place = place_in(fs, renames, entries, text.len(), index, new_filename.len());
+    match place {
+        PlaceResult::At(p) => RenamesResult::Ok(put_rename(
+            renames,
+            entries,
+            text,
+            index.get() as u64,
+            p,
+            new_filename,
+        )),
+        PlaceResult::Err(e) => RenamesResult::Err(e),
+    }
+}
