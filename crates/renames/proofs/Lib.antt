@@ -5,3 +5,4 @@ pub mod Splices
 pub mod Readings
 pub mod Changes
 pub mod Decisions
+pub mod Questions

@@ -60,14 +60,18 @@ module _ (n i least left : ℕ) (e : List ℕ) where
   order-rest h =
       both-true first (orderedFrom n (i + 1) (getD e (i * 3) 0 + 1) (left - getD e (i * 3 + 2) 0) e) (sym order-step ∙ h) .1
 
--- each mode is one of three
+-- each number is one of 31 bits, and each mode one of three
+pub order-entry : (n i least left : ℕ) (e : List ℕ) → orderedFrom n i least left e ≡ true
+    → (j : ℕ) → i ≤ j → j < i + n → (getD e (j * 3) 0 ≤ 2147483647) × (getD e (j * 3 + 1) 0 ≤ 2)
+order-entry zero i least left e h j a b = absurd (omega arith)
+order-entry (suc n) i least left e h j a b =
+    ⊎-elim (λ g. order-entry n (i + 1) (getD e (i * 3) 0 + 1) (left - getD e (i * 3 + 2) 0) e (order-rest n i least left e h) j (omega arith) (omega arith))
+    (λ g. let q : j ≡ i = omega arith in let o = order-first n i least left e h in rw q (o .1, o .2))
+    (le-or-lt (suc i) j)
+
 pub order-mode : (n i least left : ℕ) (e : List ℕ) → orderedFrom n i least left e ≡ true
     → (j : ℕ) → i ≤ j → j < i + n → getD e (j * 3 + 1) 0 ≤ 2
-order-mode zero i least left e h j a b = absurd (omega arith)
-order-mode (suc n) i least left e h j a b =
-    ⊎-elim (λ g. order-mode n (i + 1) (getD e (i * 3) 0 + 1) (left - getD e (i * 3 + 2) 0) e (order-rest n i least left e h) j (omega arith) (omega arith))
-    (λ g. let q : j ≡ i = omega arith in rw q (order-first n i least left e h .2))
-    (le-or-lt (suc i) j)
+order-mode n i least left e h j a b = order-entry n i least left e h j a b .1
 
 -- the texts have so many bytes together
 pub order-bytes : (n i least left : ℕ) (e : List ℕ) → orderedFrom n i least left e ≡ true → bytesFrom n i e ≡ left

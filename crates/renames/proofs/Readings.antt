@@ -73,7 +73,7 @@ renamesWith r n i k s old e t =
     renamesFrom k i e t ++ (r ∷ renamesFrom (n - (k + s)) (i + (k + s)) e (drop (bytesFrom k i e + old) t))
 
 -- whether entry i + k is one of the n from entry i on, and has that number
-abbrev isNamedFrom : ℕ → ℕ → ℕ → ℕ → List ℕ → Bool
+abbrev pub isNamedFrom : ℕ → ℕ → ℕ → ℕ → List ℕ → Bool
 isNamedFrom n file i k e = cond (ltb k n) (eqb (getD e ((i + k) * 3) 0) file) false
 
 -- one rename that stands before the place
@@ -96,7 +96,7 @@ module _ (r : Renamed) (n i k s old : ℕ) (e t : List ℕ) where
       let d : l + bytesFrom k (i + 1) e + old ≡ l + (bytesFrom k (i + 1) e + old) = omega arith in
       rw (p, q, w, d, ← drop-drop (bytesFrom k (i + 1) e + old) l t)
 
-ltb-both : (a b : ℕ) → ltb (a + 1) (suc b) ≡ ltb a b
+pub ltb-both : (a b : ℕ) → ltb (a + 1) (suc b) ≡ ltb a b
 ltb-both a b = at (le-or-lt b a)
   where
     at : (b ≤ a) ⊎ (a < b) → ltb (a + 1) (suc b) ≡ ltb a b

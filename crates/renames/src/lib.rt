@@ -3,10 +3,14 @@
 mod change;
 mod check;
 mod place;
+mod question;
 mod rename;
 mod splice;
 
 pub use change::rename_file;
+pub use question::export_filename;
+pub use question::file_absolute_path;
+pub use question::file_name;
 pub use rename::FileNameResult;
 pub use rename::Rename;
 pub use rename::RenameMode;

@@ -38,7 +38,7 @@ fn entries_below(entries: &[u64], n: usize, file: u64) -> usize
 }
 
 // How many bytes of text the first n entries have together.
-fn bytes_of(entries: &[u64], n: usize) -> usize
+pub(crate) fn bytes_of(entries: &[u64], n: usize) -> usize
     requires { ⌜ (n * 3 ≤ length (now entries)) × (bytesFrom n 0 (now entries) < 2 ^ 64) ⌝ }
     ensures { λ r. ⌜ r ≡ bytesFrom n 0 (now (entries .entry)) ⌝ }
 {

@@ -1,0 +1,151 @@
+// Questions through the renames. Relies on check.rt and place.rt, on `answers` for the set's own answers and on
+// the laws of proofs/Questions.antt.
+ghost use mathlib.Core.Path.{_≡_};
+ghost use mathlib.Core.Bool.{true};
+ghost use lib.ListN.{length, getD, take};
+ghost use Prim.Native.Nat.{_+_, _*_, _≤_, _%_, _^_};
+ghost use lib.IntN.{pos};
+ghost use Rattle.lists.specs.Lists.{partOf};
+ghost use Rattle.path.specs.Split.{isSeparator, trimmed, rsplitLeaf};
+ghost use Rattle.tables.specs.Span.{textAt};
+ghost use Rattle.answers.specs.Results.{boolSays};
+ghost use Rattle.renames.specs.Renames.{modeOf};
+ghost use Rattle.renames.specs.Results.{renameSays, nameSays};
+ghost use Rattle.renames.specs.Questions.{nameGiven, absoluteGiven, exported};
+ghost use Rattle.renames.specs.Places.{bytesFrom};
+use crate::check::is_in_order;
+use crate::place::bytes_of;
+use crate::place::place_of;
+use crate::rename::FileNameResult;
+use crate::rename::Rename;
+use crate::rename::RenameMode;
+use crate::rename::RenameResult;
+use crate::rename::RenamedFiles;
+use answers::BoolResult;
+use answers::SpanResult;
+use tables::FileStorage;
+use tables::Span;
+use types::FileIndex;
+use types::Refusal;
+
+// The mode of a word.
+fn mode_of(word: u64) -> RenameMode
+    ensures { λ r. ⌜ r ≡ modeOf word ⌝ }
+{
+    if word == 0 {
+        return RenameMode::FullPath;
+    }
+    if word == 1 {
+        return RenameMode::NoRootPath;
+    }
+    RenameMode::AbsolutePath
+}
+
+// How many bytes a name has without the separator at its end, if it has one.
+fn trimmed_len(name: &[u8]) -> usize
+    ensures { λ r. ⌜ (r ≤ length (now (name .entry))) × (take r (now (name .entry)) ≡ trimmed isSeparator (now (name .entry))) ⌝ }
+{
+    let last = lists::minus(name.len(), 1);
+    if lists::byte(name, last) == b'/' {
+        return last;
+    }
+    name.len()
+}
+
+// The place of a name's leaf.
+fn leaf_of(names: &[u8], at: usize, len: usize) -> Span
+    ensures { λ r. ⌜ textAt (now (names .entry)) r ≡ rsplitLeaf (partOf (now (names .entry)) at len) ⌝ }
+{
+    let name = lists::part(names, at, len);
+    let leaf = path::filename(name).len();
+    Span {
+        at: at + lists::minus(trimmed_len(name), leaf),
+        len: leaf,
+    }
+}
+
+// Where a file's name lies: the leaf of its rename, or its own.
+pub fn file_name(
+    fs: FileStorage,
+    rows: &[u64],
+    text: &[u8],
+    renames: RenamedFiles,
+    entries: &[u64],
+    names: &[u8],
+    index: FileIndex,
+) -> FileNameResult
+    ensures { λ r. ⌜ nameSays (now (text .entry)) (now (names .entry)) r ≡ nameGiven fs (now (rows .entry)) (now (text .entry)) renames (now (entries .entry)) (now (names .entry)) (index .0) ⌝ }
+{
+    match answers::file_name(fs, rows, text, index) {
+        SpanResult::Ok(own) => {
+            if !is_in_order(renames, entries, names.len()) {
+                return FileNameResult::Err(Refusal::NoRoom);
+            }
+            let p = place_of(entries, renames.num_renames, index.get() as u64);
+            if p.same == 0 {
+                return FileNameResult::InSet(own);
+            }
+            FileNameResult::InRenames(leaf_of(names, p.at, p.old))
+        }
+        SpanResult::Err(e) => FileNameResult::Err(e),
+    }
+}
+
+// Whether a file's path is absolute: that of its rename, or its own.
+pub fn file_absolute_path(
+    fs: FileStorage,
+    rows: &[u64],
+    renames: RenamedFiles,
+    entries: &[u64],
+    names: &[u8],
+    index: FileIndex,
+) -> BoolResult
+    ensures { λ r. ⌜ boolSays r ≡ absoluteGiven fs (now (rows .entry)) renames (now (entries .entry)) (now (names .entry)) (index .0) ⌝ }
+{
+    match answers::file_absolute_path(fs, rows, index) {
+        BoolResult::Ok(own) => {
+            if !is_in_order(renames, entries, names.len()) {
+                return BoolResult::Err(Refusal::NoRoom);
+            }
+            let p = place_of(entries, renames.num_renames, index.get() as u64);
+            if p.same == 0 {
+                return BoolResult::Ok(own);
+            }
+            BoolResult::Ok(lists::word(entries, p.entry * 3 + 1) == 2)
+        }
+        BoolResult::Err(e) => BoolResult::Err(e),
+    }
+}
+
+// Rename i, which is one of those in order, its text being at that place.
+fn rename_at(entries: &[u64], i: usize, at: usize) -> Rename
+    requires { ⌜ i * 3 + 3 ≤ length (now entries) ⌝ }
+    ensures { λ r. ⌜ (r .«file_index» .0 ≡ pos (getD (now (entries .entry)) (i * 3) 0 % 2 ^ 31)) × (r .mode ≡ modeOf (getD (now (entries .entry)) (i * 3 + 1) 0)) × (r .name .at ≡ at) × (r .name .len ≡ getD (now (entries .entry)) (i * 3 + 2) 0) ⌝ }
+{
+    Rename {
+        file_index: FileIndex::new(lists::word(entries, i * 3)),
+        mode: mode_of(lists::word(entries, i * 3 + 1)),
+        name: Span {
+            at,
+            len: lists::word(entries, i * 3 + 2) as usize,
+        },
+    }
+}
+
+// Rename i, ascending by file.
+pub fn export_filename(
+    renames: RenamedFiles,
+    entries: &[u64],
+    names: &[u8],
+    i: usize,
+) -> RenameResult
+    ensures { λ r. ⌜ renameSays (now (names .entry)) r ≡ exported renames (now (entries .entry)) (now (names .entry)) i ⌝ }
+{
+    if renames.num_renames <= i {
+        return RenameResult::Err(Refusal::NoSuchFile);
+    }
+    if !is_in_order(renames, entries, names.len()) {
+        return RenameResult::Err(Refusal::NoRoom);
+    }
+    RenameResult::Ok(rename_at(entries, i, bytes_of(entries, i)))
+}
