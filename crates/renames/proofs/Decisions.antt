@@ -11,7 +11,7 @@ use lib.IntN.{ℤ, pos, negsuc}
 use lib.ListN.{length}
 use lib.Seq.{sets}
 use Rattle.types.specs.Refusals.{Outcome, value, refused}
-use Rattle.types.specs.Signed.{belowOr, clampedOf}
+use Rattle.types.specs.Signed.{belowOr}
 use Rattle.tables.specs.declared.storage.FileStorage.{FileStorage}
 use Rattle.storage.specs.Rules.{outcomeOf, both, either}
 use Rattle.storage.specs.Addition.{badLength}
@@ -50,11 +50,6 @@ module _ {A : Type 0} (fs : FileStorage) (z : ℤ) (a : A) where
 
   pub file-ill : (m : ℕ) → refused m ≡ askedSet fs a → refused m ≡ askedFile fs z true (λ k. k)
   file-ill m e = let t = ill (badLength (fs .«piece_length»)) m a e in rw (t .0, t .1)
-
--- the number of a file is the index's own
-pub clamped-is : (z : ℤ) → clampedOf z ≡ indexOf z
-clamped-is (pos n) = refl
-clamped-is (negsuc n) = refl
 
 -- ---- what follows the set's refusals
 

@@ -6,3 +6,4 @@ pub mod Readings
 pub mod Changes
 pub mod Decisions
 pub mod Questions
+pub mod Paths

@@ -2,12 +2,14 @@
 // untouched. Relies on `names` for composed paths and on `answers` for the refusals of a question.
 mod change;
 mod check;
+mod compose;
 mod place;
 mod question;
 mod rename;
 mod splice;
 
 pub use change::rename_file;
+pub use compose::file_path;
 pub use question::export_filename;
 pub use question::file_absolute_path;
 pub use question::file_name;

@@ -41,6 +41,14 @@ fn mode_of(word: u64) -> RenameMode
     RenameMode::AbsolutePath
 }
 
+// The mode of entry i, which is one of those held.
+pub(crate) fn mode_at(entries: &[u64], i: usize) -> RenameMode
+    requires { ⌜ i * 3 + 3 ≤ length (now entries) ⌝ }
+    ensures { λ r. ⌜ r ≡ modeOf (getD (now (entries .entry)) (i * 3 + 1) 0) ⌝ }
+{
+    mode_of(lists::word(entries, i * 3 + 1))
+}
+
 // How many bytes a name has without the separator at its end, if it has one.
 fn trimmed_len(name: &[u8]) -> usize
     ensures { λ r. ⌜ (r ≤ length (now (name .entry))) × (take r (now (name .entry)) ≡ trimmed isSeparator (now (name .entry))) ⌝ }
@@ -124,7 +132,7 @@ fn rename_at(entries: &[u64], i: usize, at: usize) -> Rename
 {
     Rename {
         file_index: FileIndex::new(lists::word(entries, i * 3)),
-        mode: mode_of(lists::word(entries, i * 3 + 1)),
+        mode: mode_at(entries, i),
         name: Span {
             at,
             len: lists::word(entries, i * 3 + 2) as usize,

@@ -7,7 +7,8 @@ use Rattle.types.specs.Refusals.{numberOf, value}
 use Rattle.answers.specs.Answers.{indexOf}
 use Rattle.renames.specs.Renames.{stateOf, wordsOf, textsOf, withRename, renamesOf}
 use Rattle.renames.specs.Changing.{renameOf, placeSays, placeAsked}
-use Rattle.renames.proofs.Decisions.{clamped-is, place-known, place-changed, place-refused}
+use Rattle.names.proofs.Deciding.{index-is}
+use Rattle.renames.proofs.Decisions.{place-known, place-changed, place-refused}
 use borrow.Author.Needs.{needs}
 use Rattle.renames.proofs.change.rename_file.Statement.{statement}
 use Rattle.renames.proofs.change.rename_file.Tie as tie
@@ -17,7 +18,7 @@ place-is : (c : tie.After-place) → let a = c .before .before .before .before .
 place-is c = ap placeSays (sym (c .place .given .1)) ∙ c .before .before .place-in .ensures
 
 file-is : (c : tie.After-get) → c .get .result ≡ indexOf (c .before .before .before .before .before .before .before .before .before .before .before .args .index .0)
-file-is c = c .get .ensures ∙ clamped-is (c .before .before .before .before .before .before .before .before .before .before .before .args .index .0)
+file-is c = c .get .ensures ∙ index-is (c .before .before .before .before .before .before .before .before .before .before .before .args .index .0)
 
 place-in-requires : tie.Need-place-in-requires
 place-in-requires c κs = search needs

@@ -16,7 +16,8 @@ use Rattle.renames.specs.Renames.{renamesOf, inOrder}
 use Rattle.renames.specs.Questions.{renameFor, renamedName}
 use Rattle.renames.specs.Places.{placeOf}
 use Rattle.renames.proofs.Ordered.{order-bytes}
-use Rattle.renames.proofs.Decisions.{clamped-is, order-in}
+use Rattle.names.proofs.Deciding.{index-is}
+use Rattle.renames.proofs.Decisions.{order-in}
 use Rattle.renames.proofs.Questions.{asked-refused, asked-own, asked-disorder, asked-value, place-absent, place-present}
 use borrow.Author.Needs.{needs}
 use Rattle.renames.proofs.question.file_name.Statement.{statement}
@@ -46,7 +47,7 @@ ordered c = sym (c .before .is-in-order .ensures) ∙ not-false _ (c .if1 .left)
 place-is : (c : tie.After-place-of) → c .place-of .result ≡ placeOf (c .before .before .before .before .before .before .before .before .before .before .before .before .args .renames .«num_renames») (indexOf (c .before .before .before .before .before .before .before .before .before .before .before .before .args .index .0)) (c .before .before .before .before .before .before .before .before .before .before .before .before .args .entries .now)
 place-is c =
     let a = c .before .before .before .before .before .before .before .before .before .before .before .before .args in
-    c .place-of .ensures ∙ ap (λ (i : ℕ). placeOf (a .renames .«num_renames») i (a .entries .now)) (c .before .get .ensures ∙ clamped-is (a .index .0))
+    c .place-of .ensures ∙ ap (λ (i : ℕ). placeOf (a .renames .«num_renames») i (a .entries .now)) (c .before .get .ensures ∙ index-is (a .index .0))
 
 file-name-requires : tie.Need-file-name-requires
 file-name-requires c κs = search needs

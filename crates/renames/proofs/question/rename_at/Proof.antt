@@ -13,6 +13,9 @@ word-requires c κs = search needs
 new-requires : tie.Need-new-requires
 new-requires c κs = search needs
 
+mode-at-requires : tie.Need-mode-at-requires
+mode-at-requires c κs = search needs
+
 mul-word-2 : tie.Need-mul-word-2
 mul-word-2 c = search needs
 
@@ -22,20 +25,8 @@ add-word c = search needs
 word-requires-2 : tie.Need-word-requires-2
 word-requires-2 c κs = search needs
 
-mode-of-requires : tie.Need-mode-of-requires
-mode-of-requires c κs = search needs
-
-mul-word-3 : tie.Need-mul-word-3
-mul-word-3 c = search needs
-
-add-word-2 : tie.Need-add-word-2
-add-word-2 c = search needs
-
-word-requires-3 : tie.Need-word-requires-3
-word-requires-3 c κs = search needs
-
 returns : tie.Need-returns
-returns c = (c .before .before .before .new .ensures ∙ rw (c .before .before .before .before .word .ensures), c .before .mode-of .ensures ∙ rw (c .before .before .word2 .ensures), refl, c .word3 .ensures)
+returns c = (c .before .before .new .ensures ∙ rw (c .before .before .before .word .ensures), c .before .mode-at .ensures, refl, c .word2 .ensures)
 
 pub rename-at-spec : {M : Type 1} → statement M
 rename-at-spec =
@@ -44,11 +35,8 @@ rename-at-spec =
     mul-word
     word-requires
     new-requires
+    mode-at-requires
     mul-word-2
     add-word
     word-requires-2
-    mode-of-requires
-    mul-word-3
-    add-word-2
-    word-requires-3
     returns)
