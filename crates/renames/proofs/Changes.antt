@@ -1,19 +1,18 @@
 -- What a rename more makes of tables in order: both are spliced at its place. These laws rely on those of proofs/Readings.antt,
 -- proofs/Ordered.antt, proofs/Places.antt and proofs/Splices.antt.
-use Prim.Native.Nat.{ℕ, _+_, _-_, _*_, _≤_, _<_}
-use mathlib.Core.Path.{_≡_, refl, sym, ap, _∙_}
-use mathlib.Core.Bool.{Bool, true, false, cond}
+use Prim.Native.Nat.{ℕ, _+_, _-_, _*_, _≤_}
+use mathlib.Core.Path.{_≡_, sym, ap, _∙_}
+use mathlib.Core.Bool.{true}
 use mathlib.Core.List.{List, [], _∷_, _++_}
 use native.Mathlib.Nat.{zero-add}
 use native.Mathlib.Omega.{arith}
-use lib.Dec.{eqb, ltb}
-use lib.ListN.{length, getD, take, drop, length-append, length-take, length-drop}
+use lib.ListN.{length, take, drop, length-append, length-drop}
 use lib.Seq.{sets, length-take-le}
 use Rattle.lists.proofs.Parts.{drop-take}
 use Rattle.renames.specs.declared.place.Place.{Place}
 use Rattle.renames.specs.declared.rename.RenamedFiles.{RenamedFiles}
 use Rattle.renames.specs.Renames.{Renamed, modeWord, renamesFrom, orderedFrom, wordsOf, textsOf, stateOf, withRename}
-use Rattle.renames.specs.Places.{belowFrom, bytesFrom, sameAt, oldAt, placeOf, spliced}
+use Rattle.renames.specs.Places.{bytesFrom, placeOf, spliced}
 use Rattle.renames.proofs.Ordered.{order-mode, order-bytes}
 use Rattle.renames.proofs.Places.{below-le, same-le, same-one, bytes-place, bytes-first}
 use Rattle.renames.proofs.Readings.{length-renames, texts-back, words-back, words-append, texts-append, with-rename}

@@ -1,9 +1,9 @@
 -- Deciding before a change: the order of the refusals, what is known once none stops the call, and that the decision on numbers is
 -- that of the change. These laws rely on those of proofs/Changes.antt.
-use Prim.Native.Nat.{ℕ, _+_, _-_, _*_, _/_, _≤_, _<_}
-use mathlib.Core.Path.{_≡_, refl, sym, ap, _∙_}
-use mathlib.Core.Bool.{Bool, true, false, cond, not, true≢false}
-use mathlib.Core.List.{List, []}
+use Prim.Native.Nat.{ℕ, _+_, _-_, _*_, _/_, _≤_}
+use mathlib.Core.Path.{_≡_, refl, _∙_}
+use mathlib.Core.Bool.{Bool, true, false, cond, not}
+use mathlib.Core.List.{List}
 use native.Mathlib.Omega.{arith}
 use borrow.Author.Tests.{leb-true, ltb-false}
 use lib.Dec.{eqb, ltb, leb}
@@ -13,7 +13,7 @@ use lib.Seq.{sets}
 use Rattle.types.specs.Refusals.{Outcome, value, refused}
 use Rattle.types.specs.Signed.{belowOr}
 use Rattle.tables.specs.declared.storage.FileStorage.{FileStorage}
-use Rattle.storage.specs.Rules.{outcomeOf, both, either}
+use Rattle.storage.specs.Rules.{outcomeOf, both}
 use Rattle.storage.specs.Addition.{badLength}
 use Rattle.storage.proofs.Rules.{either-false}
 use Rattle.answers.specs.Answers.{indexOf, isBelow, askedSet, askedFile}

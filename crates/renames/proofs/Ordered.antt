@@ -2,12 +2,12 @@
 -- definitions of specs/Renames.antt and specs/Places.antt.
 use Prim.Native.Nat.{ℕ, zero, suc, _+_, _-_, _*_, _≤_, _<_}
 use mathlib.Core.Path.{_≡_, refl, sym, _∙_}
-use mathlib.Core.Bool.{Bool, true, false, cond, false≢true}
+use mathlib.Core.Bool.{Bool, true, false, false≢true}
 use mathlib.Core.Logic.{⊎-elim}
 use mathlib.Core.List.{List}
 use native.Mathlib.Omega.{arith}
 use borrow.Author.Tests.{leb-true, eqb-true}
-use lib.Dec.{eqb, leb}
+use lib.Dec.{leb}
 use lib.ListN.{getD}
 use Rattle.lists.proofs.Orders.{le-or-lt}
 use Rattle.storage.specs.Rules.{both}

@@ -1,7 +1,7 @@
 -- Laws of a path through the renames: the tables that are asked for, and the text composed once nothing stops the question. They
 -- rely on the definitions of `answers`.
 use Prim.Native.Nat.{ℕ}
-use mathlib.Core.Path.{_≡_, refl, ap, _∙_}
+use mathlib.Core.Path.{_≡_, refl, _∙_}
 use mathlib.Core.Bool.{Bool, true, false, cond, not}
 use mathlib.Core.List.{List}
 use native.Mathlib.Omega.{arith}

@@ -2,20 +2,18 @@
 -- both tables are spliced. They rely on the laws of proofs/Ordered.antt and proofs/Places.antt.
 use Prim.Native.Nat.{ℕ, zero, suc, _+_, _-_, _*_, _≤_, _<_}
 use mathlib.Core.Path.{_≡_, refl, sym, ap, _∙_}
-use mathlib.Core.Bool.{Bool, true, false, cond}
+use mathlib.Core.Bool.{Bool, false, cond}
 use mathlib.Core.Logic.{_⊎_, inl, inr}
 use mathlib.Core.List.{List, [], _∷_, _++_, append-assoc}
 use native.Mathlib.Nat.{zero-add, add-zero, sub-zero}
 use native.Mathlib.Omega.{arith}
-use native.Mathlib.Numerals.{add-one}
-use borrow.Author.Tests.{lt-ltb, le-ltb, ltb-true, ltb-false, eqb-true, eqb-false, ne-eqb, eq-eqb}
+use borrow.Author.Tests.{lt-ltb, le-ltb, ne-eqb, eq-eqb}
 use lib.Dec.{eqb, ltb}
-use lib.ListN.{length, getD, take, drop, length-append, length-take, length-drop}
+use lib.ListN.{length, getD, take, drop, length-drop}
 use lib.Seq.{take-add, drop-cons, drop-drop, length-take-le}
 use Rattle.lists.proofs.Orders.{le-or-lt}
-use Rattle.renames.specs.declared.rename.RenameMode.{RenameMode}
 use Rattle.renames.specs.Renames.{Renamed, modeWord, modeOf, renamesFrom, wordsOf, textsOf, withRename}
-use Rattle.renames.specs.Places.{belowFrom, bytesFrom, isNamed, sameAt, oldAt}
+use Rattle.renames.specs.Places.{belowFrom, bytesFrom}
 
 -- ---- what the tables read
 

@@ -1,9 +1,8 @@
 // Where the rename of a file stands in the lent tables, or would stand. Relies on the total accessors of
 // `lists` and on the laws of proofs/Places.antt.
 ghost use mathlib.Core.Path.{_≡_};
-ghost use mathlib.Core.Bool.{cond};
 ghost use Prim.Native.Nat.{_+_, _*_, _≤_, _<_, _^_};
-ghost use lib.ListN.{length, getD};
+ghost use lib.ListN.{length};
 ghost use Rattle.renames.specs.Places.{belowFrom, bytesFrom, isNamed, placeAt, placeOf};
 use types::Refusal;
 

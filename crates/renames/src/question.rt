@@ -1,7 +1,6 @@
 // Questions through the renames. Relies on check.rt and place.rt, on `answers` for the set's own answers and on
 // the laws of proofs/Questions.antt.
 ghost use mathlib.Core.Path.{_≡_};
-ghost use mathlib.Core.Bool.{true};
 ghost use lib.ListN.{length, getD, take};
 ghost use Prim.Native.Nat.{_+_, _*_, _≤_, _%_, _^_};
 ghost use lib.IntN.{pos};
@@ -12,7 +11,6 @@ ghost use Rattle.answers.specs.Results.{boolSays};
 ghost use Rattle.renames.specs.Renames.{modeOf};
 ghost use Rattle.renames.specs.Results.{renameSays, nameSays};
 ghost use Rattle.renames.specs.Questions.{nameGiven, absoluteGiven, exported};
-ghost use Rattle.renames.specs.Places.{bytesFrom};
 use crate::check::is_in_order;
 use crate::place::bytes_of;
 use crate::place::place_of;
