@@ -7,3 +7,4 @@ pub mod Changes
 pub mod Decisions
 pub mod Questions
 pub mod Paths
+pub mod Kept

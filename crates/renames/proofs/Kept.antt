@@ -1,0 +1,181 @@
+-- A change keeps the tables in order, and what they read afterwards is the changed list: so one change may follow another. These
+-- laws rely on those of proofs/Ordered.antt and proofs/Decisions.antt.
+use Prim.Native.Nat.{ℕ, zero, suc, _+_, _-_, _*_, _/_, _≤_, _<_}
+use mathlib.Core.Path.{_≡_, refl, sym, ap, _∙_}
+use mathlib.Core.Bool.{Bool, true, false, cond, not}
+use mathlib.Core.Logic.{_⊎_, inl, inr}
+use mathlib.Core.List.{List, [], _∷_, _++_, append-assoc}
+use native.Mathlib.Nat.{add-zero}
+use native.Mathlib.Omega.{arith}
+use borrow.Author.Tests.{ltb-false, lt-ltb, le-ltb, eq-eqb, ne-eqb, le-leb}
+use lib.Dec.{ltb, eqb}
+use lib.IntN.{ℤ}
+use lib.ListN.{length, getD, take, drop, length-append}
+use lib.Seq.{sets, sets-eq, length-sets, getD-drop, drop-drop, take-append-seam, drop-append-seam}
+use Rattle.lists.proofs.Orders.{le-or-lt}
+use Rattle.types.specs.Refusals.{value}
+use Rattle.tables.specs.declared.storage.FileStorage.{FileStorage}
+use Rattle.storage.specs.Addition.{badLength}
+use Rattle.storage.proofs.Rules.{either-false}
+use Rattle.answers.specs.Answers.{indexOf, isBelow}
+use Rattle.renames.specs.declared.rename.RenameMode.{RenameMode}
+use Rattle.renames.specs.declared.rename.RenameMode.the-variants.{FullPath, NoRootPath, AbsolutePath}
+use Rattle.renames.specs.declared.rename.RenamedFiles.{RenamedFiles}
+use Rattle.renames.specs.Renames.{Renamed, modeWord, modeOf, renamesFrom, renamesOf, orderedFrom, inOrder, lacksRoom, stateOf, wordsOf, textsOf, withRename, renamedTo, changedIf, renameFile}
+use Rattle.renames.specs.Changing.{renameOf}
+use Rattle.renames.proofs.Ordered.{order-first, order-rest}
+use Rattle.renames.proofs.Decisions.{order-in}
+
+-- numbers of 31 bits, each above the one before it, from `least` on
+abbrev pub Ascends : ℕ → List Renamed → Type 0
+Ascends least [] = Unit
+Ascends least (r ∷ rs) = (least ≤ r .file) × (r .file ≤ 2147483647) × Ascends (r .file + 1) rs
+
+-- tables in order read an ascending list
+pub ascends-read : (n i least left : ℕ) (e t : List ℕ) → orderedFrom n i least left e ≡ true → Ascends least (renamesFrom n i e t)
+unfolding renamesFrom
+ascends-read zero i least left e t h = tt
+ascends-read (suc n) i least left e t h =
+    let o = order-first n i least left e h in
+    let l = getD e (i * 3 + 2) 0 in
+    (o .0, o .1, ascends-read n (i + 1) (getD e (i * 3) 0 + 1) (left - l) e (drop l t) (order-rest n i least left e h))
+
+weaker : (rs : List Renamed) (least m : ℕ) → m ≤ least → Ascends least rs → Ascends m rs
+weaker [] least m h a = tt
+weaker (r ∷ rs) least m h a = (omega (arith, a .0), a .1, a .2)
+
+-- and a rename more leaves it ascending
+pub ascends-with : (r : Renamed) (rs : List Renamed) (least : ℕ) → least ≤ r .file → r .file ≤ 2147483647 → Ascends least rs → Ascends least (withRename r rs)
+ascends-with r [] least h k a = (h, k, tt)
+ascends-with r (x ∷ xs) least h k a =
+    step (le-or-lt (r .file) (x .file)) (le-or-lt (x .file) (r .file)) (λ g. ascends-with r xs (x .file + 1) g k (a .2))
+  where
+    step : (r .file ≤ x .file) ⊎ (x .file < r .file) → (x .file ≤ r .file) ⊎ (r .file < x .file)
+        → (x .file + 1 ≤ r .file → Ascends (x .file + 1) (withRename r xs)) → Ascends least (withRename r (x ∷ xs))
+    step (inr g) b ih =
+        rw (le-ltb (r .file) (x .file) (omega arith), ne-eqb (r .file) (x .file) (λ q. omega arith)) (a .0, a .1, ih (omega arith))
+    step (inl g) (inr b) ih = rw (lt-ltb (r .file) (x .file) b) (h, k, (omega arith, a .1, a .2))
+    step (inl g) (inl b) ih =
+        rw (le-ltb (r .file) (x .file) b, eq-eqb (r .file) (x .file) (omega arith)) (h, k, weaker xs (x .file + 1) (r .file + 1) (omega arith) (a .2))
+
+-- ---- a list written is read back
+
+mode-back : (m : RenameMode) → modeOf (modeWord m) ≡ m
+mode-back FullPath = refl
+mode-back NoRootPath = refl
+mode-back AbsolutePath = refl
+
+mode-small : (m : RenameMode) → modeWord m ≤ 2
+mode-small FullPath = omega arith
+mode-small NoRootPath = omega arith
+mode-small AbsolutePath = omega arith
+
+pub length-words : (rs : List Renamed) → length (wordsOf rs) ≡ length rs * 3
+length-words [] = refl
+length-words (r ∷ rs) = omega (arith, length-words rs)
+
+-- the words of the first rename, and those behind it
+module _ (r : Renamed) (rs : List Renamed) (i : ℕ) (e post : List ℕ) (h : drop (i * 3) e ≡ wordsOf (r ∷ rs) ++ post) where
+  at-word : (j : ℕ) → getD e (i * 3 + j) 0 ≡ getD (wordsOf (r ∷ rs) ++ post) j 0
+  at-word j = sym (getD-drop (i * 3) e j 0) ∙ ap (λ (x : List ℕ). getD x j 0) h
+
+  word-file : getD e (i * 3) 0 ≡ r .file
+  word-file = rw (add-zero (i * 3)) at (at-word 0)
+
+  words-rest : drop ((i + 1) * 3) e ≡ wordsOf rs ++ post
+  words-rest =
+      let p : (i + 1) * 3 ≡ i * 3 + 3 = omega arith in
+      rw p (sym (drop-drop 3 (i * 3) e) ∙ ap (drop 3) h)
+
+pub list-read : (rs : List Renamed) (i : ℕ) (e post more : List ℕ) → drop (i * 3) e ≡ wordsOf rs ++ post
+    → renamesFrom (length rs) i e (textsOf rs ++ more) ≡ rs
+unfolding renamesFrom
+list-read [] i e post more h = refl
+list-read (r ∷ rs) i e post more h =
+    let rest = textsOf rs ++ more in
+    rw (
+      word-file r rs i e post h,
+      at-word r rs i e post h 1,
+      at-word r rs i e post h 2,
+      mode-back (r .mode),
+      append-assoc (r .name) (textsOf rs) more,
+      take-append-seam (r .name) rest,
+      drop-append-seam (r .name) rest,
+    )
+    (ap (λ (x : List Renamed). r ∷ x) (list-read rs (i + 1) e post more (words-rest r rs i e post h)))
+
+pub list-ordered : (rs : List Renamed) (i least : ℕ) (e post : List ℕ) → drop (i * 3) e ≡ wordsOf rs ++ post → Ascends least rs
+    → orderedFrom (length rs) i least (length (textsOf rs)) e ≡ true
+unfolding orderedFrom
+list-ordered [] i least e post h a = refl
+list-ordered (r ∷ rs) i least e post h a =
+    let n : length (r .name ++ textsOf rs) - length (r .name) ≡ length (textsOf rs) = omega (arith, length-append (r .name) (textsOf rs)) in
+    rw (
+      word-file r rs i e post h,
+      at-word r rs i e post h 1,
+      at-word r rs i e post h 2,
+      le-leb least (r .file) (a .0),
+      le-leb (r .file) 2147483647 (a .1),
+      le-leb (modeWord (r .mode)) 2 (mode-small (r .mode)),
+      le-leb (length (r .name)) (length (r .name ++ textsOf rs)) (omega (arith, length-append (r .name) (textsOf rs))),
+      n,
+    )
+    (list-ordered rs (i + 1) (r .file + 1) e post (words-rest r rs i e post h) (a .2))
+
+-- ---- tables that hold a list
+
+module _ (rs : List Renamed) (e t : List ℕ) (up : Ascends 0 rs) (held : length rs ≤ length e / 3) (room : length (textsOf rs) ≤ length t) where
+  abbrev entries : List ℕ
+  entries = sets e 0 (wordsOf rs)
+
+  abbrev text : List ℕ
+  text = sets t 0 (textsOf rs)
+
+  entries-are : entries ≡ wordsOf rs ++ drop (0 + length (wordsOf rs)) e
+  entries-are = sets-eq (wordsOf rs) e 0 (omega (arith, length-words rs))
+
+  text-is : text ≡ textsOf rs ++ drop (0 + length (textsOf rs)) t
+  text-is = sets-eq (textsOf rs) t 0 (omega arith)
+
+  pub kept-order : inOrder (stateOf rs) entries text ≡ true
+  kept-order =
+      rw (
+        length-sets e 0 (wordsOf rs),
+        length-sets t 0 (textsOf rs),
+        le-leb (length rs) (length e / 3) held,
+        le-leb (length (textsOf rs)) (length t) room,
+      )
+      (list-ordered rs 0 0 entries (drop (0 + length (wordsOf rs)) e) entries-are up)
+
+  pub kept-list : renamesOf (stateOf rs) entries text ≡ rs
+  kept-list =
+      ap (λ (x : List ℕ). renamesFrom (length rs) 0 entries x) text-is
+      ∙ list-read rs 0 entries (drop (0 + length (wordsOf rs)) e) (drop (0 + length (textsOf rs)) t) entries-are
+
+-- ---- `rename_file`
+
+passes : (a b o s : Bool) (rs : List Renamed) (e t : List ℕ) (rf : RenamedFiles)
+    → changedIf (cond a 1 (cond b 11 (cond (not o) 10 (cond s 10 0)))) rs e t .says ≡ value rf
+    → (eqb (cond a 1 (cond b 11 (cond (not o) 10 (cond s 10 0)))) 0 ≡ true) × (o ≡ true) × (s ≡ false) × (stateOf rs ≡ rf)
+passes true b o s rs e t rf h = absurd (let z : _≡_ {A = ℕ} 0 1 = cc in omega arith)
+passes false true o s rs e t rf h = absurd (let z : _≡_ {A = ℕ} 0 1 = cc in omega arith)
+passes false false false s rs e t rf h = absurd (let z : _≡_ {A = ℕ} 0 1 = cc in omega arith)
+passes false false true true rs e t rf h = absurd (let z : _≡_ {A = ℕ} 0 1 = cc in omega arith)
+passes false false true false rs e t rf h = (refl, refl, refl, cc)
+
+-- a rename that is not refused leaves tables in order, which read the list with the rename in it
+module _ (fs : FileStorage) (rf rf′ : RenamedFiles) (e t : List ℕ) (z : ℤ) (name : List ℕ) where
+  abbrev after : List Renamed
+  after = renamedTo z name (renamesOf rf e t)
+
+  pub renamed-kept : renameFile fs rf e t z name .says ≡ value rf′ → indexOf z ≤ 2147483647
+      → (inOrder rf′ (renameFile fs rf e t z name .entries) (renameFile fs rf e t z name .text) ≡ true)
+      × (renamesOf rf′ (renameFile fs rf e t z name .entries) (renameFile fs rf e t z name .text) ≡ after)
+  renamed-kept h small =
+      let k = passes (badLength (fs .«piece_length»)) (not (isBelow (fs .«num_files») z)) (inOrder rf e t) (lacksRoom after e t) after e t rf′ h in
+      let o = order-in rf e (length t) (k .1) in
+      let s = either-false (ltb (length e / 3) (length after)) (ltb (length t) (length (textsOf after))) (k .2) in
+      let up = ascends-with (renameOf (indexOf z) name) (renamesOf rf e t) 0 (omega arith) small (ascends-read (rf .«num_renames») 0 0 (rf .«text_len») e t (o .2)) in
+      let held = ltb-false _ _ (s .0) in
+      let room = ltb-false _ _ (s .1) in
+      rw (k .0, ← k .3) (kept-order after e t up held room, kept-list after e t up held room)
