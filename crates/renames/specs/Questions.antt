@@ -5,7 +5,7 @@ use mathlib.Core.Bool.{Bool, true, false, cond, not}
 use mathlib.Core.List.{List, [], _∷_}
 use lib.Dec.{eqb, leb}
 use lib.IntN.{ℤ}
-use lib.ListN.{length, getD}
+use lib.ListN.{getD}
 use Rattle.types.specs.Refusals.{Outcome}
 use Rattle.path.specs.Split.{rsplitLeaf}
 use Rattle.path.specs.Join.{Joined, appended}

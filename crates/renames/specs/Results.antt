@@ -1,11 +1,9 @@
 -- What each answer says: its value, or document 01's number.
 use Prim.Native.Nat.{ℕ}
 use mathlib.Core.List.{List}
-use lib.IntN.{ℤ}
 use Rattle.types.specs.Refusals.{numberOf, Outcome, value, refused}
 use Rattle.tables.specs.Span.{textAt}
 use Rattle.answers.specs.Answers.{indexOf}
-use Rattle.renames.specs.declared.rename.Rename.{Rename}
 use Rattle.renames.specs.declared.rename.RenamedFiles.{RenamedFiles}
 use Rattle.renames.specs.declared.rename.RenamesResult.{RenamesResult}
 use Rattle.renames.specs.declared.rename.RenamesResult.the-variants as renames
