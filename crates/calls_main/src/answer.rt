@@ -11,6 +11,7 @@ use layout::I32RangeResult;
 use layout::PieceRangeResult;
 use layout::PieceResult;
 use layout::RequestResult;
+use names::U32Result;
 use tables::Span;
 use types::I32Range;
 use types::PeerRequest;
@@ -116,6 +117,14 @@ pub(crate) fn small(result: U8Result) -> Answer {
     match result {
         U8Result::Ok(n) => Answer::Number(n as u64),
         U8Result::Err(refusal) => Answer::Refused(refusal),
+    }
+}
+
+// A hash as a number, or a refusal.
+pub(crate) fn hash(result: U32Result) -> Answer {
+    match result {
+        U32Result::Ok(n) => Answer::Number(n as u64),
+        U32Result::Err(refusal) => Answer::Refused(refusal),
     }
 }
 

@@ -2,9 +2,10 @@
 // lent, and the module of its kind answers it. Relies on the modules of the calls' kinds.
 use crate::changes;
 use crate::changes::Made;
+use crate::compat;
+use crate::kinds;
+use crate::kinds::Call;
 use crate::long_questions;
-use crate::names;
-use crate::names::Call;
 use crate::opening;
 use crate::output;
 use crate::paths;
@@ -13,8 +14,7 @@ use crate::questions;
 use crate::state;
 use crate::words;
 
-// Answers the line of a length, of which as many bytes stand in its buffer as that has places. Each set
-// is lent its own part of every table.
+// Answers the line of a length, of which as many bytes stand in its buffer as that has places.
 pub(crate) fn answer_line(
     line: &[u8],
     length: usize,
@@ -27,8 +27,41 @@ pub(crate) fn answer_line(
     out: &mut [u8],
     used: usize,
 ) -> usize {
+    let call = call_in(line, length);
+    let content = lists::part(line, 0, length);
+    match call {
+        Call::Compat => compat::answer(content, rows, dirs, text, cards, out, used),
+        _ => answer_lent(
+            call,
+            content,
+            rows,
+            roots,
+            times,
+            dirs,
+            text,
+            cards,
+            out,
+            used,
+        ),
+    }
+}
+
+// Answers a call on at most one set, which is lent its own part of every table.
+fn answer_lent(
+    call: Call,
+    line: &[u8],
+    rows: &mut [u64],
+    roots: &mut [u8],
+    times: &mut [i64],
+    dirs: &mut [u64],
+    text: &mut [u8],
+    cards: &mut [u64],
+    out: &mut [u8],
+    used: usize,
+) -> usize {
     let p = places::of_set(
         cards,
+        state::at(cards),
         rows.len(),
         roots.len(),
         times.len(),
@@ -46,8 +79,8 @@ pub(crate) fn answer_line(
     let a0 = p.text.start;
     let a1 = p.text.end;
     answer(
+        call,
         line,
-        length,
         &mut rows[r0..r1],
         &mut roots[h0..h1],
         &mut times[t0..t1],
@@ -72,13 +105,13 @@ fn call_in(line: &[u8], length: usize) -> Call {
     if !words::has(content, 0) {
         return Call::Silent;
     }
-    names::find(words::word(content, 0))
+    kinds::find(words::word(content, 0))
 }
 
 // Makes the change that a call is, if it is one, and then writes the answer.
 fn answer(
+    call: Call,
     line: &[u8],
-    length: usize,
     rows: &mut [u64],
     roots: &mut [u8],
     times: &mut [i64],
@@ -88,12 +121,10 @@ fn answer(
     out: &mut [u8],
     used: usize,
 ) -> usize {
-    let call = call_in(line, length);
-    let content = lists::part(line, 0, length);
     let change = changes::wanted(call, state::is_open(cards));
     let made = changes::make(
         change,
-        content,
+        line,
         state::record(cards),
         rows,
         roots,
@@ -104,7 +135,7 @@ fn answer(
     reply(
         call,
         made,
-        content,
+        line,
         rows,
         roots,
         times,

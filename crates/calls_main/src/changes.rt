@@ -2,8 +2,8 @@
 // for the words of an addition.
 use crate::addition;
 use crate::addition::Addition;
-use crate::names::Call;
-use crate::names::SetCall;
+use crate::kinds::Call;
+use crate::kinds::SetCall;
 use crate::output;
 use crate::state;
 use crate::words;

@@ -1,7 +1,7 @@
 // Questions on what a file's row holds. Relies on `answers`, and on the modules for words and answers.
 use crate::answer;
 use crate::answer::Answer;
-use crate::names::FileQuestion;
+use crate::kinds::FileQuestion;
 use crate::numbers;
 use crate::numbers::Short;
 use crate::output;

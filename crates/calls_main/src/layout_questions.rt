@@ -1,9 +1,9 @@
 // Questions on the layout of a set. Relies on `layout`, and on the modules for words and answers.
 use crate::answer;
 use crate::answer::Answer;
-use crate::names::PieceQuestion;
-use crate::names::RangeQuestion;
-use crate::names::TreeQuestion;
+use crate::kinds::PieceQuestion;
+use crate::kinds::RangeQuestion;
+use crate::kinds::TreeQuestion;
 use crate::numbers;
 use crate::numbers::Long;
 use crate::numbers::Short;

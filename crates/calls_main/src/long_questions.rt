@@ -1,9 +1,10 @@
 // Questions whose answer is longer than a value: it is written as it is found. Relies on
-// set_questions.rt, file_questions.rt and layout_questions.rt.
+// set_questions.rt, file_questions.rt, layout_questions.rt and path_questions.rt.
 use crate::file_questions;
+use crate::kinds::LongQuestion;
 use crate::layout_questions;
-use crate::names::LongQuestion;
 use crate::output;
+use crate::path_questions;
 use crate::set_questions;
 use crate::state;
 use tables::FileStorage;
@@ -56,5 +57,14 @@ fn answer(
         }
         LongQuestion::Symlink => file_questions::symlink(line, fs, rows, text, out, used),
         LongQuestion::MapBlock => layout_questions::map_block(line, fs, rows, out, used),
+        LongQuestion::FilePath => {
+            path_questions::file_path(line, fs, rows, dirs, text, out, used)
+        }
+        LongQuestion::FilePathHash => {
+            path_questions::file_path_hash(line, fs, rows, dirs, text, out, used)
+        }
+        LongQuestion::AllPathHashes => {
+            path_questions::all_path_hashes(line, fs, dirs, text, out, used)
+        }
     }
 }

@@ -3,7 +3,7 @@
 ghost use Prim.Native.Nat.{_≤_};
 use crate::changes;
 use crate::changes::Made;
-use crate::names::SetCall;
+use crate::kinds::SetCall;
 use crate::numbers;
 use crate::numbers::Number;
 use crate::numbers::Short;

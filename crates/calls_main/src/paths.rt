@@ -2,8 +2,8 @@
 // asks the library and writes the answer. Relies on `path`, `crc32c` and `merkle`, and on the modules for
 // words and answers.
 use crate::answer;
-use crate::names::PlainCall;
-use crate::names::StringCall;
+use crate::kinds::PlainCall;
+use crate::kinds::StringCall;
 use crate::numbers;
 use crate::numbers::Number;
 use crate::output;

@@ -3,6 +3,7 @@
 ghost use Prim.Native.Nat.{_≤_};
 use crate::state;
 use lists::least;
+use lists::minus;
 
 // A part of a table.
 pub(crate) struct Place {
@@ -31,9 +32,27 @@ fn part_of(length: usize, start: usize, n: usize) -> Place
     }
 }
 
-// The parts of the set that is spoken of, in tables of those lengths.
+// The part of a table of words; no part begins behind its millionth word.
+pub(crate) fn words_at(table: &[u64], place: Place) -> &[u64] {
+    let inside = part_of(
+        table.len(),
+        least(place.start, 1000000),
+        minus(place.end, place.start),
+    );
+    let from = inside.start;
+    let to = inside.end;
+    &table[from..to]
+}
+
+// The part of a table of bytes.
+pub(crate) fn bytes_at(table: &[u8], place: Place) -> &[u8] {
+    lists::part(table, place.start, minus(place.end, place.start))
+}
+
+// The parts of the set at a place, in tables of those lengths.
 pub(crate) fn of_set(
     cards: &[u64],
+    place: usize,
     rows: usize,
     roots: usize,
     times: usize,
@@ -46,8 +65,8 @@ pub(crate) fn of_set(
     ensures { λ r. ⌜ (r .dirs .start ≤ 1000000) × (r .dirs .start ≤ r .dirs .end) × (r .dirs .end ≤ dirs) ⌝ }
     ensures { λ r. ⌜ (r .text .start ≤ 1000000) × (r .text .start ≤ r .text .end) × (r .text .end ≤ text) ⌝ }
 {
-    let at = state::at(cards);
-    let room = state::lent(cards);
+    let at = place % 4;
+    let room = state::lent_at(cards, place);
     let of_rows = part_of(rows, at * 2048, least(room.files, 256) * 8);
     let of_roots = part_of(roots, at * 8192, least(room.files, 256) * 32);
     let of_times = part_of(times, at * 256, room.files);

@@ -3,8 +3,8 @@
 use crate::answer;
 use crate::answer::Answer;
 use crate::file_questions;
+use crate::kinds::Question;
 use crate::layout_questions;
-use crate::names::Question;
 use crate::output;
 use crate::set_questions;
 use crate::state;

@@ -2,7 +2,7 @@
 // answers.
 use crate::answer;
 use crate::answer::Answer;
-use crate::names::SetQuestion;
+use crate::kinds::SetQuestion;
 use crate::output;
 use crate::words;
 use answers::I32Result;

@@ -30,6 +30,13 @@ pub(crate) fn at(cards: &[u64]) -> usize
     (word(cards, 64) % 4) as usize
 }
 
+// Where the card of the set at a place begins; places are counted modulo four.
+fn card_of(place: usize) -> usize
+    ensures { λ r. ⌜ r ≤ 48 ⌝ }
+{
+    place % 4 * 16
+}
+
 // Speaks of another set.
 pub(crate) fn turn_to(cards: &mut [u64], place: u64) {
     put_word(cards, 64, place);
@@ -46,12 +53,17 @@ pub(crate) fn reset(cards: &mut [u64]) {
 
 // Whether the set that is spoken of was opened.
 pub(crate) fn is_open(cards: &[u64]) -> bool {
-    word(cards, at(cards) * 16) == 1
+    is_open_at(cards, at(cards))
 }
 
-// What the set that is spoken of was lent.
-pub(crate) fn lent(cards: &[u64]) -> Room {
-    let card = at(cards) * 16;
+// Whether the set at a place was opened.
+pub(crate) fn is_open_at(cards: &[u64], place: usize) -> bool {
+    word(cards, card_of(place)) == 1
+}
+
+// What the set at a place was lent.
+pub(crate) fn lent_at(cards: &[u64], place: usize) -> Room {
+    let card = card_of(place);
     Room {
         files: word(cards, card + 1) as usize,
         dirs: word(cards, card + 2) as usize,
@@ -61,7 +73,12 @@ pub(crate) fn lent(cards: &[u64]) -> Room {
 
 // The record of the set that is spoken of.
 pub(crate) fn record(cards: &[u64]) -> FileStorage {
-    let card = at(cards) * 16;
+    record_at(cards, at(cards))
+}
+
+// The record of the set at a place.
+pub(crate) fn record_at(cards: &[u64], place: usize) -> FileStorage {
+    let card = card_of(place);
     FileStorage {
         piece_length: word(cards, card + 4),
         v2: word(cards, card + 5) == 1,

@@ -37,6 +37,8 @@ pub fn answer(call: &Call, sets: &mut Sets) -> Option<Answer> {
         Call::Trim => sets.current()?.trim(),
         Call::AskSet(question) => questions::on_set(sets.current()?, question),
         Call::AskFile(question, file) => questions::on_file(sets.current()?, question, *file),
+        Call::AskPath(question, file, save) => questions::on_path(sets.current()?, question, *file, save),
+        Call::Compatible(first, second) => questions::on_two(sets.at(*first)?, sets.at(*second)?),
         Call::AskLayout(question) => layout::on_layout(sets.current()?, question),
     })
 }

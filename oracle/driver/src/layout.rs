@@ -188,7 +188,7 @@ pub fn piece_count(files: &FileStorage) -> i64 {
 }
 
 /// Refusal 11.
-fn test_file(files: &FileStorage, file: FileIndex) -> Result<(), Refusal> {
+pub fn test_file(files: &FileStorage, file: FileIndex) -> Result<(), Refusal> {
     if file < FileIndex(0) || file >= files.end_file() { Err(Refusal::NoSuchFile) } else { Ok(()) }
 }
 

@@ -3,7 +3,7 @@
 use bitdaemon_common::{FileIndex, PieceIndex};
 
 use crate::layout::{LayoutQuestion, PieceQuestion, RowQuestion};
-use crate::questions::{FileQuestion, SetQuestion};
+use crate::questions::{FileQuestion, PathQuestion, SetQuestion};
 use crate::set::{Addition, Room, USUAL_ROOM};
 use crate::sets::SETS;
 use crate::words::{Words, number};
@@ -27,6 +27,10 @@ pub enum Call {
     Trim,
     AskSet(SetQuestion),
     AskFile(FileQuestion, FileIndex),
+    /// A question on a file's path behind a save path.
+    AskPath(PathQuestion, FileIndex, Vec<u8>),
+    /// A question on the sets at two places.
+    Compatible(usize, usize),
     AskLayout(LayoutQuestion),
 }
 
@@ -50,22 +54,31 @@ pub fn call(line: &[u8]) -> Option<Call> {
         b"crc" => Call::Crc(words.string()?),
         b"width" => Call::Width(words.number()?),
         b"open" => Call::Open(words.number()?, room(&mut words)?),
-        b"use" => Call::Use(words.number().filter(|&place| place < SETS)?),
+        b"use" => Call::Use(place(&mut words)?),
         b"reset" => Call::Reset,
         b"add" => Call::Add(addition(&mut words)?),
         b"trim" => Call::Trim,
+        b"compat" => Call::Compatible(place(&mut words)?, place(&mut words)?),
         name => question(name, &mut words)?,
     };
     words.next().is_none().then_some(call)
 }
 
-/// A question on a set, a file or the layout.
+/// The place of a set.
+fn place(words: &mut Words) -> Option<usize> {
+    words.number().filter(|&place| place < SETS)
+}
+
+/// A question on a set, a file, a path or the layout.
 fn question(name: &[u8], words: &mut Words) -> Option<Call> {
     if let Some(question) = set_question(name) {
         return Some(Call::AskSet(question));
     }
     if let Some(question) = file_question(name) {
         return Some(Call::AskFile(question, FileIndex(words.number()?)));
+    }
+    if let Some(question) = path_question(name) {
+        return Some(Call::AskPath(question, FileIndex(words.number()?), words.string()?));
     }
     Some(Call::AskLayout(layout_question(name, words)?))
 }
@@ -80,6 +93,7 @@ fn set_question(name: &[u8]) -> Option<SetQuestion> {
         b"v2" => SetQuestion::V2,
         b"dirs" => SetQuestion::Dirs,
         b"text_bytes" => SetQuestion::TextBytes,
+        b"all_path_hashes" => SetQuestion::AllPathHashes,
         _ => return None,
     })
 }
@@ -97,6 +111,14 @@ fn file_question(name: &[u8]) -> Option<FileQuestion> {
         b"internal_file_path" => FileQuestion::InternalFilePath,
         b"symlink" => FileQuestion::Symlink,
         b"internal_symlink" => FileQuestion::InternalSymlink,
+        _ => return None,
+    })
+}
+
+fn path_question(name: &[u8]) -> Option<PathQuestion> {
+    Some(match name {
+        b"file_path" => PathQuestion::FilePath,
+        b"file_path_hash" => PathQuestion::FilePathHash,
         _ => return None,
     })
 }

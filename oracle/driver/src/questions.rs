@@ -1,8 +1,12 @@
-//! Questions on a set and on one of its files.
+//! Questions on a set, on one of its files and its whole path, and on two sets.
+
+use std::collections::HashSet;
 
 use bitdaemon_common::FileIndex;
+use bitdaemon_core::file_storage::files_compatible;
 
 use crate::answer::{Answer, Refusal, Value, boolean, bytes, number, one};
+use crate::layout::test_file;
 use crate::set::Set;
 
 /// A question on a set as a whole.
@@ -15,6 +19,7 @@ pub enum SetQuestion {
     V2,
     Dirs,
     TextBytes,
+    AllPathHashes,
 }
 
 /// A question on one file.
@@ -32,6 +37,12 @@ pub enum FileQuestion {
     InternalSymlink,
 }
 
+/// A question on the whole path of one file, behind a save path.
+pub enum PathQuestion {
+    FilePath,
+    FilePathHash,
+}
+
 /// The answer to a question on a set.
 pub fn on_set(set: &Set, question: &SetQuestion) -> Answer {
     let files = &set.files;
@@ -44,15 +55,28 @@ pub fn on_set(set: &Set, question: &SetQuestion) -> Answer {
         SetQuestion::V2 => boolean(files.v2()),
         SetQuestion::Dirs => Ok(files.paths().iter().map(|path| Value::Bytes(path.clone())).collect()),
         SetQuestion::TextBytes => number(set.text_bytes() as i128),
+        SetQuestion::AllPathHashes => all_path_hashes(set),
     }
+}
+
+/// The hashes of a set's directories, ascending.
+fn all_path_hashes(set: &Set) -> Answer {
+    let mut table = HashSet::new();
+    set.files.all_path_hashes(&mut table);
+    let mut hashes: Vec<u32> = table.into_iter().collect();
+    hashes.sort_unstable();
+    Ok(hashes.into_iter().map(|hash| Value::Number(hash.into())).collect())
+}
+
+/// Whether two sets are compatible, in this order.
+pub fn on_two(first: &Set, second: &Set) -> Answer {
+    boolean(files_compatible(&first.files, &second.files))
 }
 
 /// The answer to a question on a file, which is 11 if there is no such file.
 pub fn on_file(set: &Set, question: &FileQuestion, file: FileIndex) -> Answer {
     let files = &set.files;
-    if file < FileIndex(0) || file >= files.end_file() {
-        return Err(Refusal::NoSuchFile);
-    }
+    test_file(files, file)?;
     match question {
         FileQuestion::FileName => bytes(files.file_name(file)),
         FileQuestion::FileSize => number(files.file_size(file)),
@@ -65,5 +89,14 @@ pub fn on_file(set: &Set, question: &FileQuestion, file: FileIndex) -> Answer {
         FileQuestion::InternalFilePath => bytes(&files.internal_file_path(file)),
         FileQuestion::Symlink => bytes(&files.symlink(file)),
         FileQuestion::InternalSymlink => bytes(set.link_text(file).ok_or(Refusal::NoLinkText)?),
+    }
+}
+
+/// The answer to a question on a file's path behind a save path, which is 11 if there is no such file.
+pub fn on_path(set: &Set, question: &PathQuestion, file: FileIndex, save: &[u8]) -> Answer {
+    test_file(&set.files, file)?;
+    match question {
+        PathQuestion::FilePath => bytes(&set.files.file_path(file, save)),
+        PathQuestion::FilePathHash => number(set.files.file_path_hash(file, save)),
     }
 }

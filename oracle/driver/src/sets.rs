@@ -10,19 +10,19 @@ pub const SETS: usize = 4;
 #[derive(Default)]
 pub struct Sets {
     all: [Option<Set>; SETS],
-    at: usize,
+    current: usize,
 }
 
 impl Sets {
     /// Puts a new set in place of the one that is spoken of.
     pub fn open(&mut self, piece_length: i32, room: Room) -> Answer {
-        self.all[self.at] = Some(Set::open(piece_length, room)?);
+        self.all[self.current] = Some(Set::open(piece_length, room)?);
         done()
     }
 
     /// Speaks of another set, whose place is below SETS.
     pub fn turn_to(&mut self, place: usize) -> Answer {
-        self.at = place;
+        self.current = place;
         done()
     }
 
@@ -32,8 +32,13 @@ impl Sets {
         done()
     }
 
+    /// The set at a place below SETS, if it was opened.
+    pub fn at(&self, place: usize) -> Option<&Set> {
+        self.all[place].as_ref()
+    }
+
     /// The set that is spoken of, if it was opened.
     pub fn current(&mut self) -> Option<&mut Set> {
-        self.all[self.at].as_mut()
+        self.all[self.current].as_mut()
     }
 }

@@ -100,7 +100,7 @@ fn given_name(random: &mut Random) -> Vec<u8> {
 }
 
 /// Parts of a path, with few that differ, so that names and directories come again.
-const PARTS: [&[u8]; 8] = [b"s", b"a", b"b", b"x", b"xy", b".", b".pad", b"t"];
+const PARTS: [&[u8]; 9] = [b"s", b"a", b"b", b"x", b"xy", b"Xy", b".", b".pad", b"t"];
 
 /// Paths with runs of separators, at an end or inside, and paths of no part at all.
 const ODD: [&[u8]; 32] = [

@@ -18,6 +18,7 @@ mod sample;
 mod scenes;
 mod script;
 mod sets;
+mod twins;
 mod widths;
 
 use std::io::{self, BufWriter};

@@ -38,6 +38,8 @@ pub const SCENES: &[&[&str]] = &[
     &["open 10", "add - :s/ 1 0 0 : -", "add - :s/a 1 0 0 : -"],
     &["open 10", "add - :s/./a 1 0 0 : -", "add - :./a 1 0 0 : -"],
     &["open 10", "add - : 1 0 0 : *01", "add - :// 1 0 0 : *01", "add - ://a 1 0 0 : *01"],
+    &["open 10", "add - : 7 0 0 : *01", "add - :x/Y/a 7 0 0 : *01", "add - :x/Z/a 7 0 0 : *01"],
+    &["open 10", "add - :S/X/A 7 0 0 : *01", "add - :s/x/a 7 0 0 : *01", "add - :S/x/A 7 0 0 : *01"],
     &["open 10", "add - :s\\a 1 0 0 : -", "add - :s\\b 1 0 0 : -", "add - :\\ 1 0 0 : -"],
     // v1 and v2: fixed by the first file with bytes and no link text, open until then, and open again after a trim.
     &["open 10", "add - :s/l 5 8 0 :t -", "add - :s/e 0 0 0 : *01", "add - :s/a 5 0 0 : *01", "add - :s/b 5 0 0 : -"],

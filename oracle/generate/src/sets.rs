@@ -10,6 +10,7 @@ use crate::asking;
 use crate::random::Random;
 use crate::scenes::SCENES;
 use crate::script::{Script, Word, call};
+use crate::twins;
 
 /// Piece lengths: the smallest, small ones, some by which the largest total can be divided, usual ones, the largest.
 const LENGTHS: [i32; 12] = [1, 2, 3, 7, 10, 10, 15, 255, 16384, 16384, 65536, i32::MAX];
@@ -24,11 +25,17 @@ struct Plan {
     needs: Vec<Room>,
 }
 
-/// As many random changes as wanted, to sets that are built one at a time or side by side.
+/// As many random changes as wanted, to sets that are built one at a time or side by side, alike ones among them.
 pub fn random(script: &mut Script, random: &mut Random, count: usize) -> io::Result<()> {
     let mut sets = Sets::default();
     let mut left = count;
     while left > 0 {
+        if random.once_in(4) {
+            let plan = Plan::few(random, left);
+            left -= plan.changes.len();
+            twins::random(script, random, &mut sets, plan.piece_length, &plan.changes)?;
+            continue;
+        }
         let sides = if random.once_in(6) { 1 + random.below(SETS) } else { 1 };
         let mut plans = Vec::new();
         while plans.len() < sides && left > 0 {
@@ -45,7 +52,7 @@ pub fn random(script: &mut Script, random: &mut Random, count: usize) -> io::Res
     Ok(())
 }
 
-/// The sets of SCENES, each with every question at the end. The first set is the one that is spoken of.
+/// The sets of SCENES, each with every question at the end, and those of FAMILIES. The first set is spoken of.
 pub fn scenes(script: &mut Script, random: &mut Random) -> io::Result<()> {
     let mut sets = Sets::default();
     for lines in SCENES {
@@ -54,7 +61,7 @@ pub fn scenes(script: &mut Script, random: &mut Random) -> io::Result<()> {
         }
         asking::all(script, random, current(&mut sets))?;
     }
-    Ok(())
+    twins::scenes(script, &mut sets)
 }
 
 /// Writes a line that changes something, and changes the sets that stand for the script's.
@@ -104,7 +111,7 @@ fn build(script: &mut Script, random: &mut Random, sets: &mut Sets, plans: &[Pla
     }
 }
 
-fn turn_to(script: &mut Script, sets: &mut Sets, place: usize) -> io::Result<()> {
+pub fn turn_to(script: &mut Script, sets: &mut Sets, place: usize) -> io::Result<()> {
     ask(script, sets, &call("use", &[Word::Number(place as i128)]))?;
     Ok(())
 }
@@ -125,6 +132,13 @@ impl Plan {
                 })
             }
         }
+    }
+
+    /// A plan of a few additions.
+    fn few(random: &mut Random, most: usize) -> Self {
+        let taste = Taste::new(random);
+        let count = 1 + random.below(4);
+        Self::by(random, most, count, |random, set, _| addition(random, &taste, set))
     }
 
     /// A plan of at most `most` and at most `count` changes; each is chosen by the set before it and its place.

@@ -2,8 +2,8 @@
 use Prim.Native.Nat.{_-_}
 use borrow.Author.Needs.{needs}
 use lib.ListN.{length}
-use Rattle.calls_main.proofs.names.place.Statement.{statement}
-use Rattle.calls_main.proofs.names.place.Tie as tie
+use Rattle.calls_main.proofs.kinds.place.Statement.{statement}
+use Rattle.calls_main.proofs.kinds.place.Tie as tie
 
 abbrev Inv-loop : tie.InvT-loop
 Inv-loop names name n₀ at₀ n at = Unit {0}

@@ -100,6 +100,9 @@ pub(crate) enum LongQuestion {
     InternalFilePath,
     Symlink,
     MapBlock,
+    FilePath,
+    FilePathHash,
+    AllPathHashes,
 }
 
 // What a line asks for.
@@ -111,6 +114,7 @@ pub(crate) enum Call {
     OnSets(SetCall),
     Ask(Question),
     AskLong(LongQuestion),
+    Compat,
 }
 
 // The place of a name among names that have a blank behind each, or how many there are.
@@ -272,7 +276,7 @@ fn find_piece_question(name: &[u8]) -> Call {
     }
 }
 
-// The call of a name, among the questions that stand alone.
+// The call of a name, among the questions that stand alone and those behind them.
 fn find_other(name: &[u8]) -> Call {
     let n = place(
         b"file_index_at_offset file_index_for_root map_file dirs root internal_file_path symlink map_block ",
@@ -287,6 +291,18 @@ fn find_other(name: &[u8]) -> Call {
         5 => Call::AskLong(LongQuestion::InternalFilePath),
         6 => Call::AskLong(LongQuestion::Symlink),
         7 => Call::AskLong(LongQuestion::MapBlock),
+        _ => find_path_question(name),
+    }
+}
+
+// The call of a name, among the questions on whole paths and on two sets.
+fn find_path_question(name: &[u8]) -> Call {
+    let n = place(b"file_path file_path_hash all_path_hashes compat ", name);
+    match n {
+        0 => Call::AskLong(LongQuestion::FilePath),
+        1 => Call::AskLong(LongQuestion::FilePathHash),
+        2 => Call::AskLong(LongQuestion::AllPathHashes),
+        3 => Call::Compat,
         _ => Call::Unknown,
     }
 }

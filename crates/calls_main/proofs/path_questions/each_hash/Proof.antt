@@ -1,0 +1,52 @@
+-- The loop keeps the length of the buffer, and the hashes that are left are its measure.
+use Prim.Native.Nat.{_-_}
+use mathlib.Core.Path.{_≡_}
+use borrow.Author.Needs.{needs}
+use lib.ListN.{length}
+use Rattle.calls_main.proofs.path_questions.each_hash.Statement.{statement}
+use Rattle.calls_main.proofs.path_questions.each_hash.Tie as tie
+
+abbrev Inv-loop : tie.InvT-loop
+Inv-loop hashes n out₀ used at₀ i₀ out at i = length out ≡ length out₀
+
+abbrev μ-loop : tie.MeasureT-loop
+μ-loop hashes n out₀ used at₀ i₀ out at i = n - i
+
+loop-holds : tie.Need-loop-holds Inv-loop μ-loop
+loop-holds c = search needs
+
+hash-at-requires : tie.Need-hash-at-requires Inv-loop μ-loop
+hash-at-requires c κs = search needs
+
+number-requires : tie.Need-number-requires Inv-loop μ-loop
+number-requires c κs = search needs
+
+add-i : tie.Need-add-i Inv-loop μ-loop
+add-i c = search needs
+
+loop-less : tie.Need-loop-less Inv-loop μ-loop
+loop-less c = search needs
+
+loop-again : tie.Need-loop-again Inv-loop μ-loop
+loop-again c = search needs
+
+same-length : tie.Need-same-length Inv-loop μ-loop
+same-length c = search needs
+
+returns : tie.Need-returns Inv-loop μ-loop
+returns c = search needs
+
+pub each-hash-spec : {M : Type 1} → statement M
+each-hash-spec =
+    tie.close
+    (tie.spec
+    Inv-loop
+    μ-loop
+    loop-holds
+    hash-at-requires
+    number-requires
+    add-i
+    loop-less
+    loop-again
+    same-length
+    returns)
