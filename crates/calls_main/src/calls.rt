@@ -11,6 +11,8 @@ use crate::output;
 use crate::paths;
 use crate::places;
 use crate::questions;
+use crate::renamed_questions;
+use crate::renaming;
 use crate::state;
 use crate::words;
 
@@ -23,6 +25,8 @@ pub(crate) fn answer_line(
     times: &mut [i64],
     dirs: &mut [u64],
     text: &mut [u8],
+    entries: &mut [u64],
+    area: &mut [u8],
     cards: &mut [u64],
     out: &mut [u8],
     used: usize,
@@ -31,6 +35,19 @@ pub(crate) fn answer_line(
     let content = lists::part(line, 0, length);
     match call {
         Call::Compat => compat::answer(content, rows, dirs, text, cards, out, used),
+        Call::Rename => renaming::rename(content, entries, area, cards, out, used),
+        Call::AskRenamed(question) => renamed_questions::ask(
+            question,
+            content,
+            rows,
+            dirs,
+            text,
+            entries,
+            area,
+            cards,
+            out,
+            used,
+        ),
         _ => answer_lent(
             call,
             content,
@@ -46,7 +63,7 @@ pub(crate) fn answer_line(
     }
 }
 
-// Answers a call on at most one set, which is lent its own part of every table.
+// Answers a call on at most one set without its renames; the set is lent its own part of every table.
 fn answer_lent(
     call: Call,
     line: &[u8],

@@ -105,6 +105,14 @@ pub(crate) enum LongQuestion {
     AllPathHashes,
 }
 
+// A question on a set through its renames.
+pub(crate) enum RenamedQuestion {
+    Export,
+    RenamedPath,
+    RenamedName,
+    RenamedAbsolute,
+}
+
 // What a line asks for.
 pub(crate) enum Call {
     Silent,
@@ -115,6 +123,8 @@ pub(crate) enum Call {
     Ask(Question),
     AskLong(LongQuestion),
     Compat,
+    Rename,
+    AskRenamed(RenamedQuestion),
 }
 
 // The place of a name among names that have a blank behind each, or how many there are.
@@ -295,7 +305,7 @@ fn find_other(name: &[u8]) -> Call {
     }
 }
 
-// The call of a name, among the questions on whole paths and on two sets.
+// The call of a name, among the questions on whole paths and on two sets, and those behind them.
 fn find_path_question(name: &[u8]) -> Call {
     let n = place(b"file_path file_path_hash all_path_hashes compat ", name);
     match n {
@@ -303,6 +313,22 @@ fn find_path_question(name: &[u8]) -> Call {
         1 => Call::AskLong(LongQuestion::FilePathHash),
         2 => Call::AskLong(LongQuestion::AllPathHashes),
         3 => Call::Compat,
+        _ => find_rename(name),
+    }
+}
+
+// The call of a name, among those on renames.
+fn find_rename(name: &[u8]) -> Call {
+    let n = place(
+        b"rename export renamed_path renamed_name renamed_absolute ",
+        name,
+    );
+    match n {
+        0 => Call::Rename,
+        1 => Call::AskRenamed(RenamedQuestion::Export),
+        2 => Call::AskRenamed(RenamedQuestion::RenamedPath),
+        3 => Call::AskRenamed(RenamedQuestion::RenamedName),
+        4 => Call::AskRenamed(RenamedQuestion::RenamedAbsolute),
         _ => Call::Unknown,
     }
 }

@@ -18,6 +18,8 @@ mod path_questions;
 mod paths;
 mod places;
 mod questions;
+mod renamed_questions;
+mod renaming;
 mod roots;
 mod scan;
 mod set_questions;
@@ -25,7 +27,8 @@ mod state;
 mod strings;
 mod words;
 
-// The tables have four parts each, one for each set, and the sets have a card each.
+// The tables have four parts each, one for each set, and the sets have a card each; `entries` and `area` are
+// the tables of the renames.
 fn main() {
     let mut block = io::large_buffer();
     let mut line = io::large_buffer();
@@ -34,7 +37,9 @@ fn main() {
     let mut times = [0i64; 1024];
     let mut dirs = [0u64; 2048];
     let mut text = text_areas();
-    let mut cards = [0u64; 65];
+    let mut entries = [0u64; 3072];
+    let mut area = [0u8; 262144];
+    let mut cards = [0u64; 73];
     let mut out = io::large_buffer();
     let used = answer_all(
         &mut block,
@@ -44,6 +49,8 @@ fn main() {
         &mut times,
         &mut dirs,
         &mut text,
+        &mut entries,
+        &mut area,
         &mut cards,
         &mut out,
     );
@@ -66,6 +73,8 @@ fn answer_all(
     times: &mut [i64],
     dirs: &mut [u64],
     text: &mut [u8],
+    entries: &mut [u64],
+    area: &mut [u8],
     cards: &mut [u64],
     out: &mut [u8],
 ) -> usize {
@@ -86,6 +95,8 @@ fn answer_all(
             times,
             dirs,
             text,
+            entries,
+            area,
             cards,
             out,
             used,

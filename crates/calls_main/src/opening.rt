@@ -90,6 +90,7 @@ fn put_in(piece_length: i32, room: Room, cards: &mut [u64], out: &mut [u8], used
         StorageResult::Ok(fs) => {
             state::put_room(cards, room);
             state::put_record(cards, fs);
+            state::put_renamed(cards, 0, 0);
             output::done(out, used)
         }
         StorageResult::Err(refusal) => output::refused(out, used, types::number(refusal)),

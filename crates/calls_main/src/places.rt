@@ -20,6 +20,12 @@ pub(crate) struct Places {
     pub text: Place,
 }
 
+// The parts of the tables of renames.
+pub(crate) struct RenamePlaces {
+    pub entries: Place,
+    pub area: Place,
+}
+
 // The part of so many places from `start` on, as far as a table of that length has them.
 fn part_of(length: usize, start: usize, n: usize) -> Place
     ensures { λ r. ⌜ (r .start ≤ start) × (r .start ≤ r .end) × (r .end ≤ length) ⌝ }
@@ -78,5 +84,20 @@ pub(crate) fn of_set(
         times: of_times,
         dirs: of_dirs,
         text: of_text,
+    }
+}
+
+// The parts of the set at a place, in tables of renames of those lengths: 256 entries of three words, and
+// 65536 bytes.
+pub(crate) fn of_renames(place: usize, entries: usize, area: usize) -> RenamePlaces
+    ensures { λ r. ⌜ (r .entries .start ≤ 1000000) × (r .entries .start ≤ r .entries .end) × (r .entries .end ≤ entries) ⌝ }
+    ensures { λ r. ⌜ (r .area .start ≤ 1000000) × (r .area .start ≤ r .area .end) × (r .area .end ≤ area) ⌝ }
+{
+    let at = place % 4;
+    let of_entries = part_of(entries, at * 768, 768);
+    let of_area = part_of(area, at * 65536, 65536);
+    RenamePlaces {
+        entries: of_entries,
+        area: of_area,
     }
 }

@@ -1,9 +1,11 @@
 // The four sets of a script. What a set is besides its tables stands on its card, sixteen words of a
-// table that is lent to every call; one word behind the cards says which set calls speak of. Relies on
-// `tables` for the set's record and on the accessors of `lists`.
+// table that is lent to every call; one word behind the cards says which set calls speak of, and behind it
+// stand the counts of the sets' renames. Relies on `tables` and `renames` for the records and on the
+// accessors of `lists`.
 ghost use Prim.Native.Nat.{_≤_};
 use lists::put_word;
 use lists::word;
+use renames::RenamedFiles;
 use tables::FileStorage;
 use tables::Span;
 
@@ -137,6 +139,22 @@ pub(crate) fn put_record(cards: &mut [u64], fs: FileStorage) {
         fs.size_on_disk,
         flag(fs.trimmed),
     );
+}
+
+// The renames of the set that is spoken of; two words for each set stand behind the cards.
+pub(crate) fn renamed(cards: &[u64]) -> RenamedFiles {
+    let place = 65 + at(cards) * 2;
+    RenamedFiles {
+        num_renames: word(cards, place) as usize,
+        text_len: word(cards, place + 1) as usize,
+    }
+}
+
+// Notes the renames of the set that is spoken of.
+pub(crate) fn put_renamed(cards: &mut [u64], num_renames: usize, text_len: usize) {
+    let place = 65 + at(cards) * 2;
+    put_word(cards, place, num_renames as u64);
+    put_word(cards, place + 1, text_len as u64);
 }
 
 // Writes four words of a card.

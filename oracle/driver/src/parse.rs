@@ -25,6 +25,7 @@ pub enum Call {
     Reset,
     Add(Addition),
     Trim,
+    Rename(FileIndex, Vec<u8>),
     AskSet(SetQuestion),
     AskFile(FileQuestion, FileIndex),
     /// A question on a file's path behind a save path.
@@ -58,6 +59,7 @@ pub fn call(line: &[u8]) -> Option<Call> {
         b"reset" => Call::Reset,
         b"add" => Call::Add(addition(&mut words)?),
         b"trim" => Call::Trim,
+        b"rename" => Call::Rename(FileIndex(words.number()?), words.string()?),
         b"compat" => Call::Compatible(place(&mut words)?, place(&mut words)?),
         name => question(name, &mut words)?,
     };
@@ -94,6 +96,7 @@ fn set_question(name: &[u8]) -> Option<SetQuestion> {
         b"dirs" => SetQuestion::Dirs,
         b"text_bytes" => SetQuestion::TextBytes,
         b"all_path_hashes" => SetQuestion::AllPathHashes,
+        b"export" => SetQuestion::Export,
         _ => return None,
     })
 }
@@ -111,6 +114,8 @@ fn file_question(name: &[u8]) -> Option<FileQuestion> {
         b"internal_file_path" => FileQuestion::InternalFilePath,
         b"symlink" => FileQuestion::Symlink,
         b"internal_symlink" => FileQuestion::InternalSymlink,
+        b"renamed_name" => FileQuestion::RenamedName,
+        b"renamed_absolute" => FileQuestion::RenamedAbsolute,
         _ => return None,
     })
 }
@@ -119,6 +124,7 @@ fn path_question(name: &[u8]) -> Option<PathQuestion> {
     Some(match name {
         b"file_path" => PathQuestion::FilePath,
         b"file_path_hash" => PathQuestion::FilePathHash,
+        b"renamed_path" => PathQuestion::RenamedPath,
         _ => return None,
     })
 }

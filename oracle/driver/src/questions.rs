@@ -1,4 +1,4 @@
-//! Questions on a set, on one of its files and its whole path, and on two sets.
+//! Questions on a set, on one of its files and its whole path, also through the set's renames, and on two sets.
 
 use std::collections::HashSet;
 
@@ -20,6 +20,7 @@ pub enum SetQuestion {
     Dirs,
     TextBytes,
     AllPathHashes,
+    Export,
 }
 
 /// A question on one file.
@@ -35,12 +36,15 @@ pub enum FileQuestion {
     InternalFilePath,
     Symlink,
     InternalSymlink,
+    RenamedName,
+    RenamedAbsolute,
 }
 
 /// A question on the whole path of one file, behind a save path.
 pub enum PathQuestion {
     FilePath,
     FilePathHash,
+    RenamedPath,
 }
 
 /// The answer to a question on a set.
@@ -56,6 +60,7 @@ pub fn on_set(set: &Set, question: &SetQuestion) -> Answer {
         SetQuestion::Dirs => Ok(files.paths().iter().map(|path| Value::Bytes(path.clone())).collect()),
         SetQuestion::TextBytes => number(set.text_bytes() as i128),
         SetQuestion::AllPathHashes => all_path_hashes(set),
+        SetQuestion::Export => export(set),
     }
 }
 
@@ -66,6 +71,13 @@ fn all_path_hashes(set: &Set) -> Answer {
     let mut hashes: Vec<u32> = table.into_iter().collect();
     hashes.sort_unstable();
     Ok(hashes.into_iter().map(|hash| Value::Number(hash.into())).collect())
+}
+
+/// The numbers and texts of a set's renames, ascending by number.
+fn export(set: &Set) -> Answer {
+    let mut renames: Vec<_> = set.renames.export_filenames(&set.files).into_iter().collect();
+    renames.sort_unstable();
+    Ok(renames.into_iter().flat_map(|(file, name)| [Value::Number(file.0.into()), Value::Bytes(name)]).collect())
 }
 
 /// Whether two sets are compatible, in this order.
@@ -89,6 +101,8 @@ pub fn on_file(set: &Set, question: &FileQuestion, file: FileIndex) -> Answer {
         FileQuestion::InternalFilePath => bytes(&files.internal_file_path(file)),
         FileQuestion::Symlink => bytes(&files.symlink(file)),
         FileQuestion::InternalSymlink => bytes(set.link_text(file).ok_or(Refusal::NoLinkText)?),
+        FileQuestion::RenamedName => bytes(set.renames.file_name(files, file)),
+        FileQuestion::RenamedAbsolute => boolean(set.renames.file_absolute_path(files, file)),
     }
 }
 
@@ -98,5 +112,6 @@ pub fn on_path(set: &Set, question: &PathQuestion, file: FileIndex, save: &[u8])
     match question {
         PathQuestion::FilePath => bytes(&set.files.file_path(file, save)),
         PathQuestion::FilePathHash => number(set.files.file_path_hash(file, save)),
+        PathQuestion::RenamedPath => bytes(&set.renames.file_path(&set.files, file, save)),
     }
 }

@@ -1,17 +1,24 @@
-//! One set: a `FileStorage` of the unchanged Rust, the room that it was lent, and which of its files hold a link text.
+//! One set: a `FileStorage` and a `RenamedFiles` of the unchanged Rust, the room lent, and which files hold a link text.
 //! The Rust can't take back what a refused call has changed, so the set is then built again from the changes that
 //! were made.
+
+use std::mem;
 
 use bitdaemon_common::{FileIndex, Sha256Hash};
 use bitdaemon_core::Error;
 use bitdaemon_core::error::TorrentError;
-use bitdaemon_core::file_storage::{FileFlags, FileStorage, calc_num_pieces};
+use bitdaemon_core::file_storage::{FileFlags, FileStorage, RenamedFiles, calc_num_pieces};
 use bitdaemon_core::path::{has_parent_path, is_complete};
 
 use crate::answer::{Answer, Refusal, done};
+use crate::layout::test_file;
 
 /// The most files or directories, from document 01's table.
 const MOST_ROWS: usize = 65535;
+
+/// The most renames of a set, and the most bytes of their texts.
+const MOST_RENAMES: usize = 256;
+const MOST_RENAME_BYTES: usize = 65536;
 
 /// Numbers of files, directories and bytes of text: those that a set has, or that its tables have places for.
 #[derive(Clone, Copy)]
@@ -45,6 +52,7 @@ enum Change {
 /// A set. The Rust has no way to ask whether a file holds a link text, so that is kept beside it.
 pub struct Set {
     pub files: FileStorage,
+    pub renames: RenamedFiles,
     holds_link: Vec<bool>,
     room: Room,
     changes: Vec<Change>,
@@ -59,7 +67,8 @@ impl Set {
     fn empty(piece_length: i32, room: Room) -> Self {
         let mut files = FileStorage::new();
         files.set_piece_length(piece_length);
-        let mut set = Self { files, holds_link: Vec::new(), room, changes: Vec::new() };
+        let mut set =
+            Self { files, renames: RenamedFiles::default(), holds_link: Vec::new(), room, changes: Vec::new() };
         set.count_pieces();
         set
     }
@@ -67,7 +76,9 @@ impl Set {
     /// Adds a file, if document 01 has no refusal.
     pub fn add(&mut self, addition: &Addition) -> Answer {
         if let Err(refusal) = self.try_to_add(addition) {
+            let renames = mem::take(&mut self.renames);
             *self = self.built_again();
+            self.renames = renames;
             return Err(refusal);
         }
         self.changes.push(Change::Add(addition.clone()));
@@ -84,6 +95,19 @@ impl Set {
         }
         self.count_pieces();
         self.changes.push(Change::Trim);
+        done()
+    }
+
+    /// Records another path for a file: 11 if there is no such file, 10 if the tables of renames have no room.
+    pub fn rename(&mut self, file: FileIndex, name: &[u8]) -> Answer {
+        test_file(&self.files, file)?;
+        let mut renames = self.renames.clone();
+        renames.rename_file(&self.files, file, name);
+        let texts = renames.export_filenames(&self.files);
+        if texts.len() > MOST_RENAMES || texts.values().map(Vec::len).sum::<usize>() > MOST_RENAME_BYTES {
+            return Err(Refusal::NoRoom);
+        }
+        self.renames = renames;
         done()
     }
 

@@ -8,11 +8,21 @@ use crate::random::Random;
 use crate::script::{Script, Word};
 
 /// The questions on a set as a whole.
-const ON_SET: [&str; 9] =
-    ["name", "num_files", "total_size", "size_on_disk", "piece_length", "v2", "dirs", "text_bytes", "all_path_hashes"];
+const ON_SET: [&str; 10] = [
+    "name",
+    "num_files",
+    "total_size",
+    "size_on_disk",
+    "piece_length",
+    "v2",
+    "dirs",
+    "text_bytes",
+    "all_path_hashes",
+    "export",
+];
 
 /// The questions on one file.
-const ON_FILE: [&str; 11] = [
+const ON_FILE: [&str; 13] = [
     "file_name",
     "file_size",
     "file_offset",
@@ -24,10 +34,12 @@ const ON_FILE: [&str; 11] = [
     "internal_file_path",
     "symlink",
     "internal_symlink",
+    "renamed_name",
+    "renamed_absolute",
 ];
 
 /// The questions on the whole path of one file, behind a save path.
-const ON_PATH: [&str; 2] = ["file_path", "file_path_hash"];
+const ON_PATH: [&str; 3] = ["file_path", "file_path_hash", "renamed_path"];
 
 /// Save paths: with and without separators at the ends, those that vanish in a join, and upper case.
 const SAVES: [&[u8]; 12] =
@@ -85,7 +97,7 @@ fn on_file(script: &mut Script, random: &mut Random, file: i32) -> io::Result<()
     on_path(script, random, file)
 }
 
-/// Both questions on a path, behind a random save path.
+/// Every question on a path, behind a random save path.
 fn on_path(script: &mut Script, random: &mut Random, file: i32) -> io::Result<()> {
     let save = random.one_of(&SAVES);
     ON_PATH.iter().try_for_each(|name| script.call(name, &[Word::Number(file.into()), Word::Bytes(save)]))

@@ -14,6 +14,7 @@ mod layout_scenes;
 mod links;
 mod malformed;
 mod random;
+mod renames;
 mod sample;
 mod scenes;
 mod script;

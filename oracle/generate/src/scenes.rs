@@ -57,6 +57,23 @@ pub const SCENES: &[&[&str]] = &[
     &["open 10", "add - :s/a 5 0 1 : *01", "add - :s/b 0 0 2 : -", "trim", "add - :s/c 0 0 0 : -", "trim", "trim"],
     &["open 10", "add - :s/p 5 1 3 :t -", "trim", "add - :r 5 0 0 : -", "trim"],
     &["open 10", "add - :s/p 5 1 0 : *01", "trim", "trim", "trim"],
+    // Renames: each way of reading, one instead of another, through a trim and a refused addition, and of no such file.
+    &[
+        "open 10",
+        "add - :s/a 7 0 0 : *01",
+        "add - :s/x/b 7 0 0 : *01",
+        "add - :/s/c 7 0 0 : *01",
+        "rename 4 :n",
+        "rename 0 :n/m",
+        "rename 2 :/N/m",
+        "rename 5 :pad/",
+        "rename 6 :n",
+        "rename -1 :n",
+        "add - :b 1 0 0 : *01",
+    ],
+    &["open 10", "add - :s/a 7 0 0 : *01", "rename 1 :gone", "rename 0 :/a", "trim", "rename 1 :n", "rename 0 :"],
+    &["open 10", "add - :s/a 7 0 0 : *01", "rename 1 :kept", "trim", "add - :s/b 7 0 0 : *01"],
+    &["open 10", "add - : 7 0 0 : *01", "rename 0 :.", "rename 1 :n//"],
     // Several refusals at once, the first in the order counts.
     &[
         "open 10 files=1 dirs=1 text=3",

@@ -8,6 +8,7 @@ use driver::{Room, SETS, Set, Sets, USUAL_ROOM};
 use crate::additions::{Taste, addition, plain};
 use crate::asking;
 use crate::random::Random;
+use crate::renames;
 use crate::scenes::SCENES;
 use crate::script::{Script, Word, call};
 use crate::twins;
@@ -121,14 +122,22 @@ impl Plan {
     fn new(random: &mut Random, most: usize) -> Self {
         let taste = Taste::new(random);
         match random.below(200) {
+            3 | 4 => Self::by(random, most, 24, renames::long),
             0 => Self::by(random, most, 300, |random, set, _| addition(random, &taste, set)),
             1 => Self::by(random, most, 600, many_directories),
             2 => Self::by(random, most, 300, much_text),
             _ => {
                 let count = 1 + random.below(12);
                 let trims = random.one_of(&[2, 4, 8, 30]);
+                let renames = random.one_of(&[2, 3, 8]);
                 Self::by(random, most, count, |random, set, _| {
-                    if random.once_in(trims) { b"trim".to_vec() } else { addition(random, &taste, set) }
+                    if random.once_in(trims) {
+                        b"trim".to_vec()
+                    } else if random.once_in(renames) {
+                        renames::rename(random, set)
+                    } else {
+                        addition(random, &taste, set)
+                    }
                 })
             }
         }
