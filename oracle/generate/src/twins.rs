@@ -31,6 +31,12 @@ pub const FAMILIES: &[&[&[&str]]] = &[
         &["open 11", "add - :s/a 5 0 0 : *01", "add - :s/b 5 0 0 : *01"],
     ],
     &[
+        &["open 10", "add - :s/p 3 1 0 : -", "add - :s/a 5 0 0 : -", "add - :s/q 4 1 0 : -"],
+        &["open 10", "add - :s/p 4 1 0 : -", "add - :s/a 5 0 0 : -", "add - :s/q 3 1 0 : -"],
+        &["open 10", "add - :t/x 3 1 0 : -", "add - :s/a 5 0 0 : -", "add - :s/y 4 1 0 :t -"],
+        &["open 10", "add - :s/p 3 1 0 : -", "add - :s/a 4 0 0 : -", "add - :s/q 5 1 0 : -"],
+    ],
+    &[
         &["open 10", "add - :s/a/b 5 0 0 : -", "add - :s/c 5 0 0 : -"],
         &["open 10", "add :b :s/a 5 0 0 : -", "add - :s/c 5 0 0 : -"],
         &["open 10", "add - :s/a/b 4 0 0 : -", "add - :s/c 6 0 0 : -"],
