@@ -134,7 +134,7 @@ module _ {n : ℕ} {xs : List ℕ} {fs : FileStorage} {rows : List ℕ} (h : Hol
       by (inl z) = no-file t m (fileFound rows (length xs) t) _ _ z
       by (inr p) =
           from t m (fileFound rows (length xs) t)
-          (found-last rows (length xs) t (omega (arith, h .few)) ascends p (omega (arith, h .offsets 0 p)))
+          (found-last rows (length xs) t ascends p (omega (arith, h .offsets 0 p)))
 
 -- ---- records
 

@@ -107,8 +107,8 @@ pub enough : (n : ℕ) → n - 0 < 2 ^ n
 enough zero = omega arith
 enough (suc n) = omega (arith, enough n, two-pow-succ n)
 
-pub point-is : (rows : List ℕ) (n t : ℕ) → n < 2 ^ 64 → Ascending rows n → Point (λ i. rowAt rows i .offset) t n (partitionPoint rows n t)
-point-is rows n t h a = point (λ i. rowAt rows i .offset) t n a n 0 n (enough n) (omega arith) (omega arith) (λ i x. absurd (omega arith)) (λ i x y. absurd (omega arith))
+pub point-is : (rows : List ℕ) (n t : ℕ) → Ascending rows n → Point (λ i. rowAt rows i .offset) t n (partitionPoint rows n t)
+point-is rows n t a = point (λ i. rowAt rows i .offset) t n a n 0 n (enough n) (omega arith) (omega arith) (λ i x. absurd (omega arith)) (λ i x y. absurd (omega arith))
 
 -- the file found is the last whose offset is at or below the target
 pub record Last (rows : List ℕ) (n t k : ℕ) : Type 0 where
@@ -116,8 +116,8 @@ pub record Last (rows : List ℕ) (n t k : ℕ) : Type 0 where
   pub low : rowAt rows k .offset ≤ t
   pub high : (i : ℕ) → k < i → i < n → t < rowAt rows i .offset
 
-pub found-last : (rows : List ℕ) (n t : ℕ) → n < 2 ^ 64 → Ascending rows n → 0 < n → rowAt rows 0 .offset ≤ t → Last rows n t (fileFound rows n t)
-found-last rows n t h a s z = last (partitionPoint rows n t) (point-is rows n t h a)
+pub found-last : (rows : List ℕ) (n t : ℕ) → Ascending rows n → 0 < n → rowAt rows 0 .offset ≤ t → Last rows n t (fileFound rows n t)
+found-last rows n t a s z = last (partitionPoint rows n t) (point-is rows n t a)
   where
     last : (r : ℕ) → Point (λ i. rowAt rows i .offset) t n r → Last rows n t (r - 1)
     last zero p = absurd (omega (arith, p .high 0 (omega arith) s))

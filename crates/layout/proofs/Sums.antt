@@ -125,7 +125,6 @@ meets size t target off l h k =
 
 -- offsets and total are the running sums of the sizes
 pub record EndToEnd (fs : FileStorage) (rows : List ℕ) : Type 0 where
-  pub few : fs .«num_files» < 2 ^ 64
   pub offsets : (i : ℕ) → i < fs .«num_files» → rowAt rows i .offset ≡ sizesBefore rows i
   pub total : fs .«total_size» ≡ sizesBefore rows (fs .«num_files»)
 
@@ -152,5 +151,5 @@ module _ (fs : FileStorage) (rows : List ℕ) (e : EndToEnd fs rows) where
       by : (fs .«num_files» ≤ 0) ⊎ (0 < fs .«num_files») → sum (sizesOf (slicesOf fs rows target size)) ≡ cut (fs .«total_size») target size
       by (inl h) = walk-sum _ rows _ _ _ ∙ nothing (fs .«total_size») _ size target (none h)
       by (inr h) =
-          let l = found-last rows (fs .«num_files») target (e .few) end-to-end-ascends h (omega (arith, e .offsets 0 h, sizesBefore-zero rows)) in
+          let l = found-last rows (fs .«num_files») target end-to-end-ascends h (omega (arith, e .offsets 0 h, sizesBefore-zero rows)) in
           walk-sum _ rows _ _ _ ∙ meets size (fs .«total_size») target _ _ (reaches _ (l .among)) (l .low)
