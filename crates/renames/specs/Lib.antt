@@ -4,3 +4,4 @@ pub mod Places
 pub mod Changing
 pub mod Results
 pub mod Questions
+pub mod Imports

@@ -1,0 +1,52 @@
+-- Document 01, `import_filenames`: names for many files at once.
+use Prim.Native.Nat.{ℕ}
+use mathlib.Core.Bool.{Bool, cond, not}
+use mathlib.Core.List.{List, [], _∷_}
+use lib.IntN.{ℤ}
+use lib.ListN.{getD, take, drop}
+use Rattle.lists.specs.Lists.{any}
+use Rattle.tables.specs.declared.storage.FileStorage.{FileStorage}
+use Rattle.storage.specs.Rules.{when, firstOf}
+use Rattle.storage.specs.Addition.{badLength, isNegative}
+use Rattle.answers.specs.Answers.{indexOf, isBelow}
+use Rattle.renames.specs.declared.rename.RenameMode.the-variants.{FullPath}
+use Rattle.renames.specs.declared.rename.RenamedFiles.{RenamedFiles}
+use Rattle.renames.specs.Renames.{Renamed, renamesOf, inOrder, withRename, lacksRoom, Changed, changedIf}
+
+-- a file's number and its new name
+pub record Naming : Type 0 where
+  pub file : ℤ
+  pub name : List ℕ
+
+-- the list as it is lent: the numbers, the lengths of the names, and the names one behind the other
+abbrev pub namings : List ℤ → List ℕ → List ℕ → List Naming
+namings [] lengths t = []
+namings (z ∷ zs) lengths t =
+    record { file = z; name = take (getD lengths 0 0) t } ∷ namings zs (drop 1 lengths) (drop (getD lengths 0 0) t)
+
+-- 'keeps FullPath even for absolute names'
+abbrev pub fullPath : Naming → Renamed
+fullPath x = record { file = indexOf (x .file); mode = FullPath; name = x .name }
+
+-- 'skips numbers past the end … and of repeats the last counts'
+abbrev pub imported : ℕ → List Naming → List Renamed → List Renamed
+imported files [] rs = rs
+imported files (x ∷ xs) rs = imported files xs (cond (isBelow files (x .file)) (withRename (fullPath x) rs) rs)
+
+-- 'a number below 0 in it is 11 for the whole list'
+abbrev pub hasNegative : List Naming → Bool
+hasNegative xs = any (λ (x : Naming). isNegative (x .file)) xs
+
+-- `import_filenames`: refusals 1, 11, 10
+abbrev pub importFilenames : FileStorage → RenamedFiles → List ℕ → List ℕ → List Naming → Changed
+importFilenames fs rf entries text xs =
+    changedIf
+    (firstOf
+    (when (badLength (fs .«piece_length»)) 1 ∷
+    when (hasNegative xs) 11 ∷
+    when (not (inOrder rf entries text)) 10 ∷
+    when (lacksRoom (imported (fs .«num_files») xs (renamesOf rf entries text)) entries text) 10 ∷
+    []))
+    (imported (fs .«num_files») xs (renamesOf rf entries text))
+    entries
+    text
