@@ -1,0 +1,2 @@
+-- The definitions that the contracts of `cleaning` cite.
+pub mod Cleaning

@@ -1,0 +1,271 @@
+-- Document 01, 'Links': what `sanitize_symlinks` makes of every link's text, on what a set means: its files' places, names and
+-- texts, and its directories. 'Two passes as in the Rust.'
+use Prim.Native.Nat.{ℕ, zero, suc, _+_, _-_}
+use mathlib.Core.Bool.{Bool, true, false, cond}
+use mathlib.Core.List.{List, [], _∷_, map}
+use lib.Dec.{eqb, ltb}
+use lib.ListN.{length, take, drop}
+use Rattle.lists.specs.Lists.{equal}
+use Rattle.path.specs.Split.{isSeparator, isComplete, lsplitAtFirst}
+use Rattle.path.specs.Join.{appended, combined}
+use Rattle.tables.specs.Rows.{has}
+use Rattle.tables.specs.Model.{Optional, absent, present, Directory, single, absolute, stored, File, Model}
+
+-- ---- what a cleaning looks at in a file
+
+-- a file's directory and name, whether it is a flagged link (flag 8, and a text is held), and its link text
+pub record Entry : Type 0 where
+  pub directory : Directory
+  pub name : List ℕ
+  pub flagged : Bool
+  pub text : List ℕ
+
+abbrev pub isHeld : Optional (List ℕ) → Bool
+isHeld absent = false
+isHeld (present t) = true
+
+abbrev pub heldText : Optional (List ℕ) → List ℕ
+heldText absent = []
+heldText (present t) = t
+
+abbrev pub entryOf : File → Entry
+entryOf f =
+    record {
+      directory = f .directory;
+      name = f .name;
+      flagged = cond (has (f .flags) 8) (isHeld (f .link)) false;
+      text = heldText (f .link);
+    }
+
+-- the internal path
+abbrev pub pathIn : Directory → List ℕ → List ℕ
+pathIn single name = name
+pathIn absolute name = name
+pathIn (stored d outside) name = appended d name
+
+abbrev pub own : Entry → List ℕ
+own f = pathIn (f .directory) (f .name)
+
+-- 'A directory is a stored directory or the part of one that stands before any of its separators'
+abbrev pub covers : List ℕ → List ℕ → Bool
+covers [] [] = true
+covers (x ∷ d) [] = isSeparator x
+covers [] (y ∷ p) = false
+covers (x ∷ d) (y ∷ p) = cond (eqb x y) (covers d p) false
+
+abbrev pub isDirectory : List (List ℕ) → List ℕ → Bool
+isDirectory [] p = false
+isDirectory (d ∷ ds) p = cond (covers d p) true (isDirectory ds p)
+
+-- what stands at a path
+pub data Seen : Type 0 where
+  nothing : Seen
+  file : Seen
+  link : Seen
+
+abbrev pub orHere : Seen → Bool → Bool → Seen
+orHere file here l = file
+orHere link here l = link
+orHere nothing true true = link
+orHere nothing true false = file
+orHere nothing false l = nothing
+
+-- 'Of files with one internal path the last counts'
+abbrev pub fileAt : List Entry → List ℕ → Seen
+fileAt [] p = nothing
+fileAt (f ∷ fs) p = orHere (fileAt fs p) (equal (own f) p) (f .flagged)
+
+abbrev pub isThere : Seen → Bool
+isThere nothing = false
+isThere file = true
+isThere link = true
+
+-- ---- the first pass
+
+-- what it makes of a link: its text, whether a walk may go through it, whether it is walked itself
+pub record First : Type 0 where
+  pub text : List ℕ
+  pub leads : Bool
+  pub walked : Bool
+
+-- a text taken from the link's directory: one that names a directory or a file of the set is kept; `other` is taken where
+-- it names neither. A directory goes before a file of the same path
+abbrev pub settled : Bool → Seen → List ℕ → First → First
+settled true s t other = record { text = t; leads = true; walked = false }
+settled false link t other = record { text = t; leads = true; walked = false }
+settled false file t other = record { text = t; leads = false; walked = false }
+settled false nothing t other = other
+
+-- a text as it was given: a file goes before a directory of the same path
+abbrev pub direct : Seen → Bool → List ℕ → First → First
+direct link d t other = record { text = t; leads = true; walked = false }
+direct file d t other = record { text = t; leads = false; walked = false }
+direct nothing true t other = record { text = t; leads = true; walked = false }
+direct nothing false t other = other
+
+abbrev pub relative : List Entry → List (List ℕ) → Directory → List ℕ → First → First
+relative files dirs single t other = other
+relative files dirs absolute t other = other
+relative files dirs (stored d outside) t other =
+    settled (isDirectory dirs (appended d t)) (fileAt files (appended d t)) (appended d t) other
+
+-- an absolute text gives way to the link's own path; one that names something in the set stays, as given or from the link's
+-- directory; any other is walked in the second pass
+abbrev pub firstPass : List Entry → List (List ℕ) → Entry → First
+firstPass files dirs f =
+    cond (isComplete (f .text))
+    (record { text = own f; leads = false; walked = false })
+    (direct (fileAt files (f .text)) (isDirectory dirs (f .text)) (f .text)
+    (relative files dirs (f .directory) (f .text) (record { text = f .text; leads = true; walked = true })))
+
+-- ---- the second pass
+
+-- a link that a walk may go through: its path and its text
+pub record Link : Type 0 where
+  pub path : List ℕ
+  pub text : List ℕ
+
+-- where the link at p leads
+pub data Lead : Type 0 where
+  none : Lead
+  to : List ℕ → Lead
+
+abbrev pub leadAt : List Link → List ℕ → Lead
+leadAt [] p = none
+leadAt (l ∷ ls) p = cond (equal (l .path) p) (to (l .text)) (leadAt ls p)
+
+-- of links with one path that lead on, the last counts
+abbrev pub unless : Lead → Link → List Link → List Link
+unless none l ls = l ∷ ls
+unless (to t) l ls = ls
+
+abbrev pub linkOf : Bool → List ℕ → First → List Link → List Link
+linkOf true p r ls = cond (r .leads) (unless (leadAt ls p) (record { path = p; text = r .text }) ls) ls
+linkOf false p r ls = ls
+
+abbrev pub linksOf : List Entry → List (List ℕ) → List Entry → List Link
+linksOf files dirs [] = []
+linksOf files dirs (f ∷ fs) = linkOf (f .flagged) (own f) (firstPass files dirs f) (linksOf files dirs fs)
+
+-- the links but the one at p
+abbrev pub without : List ℕ → List Link → List Link
+without p [] = []
+without p (l ∷ ls) = cond (equal (l .path) p) ls (l ∷ without p ls)
+
+-- where the part of a path ends that goes on at `pos`: `lsplit_path_at`, and `lsplit_path` at 0
+abbrev pub cut : List ℕ → ℕ → ℕ
+cut p pos = length (lsplitAtFirst p pos)
+
+-- one turn of the walk: it stops, it comes to the path's end, or it goes on with the links not yet traversed, the path and
+-- the end of the part looked at
+pub data Next : Type 0 where
+  stop : Next
+  done : Next
+  on : List Link → List ℕ → ℕ → Next
+
+-- through a directory, to the next end. 'Added: a directory part whose next end is no further on is also such a stop'
+abbrev pub further : List Link → List ℕ → ℕ → ℕ → Next
+further ls p e next = cond (ltb e next) (on ls p next) stop
+
+-- through a link: its text stands for the part, and no link at that part is traversed again
+abbrev pub through : Lead → List Link → List ℕ → ℕ → Next
+through none ls p e = stop
+through (to t) ls p e =
+    on (without (take e p) ls) (combined t (drop (e + 1) p)) (cut (combined t (drop (e + 1) p)) 0)
+
+-- 'the walk stops at the first part that is neither a directory nor an untraversed link'
+unfoldable pub step : (List ℕ → Bool) → List Link → List ℕ → ℕ → Next
+step dir ls p e =
+    cond (ltb e (length p))
+    (cond (dir (take e p)) (further ls p e (cut p (e + 1))) (through (leadAt ls (take e p)) ls p e))
+    done
+
+abbrev pub follow : Bool → (List Link → List ℕ → ℕ → Bool) → Next → Bool
+follow end goOn stop = false
+follow end goOn done = end
+follow end goOn (on ls p e) = goOn ls p e
+
+-- the walk, of at most n turns; `ends` says what may stand at its end
+unfoldable pub walk : (List ℕ → Bool) → (List ℕ → Bool) → ℕ → List Link → List ℕ → ℕ → Bool
+walk dir ends zero ls p e = false
+walk dir ends (suc n) ls p e = follow (ends p) (walk dir ends n) (step dir ls p e)
+
+-- the bytes of the links' texts, and one for each link
+abbrev pub weight : List Link → ℕ
+weight [] = 0
+weight (l ∷ ls) = suc (length (l .text)) + weight ls
+
+-- every turn makes this less, so one turn more is always enough
+abbrev pub left : List Link → List ℕ → ℕ → ℕ
+left ls p e = (length p - e) + weight ls
+
+abbrev pub goes : (List ℕ → Bool) → (List ℕ → Bool) → List Link → List ℕ → ℕ → Bool
+goes dir ends ls p e = walk dir ends (suc (left ls p e)) ls p e
+
+-- at the walk's end must stand a file or a directory of the set
+abbrev pub known : List Entry → List (List ℕ) → List ℕ → Bool
+known files dirs p = cond (isThere (fileAt files p)) true (isDirectory dirs p)
+
+abbrev pub resolves : List Entry → List (List ℕ) → List Link → List ℕ → Bool
+resolves files dirs ls t = goes (isDirectory dirs) (known files dirs) ls t (cut t 0)
+
+-- a walked link whose walk stops 'then holds its own internal path'
+abbrev pub secondPass : List Entry → List (List ℕ) → List Link → List ℕ → First → List ℕ
+secondPass files dirs ls p r =
+    cond (r .walked) (cond (resolves files dirs ls (r .text)) (r .text) p) (r .text)
+
+-- ---- the cleaning
+
+-- the text that a flagged link has then
+abbrev pub cleanText : List Entry → List (List ℕ) → Entry → List ℕ
+cleanText files dirs f = secondPass files dirs (linksOf files dirs files) (own f) (firstPass files dirs f)
+
+abbrev pub linkedTo : Optional (List ℕ) → File → File
+linkedTo t f =
+    record {
+      offset = f .offset;
+      size = f .size;
+      name = f .name;
+      directory = f .directory;
+      flags = f .flags;
+      link = t;
+      root = f .root;
+      made = f .made;
+    }
+
+abbrev pub cleanFile : List Entry → List (List ℕ) → File → File
+cleanFile files dirs f =
+    cond (entryOf f .flagged) (linkedTo (present (cleanText files dirs (entryOf f))) f) f
+
+-- the set after a cleaning: of each flagged link, the text; nothing else
+abbrev pub cleanedOf : Model → Model
+cleanedOf m =
+    record {
+      pieceLength = m .pieceLength;
+      v2 = m .v2;
+      name = m .name;
+      files = map (cleanFile (map entryOf (m .files)) (m .directories)) (m .files);
+      directories = m .directories;
+      times = m .times;
+      links = m .links;
+      total = m .total;
+      onDisk = m .onDisk;
+      trimmed = m .trimmed;
+    }
+
+-- ---- the work space
+
+-- 'the sum, over flagged links, of directory length + text length + 2'
+abbrev pub directoryLength : Directory → ℕ
+directoryLength single = 0
+directoryLength absolute = 0
+directoryLength (stored d outside) = length d
+
+abbrev pub space : List Entry → ℕ
+space [] = 0
+space (f ∷ fs) = cond (f .flagged) (directoryLength (f .directory) + length (f .text) + 2) 0 + space fs
+
+-- 'one mark a link'
+abbrev pub linkCount : List Entry → ℕ
+linkCount [] = 0
+linkCount (f ∷ fs) = cond (f .flagged) 1 0 + linkCount fs

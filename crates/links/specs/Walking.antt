@@ -1,0 +1,138 @@
+-- Where the judgement of links stands, for the private parts of its code: parts of the lists of files and directories, marks
+-- in use, texts in the work space, and what a walk needs. The meaning is that of Clean.antt.
+use Prim.Native.Nat.{ℕ, zero, suc, _+_, _*_, _/_, _%_, _<_, _≤_}
+use mathlib.Core.Bool.{Bool, true, false, cond}
+use mathlib.Core.Path.{_≡_}
+use mathlib.Core.List.{List, [], _∷_, _++_, map}
+use lib.Dec.{ltb}
+use lib.ListN.{length, getD, take, drop}
+use Rattle.lists.specs.Lists.{equal}
+use Rattle.path.specs.Join.{combined}
+use Rattle.tables.specs.Model.{Store, fileOf, directoryText}
+use Rattle.links.specs.Clean.{Entry, entryOf, own, Link, Seen, nothing, file, link, isDirectory, known, goes, weight, space}
+use Rattle.links.specs.Judging.{entriesOf, directoriesOf, firstMark, besideText}
+
+-- file i
+abbrev pub entryAt : Store → ℕ → Entry
+entryAt s i = entryOf (fileOf s i)
+
+-- the n files and the n directories from place i on
+unfoldable pub entriesFrom : Store → ℕ → ℕ → List Entry
+entriesFrom s zero i = []
+entriesFrom s (suc n) i = entryAt s i ∷ entriesFrom s n (i + 1)
+
+unfoldable pub directoriesFrom : Store → ℕ → ℕ → List (List ℕ)
+directoriesFrom s zero i = []
+directoriesFrom s (suc n) i = directoryText s i ∷ directoriesFrom s n (i + 1)
+
+-- what stands at a path, as a number: nothing, a file, a flagged link
+abbrev pub seenCode : Seen → ℕ
+seenCode nothing = 0
+seenCode file = 1
+seenCode link = 2
+
+-- ---- marks
+
+-- how a walk goes through a link, and what becomes of its text
+abbrev pub lead : ℕ → ℕ
+lead m = m % 8
+
+abbrev pub fate : ℕ → ℕ
+fate m = m / 8
+
+-- the first pass's mark for each flagged link
+abbrev pub firstMarks : List Entry → List (List ℕ) → List Entry → List ℕ
+firstMarks files dirs [] = []
+firstMarks files dirs (f ∷ fs) =
+    cond (f .flagged) (firstMark files dirs f ∷ firstMarks files dirs fs) (firstMarks files dirs fs)
+
+-- ---- leads: 0 does not lead on, 1 leads by its text as given, 2 by its text from its directory, 3 and 4 traversed
+
+abbrev pub leadText : ℕ → Entry → List ℕ
+leadText zero f = f .text
+leadText (suc zero) f = f .text
+leadText (suc (suc m)) f = besideText (f .directory) (f .text)
+
+abbrev pub leading : ℕ → Bool
+leading zero = false
+leading (suc zero) = true
+leading (suc (suc zero)) = true
+leading (suc (suc (suc m))) = false
+
+abbrev pub opened : Bool → ℕ → Entry → List Link → List Link
+opened true m f ls = record { path = own f; text = leadText m f } ∷ ls
+opened false m f ls = ls
+
+-- some flagged link of these that leads on, traversed or not, stands at p; the n-th lead is the n-th flagged link's
+abbrev pub anyAt : List Entry → List ℕ → List ℕ → Bool
+anyAt [] ms p = false
+anyAt (f ∷ fs) ms p =
+    cond (f .flagged) (cond (ltb 0 (getD ms 0 0)) (cond (equal (own f) p) true (anyAt fs (drop 1 ms) p)) (anyAt fs (drop 1 ms) p)) (anyAt fs ms p)
+
+abbrev pub butLater : Bool → Bool → Bool
+butLater true b = false
+butLater false b = b
+
+-- the links that a walk may still go through; of links at one path the last counts
+abbrev pub openOf : List Entry → List ℕ → List Link
+openOf [] ms = []
+openOf (f ∷ fs) ms =
+    cond (f .flagged)
+    (opened (butLater (anyAt fs (drop 1 ms) (own f)) (leading (getD ms 0 0))) (getD ms 0 0) f (openOf fs (drop 1 ms)))
+    (openOf fs ms)
+
+-- a lead without its use
+abbrev pub fresh : ℕ → ℕ
+fresh zero = 0
+fresh (suc zero) = 1
+fresh (suc (suc zero)) = 2
+fresh (suc (suc (suc m))) = suc m
+
+-- whether link f with lead m leads on, traversed or not, at p
+abbrev pub linkAt : Entry → ℕ → List ℕ → Bool
+linkAt f m p = cond (f .flagged) (cond (ltb 0 m) (equal (own f) p) false) false
+
+-- the lead of link f with lead m, if a walk may go through it at p and no later one is there; else 0
+abbrev pub leadMark : Entry → ℕ → List ℕ → Bool → ℕ
+leadMark f m p later = cond (f .flagged) (cond (leading m) (cond (equal (own f) p) (cond later 0 m) 0) 0) 0
+
+-- ---- texts in the work space
+
+-- b with t written at its place `at`
+abbrev pub over : List ℕ → ℕ → List ℕ → List ℕ
+over b at t = take at b ++ (t ++ drop (at + length t) b)
+
+-- t stands in the first r bytes of b
+pub record Holds (b : List ℕ) (r : ℕ) (t : List ℕ) : Type 0 where
+  pub long : r ≡ length t
+  pub fits : r ≤ length b
+  pub is : take r b ≡ t
+
+-- the path at r of b′ is t joined to what stood behind the part of e bytes at `at` in b, and it begins no earlier than t needs
+pub record Joined (b : List ℕ) (at e : ℕ) (t : List ℕ) (b′ : List ℕ) (r : ℕ) : Type 0 where
+  pub inside : r ≤ length b
+  pub room : at ≤ r + length t
+  pub is : drop r b′ ≡ combined t (drop (e + 1) (drop at b))
+
+-- ---- walks
+
+-- the walk of the path p through the links that the leads leave open
+abbrev pub walkOf : List Entry → List (List ℕ) → List ℕ → List ℕ → ℕ → Bool
+walkOf fs ds ms p e = goes (isDirectory ds) (known fs ds) (openOf fs ms) p e
+
+-- what a walk needs: whole rows, a path that ends with its buffer, room before it for the texts of all open links, a stage for
+-- each text
+pub record Ready (fs : List Entry) (n : ℕ) (rows ms stage path : List ℕ) (from : ℕ) : Type 0 where
+  pub whole : n * 8 ≤ length rows
+  pub inside : from ≤ length path
+  pub room : weight (openOf fs ms) ≤ from
+  pub staged : space fs ≤ length stage
+
+-- what the walk of link i needs of the tables and the work space: the first pass's leads, and 01's space
+pub record Walkable (files : List Entry) (dirs : List (List ℕ)) (f : Entry) (n : ℕ) (rows ms stage path : List ℕ) (i : ℕ) : Type 0 where
+  pub whole : n * 8 ≤ length rows
+  pub row : i < n
+  pub flag : f .flagged ≡ true
+  pub marked : map lead ms ≡ map lead (firstMarks files dirs files)
+  pub staged : space files ≤ length stage
+  pub room : 2 * space files ≤ length path

@@ -1,0 +1,1 @@
+// Which links' texts a cleaning keeps, from `sanitize_symlinks` of file_storage.rs.
