@@ -4,15 +4,10 @@ use Prim.Native.Nat.{ℕ, suc, _+_, _-_, _%_}
 use mathlib.Core.Bool.{Bool, true, false, cond, not, _&&_, _||_}
 use mathlib.Core.List.{List, [], _∷_, _++_, map}
 use lib.Dec.{eqb, ltb}
-use lib.IntN.{ℤ}
 use lib.ListN.{length}
 use Rattle.lists.specs.Lists.{sum}
 use Rattle.storage.specs.Addition.{Addition, sizeOf, isPresent}
-
--- a file's number and its new name
-pub record Naming : Type 0 where
-  pub file : ℤ
-  pub name : List ℕ
+use Rattle.renames.specs.Imports.{Naming}
 
 -- a call, by its arguments
 pub data Call : Type 0 where

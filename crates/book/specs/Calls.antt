@@ -1,6 +1,7 @@
 -- Which calls, with which outcomes, lead from a newly opened set to which tables. Each step's premise is what the function
--- called ensures: `addStored`, `trimStored` and `opened` are the definitions that the contracts of `storage` cite, so a
--- refused call is a step like any other. Cleanings, renames and imports join here with their functions.
+-- called ensures: `opened`, `addStored`, `trimStored`, `cleanStored`, `renameFile` and `importFilenames` are the definitions that the
+-- contracts of `storage`, `cleaning` and `renames` cite, so a refused call is a step like any other. Renames lie in tables of
+-- their own, which may hold anything at each call, so also what earlier calls left there.
 use mathlib.Core.Path.{_≡_}
 use mathlib.Core.List.{List, [], _∷_}
 use Prim.Native.Nat.{ℕ, _*_, _≤_}
@@ -12,11 +13,17 @@ use Rattle.tables.specs.Model.{Store}
 use Rattle.storage.specs.Addition.{Addition}
 use Rattle.storage.specs.Opening.{opened}
 use Rattle.storage.specs.Outcomes.{Changed, addStored, trimStored}
+use Rattle.links.specs.Judging.{lent}
+use Rattle.cleaning.specs.Cleaning.{Cleaned, cleanStored}
+use Rattle.renames.specs.declared.rename.RenamedFiles.{RenamedFiles}
+use Rattle.renames.specs.Renames.{renameFile}
+use Rattle.renames.specs.Renames as renames
+use Rattle.renames.specs.Imports.{Naming, importFilenames}
 use Rattle.book.specs.Book.{Call, Came, Made}
 use Rattle.book.specs.Book as book
 
-abbrev pub cameOf : Outcome FileStorage → Came
-cameOf (value fs) = book.done
+abbrev pub cameOf : {A : Type 0} → Outcome A → Came
+cameOf (value a) = book.done
 cameOf (refused k) = book.refused k
 
 -- the caller keeps the record that an answer gives, and the old one after a refusal
@@ -30,6 +37,11 @@ storeAfter old c =
 
 abbrev pub call : Call → Changed → Made
 call k c = record { call = k; came = cameOf (c .says) }
+
+-- a cleaning changes neither roots nor times
+abbrev pub cleanedBy : Store → Cleaned → Changed
+cleanedBy s c =
+    record { says = c .says; rows = c .rows; roots = s .roots; times = s .times; dirs = c .dirs; text = c .text }
 
 -- tables that hold the same set: other ones may be lent to the next call, longer or shorter, if the part that the set uses
 -- was copied over
@@ -46,4 +58,7 @@ pub data Leads (n : ℕ) : List Made → Store → Type 0 where
   opening : {s : Store} → n ≤ 2147483647 → opened (pos n) ≡ value (s .fs) → Leads n [] s
   addition : {made : List Made} {s : Store} (a : Addition) (c : Changed) → Leads n made s → c ≡ addStored s a → Leads n (call (book.add a) c ∷ made) (storeAfter (s .fs) c)
   trim : {made : List Made} {s : Store} (c : Changed) → Leads n made s → c ≡ trimStored s → Leads n (call book.trim c ∷ made) (storeAfter (s .fs) c)
+  cleaning : {made : List Made} {s : Store} (marks stage path : List ℕ) (c : Cleaned) → Leads n made s → c ≡ cleanStored (lent (s .fs) (s .rows) (s .dirs) (s .text)) marks stage path → Leads n (call book.clean (cleanedBy s c) ∷ made) (storeAfter (s .fs) (cleanedBy s c))
+  renaming : {made : List Made} {s : Store} (rf : RenamedFiles) (entries names : List ℕ) (x : Naming) (c : renames.Changed) → Leads n made s → c ≡ renameFile (s .fs) rf entries names (x .file) (x .name) → Leads n (record { call = book.rename x; came = cameOf (c .says) } ∷ made) s
+  importing : {made : List Made} {s : Store} (rf : RenamedFiles) (entries names : List ℕ) (xs : List Naming) (c : renames.Changed) → Leads n made s → c ≡ importFilenames (s .fs) rf entries names xs → Leads n (record { call = book.«import» xs; came = cameOf (c .says) } ∷ made) s
   lending : {made : List Made} {s t : Store} → Leads n made s → SameSet s t → Leads n made t
