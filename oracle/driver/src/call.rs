@@ -35,6 +35,7 @@ pub fn answer(call: &Call, sets: &mut Sets) -> Option<Answer> {
         Call::Reset => sets.reset(),
         Call::Add(addition) => sets.current()?.add(addition),
         Call::Trim => sets.current()?.trim(),
+        Call::Clean => sets.current()?.clean(),
         Call::Rename(file, name) => sets.current()?.rename(*file, name),
         Call::AskSet(question) => questions::on_set(sets.current()?, question),
         Call::AskFile(question, file) => questions::on_file(sets.current()?, question, *file),

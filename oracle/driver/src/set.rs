@@ -47,6 +47,7 @@ pub struct Addition {
 enum Change {
     Add(Addition),
     Trim,
+    Clean,
 }
 
 /// A set. The Rust has no way to ask whether a file holds a link text, so that is kept beside it.
@@ -98,6 +99,19 @@ impl Set {
         done()
     }
 
+    /// Cleans the links, if the texts held afterwards have room.
+    pub fn clean(&mut self) -> Answer {
+        self.files.sanitize_symlinks();
+        if self.is_beyond_room() {
+            let renames = mem::take(&mut self.renames);
+            *self = self.built_again();
+            self.renames = renames;
+            return Err(Refusal::NoRoom);
+        }
+        self.changes.push(Change::Clean);
+        done()
+    }
+
     /// Records another path for a file: 11 if there is no such file, 10 if the tables of renames have no room.
     pub fn rename(&mut self, file: FileIndex, name: &[u8]) -> Answer {
         test_file(&self.files, file)?;
@@ -118,6 +132,7 @@ impl Set {
             let made = match change {
                 Change::Add(addition) => set.add(addition),
                 Change::Trim => set.trim(),
+                Change::Clean => set.clean(),
             };
             assert!(made.is_ok(), "a change was made before");
         }

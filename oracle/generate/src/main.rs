@@ -1,6 +1,7 @@
 //! Prints a script of calls: `generate SEED COUNT` a long one with COUNT random inputs for each call without a set,
 //! `generate sets SEED COUNT` one with COUNT changes of sets, `generate layout SEED COUNT` one with questions on the
-//! layout of COUNT random sets behind those of all small ones, `generate links` one that passes the most link texts,
+//! layout of COUNT random sets behind those of all small ones, `generate cleanings SEED COUNT` one with COUNT cleanings,
+//! `generate links` one that passes the most link texts,
 //! `generate sample`, `generate sample sets` and `generate sample layout` the short ones that are stored with their
 //! answers. The same arguments always give the same script.
 
@@ -8,6 +9,7 @@ mod additions;
 mod asking;
 mod bytes;
 mod calls;
+mod cleanings;
 mod layout;
 mod layout_questions;
 mod layout_scenes;
@@ -37,6 +39,9 @@ fn main() -> ExitCode {
         ["sample", "sets"] => sample::write_sets(&mut script),
         ["sample", "layout"] => sample::write_layout(&mut script),
         ["links"] => links::write(&mut script),
+        ["cleanings", seed, count] => {
+            with_numbers(seed, count, |seed, count| cleanings::random(&mut script, &mut Random::new(seed), count))
+        }
         ["sets", seed, count] => with_numbers(seed, count, |seed, count| sets(&mut script, seed, count)),
         ["layout", seed, count] => with_numbers(seed, count, |seed, count| layout(&mut script, seed, count)),
         [seed, count] => with_numbers(seed, count, |seed, count| long(&mut script, seed, count)),
@@ -52,7 +57,9 @@ fn main() -> ExitCode {
 }
 
 fn wrong_use() -> io::Error {
-    io::Error::other("usage: generate [sets|layout] SEED COUNT, generate links, or generate sample [sets|layout]")
+    io::Error::other(
+        "usage: generate [sets|layout|cleanings] SEED COUNT, generate links, or generate sample [sets|layout]",
+    )
 }
 
 /// Writes a script that depends on two numbers.

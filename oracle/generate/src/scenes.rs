@@ -74,6 +74,32 @@ pub const SCENES: &[&[&str]] = &[
     &["open 10", "add - :s/a 7 0 0 : *01", "rename 1 :gone", "rename 0 :/a", "trim", "rename 1 :n", "rename 0 :"],
     &["open 10", "add - :s/a 7 0 0 : *01", "rename 1 :kept", "trim", "add - :s/b 7 0 0 : *01"],
     &["open 10", "add - : 7 0 0 : *01", "rename 0 :.", "rename 1 :n//"],
+    // Cleanings: document 01's three cases, a link through another that is cleaned away, of links with one path the last
+    // that leads on, texts that loop, a text from the link's own directory, one that becomes empty, and `.pad` after a trim.
+    &[
+        "open 10",
+        "add - :s/x/f 1 0 0 : -",
+        "add - :s/l 0 8 0 :x -",
+        "add - :s/m 0 8 0 :l/f -",
+        "add - :s/n 0 8 0 :/etc -",
+        "clean",
+        "clean",
+    ],
+    &["open 10", "add - :s/k 0 8 0 :. -", "add - :s/t 0 8 0 :k///b -", "clean"],
+    &[
+        "open 10",
+        "add - :s/x/f 1 0 0 : -",
+        "add - :s/l 0 8 0 :x -",
+        "add - :s/l 0 8 0 :/etc -",
+        "add - :s/m 0 8 0 :l/f -",
+        "clean",
+    ],
+    &["open 10", "add - :s/k 0 8 0 :l -", "add - :s/l 0 8 0 :k -", "add - :s/m 0 8 0 :k/l/k/a -", "clean"],
+    &["open 10", "add - :s/x/a 1 0 0 : -", "add - :s/x/l 0 8 0 :a -", "add - :s/x/y/m 0 8 0 :../a -", "clean"],
+    &["open 10", "add - :s// 0 8 0 :/etc -", "add - :s/a 0 8 0 : -", "add - :s/b 0 0 0 :/etc -", "clean"],
+    &["open 10", "add - :s/a 5 0 0 : *01", "trim", "add - :s/l 0 8 0 :.pad -", "add - :s/m 0 8 0 :l/5 -", "clean"],
+    &["open 10 text=9", "add - :s/abc 0 8 0 :/ -", "add - :s/m 0 8 0 :/et -", "clean"],
+    &["open 10 text=11", "add - :s/abc 0 8 0 :/ -", "add - :s/m 0 8 0 :/etc -", "clean"],
     // Several refusals at once, the first in the order counts.
     &[
         "open 10 files=1 dirs=1 text=3",

@@ -130,9 +130,12 @@ impl Plan {
                 let count = 1 + random.below(12);
                 let trims = random.one_of(&[2, 4, 8, 30]);
                 let renames = random.one_of(&[2, 3, 8]);
+                let cleanings = random.one_of(&[3, 6, 30]);
                 Self::by(random, most, count, |random, set, _| {
                     if random.once_in(trims) {
                         b"trim".to_vec()
+                    } else if random.once_in(cleanings) {
+                        b"clean".to_vec()
                     } else if random.once_in(renames) {
                         renames::rename(random, set)
                     } else {
