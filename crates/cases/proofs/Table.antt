@@ -6,8 +6,10 @@ use Rattle.tables.specs.Model.{tabled}
 use Rattle.layout.specs.Search.{halved}
 use Rattle.layout.specs.Mapping.{walk}
 use Rattle.storage.specs.Write.{placeFrom}
+use Rattle.links.specs.Clean.{step}
+use Rattle.links.specs.Clean as links
 use Rattle.cases.specs.Cases.{table, allHold}
 
 pub starred : allHold table ≡ true
-unfolding halved walk filled tabled placeFrom
+unfolding halved walk filled tabled placeFrom step links.walk
 starred = refl

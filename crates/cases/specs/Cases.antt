@@ -1,4 +1,4 @@
--- Document 01, 'Struck on the bench': the starred cases on sets, layout, mappings and refusals, in its order.
+-- Document 01, 'Struck on the bench': the starred cases, in its order.
 use Prim.Native.Nat.{ℕ}
 use mathlib.Core.Bool.{Bool, true, _&&_}
 use mathlib.Core.List.{List, [], _∷_}
@@ -7,7 +7,7 @@ use lib.ListN.{replicate}
 use Rattle.types.specs.Refusals.{Outcome, value, refused}
 use Rattle.tables.specs.Model.{Optional, absent, present, Store}
 use Rattle.storage.specs.Addition.{Addition}
-use Rattle.cases.specs.Questions.{newStore, built, Question, addFile, fileOffset, numPieces, mapBlock, fileIndexAtOffset, mapFile, exclusive, inclusive, pieceSize2, answer, sameAnswer}
+use Rattle.cases.specs.Questions.{newStore, built, Question, addFile, fileOffset, numPieces, mapBlock, fileIndexAtOffset, mapFile, exclusive, inclusive, pieceSize2, linkAfterCleaning, answer, sameAnswer}
 
 -- a question, and the answer that document 01 gives
 pub record Case : Type 0 where
@@ -82,12 +82,35 @@ casesOfV2 =
     asked (addFile (file 97 281474976710655 (present (replicate 32 1)))) (refused 4) ∷
     []
 
+abbrev pub link : ℕ → List ℕ → Addition
+link letter text =
+    record { given = absent; path = under letter; size = pos 0; flags = 8; time = pos 0; link = text; root = absent }
+
+-- s/x/f, s/l to `x`, s/m to `l/f`, s/n to `/etc`
+abbrev pub linkedSet : List Addition
+linkedSet =
+    record { given = absent; path = 115 ∷ 47 ∷ 120 ∷ 47 ∷ 102 ∷ []; size = pos 1; flags = 0; time = pos 0; link = []; root = absent } ∷
+    link 108 (120 ∷ []) ∷
+    link 109 (108 ∷ 47 ∷ 102 ∷ []) ∷
+    link 110 (47 ∷ 101 ∷ 116 ∷ 99 ∷ []) ∷
+    []
+
+abbrev pub casesOfLinks : List Case
+casesOfLinks =
+    -- directory x, link l to `x`: link m to `l/f` stays if x/f exists
+    asked (linkAfterCleaning (pos 1)) (says (120 ∷ [])) ∷
+    asked (linkAfterCleaning (pos 2)) (says (108 ∷ 47 ∷ 102 ∷ [])) ∷
+    -- link n to `/etc` becomes `n`
+    asked (linkAfterCleaning (pos 3)) (says (110 ∷ [])) ∷
+    []
+
 -- the table
 abbrev pub table : List Bench
 table =
     record { pieceLength = 10; additions = setA; cases = casesOfA } ∷
     record { pieceLength = 10; additions = []; cases = casesOfEmpty } ∷
     record { pieceLength = 16384; additions = []; cases = casesOfV2 } ∷
+    record { pieceLength = 10; additions = linkedSet; cases = casesOfLinks } ∷
     []
 
 -- each answer is the one expected

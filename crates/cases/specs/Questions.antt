@@ -1,4 +1,4 @@
--- A set built by additions, and a question to it: each answer is what the contract of the function of that name promises.
+-- A set built by additions, and a question to it, after a cleaning or not: each answer is what the contract of the function of that name promises.
 use Prim.Native.Nat.{ℕ}
 use mathlib.Core.Bool.{Bool, true, false, cond, _&&_}
 use mathlib.Core.List.{List, [], _∷_, _++_, map}
@@ -8,19 +8,23 @@ use lib.ListN.{length, replicate, take}
 use Rattle.types.specs.Refusals.{Outcome, value, refused}
 use Rattle.types.specs.declared.index.FileSlice.{FileSlice}
 use Rattle.tables.specs.declared.storage.FileStorage.{FileStorage}
-use Rattle.tables.specs.Rows.{rowAt}
+use Rattle.tables.specs.Span.{textAt}
+use Rattle.tables.specs.Rows.{rowAt, has}
 use Rattle.tables.specs.Model.{Store}
 use Rattle.storage.specs.Addition.{Addition}
 use Rattle.storage.specs.Opening.{opened, empty}
 use Rattle.storage.specs.Outcomes.{Changed, addStored}
-use Rattle.answers.specs.Answers.{askedFile, rowsHeld}
+use Rattle.storage.specs.Rules.{both}
+use Rattle.answers.specs.Answers.{askedFile, askedLink, rowsHeld, textHeld}
+use Rattle.links.specs.Judging.{lent}
+use Rattle.cleaning.specs.Cleaning.{Cleaned, cleanStored}
 use Rattle.layout.specs.Results.{Range, Asked}
 use Rattle.layout.specs.Mapping.{Slice}
 use Rattle.layout.specs.Request.{fileMapped}
 use Rattle.layout.specs.Table.{Filled, recordOf, blockMapped}
 use Rattle.layout.specs.Given.{numPiecesGiven, pieceSize2Given, fileAtOffsetGiven, exclusiveGiven, inclusiveGiven}
 
--- tables with places for 4 files, 1 directory and 5 bytes of text, and a table for 4 slices: just enough for set A
+-- tables with places for 4 files, 2 directories and 14 bytes of text, and a table for 4 slices: just enough for the sets below
 abbrev pub newStore : ℕ → Store
 newStore n =
     record {
@@ -28,12 +32,12 @@ newStore n =
       rows = replicate 32 0;
       roots = replicate 128 0;
       times = [];
-      dirs = replicate 2 0;
-      text = replicate 5 0;
+      dirs = replicate 4 0;
+      text = replicate 14 0;
     }
 
-abbrev pub lent : List FileSlice
-lent = replicate 4 (recordOf (record { file = 0; offset = 0; size = 0 }))
+abbrev pub lentSlices : List FileSlice
+lentSlices = replicate 4 (recordOf (record { file = 0; offset = 0; size = 0 }))
 
 -- the tables after an addition; a refused one leaves them
 abbrev pub kept : Store → Changed → Store
@@ -47,6 +51,19 @@ abbrev pub built : Store → List Addition → Store
 built s [] = s
 built s (a ∷ rest) = built (kept s (addStored s a)) rest
 
+-- the tables after a cleaning, with a work space of 3 marks, 14 bytes and twice 14
+abbrev pub cleaned : Store → Store
+cleaned s = by (cleanStored (lent (s .fs) (s .rows) (s .dirs) (s .text)) (replicate 3 0) (replicate 14 0) (replicate 28 0))
+  where
+    by : Cleaned → Store
+    by c = kept s (record { says = c .says; rows = c .rows; roots = s .roots; times = s .times; dirs = c .dirs; text = c .text })
+
+-- the link text of a file
+abbrev pub linkIn : Store → ℤ → Outcome (List ℕ)
+linkIn s z =
+    askedLink (s .fs) z (λ k. has (rowAt (s .rows) k .flags) 16) (both (rowsHeld (s .fs) (s .rows)) (textHeld (s .fs) (s .text)))
+    (λ k. textAt (s .text) (rowAt (s .rows) k .link))
+
 pub data Question : Type 0 where
   addFile : Addition → Question
   fileOffset : ℤ → Question
@@ -57,6 +74,7 @@ pub data Question : Type 0 where
   exclusive : ℤ → Question
   inclusive : ℤ → Question
   pieceSize2 : ℤ → Question
+  linkAfterCleaning : ℤ → Question
 
 -- an answer as a row of numbers
 abbrev pub numbers : {A : Type 0} → (A → List ℤ) → Outcome A → Outcome (List ℤ)
@@ -84,12 +102,13 @@ abbrev pub answer : Store → Question → Outcome (List ℤ)
 answer s (addFile a) = numbers (λ (fs : FileStorage). []) (addStored s a .says)
 answer s (fileOffset z) = numbers one (askedFile (s .fs) z (rowsHeld (s .fs) (s .rows)) (λ k. pos (rowAt (s .rows) k .offset)))
 answer s numPieces = numbers one (numPiecesGiven (s .fs))
-answer s (mapBlock p o n) = slices (blockMapped (s .fs) (s .rows) p o n lent)
+answer s (mapBlock p o n) = slices (blockMapped (s .fs) (s .rows) p o n lentSlices)
 answer s (fileIndexAtOffset o) = numbers one (fileAtOffsetGiven (s .fs) (s .rows) o)
 answer s (mapFile f o n) = numbers request (fileMapped (s .fs) (s .rows) f o n)
 answer s (exclusive f) = numbers ends (exclusiveGiven (s .fs) (s .rows) f)
 answer s (inclusive f) = numbers ends (inclusiveGiven (s .fs) (s .rows) f)
 answer s (pieceSize2 p) = numbers one (pieceSize2Given (s .fs) (s .rows) p)
+answer s (linkAfterCleaning z) = numbers (map pos) (linkIn (cleaned s) z)
 
 -- whether two answers are the same
 abbrev pub sameNumber : ℤ → ℤ → Bool
