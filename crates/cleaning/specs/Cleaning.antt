@@ -5,16 +5,17 @@
 use Prim.Native.Nat.{ℕ, _+_, _-_, _/_, min}
 use mathlib.Core.Bool.{Bool, true, false, cond}
 use mathlib.Core.List.{List, [], _∷_}
-use lib.Dec.{eqb, ltb}
+use lib.Dec.{eqb, ltb, leb}
 use lib.ListN.{length}
 use lib.Seq.{sets}
 use Rattle.types.specs.Refusals.{Outcome, value, refused}
 use Rattle.tables.specs.declared.span.Span.{Span}
 use Rattle.tables.specs.declared.rows.Row.{Row}
 use Rattle.tables.specs.declared.storage.FileStorage.{FileStorage}
-use Rattle.tables.specs.Span.{clip, slid, low}
-use Rattle.tables.specs.Rows.{rowAt, words, putRow, filled, dirsLowered}
+use Rattle.tables.specs.Span.{endOf, clip, slid, low}
+use Rattle.tables.specs.Rows.{rowAt, words, putRow, dirAt, filled, dirsLowered}
 use Rattle.tables.specs.Model.{Store, fileOf}
+use Rattle.storage.specs.Rules.{both}
 use Rattle.links.specs.Clean.{Entry, entryOf}
 use Rattle.links.specs.Judging.{entriesOf, directoriesOf, verdictOf, textBy, judgingNumber, cleared}
 
@@ -97,17 +98,47 @@ emptied [] i s = s
 emptied (v ∷ vs) i s = emptied vs (i + 1) (cond (eqb v 1) (relinked s i []) s)
 
 -- a link's own path is appended, its old text being gone; a text from the link's directory takes the place of the old one
-abbrev pub rewrittenAt : ℕ → Store → ℕ → Store
-rewrittenAt v s i =
+abbrev pub writtenAt : ℕ → Store → ℕ → Store
+writtenAt v s i =
     cond (eqb v 0) s
     (cond (eqb v 1) (linked s i (textBy v (entryOf (fileOf s i)))) (relinked s i (textBy v (entryOf (fileOf s i)))))
 
-abbrev pub rewritten : List ℕ → ℕ → Store → Store
-rewritten [] i s = s
-rewritten (v ∷ vs) i s = rewritten vs (i + 1) (rewrittenAt v s i)
+-- where the text of a file's directory lies; nowhere for a single name and an absolute path
+abbrev pub branchSpan : List ℕ → Row → Span
+branchSpan dirs r =
+    cond (eqb (r .«path_index») 1073741823) (record { at = 0; len = 0 })
+    (cond (eqb (r .«path_index») 1073741822) (record { at = 0; len = 0 }) (dirAt dirs (r .«path_index»)))
 
-abbrev pub cleanedStore : Store → Store
-cleanedStore s = rewritten (fates s) 0 (emptied (fates s) 0 s)
+-- a span lies within the first u bytes
+abbrev pub isWithin : ℕ → Span → Bool
+isWithin u c = leb (endOf c) u
+
+-- the parts of a link's own path lie in the used part, and the path fits behind it
+abbrev pub ownFits : Store → ℕ → List ℕ → Bool
+ownFits s i t =
+    both (isWithin (s .fs .«text_len») (branchSpan (s .dirs) (rowAt (s .rows) i)))
+    (both (isWithin (s .fs .«text_len») (rowAt (s .rows) i .name)) (leb (length t) (length (s .text) - s .fs .«text_len»)))
+
+-- a text fits in n bytes, and in the text area where the old text goes
+abbrev pub besideFits : ℕ → Store → ℕ → List ℕ → Bool
+besideFits n s i t =
+    both (leb (length t) n) (leb (length t) (length (s .text) - (s .fs .«text_len» - goneAt s i .len)))
+
+-- in tables that the other calls leave every new text has its place, once there is room for all; n is the stage's length
+abbrev pub hasPlace : ℕ → ℕ → Store → ℕ → Bool
+hasPlace n v s i =
+    cond (eqb v 1) (ownFits s i (textBy v (entryOf (fileOf s i)))) (besideFits n s i (textBy v (entryOf (fileOf s i))))
+
+-- in tables of any other content, a text that does not have its place is not written
+abbrev pub rewrittenAt : ℕ → ℕ → Store → ℕ → Store
+rewrittenAt n v s i = cond (eqb v 0) s (cond (hasPlace n v s i) (writtenAt v s i) s)
+
+abbrev pub rewritten : ℕ → List ℕ → ℕ → Store → Store
+rewritten n [] i s = s
+rewritten n (v ∷ vs) i s = rewritten n vs (i + 1) (rewrittenAt n v s i)
+
+abbrev pub cleanedStore : ℕ → Store → Store
+cleanedStore n s = rewritten n (fates s) 0 (emptied (fates s) 0 s)
 
 -- ---- the text needed
 
@@ -147,5 +178,5 @@ cleanStored s marks stage path =
     cond (eqb (judgingNumber s (length marks) (length stage) (length path)) 0)
     (cond (ltb (length (s .text)) (textNeeded s))
     (cleanedTo (refused 10) s (cleared marks) (cleared stage) (cleared path))
-    (cleanedTo (value (cleanedStore s .fs)) (cleanedStore s) (cleared marks) (cleared stage) (cleared path)))
+    (cleanedTo (value (cleanedStore (length stage) s .fs)) (cleanedStore (length stage) s) (cleared marks) (cleared stage) (cleared path)))
     (cleanedTo (refused (judgingNumber s (length marks) (length stage) (length path))) s marks stage path)
