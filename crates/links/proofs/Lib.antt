@@ -1,1 +1,4 @@
 -- Laws of links.
+pub mod Walk
+pub mod Room
+pub mod Marks

@@ -120,17 +120,14 @@ pub record Joined (b : List ℕ) (at e : ℕ) (t : List ℕ) (b′ : List ℕ) (
 abbrev pub walkOf : List Entry → List (List ℕ) → List ℕ → List ℕ → ℕ → Bool
 walkOf fs ds ms p e = goes (isDirectory ds) (known fs ds) (openOf fs ms) p e
 
--- what a walk needs: whole rows, a path that ends with its buffer, room before it for the texts of all open links, a stage for
--- each text
-pub record Ready (fs : List Entry) (n : ℕ) (rows ms stage path : List ℕ) (from : ℕ) : Type 0 where
-  pub whole : n * 8 ≤ length rows
+-- what a walk needs: a path that ends with its buffer, room before it for the texts of all open links, a stage for each text
+pub record Ready (fs : List Entry) (ms stage path : List ℕ) (from : ℕ) : Type 0 where
   pub inside : from ≤ length path
   pub room : weight (openOf fs ms) ≤ from
   pub staged : space fs ≤ length stage
 
 -- what the walk of link i needs of the tables and the work space: the first pass's leads, and 01's space
-pub record Walkable (files : List Entry) (dirs : List (List ℕ)) (f : Entry) (n : ℕ) (rows ms stage path : List ℕ) (i : ℕ) : Type 0 where
-  pub whole : n * 8 ≤ length rows
+pub record Walkable (files : List Entry) (dirs : List (List ℕ)) (f : Entry) (n : ℕ) (ms stage path : List ℕ) (i : ℕ) : Type 0 where
   pub row : i < n
   pub flag : f .flagged ≡ true
   pub marked : map lead ms ≡ map lead (firstMarks files dirs files)

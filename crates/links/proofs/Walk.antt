@@ -1,0 +1,108 @@
+-- Laws of the walk of Clean.antt: every turn makes `left` less, so the turns that a walk is allowed are no part of its meaning, and
+-- the path stays short. They rely on nothing else of this crate.
+use Prim.Native.Nat.{ℕ, zero, suc, _+_, _-_, _≤_, _<_}
+use mathlib.Core.Path.{_≡_, refl, sym, ap, _∙_}
+use mathlib.Core.Bool.{Bool, true, false, cond}
+use mathlib.Core.List.{List, [], _∷_, _++_}
+use native.Mathlib.Omega.{arith}
+use lib.ListN.{length, take, drop, length-append, length-drop}
+use lib.Dec.{ltb}
+use borrow.Author.Tests.{ltb-true, ltb-false, lt-ltb, le-ltb}
+use Rattle.lists.specs.Lists.{equal}
+use Rattle.path.specs.Join.{isEmpty, isAlone, isClosed, glued, combined, appended}
+use Rattle.links.specs.Clean.{cut, Link, Lead, none, to, leadAt, without, Next, stop, done, on, further, through, step, follow, walk, weight, left, goes}
+
+-- `glued` is no longer than its parts and one separator
+glue-short : (c : Bool) (a b : List ℕ) → length (a ++ cond c b (47 ∷ b)) ≤ length a + suc (length b)
+glue-short true a b = omega (arith, length-append a b)
+glue-short false a b = omega (arith, length-append a (47 ∷ b))
+
+-- so is `combined`
+pub combine-short : (a b : List ℕ) → length (combined a b) ≤ length a + suc (length b)
+combine-short a b = go (isAlone a) (isAlone b)
+  where
+    go : (p q : Bool) → length (cond p b (cond q a (glued a b))) ≤ length a + suc (length b)
+    go true q = omega arith
+    go false true = omega arith
+    go false false = glue-short (isClosed a) a b
+
+-- so is `appended`
+pub append-short : (a b : List ℕ) → length (appended a b) ≤ length a + suc (length b)
+append-short a b = go (isAlone a) (isEmpty b)
+  where
+    go : (p q : Bool) → length (cond p b (cond q a (glued a b))) ≤ length a + suc (length b)
+    go true q = omega arith
+    go false true = omega arith
+    go false false = glue-short (isClosed a) a b
+
+-- a traversed link takes its text and one more off the weight
+pub lead-less : (ls : List Link) (p t : List ℕ) → leadAt ls p ≡ to t → suc (length t) + weight (without p ls) ≤ weight ls
+lead-less [] p t h = absurd (let z : _≡_ {A = ℕ} 0 1 = cc in omega arith)
+lead-less (l ∷ ls) p t h = go (equal (l .path) p) (λ q. lead-less ls p t q) h
+  where
+    go : (b : Bool) → (leadAt ls p ≡ to t → suc (length t) + weight (without p ls) ≤ weight ls) → cond b (to (l .text)) (leadAt ls p) ≡ to t → suc (length t) + weight (cond b ls (l ∷ without p ls)) ≤ suc (length (l .text)) + weight ls
+    go true r q = let e : l .text ≡ t = cc in omega (arith, ap length e)
+    go false r q = omega (arith, r q)
+
+-- what holds after a turn that goes on: less is left, and the path with what the links can add is no longer
+pub record Less (ls : List Link) (p : List ℕ) (e : ℕ) (ls′ : List Link) (p′ : List ℕ) (e′ : ℕ) : Type 0 where
+  pub fewer : left ls′ p′ e′ < left ls p e
+  pub short : length p′ + weight ls′ ≤ length p + weight ls
+
+-- so after a directory
+further-less : (ls : List Link) (p : List ℕ) (e n : ℕ) (ls′ : List Link) (p′ : List ℕ) (e′ : ℕ) → e < length p → further ls p e n ≡ on ls′ p′ e′ → Less ls p e ls′ p′ e′
+further-less ls p e n ls′ p′ e′ h q = go (ltb e n) refl q
+  where
+    go : (b : Bool) → ltb e n ≡ b → cond b (on ls p n) stop ≡ on ls′ p′ e′ → Less ls p e ls′ p′ e′
+    go true b q = let i : ls ≡ ls′ = cc in let j : p ≡ p′ = cc in let k : n ≡ e′ = cc in
+        record { fewer = omega (arith, ltb-true e n b, ap length j, ap weight i); short = omega (arith, ap length j, ap weight i) }
+    go false b q = absurd (let z : _≡_ {A = ℕ} 0 1 = cc in omega arith)
+
+-- so after a link
+through-less : (x : Lead) (ls : List Link) (p : List ℕ) (e : ℕ) (ls′ : List Link) (p′ : List ℕ) (e′ : ℕ) → e < length p → leadAt ls (take e p) ≡ x → through x ls p e ≡ on ls′ p′ e′ → Less ls p e ls′ p′ e′
+through-less none ls p e ls′ p′ e′ h x q = absurd (let z : _≡_ {A = ℕ} 0 1 = cc in omega arith)
+through-less (to t) ls p e ls′ p′ e′ h x q =
+    let i : without (take e p) ls ≡ ls′ = cc in
+    let j : combined t (drop (e + 1) p) ≡ p′ = cc in
+    let w = lead-less ls (take e p) t x in
+    let s = combine-short t (drop (e + 1) p) in
+    let d = length-drop (e + 1) p in
+    record { fewer = omega (arith, ap length j, ap weight i, w, s, d); short = omega (arith, ap length j, ap weight i, w, s, d) }
+
+-- so after every turn that goes on
+pub step-less : (dir : List ℕ → Bool) (ls : List Link) (p : List ℕ) (e : ℕ) (ls′ : List Link) (p′ : List ℕ) (e′ : ℕ) → step dir ls p e ≡ on ls′ p′ e′ → Less ls p e ls′ p′ e′
+unfolding step
+step-less dir ls p e ls′ p′ e′ q = go (ltb e (length p)) (dir (take e p)) refl q
+  where
+    go : (b d : Bool) → ltb e (length p) ≡ b → cond b (cond d (further ls p e (cut p (e + 1))) (through (leadAt ls (take e p)) ls p e)) done ≡ on ls′ p′ e′ → Less ls p e ls′ p′ e′
+    go true true b q = further-less ls p e (cut p (e + 1)) ls′ p′ e′ (ltb-true e (length p) b) q
+    go true false b q = through-less (leadAt ls (take e p)) ls p e ls′ p′ e′ (ltb-true e (length p) b) refl q
+    go false d b q = absurd (let z : _≡_ {A = ℕ} 0 1 = cc in omega arith)
+
+-- more turns than are left change nothing
+pub enough : (dir ends : List ℕ → Bool) (n m : ℕ) (ls : List Link) (p : List ℕ) (e : ℕ) → left ls p e < n → left ls p e < m → walk dir ends n ls p e ≡ walk dir ends m ls p e
+unfolding walk
+enough dir ends zero m ls p e h k = absurd (omega arith)
+enough dir ends (suc n) zero ls p e h k = absurd (omega arith)
+enough dir ends (suc n) (suc m) ls p e h k = go (step dir ls p e) refl (λ ls′ p′ e′ i j. enough dir ends n m ls′ p′ e′ i j)
+  where
+    go : (x : Next) → step dir ls p e ≡ x → ((ls′ : List Link) (p′ : List ℕ) (e′ : ℕ) → left ls′ p′ e′ < n → left ls′ p′ e′ < m → walk dir ends n ls′ p′ e′ ≡ walk dir ends m ls′ p′ e′) → follow (ends p) (walk dir ends n) x ≡ follow (ends p) (walk dir ends m) x
+    go stop q r = refl
+    go done q r = refl
+    go (on ls′ p′ e′) q r = let f = step-less dir ls p e ls′ p′ e′ q .fewer in r ls′ p′ e′ (omega arith) (omega arith)
+
+-- the walk by its first turn: it stops, it comes to the path's end, or it is the walk from there
+module _ (dir ends : List ℕ → Bool) (ls : List Link) (p : List ℕ) (e : ℕ) where
+  pub goes-stop : step dir ls p e ≡ stop → goes dir ends ls p e ≡ false
+  unfolding walk
+  goes-stop q = rw q
+
+  pub goes-done : step dir ls p e ≡ done → goes dir ends ls p e ≡ ends p
+  unfolding walk
+  goes-done q = rw q
+
+  pub goes-on : (ls′ : List Link) (p′ : List ℕ) (e′ : ℕ) → step dir ls p e ≡ on ls′ p′ e′ → goes dir ends ls p e ≡ goes dir ends ls′ p′ e′
+  unfolding walk
+  goes-on ls′ p′ e′ q =
+      let f = step-less dir ls p e ls′ p′ e′ q .fewer in
+      rw q (enough dir ends (left ls p e) (suc (left ls′ p′ e′)) ls′ p′ e′ f (omega arith))
