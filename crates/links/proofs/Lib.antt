@@ -1,4 +1,5 @@
 -- Laws of links.
+pub mod Paths
 pub mod Walk
 pub mod Room
 pub mod Marks

@@ -1,1 +1,2 @@
 // Which links' texts a cleaning keeps, from `sanitize_symlinks` of file_storage.rs.
+mod parts;
