@@ -1,2 +1,5 @@
 // Which links' texts a cleaning keeps, from `sanitize_symlinks` of file_storage.rs.
 mod parts;
+mod set;
+
+pub use set::is_directory;
