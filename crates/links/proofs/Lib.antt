@@ -5,3 +5,5 @@ pub mod Stores
 pub mod Walk
 pub mod Room
 pub mod Marks
+pub mod Turns
+pub mod Scans
