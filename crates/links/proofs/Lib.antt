@@ -7,3 +7,4 @@ pub mod Room
 pub mod Marks
 pub mod Turns
 pub mod Scans
+pub mod Events

@@ -1,0 +1,133 @@
+-- What happens in a turn of `resolve`, in the code's own numbers: the buffer whose part from `at` on is the path, the end e of the
+-- part looked at, and the leads. These laws rely on those of proofs/Turns.antt and proofs/Scans.antt.
+use Prim.Native.Nat.{ℕ, suc, _+_, _-_, _<_, _≤_}
+use mathlib.Core.Path.{_≡_, refl, sym, ap, _∙_}
+use mathlib.Core.Bool.{Bool, true, false, cond}
+use mathlib.Core.List.{List, _∷_, map}
+use native.Mathlib.Omega.{arith}
+use lib.ListN.{length, getD, set, take, drop, length-drop}
+use lib.Seq.{map-set-same}
+use Rattle.tables.specs.Model.{Store, directoryText}
+use Rattle.links.specs.Clean.{Entry, to, leadAt, without, isDirectory, fileAt, isThere, covers, known, cut, weight, left, directoryLength, space}
+use Rattle.links.specs.Judging.{entriesOf, directoriesOf}
+use Rattle.links.specs.Walking.{entryAt, entriesFrom, directoriesFrom, anyAt, leadMark, leadText, openOf, walkOf, fresh, Joined}
+use Rattle.links.proofs.Stores.{entries-all, entries-cons, entries-none, directories-cons, directories-none}
+use Rattle.links.proofs.Walk.{lead-less}
+use Rattle.links.proofs.Turns.{turn-end, turn-dir, turn-dir-stop, turn-link, turn-link-stop, turn-link-less}
+use Rattle.links.proofs.Scans.{Here, here, Scan, scan-turn, scan-hit, scan-none, space-at, used-off, used-fresh, used-some, in-marks, mark-small}
+
+-- the path is a directory just where one of those still before the loop covers it
+pub directories-turn : (s : Store) (p : List ℕ) (n d : ℕ) → d < n → covers (directoryText s d) p ≡ false → isDirectory (directoriesFrom s (n - (d + 1)) (d + 1)) p ≡ isDirectory (directoriesFrom s (n - d) d) p
+directories-turn s p n d h e = rw (directories-cons s n d h, e)
+
+-- the state of a walk: ms are the leads, and the path is what stands in `path` from `at` on
+module _ (s : Store) (ms path : List ℕ) (at e : ℕ) where
+  abbrev n : ℕ
+  n = s .fs .«num_files»
+
+  abbrev paths : ℕ
+  paths = s .fs .«num_paths»
+
+  -- the part looked at
+  abbrev pub partAt : List ℕ
+  partAt = take e (drop at path)
+
+  -- the walk from here
+  abbrev pub goesOn : Bool
+  goesOn = walkOf (entriesOf s) (directoriesOf s) ms (drop at path) e
+
+  pub walked-end : length path - at ≤ e → goesOn ≡ known (entriesOf s) (directoriesOf s) (drop at path)
+  walked-end h = turn-end (isDirectory (directoriesOf s)) (known (entriesOf s) (directoriesOf s)) (openOf (entriesOf s) ms) (drop at path) e (omega (arith, length-drop at path))
+
+  module _ (h : e < length path - at) where
+    long : e < length (drop at path)
+    long = omega (arith, length-drop at path)
+
+    module _ (d next : ℕ) (i : isDirectory (directoriesFrom s (paths - d) d) partAt ≡ isDirectory (directoriesOf s) partAt) where
+      -- no directory
+      pub no-dir : paths ≤ d → isDirectory (directoriesOf s) partAt ≡ false
+      no-dir k = sym i ∙ rw (directories-none s paths d k)
+
+      module _ (k : d < paths) (c : covers (directoryText s d) partAt ≡ true) (m : next ≡ cut (drop at path) (e + 1)) where
+        is-dir : isDirectory (directoriesOf s) partAt ≡ true
+        is-dir = sym i ∙ rw (directories-cons s paths d k, c)
+
+        -- a directory: on to the next end, or a stop
+        pub dir-on : e < next → walkOf (entriesOf s) (directoriesOf s) ms (drop at path) next ≡ goesOn
+        dir-on q = rw m (turn-dir (isDirectory (directoriesOf s)) (known (entriesOf s) (directoriesOf s)) (openOf (entriesOf s) ms) (drop at path) e long is-dir (omega arith))
+
+        pub dir-less : e < next → left (openOf (entriesOf s) ms) (drop at path) next < left (openOf (entriesOf s) ms) (drop at path) e
+        dir-less q = let l = long in omega arith
+
+        pub dir-stop : next ≤ e → goesOn ≡ false
+        dir-stop q = turn-dir-stop (isDirectory (directoriesOf s)) (known (entriesOf s) (directoriesOf s)) (openOf (entriesOf s) ms) (drop at path) e long is-dir (omega arith)
+
+    module _ (o : isDirectory (directoriesOf s) partAt ≡ false) (i k : ℕ) (c : Scan (entriesOf s) (entriesFrom s (n - i) i) ms partAt k) where
+      -- no link either
+      pub link-none : n ≤ i → goesOn ≡ false
+      link-none q =
+          turn-link-stop (isDirectory (directoriesOf s)) (known (entriesOf s) (directoriesOf s)) (openOf (entriesOf s) ms) (drop at path) e long o
+          (scan-none (entriesOf s) ms partAt k (rw (entries-none s n i q) at c))
+
+      module _ (q : i < n) (m : ℕ) (w : m ≡ leadMark (entryAt s i) (getD ms k 0) partAt (anyAt (entriesFrom s (n - (i + 1)) (i + 1)) (drop (k + 1) ms) partAt)) where
+        whole : Scan (entriesOf s) (entryAt s i ∷ entriesFrom s (n - (i + 1)) (i + 1)) ms partAt k
+        whole = rw (entries-cons s n i q) at c
+
+        -- a link that isn't taken
+        pub link-past : (j : ℕ) → m ≡ 0 → j ≡ cond (entryAt s i .flagged) 1 0 → Scan (entriesOf s) (entriesFrom s (n - (i + 1)) (i + 1)) ms partAt (k + j)
+        link-past j z x = scan-turn (entriesOf s) (entryAt s i) (entriesFrom s (n - (i + 1)) (i + 1)) ms partAt k j (sym z ∙ w) x whole
+
+        module _ (z : m ≡ 0 → ⊥) where
+          taken : Here (entryAt s i) (getD ms k 0) partAt (anyAt (entriesFrom s (n - (i + 1)) (i + 1)) (drop (k + 1) ms) partAt) m
+          taken = here (entryAt s i) (getD ms k 0) partAt (anyAt (entriesFrom s (n - (i + 1)) (i + 1)) (drop (k + 1) ms) partAt) m w z
+
+          -- a link that is taken: its lead, and the stage for its text
+          pub mark-low : m ≤ 2
+          mark-low = omega (arith, taken .is, mark-small (getD ms k 0) (taken .leads))
+
+          pub link-staged : directoryLength (entryAt s i .directory) + length (entryAt s i .text) + 2 ≤ space (entriesOf s)
+          link-staged = rw (entries-all s) at (space-at s n 0 i (omega arith) (omega arith) (taken .flag))
+
+          hit : (leadAt (openOf (entriesOf s) ms) partAt ≡ to (leadText m (entryAt s i))) × (without partAt (openOf (entriesOf s) ms) ≡ openOf (entriesOf s) (set ms k (m + 2)))
+          hit =
+              let g = taken in
+              rw (g .is)
+              (scan-hit (entriesOf s) (entryAt s i) (entriesFrom s (n - (i + 1)) (i + 1)) ms partAt k (getD ms k 0 + 2)
+              (record { flag = g .flag; leads = g .leads; at = g .at; last = g .last; is = refl })
+              (in-marks ms k (λ y. z (g .is ∙ y))) (used-off (getD ms k 0) (g .leads)) (used-some (getD ms k 0)) whole)
+
+          light : suc (length (leadText m (entryAt s i))) + weight (openOf (entriesOf s) (set ms k (m + 2))) ≤ weight (openOf (entriesOf s) ms)
+          light = rw (hit .1) at (lead-less (openOf (entriesOf s) ms) partAt (leadText m (entryAt s i)) (hit .0))
+
+          -- there is room before the path for its text
+          pub link-short : weight (openOf (entriesOf s) ms) ≤ at → length (leadText m (entryAt s i)) ≤ at
+          link-short y = omega (arith, light)
+
+          -- its lead is the same but for the use
+          pub link-marks : map fresh (set ms k (m + 2)) ≡ map fresh ms
+          link-marks = map-set-same fresh ms k (m + 2) 0 (let g = taken in rw (g .is) (used-fresh (getD ms k 0) (g .leads)))
+
+          -- once its text stands for the part: room for the others, and the walk goes on from there
+          module _ (t path′ : List ℕ) (r e′ : ℕ) (x : t ≡ leadText m (entryAt s i)) (j : Joined path at e t path′ r) (y : e′ ≡ cut (drop r path′) 0) where
+            pub link-room : weight (openOf (entriesOf s) ms) ≤ at → weight (openOf (entriesOf s) (set ms k (m + 2))) ≤ r
+            link-room y = omega (arith, light, j .room, ap length x)
+
+            pub link-on : walkOf (entriesOf s) (directoriesOf s) (set ms k (m + 2)) (drop r path′) e′ ≡ goesOn
+            link-on = turn-link (isDirectory (directoriesOf s)) (known (entriesOf s) (directoriesOf s)) (openOf (entriesOf s) ms) (drop at path) e long t o (hit .0 ∙ ap to (sym x)) (openOf (entriesOf s) (set ms k (m + 2))) (drop r path′) e′ (hit .1) (j .is) y
+
+            pub link-less : left (openOf (entriesOf s) (set ms k (m + 2))) (drop r path′) e′ < left (openOf (entriesOf s) ms) (drop at path) e
+            link-less = turn-link-less (isDirectory (directoriesOf s)) (known (entriesOf s) (directoriesOf s)) (openOf (entriesOf s) ms) (drop at path) e long t o (hit .0 ∙ ap to (sym x)) (openOf (entriesOf s) (set ms k (m + 2))) (drop r path′) e′ (hit .1) (j .is) y
+
+-- a file has one mark or none
+pub one-or-none : (b : Bool) (j : ℕ) → j ≡ cond b 1 0 → j ≤ 1
+one-or-none true j h = omega arith
+one-or-none false j h = omega arith
+
+-- ---- the walk's end
+
+-- a file or a directory of the set stands at p
+pub known-file : (fs : List Entry) (ds : List (List ℕ)) (p : List ℕ) → isThere (fileAt fs p) ≡ true → true ≡ known fs ds p
+known-file fs ds p h = rw h
+
+pub known-dir : (fs : List Entry) (ds : List (List ℕ)) (p : List ℕ) → isThere (fileAt fs p) ≡ false → isDirectory ds p ≡ known fs ds p
+known-dir fs ds p h = rw h
