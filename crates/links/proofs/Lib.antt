@@ -8,3 +8,4 @@ pub mod Marks
 pub mod Turns
 pub mod Scans
 pub mod Events
+pub mod Packed
