@@ -2,5 +2,6 @@
 mod mark;
 mod parts;
 mod set;
+mod text;
 
 pub use set::is_directory;
