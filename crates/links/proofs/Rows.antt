@@ -10,6 +10,7 @@ use lib.Dec.{eqb}
 use lib.ListN.{length}
 use Rattle.lists.specs.Lists.{equal}
 use Rattle.path.specs.Join.{appended}
+use Rattle.tables.specs.declared.rows.Row.{Row}
 use Rattle.tables.specs.Span.{textAt}
 use Rattle.tables.specs.Rows.{rowAt, dirAt, has}
 use Rattle.tables.specs.Model.{Directory, single, absolute, stored, presentIf, Store, fileOf, directoryText, directoryOf, tabled}
@@ -48,45 +49,58 @@ module _ (s : Store) (i : ℕ) where
   pub text-at : cond (has (rowAt (s .rows) i .flags) 16) (textAt (s .text) (rowAt (s .rows) i .link)) [] ≡ entryAt s i .text
   text-at = text-if (has (rowAt (s .rows) i .flags) 16) (textAt (s .text) (rowAt (s .rows) i .link))
 
-  -- the text of its directory, nothing where it lies in none
-  abbrev pub branchAt : List ℕ
-  branchAt = cond (isInside (rowAt (s .rows) i)) (textAt (s .text) (dirAt (s .dirs) (rowAt (s .rows) i .«path_index»))) []
+-- a directory by its path index: of a single name, an absolute path, or a file in it
+kinds-own : (a b : Bool) (d name : List ℕ) (o : Bool) → cond (both (not a) (not b)) (appended d name) name ≡ pathIn (cond a single (cond b absolute (stored d o))) name
+kinds-own true b d name o = refl
+kinds-own false true d name o = refl
+kinds-own false false d name o = refl
 
-  -- the files whose path index says single or absolute, and those in a directory
-  kinds-own : (a b : Bool) (d name : List ℕ) (o : Bool) → cond (both (not a) (not b)) (appended d name) name ≡ pathIn (cond a single (cond b absolute (stored d o))) name
-  kinds-own true b d name o = refl
-  kinds-own false true d name o = refl
-  kinds-own false false d name o = refl
+kinds-beside : (a b : Bool) (d t : List ℕ) (o : Bool) → appended (cond (both (not a) (not b)) d []) t ≡ besideText (cond a single (cond b absolute (stored d o))) t
+kinds-beside true b d t o = refl
+kinds-beside false true d t o = refl
+kinds-beside false false d t o = refl
 
-  kinds-beside : (a b : Bool) (d t : List ℕ) (o : Bool) → appended (cond (both (not a) (not b)) d []) t ≡ besideText (cond a single (cond b absolute (stored d o))) t
-  kinds-beside true b d t o = refl
-  kinds-beside false true d t o = refl
-  kinds-beside false false d t o = refl
+kinds-length : (a b : Bool) (d : List ℕ) (o : Bool) → length (cond (both (not a) (not b)) d []) ≡ directoryLength (cond a single (cond b absolute (stored d o)))
+kinds-length true b d o = refl
+kinds-length false true d o = refl
+kinds-length false false d o = refl
 
-  kinds-length : (a b : Bool) (d : List ℕ) (o : Bool) → length (cond (both (not a) (not b)) d []) ≡ directoryLength (cond a single (cond b absolute (stored d o)))
-  kinds-length true b d o = refl
-  kinds-length false true d o = refl
-  kinds-length false false d o = refl
-
+module _ (s : Store) (r : Row) where
   abbrev isSingle : Bool
-  isSingle = eqb (rowAt (s .rows) i .«path_index») 1073741823
+  isSingle = eqb (r .«path_index») 1073741823
 
   abbrev isRooted : Bool
-  isRooted = eqb (rowAt (s .rows) i .«path_index») 1073741822
+  isRooted = eqb (r .«path_index») 1073741822
 
   abbrev folder : List ℕ
-  folder = textAt (s .text) (dirAt (s .dirs) (rowAt (s .rows) i .«path_index»))
+  folder = textAt (s .text) (dirAt (s .dirs) (r .«path_index»))
 
-  -- its internal path
+  -- the text of a row's directory, nothing where the file lies in none
+  abbrev pub branchOf : List ℕ
+  branchOf = cond (isInside r) folder []
+
+  pub own-of : internalPath (s .dirs) (s .text) r ≡ pathIn (directoryOf s r) (textAt (s .text) (r .name))
+  own-of = kinds-own isSingle isRooted folder (textAt (s .text) (r .name)) (has (r .flags) 32)
+
+  pub beside-of : (t : List ℕ) → appended branchOf t ≡ besideText (directoryOf s r) t
+  beside-of t = kinds-beside isSingle isRooted folder t (has (r .flags) 32)
+
+  pub length-of : length branchOf ≡ directoryLength (directoryOf s r)
+  length-of = kinds-length isSingle isRooted folder (has (r .flags) 32)
+
+module _ (s : Store) (i : ℕ) where
+  -- file i: the text of its directory, its internal path, a text from its directory, and how long that is
+  abbrev pub branchAt : List ℕ
+  branchAt = branchOf s (rowAt (s .rows) i)
+
   pub own-at : internalPath (s .dirs) (s .text) (rowAt (s .rows) i) ≡ own (entryAt s i)
-  own-at = kinds-own isSingle isRooted folder (textAt (s .text) (rowAt (s .rows) i .name)) (has (rowAt (s .rows) i .flags) 32)
+  own-at = own-of s (rowAt (s .rows) i)
 
-  -- a text taken from its directory, and how long that is
   pub beside-at : (t : List ℕ) → appended branchAt t ≡ besideText (entryAt s i .directory) t
-  beside-at t = kinds-beside isSingle isRooted folder t (has (rowAt (s .rows) i .flags) 32)
+  beside-at t = beside-of s (rowAt (s .rows) i) t
 
   pub length-at : length branchAt ≡ directoryLength (entryAt s i .directory)
-  length-at = kinds-length isSingle isRooted folder (has (rowAt (s .rows) i .flags) 32)
+  length-at = length-of s (rowAt (s .rows) i)
 
 -- ---- files and directories from a place on
 

@@ -83,11 +83,11 @@ drop-one ms k = drop-drop 1 k ms
 getD-here : (ms : List ℕ) (k : ℕ) → getD (drop k ms) 0 0 ≡ getD ms k 0
 getD-here ms k = getD-drop k ms 0 0 ∙ (let q : k + 0 ≡ k = omega arith in rw q)
 
-cond-yes : {A : Type 0} (x y : A) (b : Bool) → b ≡ true → cond b x y ≡ x
+pub cond-yes : {A : Type 0} (x y : A) (b : Bool) → b ≡ true → cond b x y ≡ x
 cond-yes x y true h = refl
 cond-yes x y false h = absurd (let z : _≡_ {A = ℕ} 0 1 = cc in omega arith)
 
-cond-no : {A : Type 0} (x y : A) (b : Bool) → b ≡ false → cond b x y ≡ y
+pub cond-no : {A : Type 0} (x y : A) (b : Bool) → b ≡ false → cond b x y ≡ y
 cond-no x y true h = absurd (let z : _≡_ {A = ℕ} 0 1 = cc in omega arith)
 cond-no x y false h = refl
 

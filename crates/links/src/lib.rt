@@ -1,4 +1,5 @@
 // Which links' texts a cleaning keeps, from `sanitize_symlinks` of file_storage.rs.
+mod first;
 mod mark;
 mod parts;
 mod set;

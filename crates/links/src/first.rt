@@ -1,0 +1,130 @@
+// The first pass: a mark for each flagged link. It relies on set.rt for what stands at a path, on text.rt for the text
+// from a link's directory, and on the laws of proofs/Marking.antt.
+ghost use mathlib.Core.Path.{_≡_};
+ghost use mathlib.Core.Bool.{cond};
+ghost use Prim.Native.Nat.{_+_, _<_, _≤_};
+ghost use lib.ListN.{length, set};
+ghost use lib.Seq.{sets};
+ghost use Rattle.tables.specs.Model.{directoryOf};
+ghost use Rattle.links.specs.Clean.{isDirectory, fileAt, directoryLength, space};
+ghost use Rattle.links.specs.Judging.{lent, entriesOf, directoriesOf, settledMark, relativeMark, firstMark};
+ghost use Rattle.links.specs.Walking.{entryAt, firstMarks};
+use crate::set::directory_of;
+use crate::set::file_at;
+use crate::set::is_directory;
+use crate::set::is_inside;
+use crate::set::is_link;
+use crate::set::link_text;
+use crate::text::append_in;
+use tables::FileStorage;
+use tables::Row;
+
+// The mark of a link whose text from its directory is p.
+fn settled_mark(fs: FileStorage, rows: &[u64], dirs: &[u64], text: &[u8], p: &[u8]) -> u8
+    ensures { λ r. ⌜ r ≡ settledMark (isDirectory (directoriesOf (lent fs (now (rows .entry)) (now (dirs .entry)) (now (text .entry)))) (now (p .entry))) (fileAt (entriesOf (lent fs (now (rows .entry)) (now (dirs .entry)) (now (text .entry)))) (now (p .entry))) 25 ⌝ }
+{
+    if is_directory(fs, dirs, text, p) {
+        return 18;
+    }
+    let seen = file_at(fs, rows, dirs, text, p);
+    if seen == 2 {
+        return 18;
+    }
+    if seen == 1 {
+        return 16;
+    }
+    25
+}
+
+// The mark of a link with the text t that names nothing as it was given.
+fn relative_mark(
+    fs: FileStorage,
+    rows: &[u64],
+    dirs: &[u64],
+    text: &[u8],
+    row: Row,
+    t: &[u8],
+    stage: &mut [u8],
+) -> u8
+    requires { ⌜ directoryLength (directoryOf (lent fs (now rows) (now dirs) (now text)) row) + length (now t) + 1 ≤ length (now stage) ⌝ }
+    ensures { λ r. ⌜ r ≡ relativeMark (entriesOf (lent fs (now (rows .entry)) (now (dirs .entry)) (now (text .entry)))) (directoriesOf (lent fs (now (rows .entry)) (now (dirs .entry)) (now (text .entry)))) (directoryOf (lent fs (now (rows .entry)) (now (dirs .entry)) (now (text .entry))) row) (now (t .entry)) 25 ⌝ }
+{
+    if is_inside(row.path_index) {
+        let n = append_in(stage, directory_of(dirs, text, row), t);
+        return settled_mark(fs, rows, dirs, text, &stage[..n]);
+    }
+    25
+}
+
+// The mark of file i.
+fn first_mark(
+    fs: FileStorage,
+    rows: &[u64],
+    dirs: &[u64],
+    text: &[u8],
+    i: usize,
+    stage: &mut [u8],
+) -> u8
+    requires { ⌜ directoryLength (entryAt (lent fs (now rows) (now dirs) (now text)) i .directory) + length (entryAt (lent fs (now rows) (now dirs) (now text)) i .text) + 1 ≤ length (now stage) ⌝ }
+    ensures { λ r. ⌜ r ≡ firstMark (entriesOf (lent fs (now (rows .entry)) (now (dirs .entry)) (now (text .entry)))) (directoriesOf (lent fs (now (rows .entry)) (now (dirs .entry)) (now (text .entry)))) (entryAt (lent fs (now (rows .entry)) (now (dirs .entry)) (now (text .entry))) i) ⌝ }
+{
+    let row = tables::row_at(rows, i);
+    let t = link_text(text, row);
+    if path::is_complete(t) {
+        return 8;
+    }
+    let seen = file_at(fs, rows, dirs, text, t);
+    if seen == 2 {
+        return 1;
+    }
+    if seen == 1 {
+        return 0;
+    }
+    if is_directory(fs, dirs, text, t) {
+        return 1;
+    }
+    relative_mark(fs, rows, dirs, text, row, t, stage)
+}
+
+// Sets mark k of file i where that is a flagged link, and gives how many marks it has, 1 or 0.
+fn mark_one(
+    fs: FileStorage,
+    rows: &[u64],
+    dirs: &[u64],
+    text: &[u8],
+    marks: &mut [u8],
+    stage: &mut [u8],
+    i: usize,
+    k: usize,
+) -> usize
+    requires { ⌜ (i < fs .«num_files») × (space (entriesOf (lent fs (now rows) (now dirs) (now text))) ≤ length (now stage)) ⌝ }
+    ensures { λ r. ⌜ r ≡ cond (entryAt (lent fs (now (rows .entry)) (now (dirs .entry)) (now (text .entry))) i .flagged) 1 0 ⌝ }
+    ensures { λ _. ⌜ now (marks .exit) ≡ cond (entryAt (lent fs (now (rows .entry)) (now (dirs .entry)) (now (text .entry))) i .flagged) (set (now (marks .entry)) k (firstMark (entriesOf (lent fs (now (rows .entry)) (now (dirs .entry)) (now (text .entry)))) (directoriesOf (lent fs (now (rows .entry)) (now (dirs .entry)) (now (text .entry)))) (entryAt (lent fs (now (rows .entry)) (now (dirs .entry)) (now (text .entry))) i))) (now (marks .entry)) ⌝ }
+{
+    if is_link(rows, i) {
+        let m = first_mark(fs, rows, dirs, text, i, stage);
+        lists::put_byte(marks, k, m);
+        return 1;
+    }
+    0
+}
+
+// Sets the first pass's marks, one for each flagged link.
+pub(crate) fn first_marks(
+    fs: FileStorage,
+    rows: &[u64],
+    dirs: &[u64],
+    text: &[u8],
+    marks: &mut [u8],
+    stage: &mut [u8],
+)
+    requires { ⌜ space (entriesOf (lent fs (now rows) (now dirs) (now text))) ≤ length (now stage) ⌝ }
+    ensures { λ _. ⌜ now (marks .exit) ≡ sets (now (marks .entry)) 0 (firstMarks (entriesOf (lent fs (now (rows .entry)) (now (dirs .entry)) (now (text .entry)))) (directoriesOf (lent fs (now (rows .entry)) (now (dirs .entry)) (now (text .entry)))) (entriesOf (lent fs (now (rows .entry)) (now (dirs .entry)) (now (text .entry))))) ⌝ }
+{
+    let mut i = 0;
+    let mut k = 0;
+    while i < fs.num_files {
+        k += mark_one(fs, rows, dirs, text, marks, stage, i, k);
+        i += 1;
+    }
+}
