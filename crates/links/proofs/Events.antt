@@ -11,14 +11,10 @@ use Rattle.tables.specs.Model.{Store, directoryText}
 use Rattle.links.specs.Clean.{Entry, to, leadAt, without, isDirectory, fileAt, isThere, covers, known, cut, weight, left, directoryLength, space}
 use Rattle.links.specs.Judging.{entriesOf, directoriesOf}
 use Rattle.links.specs.Walking.{entryAt, entriesFrom, directoriesFrom, anyAt, leadMark, leadText, openOf, walkOf, fresh, Joined}
-use Rattle.links.proofs.Stores.{entries-all, entries-cons, entries-none, directories-cons, directories-none}
+use Rattle.links.proofs.Rows.{entries-all, entries-cons, entries-none, directories-hit, directories-end}
 use Rattle.links.proofs.Walk.{lead-less}
 use Rattle.links.proofs.Turns.{turn-end, turn-dir, turn-dir-stop, turn-link, turn-link-stop, turn-link-less}
 use Rattle.links.proofs.Scans.{Here, here, Scan, scan-turn, scan-hit, scan-none, space-at, used-off, used-fresh, used-some, in-marks, mark-small}
-
--- the path is a directory just where one of those still before the loop covers it
-pub directories-turn : (s : Store) (p : List ℕ) (n d : ℕ) → d < n → covers (directoryText s d) p ≡ false → isDirectory (directoriesFrom s (n - (d + 1)) (d + 1)) p ≡ isDirectory (directoriesFrom s (n - d) d) p
-directories-turn s p n d h e = rw (directories-cons s n d h, e)
 
 -- the state of a walk: ms are the leads, and the path is what stands in `path` from `at` on
 module _ (s : Store) (ms path : List ℕ) (at e : ℕ) where
@@ -46,11 +42,11 @@ module _ (s : Store) (ms path : List ℕ) (at e : ℕ) where
     module _ (d next : ℕ) (i : isDirectory (directoriesFrom s (paths - d) d) partAt ≡ isDirectory (directoriesOf s) partAt) where
       -- no directory
       pub no-dir : paths ≤ d → isDirectory (directoriesOf s) partAt ≡ false
-      no-dir k = sym i ∙ rw (directories-none s paths d k)
+      no-dir k = sym i ∙ directories-end s partAt paths d k
 
       module _ (k : d < paths) (c : covers (directoryText s d) partAt ≡ true) (m : next ≡ cut (drop at path) (e + 1)) where
         is-dir : isDirectory (directoriesOf s) partAt ≡ true
-        is-dir = sym i ∙ rw (directories-cons s paths d k, c)
+        is-dir = sym i ∙ directories-hit s partAt paths d k c
 
         -- a directory: on to the next end, or a stop
         pub dir-on : e < next → walkOf (entriesOf s) (directoriesOf s) ms (drop at path) next ≡ goesOn
@@ -117,11 +113,6 @@ module _ (s : Store) (ms path : List ℕ) (at e : ℕ) where
 
             pub link-less : left (openOf (entriesOf s) (set ms k (m + 2))) (drop r path′) e′ < left (openOf (entriesOf s) ms) (drop at path) e
             link-less = turn-link-less (isDirectory (directoriesOf s)) (known (entriesOf s) (directoriesOf s)) (openOf (entriesOf s) ms) (drop at path) e long t o (hit .0 ∙ ap to (sym x)) (openOf (entriesOf s) (set ms k (m + 2))) (drop r path′) e′ (hit .1) (j .is) y
-
--- a file has one mark or none
-pub one-or-none : (b : Bool) (j : ℕ) → j ≡ cond b 1 0 → j ≤ 1
-one-or-none true j h = omega arith
-one-or-none false j h = omega arith
 
 -- ---- the walk's end
 

@@ -1,7 +1,6 @@
 -- Laws of links.
 pub mod Paths
 pub mod Rows
-pub mod Stores
 pub mod Walk
 pub mod Room
 pub mod Marks

@@ -1,5 +1,5 @@
 -- The work space suffices: the texts by which links lead on fit in document 01's sum. These laws rely on those of proofs/Walk.antt.
-use Prim.Native.Nat.{ℕ, zero, suc, _+_, _≤_}
+use Prim.Native.Nat.{ℕ, _+_, _≤_}
 use mathlib.Core.Path.{_≡_, refl, ap}
 use mathlib.Core.Bool.{Bool, true, false, cond}
 use mathlib.Core.List.{List, [], _∷_}

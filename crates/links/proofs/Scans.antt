@@ -1,4 +1,5 @@
--- The scan of the links for the one at a path, with the leads that say which are open. These laws rely on the kit's laws of lists.
+-- The scan of the links for the one at a path, with the leads that say which are open. These laws rely on
+-- those of proofs/Rows.antt.
 use Prim.Native.Nat.{ℕ, zero, suc, _+_, _<_, _≤_}
 use mathlib.Core.Path.{_≡_, refl, sym, ap, _∙_}
 use mathlib.Core.Bool.{Bool, true, false, cond}
@@ -10,11 +11,23 @@ use lib.Seq.{drop-drop, take-set-le, drop-set-lt, getD-set-same, getD-drop, getD
 use borrow.Author.Tests.{lt-ltb, ltb-true, ltb-false}
 use Rattle.lists.specs.Lists.{equal}
 use Rattle.lists.proofs.Equality.{equal-true}
+use Rattle.tables.specs.Rows.{rowAt, has}
 use Rattle.tables.specs.Model.{Store}
+use Rattle.answers.specs.Answers.{internalPath}
 use Rattle.links.specs.Clean.{Entry, own, Link, none, to, leadAt, without, directoryLength, space}
 use Rattle.links.specs.Walking.{entryAt, entriesFrom, anyAt, butLater, linkAt, leading, leadMark, leadText, opened, openOf, fresh}
+use Rattle.links.proofs.Rows.{flagged-at, own-at}
 
 -- ---- one link
+
+-- a choice that is made
+pub cond-yes : {A : Type 0} (x y : A) (b : Bool) → b ≡ true → cond b x y ≡ x
+cond-yes x y true h = refl
+cond-yes x y false h = absurd (let z : _≡_ {A = ℕ} 0 1 = cc in omega arith)
+
+pub cond-no : {A : Type 0} (x y : A) (b : Bool) → b ≡ false → cond b x y ≡ y
+cond-no x y true h = absurd (let z : _≡_ {A = ℕ} 0 1 = cc in omega arith)
+cond-no x y false h = refl
 
 -- a link that leads on and is not traversed has lead 1 or 2
 pub mark-small : (m : ℕ) → leading m ≡ true → m ≤ 2
@@ -40,6 +53,55 @@ here f m p later r e z = go (f .flagged) (leading m) (equal (own f) p) later ref
     go true true false d x y w v q = absurd (z q)
     go true false c d x y w v q = absurd (z q)
     go false b c d x y w v q = absurd (z q)
+
+pub leading-not : (m : ℕ) → 2 < m → leading m ≡ false
+leading-not zero h = absurd (omega arith)
+leading-not (suc zero) h = absurd (omega arith)
+leading-not (suc (suc zero)) h = absurd (omega arith)
+leading-not (suc (suc (suc m))) h = refl
+
+pub leading-yes : (m : ℕ) → (m ≡ 0 → ⊥) → m ≤ 2 → leading m ≡ true
+leading-yes zero z h = absurd (z refl)
+leading-yes (suc zero) z h = refl
+leading-yes (suc (suc zero)) z h = refl
+leading-yes (suc (suc (suc m))) z h = absurd (omega arith)
+
+-- a link's lead at p: none for a plain file, a link that does not lead on, one before a later one, one elsewhere; else its own
+module _ (f : Entry) (m : ℕ) (p : List ℕ) (later : Bool) where
+  pub mark-plain : f .flagged ≡ false → 0 ≡ leadMark f m p later
+  mark-plain h = sym (cond-no (cond (leading m) (cond (equal (own f) p) (cond later 0 m) 0) 0) 0 (f .flagged) h)
+
+  pub mark-off : leading m ≡ false → 0 ≡ leadMark f m p later
+  mark-off h = rw h (go (f .flagged))
+    where
+      go : (b : Bool) → _≡_ {A = ℕ} 0 (cond b 0 0)
+      go true = refl
+      go false = refl
+
+  pub mark-before : later ≡ true → 0 ≡ leadMark f m p later
+  mark-before l = rw l (go (f .flagged) (leading m) (equal (own f) p))
+    where
+      go : (b c d : Bool) → _≡_ {A = ℕ} 0 (cond b (cond c (cond d 0 0) 0) 0)
+      go true true true = refl
+      go true true false = refl
+      go true false d = refl
+      go false c d = refl
+
+  pub mark-there : equal (own f) p ≡ false → 0 ≡ leadMark f m p later
+  mark-there q = rw q (go (f .flagged) (leading m))
+    where
+      go : (b c : Bool) → _≡_ {A = ℕ} 0 (cond b (cond c 0 0) 0)
+      go true true = refl
+      go true false = refl
+      go false c = refl
+
+  pub mark-here : f .flagged ≡ true → leading m ≡ true → equal (own f) p ≡ true → later ≡ false → m ≡ leadMark f m p later
+  mark-here h k q l = sym (cond-yes (cond (leading m) (cond (equal (own f) p) (cond later 0 m) 0) 0) 0 (f .flagged) h ∙ rw (k, q, l))
+
+-- a file has one mark or none
+pub one-or-none : (b : Bool) (j : ℕ) → j ≡ cond b 1 0 → j ≤ 1
+one-or-none true j h = omega arith
+one-or-none false j h = omega arith
 
 -- ---- the scan of the links
 
@@ -83,14 +145,6 @@ drop-one ms k = drop-drop 1 k ms
 getD-here : (ms : List ℕ) (k : ℕ) → getD (drop k ms) 0 0 ≡ getD ms k 0
 getD-here ms k = getD-drop k ms 0 0 ∙ (let q : k + 0 ≡ k = omega arith in rw q)
 
-pub cond-yes : {A : Type 0} (x y : A) (b : Bool) → b ≡ true → cond b x y ≡ x
-cond-yes x y true h = refl
-cond-yes x y false h = absurd (let z : _≡_ {A = ℕ} 0 1 = cc in omega arith)
-
-pub cond-no : {A : Type 0} (x y : A) (b : Bool) → b ≡ false → cond b x y ≡ y
-cond-no x y true h = absurd (let z : _≡_ {A = ℕ} 0 1 = cc in omega arith)
-cond-no x y false h = refl
-
 open-yes : (f : Entry) (rest : List Entry) (ms : List ℕ) (k : ℕ) → f .flagged ≡ true → openOf (f ∷ rest) (drop k ms) ≡ opened (butLater (anyAt rest (drop (k + 1) ms) (own f)) (leading (getD ms k 0))) (getD ms k 0) f (openOf rest (drop (k + 1) ms))
 open-yes f rest ms k b = cond-yes (opened (butLater (anyAt rest (drop 1 (drop k ms)) (own f)) (leading (getD (drop k ms) 0 0))) (getD (drop k ms) 0 0) f (openOf rest (drop 1 (drop k ms)))) (openOf rest (drop k ms)) (f .flagged) b ∙ rw (getD-here ms k, drop-one ms k)
 
@@ -104,6 +158,10 @@ any-no : (f : Entry) (rest : List Entry) (ms q : List ℕ) → f .flagged ≡ fa
 any-no f rest ms q b = cond-no (cond (ltb 0 (getD ms 0 0)) (cond (equal (own f) q) true (anyAt rest (drop 1 ms) q)) (anyAt rest (drop 1 ms) q)) (anyAt rest ms q) (f .flagged) b
 
 -- ---- the search for a later link
+
+-- a link that leads on, traversed or not, at p: what its row says
+pub link-at : (s : Store) (i m : ℕ) (p : List ℕ) → cond (cond (has (rowAt (s .rows) i .flags) 8) (has (rowAt (s .rows) i .flags) 16) false) (cond (ltb 0 m) (equal (internalPath (s .dirs) (s .text) (rowAt (s .rows) i)) p) false) false ≡ linkAt (entryAt s i) m p
+link-at s i m p = rw (flagged-at s i, own-at s i)
 
 -- past f
 pub any-turn : (f : Entry) (rest : List Entry) (ms p : List ℕ) (k j : ℕ) → false ≡ linkAt f (getD ms k 0) p → j ≡ cond (f .flagged) 1 0 → anyAt rest (drop (k + j) ms) p ≡ anyAt (f ∷ rest) (drop k ms) p

@@ -6,7 +6,7 @@ use mathlib.Core.List.{List}
 use lib.ListN.{length, take, drop}
 use borrow.Author.Tests.{lt-ltb, le-ltb}
 use Rattle.path.specs.Join.{combined}
-use Rattle.links.specs.Clean.{Link, Lead, none, to, leadAt, without, Next, stop, done, on, cut, step, goes, left}
+use Rattle.links.specs.Clean.{Link, none, to, leadAt, without, stop, done, on, cut, step, goes, left}
 use Rattle.links.proofs.Walk.{goes-stop, goes-done, goes-on, step-less}
 
 module _ (dir ends : List ℕ → Bool) (ls : List Link) (p : List ℕ) (e : ℕ) where

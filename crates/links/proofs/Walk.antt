@@ -1,13 +1,13 @@
 -- Laws of the walk of Clean.antt: every turn makes `left` less, so the turns that a walk is allowed are no part of its meaning, and
 -- the path stays short. They rely on nothing else of this crate.
-use Prim.Native.Nat.{ℕ, zero, suc, _+_, _-_, _≤_, _<_}
-use mathlib.Core.Path.{_≡_, refl, sym, ap, _∙_}
+use Prim.Native.Nat.{ℕ, zero, suc, _+_, _≤_, _<_}
+use mathlib.Core.Path.{_≡_, refl, ap}
 use mathlib.Core.Bool.{Bool, true, false, cond}
 use mathlib.Core.List.{List, [], _∷_, _++_}
 use native.Mathlib.Omega.{arith}
 use lib.ListN.{length, take, drop, length-append, length-drop}
 use lib.Dec.{ltb}
-use borrow.Author.Tests.{ltb-true, ltb-false, lt-ltb, le-ltb}
+use borrow.Author.Tests.{ltb-true}
 use Rattle.lists.specs.Lists.{equal}
 use Rattle.path.specs.Join.{isEmpty, isAlone, isClosed, glued, combined, appended}
 use Rattle.links.specs.Clean.{cut, Link, Lead, none, to, leadAt, without, Next, stop, done, on, further, through, step, follow, walk, weight, left, goes}

@@ -4,5 +4,6 @@ mod mark;
 mod parts;
 mod set;
 mod text;
+mod work;
 
 pub use set::is_directory;

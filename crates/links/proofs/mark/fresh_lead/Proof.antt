@@ -3,18 +3,13 @@ use Rattle.links.proofs.Packed.{fresh-low, fresh-high}
 use borrow.Author.Needs.{needs}
 use Rattle.links.proofs.mark.fresh_lead.Statement.{statement}
 use Rattle.links.proofs.mark.fresh_lead.Tie as tie
-use Rattle.links.proofs.mark.fresh_lead.Reads as reads
-use Rattle.links.proofs.mark.fresh_lead.Lts as lts
 
--- src/mark.rt:45:9
 returns : tie.Need-returns
 returns c = fresh-low (c .before .args .m) (c .if1 .taken)
 
--- src/mark.rt:47:5
 sub-result : tie.Need-sub-result
 sub-result c = search needs
 
--- src/mark.rt:41:1
 returns-2 : tie.Need-returns-2
 returns-2 c = fresh-high (c .before .args .m) (c .if1 .left)
 

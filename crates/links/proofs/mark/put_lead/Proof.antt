@@ -1,43 +1,33 @@
 -- The proof of `put_lead`.
-use Prim.Native.Nat.{ℕ, _+_, _*_, _/_, _%_}
-use mathlib.Core.Path.{_≡_, sym, ap, _∙_, refl}
-use mathlib.Core.List.{List, map}
+use Prim.Native.Nat.{ℕ, _+_, _*_, _/_}
+use mathlib.Core.Path.{_≡_, ap, _∙_}
+use mathlib.Core.List.{map}
 use lib.ListN.{getD, set}
 use Rattle.links.specs.Walking.{lead, fate}
 use Rattle.links.proofs.Packed.{set-lead, set-lead-fates}
 use borrow.Author.Needs.{needs}
 use Rattle.links.proofs.mark.put_lead.Statement.{statement}
 use Rattle.links.proofs.mark.put_lead.Tie as tie
-use Rattle.links.proofs.mark.put_lead.Reads as reads
-use Rattle.links.proofs.mark.put_lead.Lts as lts
-use Rattle.lists.proofs.byte.Reads as byte-reads
-use Rattle.lists.proofs.put_byte.Reads as put-byte-reads
 
 -- the marks once the byte is stored
 stored : (c : tie.After-put-byte) → c .put-byte .last .0 ≡ set (c .before .before .before .before .before .args .marks .now) (c .before .before .before .before .before .args .k) (getD (c .before .before .before .before .before .args .marks .now) (c .before .before .before .before .before .args .k) 0 / 8 * 8 + c .before .before .before .before .before .args .m)
 stored c = c .put-byte .ensures ∙ ap (λ (b : ℕ). set (c .before .before .before .before .before .args .marks .now) (c .before .before .before .before .before .args .k) (b / 8 * 8 + c .before .before .before .before .before .args .m)) (c .before .byte .ensures)
 
--- src/mark.rt:29:31
 byte-requires : tie.Need-byte-requires
 byte-requires c κs = search needs
 
--- src/mark.rt:29:31
 mul-put-byte : tie.Need-mul-put-byte
 mul-put-byte c = search needs
 
--- src/mark.rt:29:31
 add-put-byte : tie.Need-add-put-byte
 add-put-byte c = search needs
 
--- src/mark.rt:29:5
 put-byte-requires : tie.Need-put-byte-requires
 put-byte-requires c κs = search needs
 
--- src/mark.rt:24:1
 same-length : tie.Need-same-length
 same-length c = search needs
 
--- src/mark.rt:24:1
 returns : tie.Need-returns
 returns c = (ap (map lead) (stored (c .before .before)) ∙ set-lead (c .before .before .before .before .before .before .before .args .marks .now) (c .before .before .before .before .before .before .before .args .k) (c .before .before .before .before .before .before .before .args .m) (c .before .before .before .before .before .before .before .pre), ap (map fate) (stored (c .before .before)) ∙ set-lead-fates (c .before .before .before .before .before .before .before .args .marks .now) (c .before .before .before .before .before .before .before .args .k) (c .before .before .before .before .before .before .before .args .m) (c .before .before .before .before .before .before .before .pre))
 

@@ -1,6 +1,6 @@
 -- The proof of `reopen`. Its loop keeps: of the leads, the first k are fresh and the others are those at the start; the fates stay.
-use Prim.Native.Nat.{ℕ, _+_, _-_, _<_, _≤_}
-use mathlib.Core.Path.{_≡_, refl, sym, ap, _∙_}
+use Prim.Native.Nat.{ℕ, _+_, _-_, _<_}
+use mathlib.Core.Path.{_≡_, ap, _∙_}
 use mathlib.Core.List.{List, _++_, map}
 use native.Mathlib.Omega.{arith}
 use borrow.Author.Needs.{needs}
@@ -9,11 +9,6 @@ use Rattle.links.specs.Walking.{lead, fate, fresh}
 use Rattle.links.proofs.Packed.{lead-below, map-read, map-turn, map-end, fresh-small}
 use Rattle.links.proofs.mark.reopen.Statement.{statement}
 use Rattle.links.proofs.mark.reopen.Tie as tie
-use Rattle.links.proofs.mark.reopen.Reads as reads
-use Rattle.links.proofs.mark.reopen.Lts as lts
-use Rattle.links.proofs.mark.fresh_lead.Reads as fresh-lead-reads
-use Rattle.links.proofs.mark.lead_at.Reads as lead-at-reads
-use Rattle.links.proofs.mark.put_lead.Reads as put-lead-reads
 
 abbrev Inv-loop : tie.InvT-loop
 Inv-loop marks₀ k₀ marks k = (length marks ≡ length marks₀) × (map lead marks ≡ map fresh (take k (map lead marks₀)) ++ drop k (map lead marks₀)) × (map fate marks ≡ map fate marks₀)
@@ -27,41 +22,32 @@ turn ms₀ ms ms′ k m h i j e =
     let q : getD ms k 0 ≡ getD ms₀ k 0 = rw i (map-read fresh ms₀ k h) in
     e ∙ rw (j, q, i) (map-turn fresh ms₀ k h)
 
--- src/mark.rt:56:5
 loop-holds : tie.Need-loop-holds Inv-loop μ-loop
 loop-holds c = search needs
 
--- src/mark.rt:57:28
 lead-at-requires : tie.Need-lead-at-requires Inv-loop μ-loop
 lead-at-requires c κs = search needs
 
--- src/mark.rt:57:13
 fresh-lead-requires : tie.Need-fresh-lead-requires Inv-loop μ-loop
 fresh-lead-requires c κs = search needs
 
--- src/mark.rt:58:9
 put-lead-requires : tie.Need-put-lead-requires Inv-loop μ-loop
 put-lead-requires c κs = omega (arith, c .before .fresh-lead .ensures, fresh-small (c .before .before .lead-at .result), c .before .before .lead-at .ensures, lead-below (c .before .before .before .before .before .loop .marks) (c .before .before .before .before .before .loop .k))
 
--- src/mark.rt:59:9
 add-k : tie.Need-add-k Inv-loop μ-loop
 add-k c = search needs
 
--- src/mark.rt:56:5
 loop-less : tie.Need-loop-less Inv-loop μ-loop
 loop-less c = search needs
 
--- src/mark.rt:56:5
 loop-again : tie.Need-loop-again Inv-loop μ-loop
 loop-again c =
     let l = c .before .before .before .before .before .before .before .before .loop in let m₀ = c .before .before .before .before .before .before .before .before .before .before .args .marks .now in
     (search needs, turn (map lead m₀) (map lead (l .marks)) (map lead (c .before .before .put-lead .last .0)) (l .k) (c .before .before .before .before .fresh-lead .result) (omega (arith, length-map m₀ lead, c .before .before .before .before .before .before .before .loop-test .taken, l .inv .0)) (l .inv .1) (c .before .before .before .before .fresh-lead .ensures ∙ ap fresh (c .before .before .before .before .before .lead-at .ensures)) (c .before .before .put-lead .ensures .0), c .before .before .put-lead .ensures .1 ∙ l .inv .2)
 
--- src/mark.rt:51:1
 same-length : tie.Need-same-length Inv-loop μ-loop
 same-length c = search needs
 
--- src/mark.rt:51:1
 returns : tie.Need-returns Inv-loop μ-loop
 returns c =
     let l = c .before .loop in let m₀ = c .before .before .before .args .marks .now in

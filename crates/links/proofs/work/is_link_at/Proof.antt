@@ -1,0 +1,63 @@
+-- `links::work::is_link_at` meets its contract: no link, a link that does not lead on, and one that does.
+use Prim.Native.Nat.{ℕ}
+use mathlib.Core.Path.{_≡_, refl, sym, _∙_}
+use mathlib.Core.Bool.{Bool, true, false, cond, true≢false, false≢true}
+use mathlib.Core.List.{map}
+use native.Mathlib.Omega.{arith}
+use borrow.Author.Tests.{lt-ltb, le-ltb}
+use lib.Dec.{ltb}
+use lib.ListN.{getD}
+use Rattle.lists.specs.Lists.{equal}
+use Rattle.tables.specs.Rows.{rowAt, has}
+use Rattle.answers.specs.Answers.{internalPath}
+use Rattle.links.specs.Walking.{lead}
+use borrow.Author.Needs.{needs}
+use Rattle.links.proofs.work.is_link_at.Statement.{statement}
+use Rattle.links.proofs.work.is_link_at.Tie as tie
+
+plain : (f l e : Bool) → f ≡ false → false ≡ cond f (cond l e false) false
+plain true l e h = absurd (true≢false h)
+plain false l e h = refl
+
+unled : (f l e : Bool) → l ≡ false → false ≡ cond f (cond l e false) false
+unled f true e h = absurd (true≢false h)
+unled true false e h = refl
+unled false false e h = refl
+
+led : (f l e r : Bool) → f ≡ true → l ≡ true → r ≡ e → r ≡ cond f (cond l e false) false
+led true true e r h k q = q
+led true false e r h k q = absurd (false≢true k)
+led false l e r h k q = absurd (false≢true h)
+
+-- whether the file is a flagged link, its lead, and whether it stands at p
+abbrev flag : tie.Start → Bool
+flag c = cond (has (rowAt (c .args .rows .now) (c .args .i) .flags) 8) (has (rowAt (c .args .rows .now) (c .args .i) .flags) 16) false
+
+abbrev its : tie.Start → ℕ
+its c = getD (map lead (c .args .marks .now)) (c .args .k) 0
+
+abbrev there : tie.Start → Bool
+there c = equal (internalPath (c .args .dirs .now) (c .args .text .now) (rowAt (c .args .rows .now) (c .args .i))) (c .args .p .now)
+
+is-link-requires : tie.Need-is-link-requires
+is-link-requires c κs = search needs
+
+lead-at-requires : tie.Need-lead-at-requires
+lead-at-requires c κs = search needs
+
+returns : tie.Need-returns
+returns c = unled (flag (c .before .before .before .before .before .before .before .before .before)) (ltb 0 (its (c .before .before .before .before .before .before .before .before .before))) (there (c .before .before .before .before .before .before .before .before .before)) (le-ltb 0 (its (c .before .before .before .before .before .before .before .before .before)) (omega (arith, c .before .lead-at .ensures, c .if2 .taken)))
+
+own-is-requires : tie.Need-own-is-requires
+own-is-requires c κs = search needs
+
+returns-2 : tie.Need-returns-2
+returns-2 c = led (flag (c .before .before .before .before .before .before .before .before .before .before)) (ltb 0 (its (c .before .before .before .before .before .before .before .before .before .before))) (there (c .before .before .before .before .before .before .before .before .before .before)) (c .own-is .result) (sym (c .before .before .before .before .is-link .ensures) ∙ c .before .before .before .if1 .taken) (lt-ltb 0 (its (c .before .before .before .before .before .before .before .before .before .before)) (omega (arith, c .before .before .lead-at .ensures, c .before .if2 .left))) (c .own-is .ensures)
+
+returns-3 : tie.Need-returns-3
+returns-3 c = plain (flag (c .before .before .before .before .before .before .before)) (ltb 0 (its (c .before .before .before .before .before .before .before))) (there (c .before .before .before .before .before .before .before)) (sym (c .before .is-link .ensures) ∙ c .if1 .left)
+
+pub is-link-at-spec : {M : Type 1} → statement M
+is-link-at-spec =
+    tie.close
+    (tie.spec is-link-requires lead-at-requires returns own-is-requires returns-2 returns-3)
