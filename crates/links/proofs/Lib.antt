@@ -9,3 +9,4 @@ pub mod Turns
 pub mod Scans
 pub mod Events
 pub mod Packed
+pub mod Written

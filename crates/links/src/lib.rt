@@ -2,6 +2,7 @@
 mod first;
 mod mark;
 mod parts;
+mod scan;
 mod set;
 mod text;
 mod work;

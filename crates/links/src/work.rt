@@ -1,98 +1,66 @@
-// The links that stand at a path, by the leads that say which are open. They rely on set.rt, mark.rt and the laws of
-// proofs/Scans.antt and proofs/Written.antt.
-ghost use mathlib.Core.Path.{_≡_};
-ghost use mathlib.Core.Bool.{false, cond};
-ghost use mathlib.Core.List.{map};
-ghost use Prim.Native.Nat.{_+_, _-_, _<_, _≤_};
+// The work space of a walk: the text by which a link leads on, and that text in place of a part of the path. They rely on
+// text.rt, set.rt and the laws of proofs/Written.antt.
+ghost use mathlib.Core.Bool.{cond};
+ghost use mathlib.Core.List.{[]};
+ghost use Prim.Native.Nat.{_+_, _<_, _≤_};
 ghost use lib.Dec.{ltb};
-ghost use lib.ListN.{getD, drop};
-ghost use Rattle.lists.specs.Lists.{equal};
-ghost use Rattle.tables.specs.Rows.{rowAt, has};
-ghost use Rattle.answers.specs.Answers.{internalPath};
-ghost use Rattle.links.specs.Judging.{lent};
-ghost use Rattle.links.specs.Walking.{entryAt, entriesFrom, lead, anyAt, leadMark};
-use crate::mark::lead_at;
-use crate::set::is_link;
-use crate::set::link_count;
-use crate::set::own_is;
-use tables::FileStorage;
+ghost use lib.ListN.{length};
+ghost use Rattle.path.specs.Join.{appended};
+ghost use Rattle.tables.specs.Span.{textAt};
+ghost use Rattle.tables.specs.Rows.{rowAt, dirAt, has};
+ghost use Rattle.answers.specs.Answers.{isInside};
+ghost use Rattle.links.specs.Walking.{Holds, Joined};
+use crate::parts::is_alone;
+use crate::parts::is_closed;
+use crate::set::directory_of;
+use crate::set::link_text;
+use crate::text::append_in;
+use crate::text::put_at;
 
-// Whether file i is a flagged link that leads on, by mark k, and stands at p, traversed or not.
-fn is_link_at(
+// Puts the text by which link i leads, with lead m, at the front of a buffer that has room for it: its length.
+pub(crate) fn lead_text(
     rows: &[u64],
     dirs: &[u64],
     text: &[u8],
-    marks: &[u8],
     i: usize,
-    k: usize,
-    p: &[u8],
-) -> bool
-    ensures { λ r. ⌜ r ≡ cond (cond (has (rowAt (now (rows .entry)) i .flags) 8) (has (rowAt (now (rows .entry)) i .flags) 16) false) (cond (ltb 0 (getD (map lead (now (marks .entry))) k 0)) (equal (internalPath (now (dirs .entry)) (now (text .entry)) (rowAt (now (rows .entry)) i)) (now (p .entry))) false) false ⌝ }
+    m: u8,
+    buf: &mut [u8],
+) -> usize
+    requires { ⌜ length (cond (isInside (rowAt (now rows) i)) (textAt (now text) (dirAt (now dirs) (rowAt (now rows) i .«path_index»))) []) + length (cond (has (rowAt (now rows) i .flags) 16) (textAt (now text) (rowAt (now rows) i .link)) []) + 1 ≤ length (now buf) ⌝ }
+    ensures { λ r. ⌜ Holds (now (buf .exit)) r (cond (ltb m 2) (cond (has (rowAt (now (rows .entry)) i .flags) 16) (textAt (now (text .entry)) (rowAt (now (rows .entry)) i .link)) []) (appended (cond (isInside (rowAt (now (rows .entry)) i)) (textAt (now (text .entry)) (dirAt (now (dirs .entry)) (rowAt (now (rows .entry)) i .«path_index»))) []) (cond (has (rowAt (now (rows .entry)) i .flags) 16) (textAt (now (text .entry)) (rowAt (now (rows .entry)) i .link)) []))) ⌝ }
 {
-    if is_link(rows, i) {
-        if lead_at(marks, k) == 0 {
-            return false;
-        }
-        return own_is(rows, dirs, text, i, p);
+    let row = tables::row_at(rows, i);
+    let t = link_text(text, row);
+    if m < 2 {
+        put_at(buf, 0, t);
+        return t.len();
     }
-    false
+    append_in(buf, directory_of(dirs, text, row), t)
 }
 
-// Whether a link from file i0 and mark k0 on leads on at p, traversed or not.
-fn has_link(
-    fs: FileStorage,
-    rows: &[u64],
-    dirs: &[u64],
-    text: &[u8],
-    marks: &[u8],
-    i0: usize,
-    k0: usize,
-    p: &[u8],
-) -> bool
-    requires { ⌜ k0 ≤ i0 ⌝ }
-    ensures { λ r. ⌜ r ≡ anyAt (entriesFrom (lent fs (now (rows .entry)) (now (dirs .entry)) (now (text .entry))) (fs .«num_files» - i0) i0) (drop k0 (map lead (now (marks .entry)))) (now (p .entry)) ⌝ }
+// In a path that ends with the buffer and begins at `at`, puts t in the place of the first part, of e bytes: the new
+// beginning. What stands behind the part does not move.
+pub(crate) fn substitute(path: &mut [u8], at: usize, e: usize, t: &[u8]) -> usize
+    requires { ⌜ (at + e < length (now path)) × (length (now t) ≤ at) ⌝ }
+    ensures { λ r. ⌜ Joined (now (path .entry)) at e (now (t .entry)) (now (path .exit)) r ⌝ }
 {
-    let mut i = i0;
-    let mut k = k0;
-    while i < fs.num_files {
-        if is_link_at(rows, dirs, text, marks, i, k, p) {
-            return true;
-        }
-        k += link_count(rows, i);
-        i += 1;
+    let end = at + e;
+    let rest = end + 1;
+    if is_alone(t) {
+        return rest;
     }
-    false
-}
-
-// The lead of link i with mark k, if a walk may go through that link at p and no later one is there; else 0.
-pub(crate) fn lead_mark(
-    fs: FileStorage,
-    rows: &[u64],
-    dirs: &[u64],
-    text: &[u8],
-    marks: &[u8],
-    i: usize,
-    k: usize,
-    p: &[u8],
-) -> u8
-    requires { ⌜ (i < fs .«num_files») × (k ≤ i) ⌝ }
-    ensures { λ r. ⌜ r ≡ leadMark (entryAt (lent fs (now (rows .entry)) (now (dirs .entry)) (now (text .entry))) i) (getD (map lead (now (marks .entry))) k 0) (now (p .entry)) (anyAt (entriesFrom (lent fs (now (rows .entry)) (now (dirs .entry)) (now (text .entry))) (fs .«num_files» - (i + 1)) (i + 1)) (drop (k + 1) (map lead (now (marks .entry)))) (now (p .entry))) ⌝ }
-{
-    if !is_link(rows, i) {
-        return 0;
+    if is_alone(&path[rest..]) {
+        let to = path.len() - t.len();
+        put_at(path, to, t);
+        return to;
     }
-    let m = lead_at(marks, k);
-    if m == 0 {
-        return 0;
+    if is_closed(t) {
+        let to = rest - t.len();
+        put_at(path, to, t);
+        return to;
     }
-    if 2 < m {
-        return 0;
-    }
-    if own_is(rows, dirs, text, i, p) {
-        if has_link(fs, rows, dirs, text, marks, i + 1, k + 1, p) {
-            return 0;
-        }
-        return m;
-    }
-    0
+    path[end] = b'/';
+    let to = end - t.len();
+    put_at(path, to, t);
+    to
 }

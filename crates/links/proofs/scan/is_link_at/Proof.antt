@@ -1,4 +1,4 @@
--- `links::work::is_link_at` meets its contract: no link, a link that does not lead on, and one that does.
+-- `links::scan::is_link_at` meets its contract: no link, a link that does not lead on, and one that does.
 use Prim.Native.Nat.{ℕ}
 use mathlib.Core.Path.{_≡_, refl, sym, _∙_}
 use mathlib.Core.Bool.{Bool, true, false, cond, true≢false, false≢true}
@@ -12,8 +12,8 @@ use Rattle.tables.specs.Rows.{rowAt, has}
 use Rattle.answers.specs.Answers.{internalPath}
 use Rattle.links.specs.Walking.{lead}
 use borrow.Author.Needs.{needs}
-use Rattle.links.proofs.work.is_link_at.Statement.{statement}
-use Rattle.links.proofs.work.is_link_at.Tie as tie
+use Rattle.links.proofs.scan.is_link_at.Statement.{statement}
+use Rattle.links.proofs.scan.is_link_at.Tie as tie
 
 plain : (f l e : Bool) → f ≡ false → false ≡ cond f (cond l e false) false
 plain true l e h = absurd (true≢false h)

@@ -1,4 +1,4 @@
--- `links::work::lead_mark` meets its contract, return by return.
+-- `links::scan::lead_mark` meets its contract, return by return.
 use Prim.Native.Nat.{ℕ, _+_, _-_}
 use mathlib.Core.Path.{_≡_, sym, ap, _∙_}
 use mathlib.Core.Bool.{Bool}
@@ -13,8 +13,8 @@ use Rattle.links.specs.Walking.{entryAt, entriesFrom, lead, anyAt, leadi
 use Rattle.links.proofs.Rows.{flagged-at, own-at}
 use Rattle.links.proofs.Scans.{leading-not, leading-yes, mark-plain, mark-off, mark-before, mark-there, mark-here}
 use borrow.Author.Needs.{needs}
-use Rattle.links.proofs.work.lead_mark.Statement.{statement}
-use Rattle.links.proofs.work.lead_mark.Tie as tie
+use Rattle.links.proofs.scan.lead_mark.Statement.{statement}
+use Rattle.links.proofs.scan.lead_mark.Tie as tie
 
 abbrev theSet : tie.Start → Store
 theSet c = lent (c .args .fs) (c .args .rows .now) (c .args .dirs .now) (c .args .text .now)

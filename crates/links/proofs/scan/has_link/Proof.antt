@@ -1,4 +1,4 @@
--- `links::work::has_link` meets its contract. Its loop keeps: a link stands at p just where one of those from file i and mark k on
+-- `links::scan::has_link` meets its contract. Its loop keeps: a link stands at p just where one of those from file i and mark k on
 -- does.
 use Prim.Native.Nat.{ℕ, _+_, _-_, _≤_}
 use mathlib.Core.Path.{_≡_, refl, sym, ap, _∙_}
@@ -13,8 +13,8 @@ use Rattle.links.specs.Judging.{lent}
 use Rattle.links.specs.Walking.{entryAt, entriesFrom, lead, anyAt, linkAt}
 use Rattle.links.proofs.Rows.{flagged-at, entries-cons, entries-none}
 use Rattle.links.proofs.Scans.{link-at, any-turn, any-hit, one-or-none}
-use Rattle.links.proofs.work.has_link.Statement.{statement}
-use Rattle.links.proofs.work.has_link.Tie as tie
+use Rattle.links.proofs.scan.has_link.Statement.{statement}
+use Rattle.links.proofs.scan.has_link.Tie as tie
 
 abbrev Inv-loop : tie.InvT-loop
 Inv-loop fs rows dirs text marks i0 k0 p i₀ k₀ i k = (k ≤ i) × (anyAt (entriesFrom (lent fs rows dirs text) (fs .«num_files» - i) i) (drop k (map lead marks)) p ≡ anyAt (entriesFrom (lent fs rows dirs text) (fs .«num_files» - i0) i0) (drop k0 (map lead marks)) p)
