@@ -11,7 +11,7 @@ use Rattle.links.specs.Judging.{lent, entriesOf, directoriesOf}
 use Rattle.links.specs.Walking.{entryAt, entriesFrom, firstMarks}
 use Rattle.links.proofs.Rows.{entries-start, entries-cons, entries-none}
 use Rattle.links.proofs.Marking.{marks-turn}
-use Rattle.links.proofs.Events.{one-or-none}
+use Rattle.links.proofs.Scans.{one-or-none}
 use Rattle.links.proofs.first.first_marks.Statement.{statement}
 use Rattle.links.proofs.first.first_marks.Tie as tie
 
