@@ -5,6 +5,7 @@ pub mod Walk
 pub mod Room
 pub mod Marks
 pub mod Marking
+pub mod Verdicts
 pub mod Turns
 pub mod Scans
 pub mod Events
