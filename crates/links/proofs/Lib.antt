@@ -6,6 +6,7 @@ pub mod Room
 pub mod Marks
 pub mod Marking
 pub mod Verdicts
+pub mod Spaces
 pub mod Turns
 pub mod Scans
 pub mod Events

@@ -4,6 +4,7 @@ mod mark;
 mod parts;
 mod scan;
 mod set;
+mod space;
 mod text;
 mod work;
 
