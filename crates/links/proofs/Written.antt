@@ -15,7 +15,7 @@ use Rattle.tables.specs.Span.{textAt}
 use Rattle.tables.specs.Rows.{rowAt, has}
 use Rattle.tables.specs.Model.{Store}
 use Rattle.links.specs.Clean.{directoryLength}
-use Rattle.links.specs.Walking.{entryAt, leadText, over, Holds, Joined}
+use Rattle.links.specs.Walking.{entryAt, rowText, rowBranch, rowLead, leadText, over, Holds, Joined}
 use Rattle.links.proofs.Rows.{branchAt, text-at, beside-at, length-at}
 
 -- ---- a text written over a buffer
@@ -43,18 +43,16 @@ tail-is b t b′ at h e q = rw q (drop-over b at t (omega arith) ∙ rw (drop-of
 -- ---- the text by which a link leads
 
 module _ (s : Store) (i : ℕ) where
-  -- its own text, and its directory and its text, by what its row says
-  abbrev given : List ℕ
-  given = cond (has (rowAt (s .rows) i .flags) 16) (textAt (s .text) (rowAt (s .rows) i .link)) []
-
-  pub text-led : (m : ℕ) → cond (ltb m 2) given (appended (branchAt s i) given) ≡ leadText m (entryAt s i)
-  text-led zero = text-at s i
-  text-led (suc zero) = text-at s i
-  text-led (suc (suc m)) = let q : 2 ≤ suc (suc m) = omega arith in rw (le-ltb (suc (suc m)) 2 q) (ap (appended (branchAt s i)) (text-at s i) ∙ beside-at s i (entryAt s i .text))
+  pub row-lead : (m : ℕ) → rowLead (s .rows) (s .dirs) (s .text) i m ≡ leadText m (entryAt s i)
+  row-lead zero = text-at s i
+  row-lead (suc zero) = text-at s i
+  row-lead (suc (suc m)) =
+      let q : 2 ≤ suc (suc m) = omega arith in
+      rw (le-ltb (suc (suc m)) 2 q) (ap (appended (branchAt s i)) (text-at s i) ∙ beside-at s i (entryAt s i .text))
 
   -- the room that it takes
-  pub text-room : length (branchAt s i) + length given + 1 ≡ directoryLength (entryAt s i .directory) + length (entryAt s i .text) + 1
-  text-room = omega (arith, length-at s i, ap length (text-at s i))
+  pub row-room : length (rowBranch (s .rows) (s .dirs) (s .text) i) + length (rowText (s .rows) (s .text) i) ≡ directoryLength (entryAt s i .directory) + length (entryAt s i .text)
+  row-room = omega (arith, length-at s i, ap length (text-at s i))
 
 -- ---- a text in place of a path's first part, where the path ends with the buffer
 

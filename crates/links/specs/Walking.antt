@@ -7,8 +7,11 @@ use mathlib.Core.List.{List, [], _∷_, _++_, map}
 use lib.Dec.{ltb}
 use lib.ListN.{length, getD, take, drop}
 use Rattle.lists.specs.Lists.{equal}
-use Rattle.path.specs.Join.{combined}
+use Rattle.path.specs.Join.{appended, combined}
+use Rattle.tables.specs.Span.{textAt}
+use Rattle.tables.specs.Rows.{rowAt, dirAt, has}
 use Rattle.tables.specs.Model.{Store, fileOf, directoryText}
+use Rattle.answers.specs.Answers.{isInside}
 use Rattle.links.specs.Clean.{Entry, entryOf, own, Link, Seen, nothing, file, link, isDirectory, known, goes, weight, space}
 use Rattle.links.specs.Judging.{entriesOf, directoriesOf, firstMark, besideText}
 
@@ -24,6 +27,18 @@ entriesFrom s (suc n) i = entryAt s i ∷ entriesFrom s n (i + 1)
 unfoldable pub directoriesFrom : Store → ℕ → ℕ → List (List ℕ)
 directoriesFrom s zero i = []
 directoriesFrom s (suc n) i = directoryText s i ∷ directoriesFrom s n (i + 1)
+
+-- what a row says of a link: its text, its directory (nothing for a single name and an absolute path), and the text by which it
+-- leads with lead m (`leadText` of `entryAt`)
+abbrev pub rowText : List ℕ → List ℕ → ℕ → List ℕ
+rowText rows text i = cond (has (rowAt rows i .flags) 16) (textAt text (rowAt rows i .link)) []
+
+abbrev pub rowBranch : List ℕ → List ℕ → List ℕ → ℕ → List ℕ
+rowBranch rows dirs text i = cond (isInside (rowAt rows i)) (textAt text (dirAt dirs (rowAt rows i .«path_index»))) []
+
+abbrev pub rowLead : List ℕ → List ℕ → List ℕ → ℕ → ℕ → List ℕ
+rowLead rows dirs text i m =
+    cond (ltb m 2) (rowText rows text i) (appended (rowBranch rows dirs text i) (rowText rows text i))
 
 -- what stands at a path, as a number: nothing, a file, a flagged link
 abbrev pub seenCode : Seen → ℕ

@@ -2,6 +2,7 @@
 mod first;
 mod mark;
 mod parts;
+mod resolve;
 mod scan;
 mod set;
 mod space;

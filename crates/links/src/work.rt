@@ -1,15 +1,8 @@
 // The work space of a walk: the text by which a link leads on, and that text in place of a part of the path. They rely on
 // text.rt, set.rt and the laws of proofs/Written.antt.
-ghost use mathlib.Core.Bool.{cond};
-ghost use mathlib.Core.List.{[]};
 ghost use Prim.Native.Nat.{_+_, _<_, _≤_};
-ghost use lib.Dec.{ltb};
 ghost use lib.ListN.{length};
-ghost use Rattle.path.specs.Join.{appended};
-ghost use Rattle.tables.specs.Span.{textAt};
-ghost use Rattle.tables.specs.Rows.{rowAt, dirAt, has};
-ghost use Rattle.answers.specs.Answers.{isInside};
-ghost use Rattle.links.specs.Walking.{Holds, Joined};
+ghost use Rattle.links.specs.Walking.{rowText, rowBranch, rowLead, Holds, Joined};
 use crate::parts::is_alone;
 use crate::parts::is_closed;
 use crate::set::directory_of;
@@ -26,8 +19,8 @@ pub(crate) fn lead_text(
     m: u8,
     buf: &mut [u8],
 ) -> usize
-    requires { ⌜ length (cond (isInside (rowAt (now rows) i)) (textAt (now text) (dirAt (now dirs) (rowAt (now rows) i .«path_index»))) []) + length (cond (has (rowAt (now rows) i .flags) 16) (textAt (now text) (rowAt (now rows) i .link)) []) + 1 ≤ length (now buf) ⌝ }
-    ensures { λ r. ⌜ Holds (now (buf .exit)) r (cond (ltb m 2) (cond (has (rowAt (now (rows .entry)) i .flags) 16) (textAt (now (text .entry)) (rowAt (now (rows .entry)) i .link)) []) (appended (cond (isInside (rowAt (now (rows .entry)) i)) (textAt (now (text .entry)) (dirAt (now (dirs .entry)) (rowAt (now (rows .entry)) i .«path_index»))) []) (cond (has (rowAt (now (rows .entry)) i .flags) 16) (textAt (now (text .entry)) (rowAt (now (rows .entry)) i .link)) []))) ⌝ }
+    requires { ⌜ length (rowBranch (now rows) (now dirs) (now text) i) + length (rowText (now rows) (now text) i) + 1 ≤ length (now buf) ⌝ }
+    ensures { λ r. ⌜ Holds (now (buf .exit)) r (rowLead (now (rows .entry)) (now (dirs .entry)) (now (text .entry)) i m) ⌝ }
 {
     let row = tables::row_at(rows, i);
     let t = link_text(text, row);

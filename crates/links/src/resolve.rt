@@ -1,0 +1,71 @@
+// The walk of a path through directories and links. It relies on scan.rt, work.rt and the laws of proofs/Events.antt.
+ghost use mathlib.Core.Path.{_≡_};
+ghost use mathlib.Core.List.{map};
+ghost use Prim.Native.Nat.{_+_, _<_, _≤_};
+ghost use lib.ListN.{length, set, take, drop};
+ghost use Rattle.tables.specs.Span.{textAt};
+ghost use Rattle.tables.specs.Rows.{dirAt};
+ghost use Rattle.links.specs.Clean.{covers, known, cut};
+ghost use Rattle.links.specs.Judging.{lent, entriesOf, directoriesOf};
+ghost use Rattle.links.specs.Walking.{rowText, rowBranch, rowLead, lead, fate, fresh, walkOf, Joined, Ready};
+use crate::mark::put_lead;
+use crate::parts::is_covered;
+use crate::scan::lead_mark;
+use crate::set::has_file;
+use crate::set::is_directory;
+use crate::set::link_count;
+use crate::work::lead_text;
+use crate::work::substitute;
+use tables::FileStorage;
+
+// Where the part of the path from `at` on ends that goes on at `pos`.
+fn cut_at(path: &[u8], at: usize, pos: usize) -> usize
+    ensures { λ r. ⌜ r ≡ cut (drop at (now (path .entry))) pos ⌝ }
+{
+    path::lsplit_path_at_first(lists::part(path, at, path.len()), pos).len()
+}
+
+// Whether directory d covers the e bytes of the path from `at` on.
+fn covers_at(dirs: &[u64], text: &[u8], d: usize, path: &[u8], at: usize, e: usize) -> bool
+    ensures { λ r. ⌜ r ≡ covers (textAt (now (text .entry)) (dirAt (now (dirs .entry)) d)) (take e (drop at (now (path .entry)))) ⌝ }
+{
+    is_covered(
+        tables::text_at(text, tables::dir_at(dirs, d)),
+        lists::part(path, at, e),
+    )
+}
+
+// Whether a file or a directory of the set stands at p.
+fn is_known(fs: FileStorage, rows: &[u64], dirs: &[u64], text: &[u8], p: &[u8]) -> bool
+    ensures { λ r. ⌜ r ≡ known (entriesOf (lent fs (now (rows .entry)) (now (dirs .entry)) (now (text .entry)))) (directoriesOf (lent fs (now (rows .entry)) (now (dirs .entry)) (now (text .entry)))) (now (p .entry)) ⌝ }
+{
+    if has_file(fs, rows, dirs, text, p) {
+        return true;
+    }
+    is_directory(fs, dirs, text, p)
+}
+
+// Goes through link i, with mark k and lead m: its text stands for the first part of the path, and it is used. The new
+// beginning of the path.
+fn traverse(
+    rows: &[u64],
+    dirs: &[u64],
+    text: &[u8],
+    marks: &mut [u8],
+    stage: &mut [u8],
+    path: &mut [u8],
+    at: usize,
+    e: usize,
+    i: usize,
+    k: usize,
+    m: u8,
+) -> usize
+    requires { ⌜ (m ≤ 2) × (length (rowBranch (now rows) (now dirs) (now text) i) + length (rowText (now rows) (now text) i) + 1 ≤ length (now stage)) × (at + e < length (now path)) × (length (rowLead (now rows) (now dirs) (now text) i m) ≤ at) ⌝ }
+    ensures { λ r. ⌜ Joined (now (path .entry)) at e (rowLead (now (rows .entry)) (now (dirs .entry)) (now (text .entry)) i m) (now (path .exit)) r ⌝ }
+    ensures { λ _. ⌜ map lead (now (marks .exit)) ≡ set (map lead (now (marks .entry))) k (m + 2) ⌝ }
+    ensures { λ _. ⌜ map fate (now (marks .exit)) ≡ map fate (now (marks .entry)) ⌝ }
+{
+    let n = lead_text(rows, dirs, text, i, m, stage);
+    put_lead(marks, k, m + 2);
+    substitute(path, at, e, &stage[..n])
+}
