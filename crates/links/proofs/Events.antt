@@ -1,7 +1,7 @@
 -- What happens in a turn of `resolve`, in the code's own numbers: the buffer whose part from `at` on is the path, the end e of the
 -- part looked at, and the leads. These laws rely on those of proofs/Turns.antt and proofs/Scans.antt.
 use Prim.Native.Nat.{ℕ, suc, _+_, _-_, _<_, _≤_}
-use mathlib.Core.Path.{_≡_, refl, sym, ap, _∙_}
+use mathlib.Core.Path.{_≡_, refl, sym, _∙_}
 use mathlib.Core.Bool.{Bool, true, false, cond}
 use mathlib.Core.List.{List, _∷_, map}
 use native.Mathlib.Omega.{arith}
@@ -10,7 +10,7 @@ use lib.Seq.{map-set-same}
 use Rattle.tables.specs.Model.{Store, directoryText}
 use Rattle.links.specs.Clean.{Entry, to, leadAt, without, isDirectory, fileAt, isThere, covers, known, cut, weight, left, directoryLength, space}
 use Rattle.links.specs.Judging.{entriesOf, directoriesOf}
-use Rattle.links.specs.Walking.{entryAt, entriesFrom, directoriesFrom, anyAt, leadMark, leadText, openOf, walkOf, fresh, Joined}
+use Rattle.links.specs.Walking.{lead, fate, entryAt, entriesFrom, directoriesFrom, anyAt, leadMark, leadText, openOf, walkOf, fresh, Joined}
 use Rattle.links.proofs.Rows.{entries-all, entries-cons, entries-none, directories-hit, directories-end}
 use Rattle.links.proofs.Walk.{lead-less}
 use Rattle.links.proofs.Turns.{turn-end, turn-dir, turn-dir-stop, turn-link, turn-link-stop, turn-link-less}
@@ -58,61 +58,69 @@ module _ (s : Store) (ms path : List ℕ) (at e : ℕ) where
         pub dir-stop : next ≤ e → goesOn ≡ false
         dir-stop q = turn-dir-stop (isDirectory (directoriesOf s)) (known (entriesOf s) (directoriesOf s)) (openOf (entriesOf s) ms) (drop at path) e long is-dir (omega arith)
 
-    module _ (o : isDirectory (directoriesOf s) partAt ≡ false) (i k : ℕ) (c : Scan (entriesOf s) (entriesFrom s (n - i) i) ms partAt k) where
-      -- no link either
-      pub link-none : n ≤ i → goesOn ≡ false
-      link-none q =
-          turn-link-stop (isDirectory (directoriesOf s)) (known (entriesOf s) (directoriesOf s)) (openOf (entriesOf s) ms) (drop at path) e long o
-          (scan-none (entriesOf s) ms partAt k (rw (entries-none s n i q) at c))
+    -- no directory, and no link among those that are left: a stop
+    pub link-none : (i k : ℕ) → isDirectory (directoriesOf s) partAt ≡ false → Scan (entriesOf s) (entriesFrom s (n - i) i) ms partAt k → n ≤ i → goesOn ≡ false
+    link-none i k o c q =
+        turn-link-stop (isDirectory (directoriesOf s)) (known (entriesOf s) (directoriesOf s)) (openOf (entriesOf s) ms) (drop at path) e long o
+        (scan-none (entriesOf s) ms partAt k (rw (entries-none s n i q) at c))
 
-      module _ (q : i < n) (m : ℕ) (w : m ≡ leadMark (entryAt s i) (getD ms k 0) partAt (anyAt (entriesFrom s (n - (i + 1)) (i + 1)) (drop (k + 1) ms) partAt)) where
-        whole : Scan (entriesOf s) (entryAt s i ∷ entriesFrom s (n - (i + 1)) (i + 1)) ms partAt k
-        whole = rw (entries-cons s n i q) at c
+  -- no directory, and the scan of the links is at file i with mark k, whose lead at the part is m
+  pub record Met (i k m : ℕ) : Type 0 where
+    pub before-end : e < length path - at
+    pub no-directory : isDirectory (directoriesOf s) partAt ≡ false
+    pub scanned : Scan (entriesOf s) (entriesFrom s (n - i) i) ms partAt k
+    pub row : i < n
+    pub is : m ≡ leadMark (entryAt s i) (getD ms k 0) partAt (anyAt (entriesFrom s (n - (i + 1)) (i + 1)) (drop (k + 1) ms) partAt)
 
-        -- a link that isn't taken
-        pub link-past : (j : ℕ) → m ≡ 0 → j ≡ cond (entryAt s i .flagged) 1 0 → Scan (entriesOf s) (entriesFrom s (n - (i + 1)) (i + 1)) ms partAt (k + j)
-        link-past j z x = scan-turn (entriesOf s) (entryAt s i) (entriesFrom s (n - (i + 1)) (i + 1)) ms partAt k j (sym z ∙ w) x whole
+  module _ (i k m : ℕ) (x : Met i k m) where
+    whole : Scan (entriesOf s) (entryAt s i ∷ entriesFrom s (n - (i + 1)) (i + 1)) ms partAt k
+    whole = rw (entries-cons s n i (x .row)) at (x .scanned)
 
-        module _ (z : m ≡ 0 → ⊥) where
-          taken : Here (entryAt s i) (getD ms k 0) partAt (anyAt (entriesFrom s (n - (i + 1)) (i + 1)) (drop (k + 1) ms) partAt) m
-          taken = here (entryAt s i) (getD ms k 0) partAt (anyAt (entriesFrom s (n - (i + 1)) (i + 1)) (drop (k + 1) ms) partAt) m w z
+    -- a link that isn't taken
+    pub link-past : (j : ℕ) → m ≡ 0 → j ≡ cond (entryAt s i .flagged) 1 0 → Scan (entriesOf s) (entriesFrom s (n - (i + 1)) (i + 1)) ms partAt (k + j)
+    link-past j z y = scan-turn (entriesOf s) (entryAt s i) (entriesFrom s (n - (i + 1)) (i + 1)) ms partAt k j (sym z ∙ x .is) y whole
 
-          -- a link that is taken: its lead, and the stage for its text
-          pub mark-low : m ≤ 2
-          mark-low = omega (arith, taken .is, mark-small (getD ms k 0) (taken .leads))
+    module _ (z : m ≡ 0 → ⊥) where
+      taken : Here (entryAt s i) (getD ms k 0) partAt (anyAt (entriesFrom s (n - (i + 1)) (i + 1)) (drop (k + 1) ms) partAt) m
+      taken = here (entryAt s i) (getD ms k 0) partAt (anyAt (entriesFrom s (n - (i + 1)) (i + 1)) (drop (k + 1) ms) partAt) m (x .is) z
 
-          pub link-staged : directoryLength (entryAt s i .directory) + length (entryAt s i .text) + 2 ≤ space (entriesOf s)
-          link-staged = rw (entries-all s) at (space-at s n 0 i (omega arith) (omega arith) (taken .flag))
+      -- a link that is taken: its lead, and the stage for its text
+      pub mark-low : m ≤ 2
+      mark-low = omega (arith, taken .is, mark-small (getD ms k 0) (taken .leads))
 
-          hit : (leadAt (openOf (entriesOf s) ms) partAt ≡ to (leadText m (entryAt s i))) × (without partAt (openOf (entriesOf s) ms) ≡ openOf (entriesOf s) (set ms k (m + 2)))
-          hit =
-              let g = taken in
-              rw (g .is)
-              (scan-hit (entriesOf s) (entryAt s i) (entriesFrom s (n - (i + 1)) (i + 1)) ms partAt k (getD ms k 0 + 2)
-              (record { flag = g .flag; leads = g .leads; at = g .at; last = g .last; is = refl })
-              (in-marks ms k (λ y. z (g .is ∙ y))) (used-off (getD ms k 0) (g .leads)) (used-some (getD ms k 0)) whole)
+      pub link-staged : directoryLength (entryAt s i .directory) + length (entryAt s i .text) + 2 ≤ space (entriesOf s)
+      link-staged = rw (entries-all s) at (space-at s n 0 i (omega arith) (omega (arith, x .row)) (taken .flag))
 
-          light : suc (length (leadText m (entryAt s i))) + weight (openOf (entriesOf s) (set ms k (m + 2))) ≤ weight (openOf (entriesOf s) ms)
-          light = rw (hit .1) at (lead-less (openOf (entriesOf s) ms) partAt (leadText m (entryAt s i)) (hit .0))
+      hit : (leadAt (openOf (entriesOf s) ms) partAt ≡ to (leadText m (entryAt s i))) × (without partAt (openOf (entriesOf s) ms) ≡ openOf (entriesOf s) (set ms k (m + 2)))
+      hit =
+          let g = taken in
+          rw (g .is)
+          (scan-hit (entriesOf s) (entryAt s i) (entriesFrom s (n - (i + 1)) (i + 1)) ms partAt k (getD ms k 0 + 2)
+          (record { flag = g .flag; leads = g .leads; at = g .at; last = g .last; is = refl })
+          (in-marks ms k (λ y. z (g .is ∙ y))) (used-off (getD ms k 0) (g .leads)) (used-some (getD ms k 0)) whole)
 
-          -- there is room before the path for its text
-          pub link-short : weight (openOf (entriesOf s) ms) ≤ at → length (leadText m (entryAt s i)) ≤ at
-          link-short y = omega (arith, light)
+      light : suc (length (leadText m (entryAt s i))) + weight (openOf (entriesOf s) (set ms k (m + 2))) ≤ weight (openOf (entriesOf s) ms)
+      light = rw (hit .1) at (lead-less (openOf (entriesOf s) ms) partAt (leadText m (entryAt s i)) (hit .0))
 
-          -- its lead is the same but for the use
-          pub link-marks : map fresh (set ms k (m + 2)) ≡ map fresh ms
-          link-marks = map-set-same fresh ms k (m + 2) 0 (let g = taken in rw (g .is) (used-fresh (getD ms k 0) (g .leads)))
+      -- there is room before the path for its text
+      pub link-short : weight (openOf (entriesOf s) ms) ≤ at → length (leadText m (entryAt s i)) ≤ at
+      link-short y = omega (arith, light)
 
-          -- once its text stands for the part: room for the others, and the walk goes on from there
-          module _ (t path′ : List ℕ) (r e′ : ℕ) (x : t ≡ leadText m (entryAt s i)) (j : Joined path at e t path′ r) (y : e′ ≡ cut (drop r path′) 0) where
-            pub link-room : weight (openOf (entriesOf s) ms) ≤ at → weight (openOf (entriesOf s) (set ms k (m + 2))) ≤ r
-            link-room y = omega (arith, light, j .room, ap length x)
+      -- its lead is the same but for the use
+      pub link-marks : map fresh (set ms k (m + 2)) ≡ map fresh ms
+      link-marks = map-set-same fresh ms k (m + 2) 0 (let g = taken in rw (g .is) (used-fresh (getD ms k 0) (g .leads)))
 
-            pub link-on : walkOf (entriesOf s) (directoriesOf s) (set ms k (m + 2)) (drop r path′) e′ ≡ goesOn
-            link-on = turn-link (isDirectory (directoriesOf s)) (known (entriesOf s) (directoriesOf s)) (openOf (entriesOf s) ms) (drop at path) e long t o (hit .0 ∙ ap to (sym x)) (openOf (entriesOf s) (set ms k (m + 2))) (drop r path′) e′ (hit .1) (j .is) y
+      -- once its text stands for the part: room for the others, and the walk goes on from there
+      module _ (path′ : List ℕ) (r e′ : ℕ) (j : Joined path at e (leadText m (entryAt s i)) path′ r) where
+        pub link-room : weight (openOf (entriesOf s) ms) ≤ at → weight (openOf (entriesOf s) (set ms k (m + 2))) ≤ r
+        link-room y = omega (arith, light, j .room)
 
-            pub link-less : left (openOf (entriesOf s) (set ms k (m + 2))) (drop r path′) e′ < left (openOf (entriesOf s) ms) (drop at path) e
-            link-less = turn-link-less (isDirectory (directoriesOf s)) (known (entriesOf s) (directoriesOf s)) (openOf (entriesOf s) ms) (drop at path) e long t o (hit .0 ∙ ap to (sym x)) (openOf (entriesOf s) (set ms k (m + 2))) (drop r path′) e′ (hit .1) (j .is) y
+        module _ (y : e′ ≡ cut (drop r path′) 0) where
+          pub link-on : walkOf (entriesOf s) (directoriesOf s) (set ms k (m + 2)) (drop r path′) e′ ≡ goesOn
+          link-on = turn-link (isDirectory (directoriesOf s)) (known (entriesOf s) (directoriesOf s)) (openOf (entriesOf s) ms) (drop at path) e (long (x .before-end)) (leadText m (entryAt s i)) (x .no-directory) (hit .0) (openOf (entriesOf s) (set ms k (m + 2))) (drop r path′) e′ (hit .1) (j .is) y
+
+          pub link-less : left (openOf (entriesOf s) (set ms k (m + 2))) (drop r path′) e′ < left (openOf (entriesOf s) ms) (drop at path) e
+          link-less = turn-link-less (isDirectory (directoriesOf s)) (known (entriesOf s) (directoriesOf s)) (openOf (entriesOf s) ms) (drop at path) e (long (x .before-end)) (leadText m (entryAt s i)) (x .no-directory) (hit .0) (openOf (entriesOf s) (set ms k (m + 2))) (drop r path′) e′ (hit .1) (j .is) y
 
 -- ---- the walk's end
 
@@ -122,3 +130,17 @@ known-file fs ds p h = rw h
 
 pub known-dir : (fs : List Entry) (ds : List (List ℕ)) (p : List ℕ) → isThere (fileAt fs p) ≡ false → isDirectory ds p ≡ known fs ds p
 known-dir fs ds p h = rw h
+
+-- what holds where the walk is left, at its end or before it
+pub record Over (ends : List ℕ → Bool) (ms₀ stage₀ path₀ : List ℕ) (answer : Bool) (ms stage path : List ℕ) (at e : ℕ) : Type 0 where
+  pub inside : at ≤ length path
+  pub marks-long : length ms ≡ length ms₀
+  pub stage-long : length stage ≡ length stage₀
+  pub path-long : length path ≡ length path₀
+  pub marks-fresh : map fresh (map lead ms) ≡ map fresh (map lead ms₀)
+  pub fates-kept : map fate ms ≡ map fate ms₀
+  pub stopped : e < length path - at → false ≡ answer
+  pub ended : length path - at ≤ e → ends (drop at path) ≡ answer
+
+pub over-is : (ends : List ℕ → Bool) (ms₀ stage₀ path₀ : List ℕ) (answer : Bool) (ms stage path ms′ stage′ path′ : List ℕ) (at e at′ e′ : ℕ) → ms′ ≡ ms → stage′ ≡ stage → path′ ≡ path → at′ ≡ at → e′ ≡ e → Over ends ms₀ stage₀ path₀ answer ms stage path at e → Over ends ms₀ stage₀ path₀ answer ms′ stage′ path′ at′ e′
+over-is ends ms₀ stage₀ path₀ answer ms stage path ms′ stage′ path′ at e at′ e′ i j k l m h = rw (i, j, k, l, m) h

@@ -2,17 +2,14 @@
 -- takes the place of a path's first part. These laws rely on those of proofs/Rows.antt.
 use Prim.Native.Nat.{ℕ, zero, suc, _+_, _-_, _<_, _≤_}
 use mathlib.Core.Path.{_≡_, refl, ap, _∙_}
-use mathlib.Core.Bool.{true, false, cond}
-use mathlib.Core.List.{List, [], _∷_, _++_, append-nil}
+use mathlib.Core.Bool.{true, false}
+use mathlib.Core.List.{List, _∷_, _++_, append-nil}
 use native.Mathlib.Omega.{arith}
 use native.Mathlib.Numerals.{add-one}
-use lib.Dec.{ltb}
 use lib.ListN.{length, set, take, drop, drop-of-length-le, length-take, length-drop, length-append, length-set}
 use lib.Seq.{drop-cons, length-take-le, take-at, drop-at, drop-drop, getD-set-same, drop-set-lt}
 use borrow.Author.Tests.{le-ltb}
 use Rattle.path.specs.Join.{isAlone, isClosed, appended, combined}
-use Rattle.tables.specs.Span.{textAt}
-use Rattle.tables.specs.Rows.{rowAt, has}
 use Rattle.tables.specs.Model.{Store}
 use Rattle.links.specs.Clean.{directoryLength}
 use Rattle.links.specs.Walking.{entryAt, rowText, rowBranch, rowLead, leadText, over, Holds, Joined}

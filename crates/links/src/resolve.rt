@@ -69,3 +69,55 @@ fn traverse(
     put_lead(marks, k, m + 2);
     substitute(path, at, e, &stage[..n])
 }
+
+// Walks the path that stands in `path` from `from` on: whether it comes to a file or a directory of the set. Links that
+// it goes through are marked as used.
+pub(crate) fn resolve(
+    fs: FileStorage,
+    rows: &[u64],
+    dirs: &[u64],
+    text: &[u8],
+    marks: &mut [u8],
+    stage: &mut [u8],
+    path: &mut [u8],
+    from: usize,
+) -> bool
+    requires { ⌜ Ready (entriesOf (lent fs (now rows) (now dirs) (now text))) (map lead (now marks)) (now stage) (now path) from ⌝ }
+    ensures { λ r. ⌜ r ≡ walkOf (entriesOf (lent fs (now (rows .entry)) (now (dirs .entry)) (now (text .entry)))) (directoriesOf (lent fs (now (rows .entry)) (now (dirs .entry)) (now (text .entry)))) (map lead (now (marks .entry))) (drop from (now (path .entry))) (cut (drop from (now (path .entry))) 0) ⌝ }
+    ensures { λ _. ⌜ map fresh (map lead (now (marks .exit))) ≡ map fresh (map lead (now (marks .entry))) ⌝ }
+    ensures { λ _. ⌜ map fate (now (marks .exit)) ≡ map fate (now (marks .entry)) ⌝ }
+{
+    let mut at = from;
+    let mut e = cut_at(path, at, 0);
+    'walk: while e < path.len() - at {
+        let mut d = 0;
+        while d < fs.num_paths {
+            if covers_at(dirs, text, d, path, at, e) {
+                let next = cut_at(path, at, e + 1);
+                if next <= e {
+                    break 'walk;
+                }
+                e = next;
+                continue 'walk;
+            }
+            d += 1;
+        }
+        let mut i = 0;
+        let mut k = 0;
+        while i < fs.num_files {
+            let m = lead_mark(fs, rows, dirs, text, marks, i, k, lists::part(path, at, e));
+            if m != 0 {
+                at = traverse(rows, dirs, text, marks, stage, path, at, e, i, k, m);
+                e = cut_at(path, at, 0);
+                continue 'walk;
+            }
+            k += link_count(rows, i);
+            i += 1;
+        }
+        break;
+    }
+    if e < path.len() - at {
+        return false;
+    }
+    is_known(fs, rows, dirs, text, lists::part(path, at, path.len()))
+}

@@ -1,6 +1,6 @@
 -- `links::resolve::cut_at` meets its contract.
-use Prim.Native.Nat.{ℕ, _-_}
-use mathlib.Core.Path.{_≡_, refl, sym, ap, _∙_}
+use Prim.Native.Nat.{ℕ}
+use mathlib.Core.Path.{ap, _∙_}
 use mathlib.Core.List.{List}
 use native.Mathlib.Omega.{arith}
 use lib.ListN.{length, drop, length-drop}
@@ -9,25 +9,18 @@ use Rattle.path.specs.Split.{lsplitAtFirst}
 use borrow.Author.Needs.{needs}
 use Rattle.links.proofs.resolve.cut_at.Statement.{statement}
 use Rattle.links.proofs.resolve.cut_at.Tie as tie
-use Rattle.links.proofs.resolve.cut_at.Reads as reads
-use Rattle.links.proofs.resolve.cut_at.Lts as lts
-use Rattle.lists.proofs.part.Reads as part-reads
-use Rattle.path.proofs.lsplit_path_at_first.Reads as lsplit-path-at-first-reads
 
--- src/resolve.rt:25:32
 part-requires : tie.Need-part-requires
 part-requires c κs = search needs
 
--- src/resolve.rt:25:5
 lsplit-path-at-first-requires : tie.Need-lsplit-path-at-first-requires
 lsplit-path-at-first-requires c κs = search needs
 
--- src/resolve.rt:22:1
 returns : tie.Need-returns
 returns c =
     let a = c .before .before .before .args in
-        ap length (c .lsplit-path-at-first .ensures)
-        ∙ ap (λ (l : List ℕ). length (lsplitAtFirst l (a .pos))) (c .before .part .ensures ∙ take-all (length (a .path .now)) (drop (a .at) (a .path .now)) (omega (arith, length-drop (a .at) (a .path .now))))
+    ap length (c .lsplit-path-at-first .ensures)
+    ∙ ap (λ (l : List ℕ). length (lsplitAtFirst l (a .pos))) (c .before .part .ensures ∙ take-all (length (a .path .now)) (drop (a .at) (a .path .now)) (omega (arith, length-drop (a .at) (a .path .now))))
 
 pub cut-at-spec : {M : Type 1} → statement M
 cut-at-spec = tie.close (tie.spec part-requires lsplit-path-at-first-requires returns)

@@ -1,60 +1,44 @@
 -- `links::resolve::traverse` meets its contract: what stands in the stage is the link's text.
-use Prim.Native.Nat.{ℕ, _+_, _<_, _≤_}
-use mathlib.Core.Path.{_≡_, refl, sym, ap, _∙_}
+use mathlib.Core.Path.{sym, ap}
 use native.Mathlib.Omega.{arith}
-use lib.ListN.{length, take}
+use lib.ListN.{length}
 use lib.Seq.{length-take-le}
-use Rattle.links.specs.Walking.{rowLead, Holds, Joined}
+use Rattle.links.specs.Walking.{rowLead, Holds}
 use borrow.Author.Needs.{needs}
 use Rattle.links.proofs.resolve.traverse.Statement.{statement}
 use Rattle.links.proofs.resolve.traverse.Tie as tie
-use Rattle.links.proofs.resolve.traverse.Reads as reads
-use Rattle.links.proofs.resolve.traverse.Lts as lts
-use Rattle.links.proofs.mark.put_lead.Reads as put-lead-reads
-use Rattle.links.proofs.work.lead_text.Reads as lead-text-reads
-use Rattle.links.proofs.work.substitute.Reads as substitute-reads
 
 -- the text in the stage
 staged : (c : tie.After-lead-text) → Holds (c .lead-text .last .1 .1 .1 .1 .1 .0) (c .lead-text .result) (rowLead (c .before .before .before .before .before .before .before .before .args .rows .now) (c .before .before .before .before .before .before .before .before .args .dirs .now) (c .before .before .before .before .before .before .before .before .args .text .now) (c .before .before .before .before .before .before .before .before .args .i) (c .before .before .before .before .before .before .before .before .args .m))
 staged c = c .lead-text .ensures
 
--- src/resolve.rt:68:9
 lead-text-requires : tie.Need-lead-text-requires
 lead-text-requires c κs = search needs
 
--- src/resolve.rt:69:24
 add-put-lead : tie.Need-add-put-lead
 add-put-lead c = search needs
 
--- src/resolve.rt:69:5
 put-lead-requires : tie.Need-put-lead-requires
 put-lead-requires c κs = search needs
 
--- src/resolve.rt:70:29
 slice-reshare-prefix-substitute : tie.Need-slice-reshare-prefix-substitute
 slice-reshare-prefix-substitute c = search needs
 
--- src/resolve.rt:70:29
 slice-aggregate-substitute : tie.Need-slice-aggregate-substitute
 slice-aggregate-substitute c = sym (length-take-le (c .before .before .before .before .before .before .before .before .lead-text .result) (c .before .before .before .before .before .before .before .before .lead-text .last .1 .1 .1 .1 .1 .0) (staged (c .before .before .before .before .before .before .before .before) .fits))
 
--- src/resolve.rt:70:5
 substitute-requires : tie.Need-substitute-requires
 substitute-requires c κs = (c .before .before .before .before .before .before .before .before .before .before .before .before .before .before .before .before .pre .2, omega (arith, ap length (staged (c .before .before .before .before .before .before .before .before) .is), c .before .before .before .before .before .before .before .before .before .before .before .before .before .before .before .before .pre .3))
 
--- src/resolve.rt:50:1
 same-length : tie.Need-same-length
 same-length c = search needs
 
--- src/resolve.rt:50:1
 same-length-2 : tie.Need-same-length-2
 same-length-2 c = search needs
 
--- src/resolve.rt:50:1
 same-length-3 : tie.Need-same-length-3
 same-length-3 c = search needs
 
--- src/resolve.rt:50:1
 returns : tie.Need-returns
 returns c = (rw (staged (c .before .before .before .before .before .before .before .before .before .before .before) .is) at (c .before .before .substitute .ensures), c .before .before .before .before .before .before .before .put-lead .ensures)
 
