@@ -7,6 +7,7 @@ pub mod Marks
 pub mod Marking
 pub mod Verdicts
 pub mod Spaces
+pub mod Judgements
 pub mod Turns
 pub mod Scans
 pub mod Events

@@ -11,7 +11,7 @@ use Rattle.links.specs.Judging.{lent, entriesOf}
 use Rattle.links.specs.Walking.{entryAt, entriesFrom}
 use Rattle.links.proofs.Rows.{flagged-at, entries-start}
 use Rattle.links.proofs.Spaces.{count-turn, count-end}
-use Rattle.links.proofs.Events.{one-or-none}
+use Rattle.links.proofs.Scans.{one-or-none}
 use Rattle.links.proofs.space.count_links.Statement.{statement}
 use Rattle.links.proofs.space.count_links.Tie as tie
 
