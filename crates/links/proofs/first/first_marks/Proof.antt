@@ -15,6 +15,7 @@ use Rattle.links.proofs.Scans.{one-or-none}
 use Rattle.links.proofs.first.first_marks.Statement.{statement}
 use Rattle.links.proofs.first.first_marks.Tie as tie
 
+-- the loop keeps: the k marks of the files before i are set, and setting those of the rest gives the whole
 abbrev Inv-loop : tie.InvT-loop
 Inv-loop fs rows dirs text marks₀ stage₀ i₀ k₀ marks stage i k =
     (i ≤ fs .«num_files») × (k ≤ i) × (length marks ≡ length marks₀) × (length stage ≡ length stage₀)

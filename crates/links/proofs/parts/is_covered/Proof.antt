@@ -8,6 +8,7 @@ use Rattle.links.proofs.Paths.{covers-short, covers-turn, covers-stop, 
 use Rattle.links.proofs.parts.is_covered.Statement.{statement}
 use Rattle.links.proofs.parts.is_covered.Tie as tie
 
+-- the loop keeps: the bytes before i are the same, so what is left of directory and path decides
 abbrev Inv-loop : tie.InvT-loop
 Inv-loop d p i₀ i = (i ≤ length p) × (length p ≤ length d) × (covers (drop i d) (drop i p) ≡ covers d p)
 

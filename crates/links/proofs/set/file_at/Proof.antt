@@ -13,6 +13,7 @@ use Rattle.links.proofs.Rows.{own-at, flagged-at, back-start, back-turn
 use Rattle.links.proofs.set.file_at.Statement.{statement}
 use Rattle.links.proofs.set.file_at.Tie as tie
 
+-- the loop keeps: none of the last k files stands at p
 abbrev Inv-loop : tie.InvT-loop
 Inv-loop fs rows dirs text p k₀ k = (k ≤ fs .«num_files») × (fileAt (entriesFrom (lent fs rows dirs text) (fs .«num_files» - (fs .«num_files» - k)) (fs .«num_files» - k)) p ≡ nothing)
 

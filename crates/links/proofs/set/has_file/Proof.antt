@@ -13,6 +13,7 @@ use Rattle.links.proofs.Rows.{own-at, entries-start, entries-turn, entr
 use Rattle.links.proofs.set.has_file.Statement.{statement}
 use Rattle.links.proofs.set.has_file.Tie as tie
 
+-- the loop keeps: the files from i on decide
 abbrev Inv-loop : tie.InvT-loop
 Inv-loop fs rows dirs text p i₀ i = (i ≤ fs .«num_files») × (isThere (fileAt (entriesFrom (lent fs rows dirs text) (fs .«num_files» - i) i) p) ≡ isThere (fileAt (entriesOf (lent fs rows dirs text)) p))
 

@@ -13,6 +13,7 @@ use Rattle.links.proofs.Rows.{directories-start, directories-turn, dire
 use Rattle.links.proofs.set.is_directory.Statement.{statement}
 use Rattle.links.proofs.set.is_directory.Tie as tie
 
+-- the loop keeps: the directories from d on decide
 abbrev Inv-loop : tie.InvT-loop
 Inv-loop fs dirs text p d₀ d = (d ≤ fs .«num_paths») × (isDirectory (directoriesFrom (lent fs [] dirs text) (fs .«num_paths» - d) d) p ≡ isDirectory (directoriesOf (lent fs [] dirs text)) p)
 

@@ -15,6 +15,7 @@ use Rattle.links.proofs.Scans.{one-or-none}
 use Rattle.links.proofs.space.count_links.Statement.{statement}
 use Rattle.links.proofs.space.count_links.Tie as tie
 
+-- the loop keeps: n links are among the first i files, and the rest makes up the count
 abbrev Inv-loop : tie.InvT-loop
 Inv-loop fs rows n₀ i₀ n i = (i ≤ fs .«num_files») × (n ≤ i) × (n + linkCount (entriesFrom (lent fs rows [] []) (fs .«num_files» - i) i) ≡ linkCount (entriesOf (lent fs rows [] [])))
 

@@ -13,6 +13,7 @@ use Rattle.links.proofs.Spaces.{need-row, space-turn, space-end}
 use Rattle.links.proofs.space.space_left.Statement.{statement}
 use Rattle.links.proofs.space.space_left.Tie as tie
 
+-- the loop keeps: what the files from i on need comes off what is left
 abbrev Inv-loop : tie.InvT-loop
 Inv-loop fs rows dirs text room left₀ i₀ left i = (i ≤ fs .«num_files») × (left - space (entriesFrom (lent fs rows dirs text) (fs .«num_files» - i) i) ≡ room - space (entriesOf (lent fs rows dirs text)))
 
