@@ -5,18 +5,18 @@ use mathlib.Core.Path.{_≡_, refl, sym, ap, _∙_}
 use mathlib.Core.Bool.{Bool, true, false, cond, not}
 use mathlib.Core.List.{List, [], _∷_, _++_}
 use native.Mathlib.Omega.{arith}
-use lib.Dec.{eqb, ltb}
+use lib.Dec.{ltb}
 use lib.ListN.{length, drop}
 use lib.Seq.{sets, sets-eq}
 use borrow.Author.Tests.{ltb-false}
 use Rattle.lists.proofs.Runs.{sets-whole}
-use Rattle.types.specs.Refusals.{numberOf, Outcome, value, refused, usizeSays}
+use Rattle.types.specs.Refusals.{numberOf, value, refused, usizeSays}
 use Rattle.types.specs.declared.refusal.Refusal.{Refusal}
 use Rattle.types.specs.declared.refusal.UsizeResult.{UsizeResult}
 use Rattle.types.specs.declared.refusal.UsizeResult.the-variants as usize
 use Rattle.types.proofs.Refusals.{numbered}
 use Rattle.tables.specs.Model.{Store}
-use Rattle.storage.specs.Rules.{Rule, when, firstOf, outcomeOf, both, either}
+use Rattle.storage.specs.Rules.{Rule, when, outcomeOf, both, either}
 use Rattle.storage.specs.Addition.{badLength}
 use Rattle.storage.proofs.Rules.{passed, either-false, outcome-value, outcome-refused}
 use Rattle.answers.specs.Answers.{rowsHeld, dirsHeld, textHeld}

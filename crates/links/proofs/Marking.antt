@@ -1,7 +1,7 @@
 -- Laws of the first pass: what its tests on one link say of the mark, and the pass over all files, which sets the marks of those
 -- still to come. They rely on the definitions of Judging.antt.
-use Prim.Native.Nat.{ℕ, zero, suc, _+_, _<_, _≤_}
-use mathlib.Core.Path.{_≡_, refl, sym, ap, _∙_}
+use Prim.Native.Nat.{ℕ, _+_}
+use mathlib.Core.Path.{_≡_, refl}
 use mathlib.Core.Bool.{Bool, true, false, cond, not, false≢true, true≢false}
 use mathlib.Core.List.{List, [], _∷_}
 use native.Mathlib.Omega.{arith}
@@ -14,11 +14,11 @@ use Rattle.path.specs.Join.{appended}
 use Rattle.tables.specs.declared.rows.Row.{Row}
 use Rattle.tables.specs.Span.{textAt}
 use Rattle.tables.specs.Rows.{dirAt, has}
-use Rattle.tables.specs.Model.{Directory, single, absolute, stored, Store, directoryOf}
+use Rattle.tables.specs.Model.{single, absolute, stored, Store, directoryOf}
 use Rattle.storage.specs.Rules.{both}
 use Rattle.answers.specs.Answers.{isInside}
 use Rattle.links.specs.Clean.{Entry, Seen, nothing, file, link, fileAt, isDirectory, linkCount}
-use Rattle.links.specs.Judging.{settledMark, directMark, relativeMark, firstMark}
+use Rattle.links.specs.Judging.{settledMark, relativeMark, firstMark}
 use Rattle.links.specs.Walking.{firstMarks, seenCode}
 use Rattle.links.proofs.Rows.{branchOf}
 

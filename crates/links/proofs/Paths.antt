@@ -1,7 +1,7 @@
 -- Laws of the tests on parts of paths: a scan of a directory against a path, and a join compared part by part. They rely on
 -- the kit's laws of lists and the laws of `path` and `lists`.
-use Prim.Native.Nat.{ℕ, zero, suc, _+_, _-_, _<_, _≤_}
-use mathlib.Core.Path.{_≡_, refl, sym, ap, _∙_}
+use Prim.Native.Nat.{ℕ, _+_, _<_, _≤_}
+use mathlib.Core.Path.{_≡_, refl, sym, _∙_}
 use mathlib.Core.Bool.{Bool, true, false, cond, true≢false, false≢true}
 use mathlib.Core.List.{List, [], _∷_, _++_}
 use native.Mathlib.Omega.{arith}
@@ -11,7 +11,7 @@ use lib.ListN.{length, getD, take, drop, drop-of-length-le}
 use lib.Seq.{drop-cons}
 use borrow.Author.Tests.{eq-eqb, ne-eqb, eqb-true}
 use Rattle.lists.specs.Lists.{equal}
-use Rattle.path.specs.Split.{isSeparator, isComplete}
+use Rattle.path.specs.Split.{isComplete}
 use Rattle.path.specs.Join.{isAlone, isClosed, appended}
 use Rattle.path.proofs.Joins.{no-bytes, some-bytes}
 use Rattle.links.specs.Clean.{covers}

@@ -13,7 +13,7 @@ use Rattle.path.specs.Join.{appended}
 use Rattle.tables.specs.declared.rows.Row.{Row}
 use Rattle.tables.specs.Span.{textAt}
 use Rattle.tables.specs.Rows.{rowAt, dirAt, has}
-use Rattle.tables.specs.Model.{Directory, single, absolute, stored, presentIf, Store, fileOf, directoryText, directoryOf, tabled}
+use Rattle.tables.specs.Model.{single, absolute, stored, presentIf, Store, directoryText, directoryOf, tabled}
 use Rattle.tables.proofs.Tabled.{tabled-same}
 use Rattle.storage.specs.Rules.{both}
 use Rattle.answers.specs.Answers.{isInside, internalPath}
