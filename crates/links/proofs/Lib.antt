@@ -13,3 +13,4 @@ pub mod Scans
 pub mod Events
 pub mod Packed
 pub mod Written
+pub mod Walked

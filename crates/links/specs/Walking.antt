@@ -4,7 +4,7 @@ use Prim.Native.Nat.{ℕ, zero, suc, _+_, _*_, _/_, _%_, _<_, _≤_}
 use mathlib.Core.Bool.{Bool, true, false, cond}
 use mathlib.Core.Path.{_≡_}
 use mathlib.Core.List.{List, [], _∷_, _++_, map}
-use lib.Dec.{ltb}
+use lib.Dec.{eqb, ltb}
 use lib.ListN.{length, getD, take, drop}
 use Rattle.lists.specs.Lists.{equal}
 use Rattle.path.specs.Join.{appended, combined}
@@ -12,7 +12,7 @@ use Rattle.tables.specs.Span.{textAt}
 use Rattle.tables.specs.Rows.{rowAt, dirAt, has}
 use Rattle.tables.specs.Model.{Store, fileOf, directoryText}
 use Rattle.answers.specs.Answers.{isInside}
-use Rattle.links.specs.Clean.{Entry, entryOf, own, Link, Seen, nothing, file, link, isDirectory, known, goes, weight, space}
+use Rattle.links.specs.Clean.{Entry, entryOf, own, Link, Seen, nothing, file, link, linksOf, isDirectory, known, goes, resolves, weight, space}
 use Rattle.links.specs.Judging.{entriesOf, directoriesOf, firstMark, besideText}
 
 -- file i
@@ -148,3 +148,8 @@ pub record Walkable (files : List Entry) (dirs : List (List ℕ)) (f : Entry) (n
   pub marked : map lead ms ≡ map lead (firstMarks files dirs files)
   pub staged : space files ≤ length stage
   pub room : 2 * space files ≤ length path
+
+-- a link's mark after the second pass: where a walk decides, the text stays or the link's own path takes its place
+abbrev pub walkedMark : List Entry → List (List ℕ) → Entry → ℕ → ℕ
+walkedMark files dirs f m =
+    cond (eqb (fate m) 3) (cond (resolves files dirs (linksOf files dirs files) (f .text)) 0 1 * 8 + lead m) m

@@ -4,6 +4,7 @@ mod mark;
 mod parts;
 mod resolve;
 mod scan;
+mod second;
 mod set;
 mod space;
 mod text;

@@ -1,0 +1,128 @@
+-- `links::second::walk_one` meets its contract: no link, a link that is decided, and one that a walk decides.
+use Prim.Native.Nat.{ℕ, _+_, _*_}
+use mathlib.Core.Path.{_≡_, sym, ap, _∙_}
+use mathlib.Core.Bool.{Bool, true, false, cond}
+use mathlib.Core.List.{List}
+use borrow.Author.Tests.{not-true, not-false}
+use lib.ListN.{getD, set}
+use lib.Seq.{set-getD}
+use Rattle.tables.specs.Model.{Store}
+use Rattle.links.specs.Clean.{Entry}
+use Rattle.links.specs.Judging.{lent, entriesOf, directoriesOf}
+use Rattle.links.specs.Walking.{entryAt, lead, fate, walkedMark}
+use Rattle.links.proofs.Rows.{flagged-at}
+use Rattle.links.proofs.Scans.{cond-yes, cond-no}
+use Rattle.links.proofs.Walked.{walked-by, walked-not}
+use borrow.Author.Needs.{needs}
+use Rattle.links.proofs.second.walk_one.Statement.{statement}
+use Rattle.links.proofs.second.walk_one.Tie as tie
+
+abbrev theSet : tie.Start → Store
+theSet c = lent (c .args .fs) (c .args .rows .now) (c .args .dirs .now) (c .args .text .now)
+
+abbrev this : tie.Start → Entry
+this c = entryAt (theSet c) (c .args .i)
+
+-- its mark, and that after the second pass
+abbrev mark : tie.Start → ℕ
+mark c = getD (c .args .marks .now) (c .args .k) 0
+
+abbrev then : tie.Start → ℕ
+then c = walkedMark (entriesOf (theSet c)) (directoriesOf (theSet c)) (this c) (mark c)
+
+flag-is : (c : tie.After-is-link) → c .is-link .result ≡ this (c .before .before .before .before .before .before .before) .flagged
+flag-is c = c .is-link .ensures ∙ flagged-at (theSet (c .before .before .before .before .before .before .before)) (c .before .before .before .before .before .before .before .args .i)
+
+one : (f : Bool) → f ≡ true → _≡_ {A = ℕ} 1 (cond f 1 0)
+one f h = sym (cond-yes 1 0 f h)
+
+-- the marks of a link
+link-marks : (f : Bool) (ms ms′ : List ℕ) (k v : ℕ) → f ≡ true → ms′ ≡ set ms k v → ms′ ≡ cond f (set ms k v) ms
+link-marks f ms ms′ k v h q = q ∙ sym (cond-yes (set ms k v) ms f h)
+
+-- a fate that the walk gives
+given : (ms ms′ ms″ : List ℕ) (k v w : ℕ) → ms′ ≡ ms → ms″ ≡ set ms′ k (v * 8 + lead (getD ms′ k 0)) → v * 8 + lead (getD ms k 0) ≡ w → ms″ ≡ set ms k w
+given ms ms′ ms″ k v w e q h = q ∙ rw (e, h)
+
+is-link-requires : tie.Need-is-link-requires
+is-link-requires c κs = search needs
+
+returns : tie.Need-returns
+returns c =
+    let s = c .before .before .before .before .before .before .before .before in
+    let f : this (c .before .before .before .before .before .before .before .before) .flagged ≡ false = sym (flag-is (c .before)) ∙ not-true (c .before .is-link .result) (c .if1 .taken) in
+    (sym (cond-no 1 0 (this s .flagged) f), sym (cond-no (set (s .args .marks .now) (s .args .k) (then s)) (s .args .marks .now) (this s .flagged) f))
+
+fate-at-requires : tie.Need-fate-at-requires
+fate-at-requires c κs = search needs
+
+same-length : tie.Need-same-length
+same-length c = search needs
+
+returns-2 : tie.Need-returns-2
+returns-2 c =
+    let s = c .before .before .before .before .before .before .before .before .before .before .before in
+    let f : this (c .before .before .before .before .before .before .before .before .before .before .before) .flagged ≡ true = sym (flag-is (c .before .before .before .before)) ∙ not-false (c .before .before .before .before .is-link .result) (c .before .before .before .if1 .left) in
+    (one (this s .flagged) f, link-marks (this s .flagged) (s .args .marks .now) (s .args .marks .now) (s .args .k) (then s) f (sym (set-getD (s .args .marks .now) (s .args .k) 0) ∙ ap (set (s .args .marks .now) (s .args .k)) (walked-not (entriesOf (theSet s)) (directoriesOf (theSet s)) (this s) (mark s) (λ q. c .if2 .taken (c .before .fate-at .ensures ∙ q)))))
+
+walk-link-requires : tie.Need-walk-link-requires
+walk-link-requires c κs =
+    let p = c .before .before .before .before .before .before .before .before .before .before .before .before .before .before .pre in
+    record { row = p .0; flag = sym (flag-is (c .before .before .before .before .before .before .before)) ∙ not-false (c .before .before .before .before .before .before .before .is-link .result) (c .before .before .before .before .before .before .if1 .left); marked = p .1; staged = p .2; room = p .3 }
+
+put-fate-requires : tie.Need-put-fate-requires
+put-fate-requires c κs = search needs
+
+same-length-2 : tie.Need-same-length-2
+same-length-2 c = search needs
+
+same-length-3 : tie.Need-same-length-3
+same-length-3 c = search needs
+
+same-length-4 : tie.Need-same-length-4
+same-length-4 c = search needs
+
+returns-3 : tie.Need-returns-3
+returns-3 c =
+    let s = c .before .before .before .before .before .before .before .before .before .before .before .before .before .before .before .before .before .before .before .before .before .before .before .before .before .before in
+    let f : this (c .before .before .before .before .before .before .before .before .before .before .before .before .before .before .before .before .before .before .before .before .before .before .before .before .before .before) .flagged ≡ true = sym (flag-is (c .before .before .before .before .before .before .before .before .before .before .before .before .before .before .before .before .before .before .before)) ∙ not-false (c .before .before .before .before .before .before .before .before .before .before .before .before .before .before .before .before .before .before .before .is-link .result) (c .before .before .before .before .before .before .before .before .before .before .before .before .before .before .before .before .before .before .if1 .left) in
+    (one (this s .flagged) f, link-marks (this s .flagged) (s .args .marks .now) (c .before .before .put-fate .last .0) (s .args .k) (then s) f (given (s .args .marks .now) (c .before .before .before .before .before .before .before .before .before .before .before .walk-link .last .1 .1 .1 .1 .0) (c .before .before .put-fate .last .0) (s .args .k) 0 (then s) (c .before .before .before .before .before .before .before .before .before .before .before .walk-link .ensures .1) (c .before .before .put-fate .ensures) (walked-by (entriesOf (theSet s)) (directoriesOf (theSet s)) (this s) (mark s) 0 (sym (c .before .before .before .before .before .before .before .before .before .before .before .before .before .before .before .before .fate-at .ensures) ∙ c .before .before .before .before .before .before .before .before .before .before .before .before .before .before .before .if2 .left) (ap (λ (b : Bool). cond b 0 1) (sym (c .before .before .before .before .before .before .before .before .before .before .before .walk-link .ensures .0) ∙ c .before .before .before .before .if3 .taken)))))
+
+put-fate-requires-2 : tie.Need-put-fate-requires-2
+put-fate-requires-2 c κs = search needs
+
+same-length-5 : tie.Need-same-length-5
+same-length-5 c = search needs
+
+same-length-6 : tie.Need-same-length-6
+same-length-6 c = search needs
+
+same-length-7 : tie.Need-same-length-7
+same-length-7 c = search needs
+
+returns-4 : tie.Need-returns-4
+returns-4 c =
+    let s = c .before .before .before .before .before .before .before .before .before .before .before .before .before .before .before .before .before .before .before .before .before .before .before .before .before .before in
+    let f : this (c .before .before .before .before .before .before .before .before .before .before .before .before .before .before .before .before .before .before .before .before .before .before .before .before .before .before) .flagged ≡ true = sym (flag-is (c .before .before .before .before .before .before .before .before .before .before .before .before .before .before .before .before .before .before .before)) ∙ not-false (c .before .before .before .before .before .before .before .before .before .before .before .before .before .before .before .before .before .before .before .is-link .result) (c .before .before .before .before .before .before .before .before .before .before .before .before .before .before .before .before .before .before .if1 .left) in
+    (one (this s .flagged) f, link-marks (this s .flagged) (s .args .marks .now) (c .before .before .put-fate2 .last .0) (s .args .k) (then s) f (given (s .args .marks .now) (c .before .before .before .before .before .before .before .before .before .before .before .walk-link .last .1 .1 .1 .1 .0) (c .before .before .put-fate2 .last .0) (s .args .k) 1 (then s) (c .before .before .before .before .before .before .before .before .before .before .before .walk-link .ensures .1) (c .before .before .put-fate2 .ensures) (walked-by (entriesOf (theSet s)) (directoriesOf (theSet s)) (this s) (mark s) 1 (sym (c .before .before .before .before .before .before .before .before .before .before .before .before .before .before .before .before .fate-at .ensures) ∙ c .before .before .before .before .before .before .before .before .before .before .before .before .before .before .before .if2 .left) (ap (λ (b : Bool). cond b 0 1) (sym (c .before .before .before .before .before .before .before .before .before .before .before .walk-link .ensures .0) ∙ c .before .before .before .before .if3 .left)))))
+
+pub walk-one-spec : {M : Type 1} → statement M
+walk-one-spec =
+    tie.close
+    (tie.spec
+    is-link-requires
+    returns
+    fate-at-requires
+    same-length
+    returns-2
+    walk-link-requires
+    put-fate-requires
+    same-length-2
+    same-length-3
+    same-length-4
+    returns-3
+    put-fate-requires-2
+    same-length-5
+    same-length-6
+    same-length-7
+    returns-4)
