@@ -1,5 +1,8 @@
-// Which links' texts a cleaning keeps, from `sanitize_symlinks` of file_storage.rs.
+// Which links' texts a cleaning keeps, from `sanitize_symlinks` of file_storage.rs: a verdict for each flagged
+// link, with the set untouched. Relies on `tables` for the set, on `path` and `lists` for paths, and on work space
+// that the caller lends.
 mod first;
+mod judge;
 mod mark;
 mod parts;
 mod resolve;
@@ -10,4 +13,5 @@ mod space;
 mod text;
 mod work;
 
+pub use judge::judge_links;
 pub use set::is_directory;
