@@ -1,21 +1,18 @@
 -- What stays when texts are put behind the used part and rows behind those held: the places of all texts are still within the
 -- used part and apart, and every text and file reads as before. Relies on the laws of spans of `tables`.
 use mathlib.Core.Path.{_≡_, refl, sym, ap, _∙_}
-use mathlib.Core.Bool.{Bool, true, false}
 use mathlib.Core.List.{List}
 use Prim.Native.Nat.{ℕ, _+_, _%_, _≤_, _<_}
 use native.Mathlib.Omega.{arith}
-use lib.Dec.{eqb}
-use borrow.Author.Tests.{eqb-false}
 use Rattle.tables.specs.declared.span.Span.{Span}
 use Rattle.tables.specs.declared.rows.Row.{Row}
 use Rattle.tables.specs.Span.{endOf, textAt, Apart}
 use Rattle.tables.specs.Rows.{rowAt, dirAt, rootAt, has}
-use Rattle.tables.specs.Model.{Store, Directory, stored, presentIf, File, directoryText, directoryOf, fileOf, tabled}
+use Rattle.tables.specs.Model.{Store, Directory, presentIf, File, directoryText, directoryOf, fileOf, tabled}
 use Rattle.tables.proofs.Spans.{apart-before, apart-sym}
 use Rattle.tables.proofs.Tabled.{tabled-same}
 use Rattle.model.specs.Sound.{Place, setName, dirName, fileName, linkText, Sound}
-use Rattle.model.proofs.Texts.{dir-span, name-span, link-span}
+use Rattle.model.proofs.Texts.{dir-span, name-span, link-span, directory-same}
 
 -- two texts put behind the used part, one after the other: a place holds what it held, or is that of a new one
 pub data Put (s t : Place → Span) (u n k : ℕ) (x y : Place) (p : Place) : Type 0 where
@@ -91,20 +88,7 @@ module _ (s t : Store) (ok : Sound s) (more : Extends s t) where
 
   -- a row whose directory is there has the same one
   pub place-kept : (r : Row) → (r .«path_index» < 1073741822 → r .«path_index» < s .fs .«num_paths») → r .«path_index» ≤ 1073741823 → directoryOf t r ≡ directoryOf s r
-  place-kept r placed indexed = at (eqb (r .«path_index») 1073741823) refl
-    where
-      next : (b : Bool) → eqb (r .«path_index») 1073741822 ≡ b → eqb (r .«path_index») 1073741823 ≡ false → directoryOf t r ≡ directoryOf s r
-      next true f e = rw (e, f)
-      next false f e =
-          rw (e, f)
-          (ap (λ (d : List ℕ). stored d (has (r .flags) 32)) (dir-kept (r .«path_index») (placed (below _ indexed (eqb-false _ _ e) (eqb-false _ _ f)))))
-        where
-          below : (i : ℕ) → i ≤ 1073741823 → (i ≡ 1073741823 → ⊥) → (i ≡ 1073741822 → ⊥) → i < 1073741822
-          below i h p q = omega arith
-
-      at : (b : Bool) → eqb (r .«path_index») 1073741823 ≡ b → directoryOf t r ≡ directoryOf s r
-      at true e = rw e
-      at false e = next (eqb (r .«path_index») 1073741822) refl e
+  place-kept = directory-same s t dir-kept
 
   pub file-kept : (k : ℕ) → k < s .fs .«num_files» → fileOf t k ≡ fileOf s k
   file-kept k h =

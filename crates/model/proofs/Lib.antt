@@ -20,4 +20,5 @@ pub mod TrimmedSpans
 pub mod TrimmedTexts
 pub mod TrimmedView
 pub mod Trimmed
+pub mod CleanedText
 pub mod Documents

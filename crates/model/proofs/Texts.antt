@@ -1,17 +1,19 @@
--- The text that a set needs: on tables in order it is the used part of the text area, and after an addition what the
--- addition computes. Relies on the laws of parts of `lists`.
+-- Where texts lie, and the text that a set needs: on tables in order it is the used part of the text area. Relies on the laws
+-- of parts of `lists`.
 use mathlib.Core.Path.{_≡_, refl, sym, ap, _∙_}
 use mathlib.Core.Bool.{Bool, true, false}
 use mathlib.Core.List.{List}
-use Prim.Native.Nat.{ℕ, _<_}
+use Prim.Native.Nat.{ℕ, _≤_, _<_}
 use native.Mathlib.Omega.{arith}
+use lib.Dec.{eqb}
 use lib.ListN.{length}
-use borrow.Author.Tests.{lt-ltb}
+use borrow.Author.Tests.{lt-ltb, eqb-false}
 use Rattle.lists.proofs.Parts.{part-length-within}
 use Rattle.tables.specs.declared.span.Span.{Span}
+use Rattle.tables.specs.declared.rows.Row.{Row}
 use Rattle.tables.specs.Span.{textAt}
 use Rattle.tables.specs.Rows.{rowAt, dirAt, has}
-use Rattle.tables.specs.Model.{Store, presentIf, directoryText, fileOf, viewOf}
+use Rattle.tables.specs.Model.{Store, stored, presentIf, directoryText, directoryOf, fileOf, viewOf}
 use Rattle.storage.specs.Addition.{linkLength, fileText, textOf}
 use Rattle.model.specs.Sound.{Place, setName, dirName, fileName, linkText, spanOf, textAtRow, Sound}
 use Rattle.model.proofs.Common.{sum-same, sum-tabled}
@@ -30,6 +32,24 @@ module _ (s : Store) where
 
   pub link-span : (k : ℕ) → k < s .fs .«num_files» → spanOf s (linkText k) ≡ rowAt (s .rows) k .link
   link-span k h = rw (lt-ltb k (s .fs .«num_files») h)
+
+-- where the directories read the same, a row whose directory is there has the same one
+pub directory-same : (s t : Store) → ((k : ℕ) → k < s .fs .«num_paths» → directoryText t k ≡ directoryText s k) → (r : Row)
+    → (r .«path_index» < 1073741822 → r .«path_index» < s .fs .«num_paths») → r .«path_index» ≤ 1073741823 → directoryOf t r ≡ directoryOf s r
+directory-same s t same r placed indexed = at (eqb (r .«path_index») 1073741823) refl
+  where
+    below : (i : ℕ) → i ≤ 1073741823 → (i ≡ 1073741823 → ⊥) → (i ≡ 1073741822 → ⊥) → i < 1073741822
+    below i h p q = omega arith
+
+    next : (b : Bool) → eqb (r .«path_index») 1073741822 ≡ b → eqb (r .«path_index») 1073741823 ≡ false → directoryOf t r ≡ directoryOf s r
+    next true f e = rw (e, f)
+    next false f e =
+        rw (e, f)
+        (ap (λ (d : List ℕ). stored d (has (r .flags) 32)) (same (r .«path_index») (placed (below _ indexed (eqb-false _ _ e) (eqb-false _ _ f)))))
+
+    at : (b : Bool) → eqb (r .«path_index») 1073741823 ≡ b → directoryOf t r ≡ directoryOf s r
+    at true e = rw e
+    at false e = next (eqb (r .«path_index») 1073741822) refl e
 
 module _ (s : Store) (ok : Sound s) where
   -- each text is as long as its span says
