@@ -116,6 +116,19 @@ turned-self s ok =
       files = λ k h. refl;
     }
 
+-- the same change
+pub turned-same : {s t : Store} {g h : ℕ → File → File} → ((k : ℕ) (f : File) → g k f ≡ h k f) → Turned s t g → Turned s t h
+turned-same {s} {t} {g} {h} e p =
+    record {
+      sound = p .sound;
+      record-is = p .record-is;
+      long = p .long;
+      times = p .times;
+      name = p .name;
+      directories = p .directories;
+      files = λ k b. p .files k b ∙ e k (fileOf s k);
+    }
+
 -- one change after another
 pub turned-then : {s t u : Store} {g h : ℕ → File → File} → Turned s t g → Turned t u h → Turned s u (λ k f. h k (g k f))
 turned-then {s} {t} {u} {g} {h} p q =

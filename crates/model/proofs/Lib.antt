@@ -21,4 +21,5 @@ pub mod TrimmedTexts
 pub mod TrimmedView
 pub mod Trimmed
 pub mod CleanedText
+pub mod CleanedStep
 pub mod Documents

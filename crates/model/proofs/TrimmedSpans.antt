@@ -14,7 +14,7 @@ use Rattle.model.specs.Sound.{nowhere}
 abbrev pub lowTwice : Span → Span → Span → Span
 lowTwice c d s = low d (low c s)
 
-low-nowhere : (c : Span) → low c nowhere ≡ nowhere
+pub low-nowhere : (c : Span) → low c nowhere ≡ nowhere
 low-nowhere c = let e : 0 - min (c .len) (0 - c .at) ≡ 0 = omega arith in rw e
 
 pub low-twice-nowhere : (c d : Span) → lowTwice c d nowhere ≡ nowhere
