@@ -19,7 +19,7 @@ use Rattle.tables.specs.declared.span.Span.{Span}
 use Rattle.tables.specs.declared.rows.Row.{Row}
 use Rattle.tables.specs.Span.{endOf, textAt, Apart, low}
 use Rattle.tables.specs.Rows.{rowAt, words, dirAt, putRow, has, filled}
-use Rattle.tables.specs.Model.{present, File, Store}
+use Rattle.tables.specs.Model.{present, File, Store, fileOf}
 use Rattle.tables.proofs.Spans.{apart-kept, within-kept, read-kept, apart-empty, apart-before, apart-sym, clip-same, length-slid, read-before, read-new}
 use Rattle.tables.proofs.Words.{row-back, row-other, length-put-row}
 use Rattle.tables.proofs.Moves.{row-filled, dir-lowered, length-lowered}
@@ -301,4 +301,4 @@ module _ (s : Store) (ok : Sound s) (i : ℕ) (h : i < s .fs .«num_files») (l 
     relinked-turn =
         subst (λ (x : Span). Turned s (linked (cutOut s x) i l) (atFile i (linkedTo (present l)))) (sym (gone-is s ok i h))
         (subst (λ (x : Store). Turned s x (atFile i (linkedTo (present l)))) (linked-twice (cutOut s old) i l (omega (arith, ok .rows-hold, length-rows-lowered (s .rows) (s .fs .«num_files») old)))
-        (turned-same (twice i [] l) (turned-then between second)))
+        (turned-same (λ k b. twice i [] l k (fileOf s k)) (turned-then between second)))

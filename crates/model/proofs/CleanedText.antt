@@ -116,8 +116,8 @@ turned-self s ok =
       files = λ k h. refl;
     }
 
--- the same change
-pub turned-same : {s t : Store} {g h : ℕ → File → File} → ((k : ℕ) (f : File) → g k f ≡ h k f) → Turned s t g → Turned s t h
+-- the same change of every file
+pub turned-same : {s t : Store} {g h : ℕ → File → File} → ((k : ℕ) → k < s .fs .«num_files» → g k (fileOf s k) ≡ h k (fileOf s k)) → Turned s t g → Turned s t h
 turned-same {s} {t} {g} {h} e p =
     record {
       sound = p .sound;
@@ -126,7 +126,7 @@ turned-same {s} {t} {g} {h} e p =
       times = p .times;
       name = p .name;
       directories = p .directories;
-      files = λ k b. p .files k b ∙ e k (fileOf s k);
+      files = λ k b. p .files k b ∙ e k b;
     }
 
 -- one change after another

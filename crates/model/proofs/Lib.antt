@@ -22,4 +22,5 @@ pub mod TrimmedView
 pub mod Trimmed
 pub mod CleanedText
 pub mod CleanedStep
+pub mod CleanedRun
 pub mod Documents

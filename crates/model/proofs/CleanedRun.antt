@@ -1,0 +1,331 @@
+-- All steps of a cleaning, on tables in order, for any list of fates: first texts go, then texts are put. The tables stay in
+-- order, each file has the text that its fate gives, and the used part grows and shrinks by the texts' lengths. It relies on
+-- CleanedStep.antt.
+--     fateOf                              the fate of a file
+--     amount                              a sum over files, by their fates
+--     emptied-turned, rewritten-turned    the two passes
+use mathlib.Core.Path.{_≡_, refl, sym, ap, ap₂, subst, _∙_}
+use mathlib.Core.Bool.{Bool, true, false, cond}
+use mathlib.Core.List.{List, [], _∷_, _++_}
+use Prim.Native.Nat.{ℕ, _+_, _-_, _≤_, _<_}
+use native.Mathlib.Omega.{arith}
+use lib.Dec.{eqb}
+use lib.ListN.{length, length-append}
+use borrow.Author.Tests.{eqb-true, eqb-false, eq-eqb, ne-eqb, le-leb}
+use Rattle.path.specs.Join.{isAlone, isEmpty, isClosed, appended}
+use Rattle.tables.specs.declared.span.Span.{Span}
+use Rattle.tables.specs.declared.storage.FileStorage.{FileStorage}
+use Rattle.tables.specs.Span.{endOf, textAt}
+use Rattle.tables.specs.Rows.{rowAt, has}
+use Rattle.tables.specs.Model.{present, presentIf, Directory, single, absolute, stored, File, Store, fileOf}
+use Rattle.links.specs.Clean.{Entry, entryOf, isHeld, heldText, linkedTo}
+use Rattle.links.specs.Judging.{besideText, textBy}
+use Rattle.cleaning.specs.Cleaning.{goneAt, linked, relinked, emptied, writtenAt, branchSpan, ownFits, besideFits, hasPlace, rewrittenAt, rewritten}
+use Rattle.model.specs.Sound.{dirName, fileName, linkText, Sound}
+use Rattle.model.proofs.Texts.{dir-span, name-span, link-span, text-length}
+use Rattle.model.proofs.CleanedText.{Turned, turned-self, turned-same, turned-then, atFile}
+use Rattle.model.proofs.CleanedStep.{gone-is, emptied-turn, linked-turn, relinked-turn}
+
+-- ---- fates
+
+-- the fate of file k, the first of the list being that of file i
+abbrev pub fateOf : List ℕ → ℕ → ℕ → ℕ
+fateOf [] i k = 0
+fateOf (v ∷ vs) i k = cond (eqb k i) v (fateOf vs (i + 1) k)
+
+fate-before : (vs : List ℕ) (i k : ℕ) → k < i → fateOf vs i k ≡ 0
+fate-before [] i k h = refl
+fate-before (v ∷ vs) i k h =
+    ap (λ (b : Bool). cond b v (fateOf vs (i + 1) k)) (ne-eqb k i (λ e. omega arith)) ∙ fate-before vs (i + 1) k (omega arith)
+
+fate-here : (v : ℕ) (vs : List ℕ) (i : ℕ) → fateOf (v ∷ vs) i i ≡ v
+fate-here v vs i = ap (λ (b : Bool). cond b v (fateOf vs (i + 1) i)) (eq-eqb i i refl)
+
+fate-behind : (v : ℕ) (vs : List ℕ) (i k : ℕ) → i + 1 ≤ k → fateOf (v ∷ vs) i k ≡ fateOf vs (i + 1) k
+fate-behind v vs i k h = ap (λ (b : Bool). cond b v (fateOf vs (i + 1) k)) (ne-eqb k i (λ e. omega arith))
+
+-- what a pass does to a file, by its fate
+module _ (change : ℕ → File → File) (same : (f : File) → change 0 f ≡ f) where
+  -- a change of file i, and then of those behind it
+  fates-then : (v : ℕ) (vs : List ℕ) (i k : ℕ) (f : File) → change (fateOf vs (i + 1) k) (atFile i (change v) k f) ≡ change (fateOf (v ∷ vs) i k) f
+  fates-then v vs i k f = at (eqb k i) refl
+    where
+      at : (b : Bool) → eqb k i ≡ b → change (fateOf vs (i + 1) k) (cond b (change v f) f) ≡ change (cond b v (fateOf vs (i + 1) k)) f
+      at true q = ap (λ (w : ℕ). change w (change v f)) (fate-before vs (i + 1) k (omega (arith, eqb-true k i q))) ∙ same (change v f)
+      at false q = refl
+
+-- ---- link texts
+
+abbrev pub textLength : Store → ℕ → ℕ
+textLength s k = length (entryOf (fileOf s k) .text)
+
+held-if : (b : Bool) (t : List ℕ) → isHeld (presentIf b t) ≡ b
+held-if true t = refl
+held-if false t = refl
+
+held-row : (s : Store) (k : ℕ) → isHeld (fileOf s k .link) ≡ true → has (rowAt (s .rows) k .flags) 16 ≡ true
+held-row s k e = sym (held-if (has (rowAt (s .rows) k .flags) 16) (textAt (s .text) (rowAt (s .rows) k .link))) ∙ e
+
+-- a text is as long as its row says
+pub text-len : (s : Store) → Sound s → (k : ℕ) → k < s .fs .«num_files» → textLength s k ≡ rowAt (s .rows) k .link .len
+text-len s ok k h = at (has (rowAt (s .rows) k .flags) 16) refl
+  where
+    at : (b : Bool) → has (rowAt (s .rows) k .flags) 16 ≡ b → length (heldText (presentIf b (textAt (s .text) (rowAt (s .rows) k .link)))) ≡ rowAt (s .rows) k .link .len
+    at true q =
+        ap (λ (x : Span). length (textAt (s .text) x)) (sym (link-span s k h)) ∙ text-length s ok (linkText k) ∙ ap (λ (x : Span). x .len) (link-span s k h)
+    at false q = sym (ok .unlinked k h q)
+
+link-inside : (s : Store) → Sound s → (k : ℕ) → k < s .fs .«num_files» → rowAt (s .rows) k .link .len ≤ s .fs .«text_len»
+link-inside s ok k h = omega (arith, ok .within (linkText k), ap (λ (x : Span). x .len) (link-span s k h))
+
+-- ---- sums over files by their fates
+
+abbrev pub amount : (ℕ → Entry → ℕ) → List ℕ → ℕ → Store → ℕ
+amount w [] i s = 0
+amount w (v ∷ vs) i s = w v (entryOf (fileOf s i)) + amount w vs (i + 1) s
+
+pub amount-same : (w x : ℕ → Entry → ℕ) (vs : List ℕ) (i : ℕ) (s t : Store)
+    → ((k : ℕ) → i ≤ k → k < i + length vs → w (fateOf vs i k) (entryOf (fileOf s k)) ≡ x (fateOf vs i k) (entryOf (fileOf t k)))
+    → amount w vs i s ≡ amount x vs i t
+amount-same w x [] i s t e = refl
+amount-same w x (v ∷ vs) i s t e = ap₂ _+_ first (amount-same w x vs (i + 1) s t rest)
+  where
+    first : w v (entryOf (fileOf s i)) ≡ x v (entryOf (fileOf t i))
+    first = rw (fate-here v vs i) at (e i (omega arith) (omega arith))
+
+    rest : (k : ℕ) → i + 1 ≤ k → k < i + 1 + length vs → w (fateOf vs (i + 1) k) (entryOf (fileOf s k)) ≡ x (fateOf vs (i + 1) k) (entryOf (fileOf t k))
+    rest k a b = rw (fate-behind v vs i k a) at (e k (omega arith) (omega arith))
+
+-- ---- the first pass
+
+abbrev pub emptiedFile : ℕ → File → File
+emptiedFile v f = cond (eqb v 1) (linkedTo (present []) f) f
+
+-- the bytes of the texts that go
+abbrev pub freed : ℕ → Entry → ℕ
+freed v f = cond (eqb v 1) (length (f .text)) 0
+
+-- what holds of one store and the next: files change, and so many bytes go and come
+pub record Passed (s t : Store) (g : ℕ → File → File) (gone came : ℕ) : Type 0 where
+  pub turned : Turned s t g
+  pub used : t .fs .«text_len» + gone ≡ s .fs .«text_len» + came
+
+same-files : (i : ℕ) (k : ℕ) (f : File) → f ≡ atFile i (λ (g : File). g) k f
+same-files i k f = at (eqb k i)
+  where
+    at : (b : Bool) → f ≡ cond b f f
+    at true = refl
+    at false = refl
+
+module _ (s : Store) (ok : Sound s) (i : ℕ) (h : i < s .fs .«num_files») where
+  -- nothing happens
+  idle : Passed s s (atFile i (λ (f : File). f)) 0 0
+  idle = record { turned = turned-same (λ k b. same-files i k (fileOf s k)) (turned-self s ok); used = refl }
+
+  empty-step : (v : ℕ) → (eqb v 1 ≡ true → isHeld (fileOf s i .link) ≡ true) → Passed s (cond (eqb v 1) (relinked s i []) s) (atFile i (emptiedFile v)) (freed v (entryOf (fileOf s i))) 0
+  empty-step v held = at (eqb v 1) held
+    where
+      at : (b : Bool) → (b ≡ true → isHeld (fileOf s i .link) ≡ true)
+          → Passed s (cond b (relinked s i []) s) (atFile i (λ (f : File). cond b (linkedTo (present []) f) f)) (cond b (textLength s i) 0) 0
+      at true e =
+          record {
+            turned = emptied-turn s ok i h (held-row s i (e refl));
+            used = omega (arith, ap (λ (x : Span). x .len) (gone-is s ok i h), text-len s ok i h, link-inside s ok i h);
+          }
+      at false e = idle
+
+-- a step and the steps behind it
+then : (change : ℕ → File → File) → ((f : File) → change 0 f ≡ f) → (v : ℕ) (vs : List ℕ) (i : ℕ) {s t u : Store} {a b c d : ℕ}
+    → Passed s t (atFile i (change v)) a b → Passed t u (λ k. change (fateOf vs (i + 1) k)) c d → Passed s u (λ k. change (fateOf (v ∷ vs) i k)) (a + c) (b + d)
+then change same v vs i {s} p q =
+    record {
+      turned = turned-same (λ k h. fates-then change same v vs i k (fileOf s k)) (turned-then (p .turned) (q .turned));
+      used = omega (arith, p .used, q .used);
+    }
+
+-- what stays of a file at another place
+stays : {s t : Store} (g : File → File) (i : ℕ) → Turned s t (atFile i g) → (k : ℕ) → k < s .fs .«num_files» → (k ≡ i → ⊥) → fileOf t k ≡ fileOf s k
+stays {s} {t} g i p k h d = p .files k h ∙ ap (λ (b : Bool). cond b (g (fileOf s k)) (fileOf s k)) (ne-eqb k i d)
+
+count-is : {s t : Store} {g : ℕ → File → File} → Turned s t g → t .fs .«num_files» ≡ s .fs .«num_files»
+count-is p = ap (λ (x : FileStorage). x .«num_files») (p .record-is)
+
+emptied-none : (f : File) → emptiedFile 0 f ≡ f
+emptied-none f = refl
+
+pub emptied-turned : (vs : List ℕ) (i : ℕ) (s : Store) → Sound s → i + length vs ≤ s .fs .«num_files»
+    → ((k : ℕ) → i ≤ k → k < i + length vs → eqb (fateOf vs i k) 1 ≡ true → isHeld (fileOf s k .link) ≡ true)
+    → Passed s (emptied vs i s) (λ k. emptiedFile (fateOf vs i k)) (amount freed vs i s) 0
+emptied-turned [] i s ok h e = record { turned = turned-self s ok; used = refl }
+emptied-turned (v ∷ vs) i s ok h e =
+    let p = empty-step s ok i (omega arith) v (λ q. e i (omega arith) (omega arith) (rw (fate-here v vs i) q)) in
+    let n = count-is (p .turned) in
+    let same : (k : ℕ) → i + 1 ≤ k → k < i + 1 + length vs → fileOf (cond (eqb v 1) (relinked s i []) s) k ≡ fileOf s k =
+    λ k a b. stays (emptiedFile v) i (p .turned) k (omega arith) (λ q. omega arith) in
+    let r =
+    emptied-turned vs (i + 1) (cond (eqb v 1) (relinked s i []) s) (p .turned .sound) (omega arith)
+    (λ k a b q. ap (λ (f : File). isHeld (f .link)) (same k a b) ∙ e k (omega arith) (omega arith) (rw (fate-behind v vs i k a) q)) in
+    let z : amount freed vs (i + 1) (cond (eqb v 1) (relinked s i []) s) ≡ amount freed vs (i + 1) s =
+    amount-same freed freed vs (i + 1) (cond (eqb v 1) (relinked s i []) s) s (λ k a b. ap (λ (f : File). freed (fateOf vs (i + 1) k) (entryOf f)) (same k a b)) in
+    subst (λ (x : ℕ). Passed s (emptied (v ∷ vs) i s) (λ k. emptiedFile (fateOf (v ∷ vs) i k)) (freed v (entryOf (fileOf s i)) + x) 0) z
+    (then emptiedFile emptied-none v vs i p r)
+
+-- ---- the second pass
+
+abbrev pub rewrittenFile : ℕ → File → File
+rewrittenFile v f = cond (eqb v 0) f (linkedTo (present (textBy v (entryOf f))) f)
+
+-- by how much the new text is longer
+abbrev pub grown : ℕ → Entry → ℕ
+grown v f = cond (eqb v 0) 0 (length (textBy v f) - length (f .text))
+
+appended-longer : (b l : List ℕ) → length l ≤ length (appended b l)
+appended-longer b l = at (isAlone b) (isClosed b)
+  where
+    joined : (k : List ℕ) (c : Bool) → length k ≤ length (b ++ cond c k (47 ∷ k))
+    joined k true = omega (arith, length-append b k)
+    joined k false = omega (arith, length-append b (47 ∷ k))
+
+    some : (k : List ℕ) (c : Bool) → length k ≤ length (cond (isEmpty k) b (b ++ cond c k (47 ∷ k)))
+    some [] c = omega arith
+    some (x ∷ k) c = joined (x ∷ k) c
+
+    at : (a c : Bool) → length l ≤ length (cond a l (cond (isEmpty l) b (b ++ cond c l (47 ∷ l))))
+    at true c = omega arith
+    at false c = some l c
+
+beside-longer : (d : Directory) (t : List ℕ) → length t ≤ length (besideText d t)
+beside-longer single t = omega arith
+beside-longer absolute t = omega arith
+beside-longer (stored d outside) t = appended-longer d t
+
+-- a text from the link's directory is no shorter than the text itself
+pub text-longer : (v : ℕ) (f : Entry) → eqb v 0 ≡ false → eqb v 1 ≡ false → length (f .text) ≤ length (textBy v f)
+text-longer v f a b = rw (a, b) (beside-longer (f .directory) (f .text))
+
+module _ (s : Store) (ok : Sound s) (i : ℕ) (h : i < s .fs .«num_files») (v : ℕ) (held : eqb v 0 ≡ false → isHeld (fileOf s i .link) ≡ true) (bare : eqb v 1 ≡ true → textLength s i ≡ 0)
+    (room : s .fs .«text_len» + grown v (entryOf (fileOf s i)) ≤ length (s .text)) where
+  abbrev given : List ℕ
+  given = textBy v (entryOf (fileOf s i))
+
+  -- the text is that of the file itself
+  of-itself : (k : ℕ) → k < s .fs .«num_files» → atFile i (linkedTo (present given)) k (fileOf s k) ≡ atFile i (λ (f : File). linkedTo (present (textBy v (entryOf f))) f) k (fileOf s k)
+  of-itself k b = at (eqb k i) refl
+    where
+      at : (c : Bool) → eqb k i ≡ c → cond c (linkedTo (present given) (fileOf s k)) (fileOf s k) ≡ cond c (linkedTo (present (textBy v (entryOf (fileOf s k)))) (fileOf s k)) (fileOf s k)
+      at true q = ap (λ (j : ℕ). linkedTo (present (textBy v (entryOf (fileOf s j)))) (fileOf s k)) (sym (eqb-true k i q))
+      at false q = refl
+
+  grows : eqb v 0 ≡ false → grown v (entryOf (fileOf s i)) ≡ length given - textLength s i
+  grows p = ap (λ (b : Bool). cond b 0 (length given - textLength s i)) p
+
+  gone : goneAt s i .len ≡ rowAt (s .rows) i .link .len
+  gone = ap (λ (x : Span). x .len) (gone-is s ok i h)
+
+  inside : rowAt (s .rows) i .link .len ≤ s .fs .«text_len»
+  inside = link-inside s ok i h
+
+  written-step : Passed s (writtenAt v s i) (atFile i (rewrittenFile v)) 0 (grown v (entryOf (fileOf s i)))
+  written-step = at (eqb v 0) (eqb v 1) refl refl
+    where
+      at : (a b : Bool) → eqb v 0 ≡ a → eqb v 1 ≡ b
+          → Passed s (cond a s (cond b (linked s i given) (relinked s i given))) (atFile i (λ (f : File). cond a f (linkedTo (present (textBy v (entryOf f))) f))) 0 (cond a 0 (length given - textLength s i))
+      at true b p q = idle s ok i h
+      at false true p q =
+          record {
+            turned = turned-same of-itself (linked-turn s ok i h given (omega (arith, bare q, text-len s ok i h)) (omega (arith, room, grows p, bare q)) (held-row s i (held p)));
+            used = omega (arith, bare q);
+          }
+      at false false p q =
+          record {
+            turned = turned-same of-itself (relinked-turn s ok i h given (held-row s i (held p)) (omega (arith, room, grows p, longer, text-len s ok i h, inside)));
+            used = omega (arith, longer, gone, text-len s ok i h, inside);
+          }
+        where
+          longer : textLength s i ≤ length given
+          longer = text-longer v (entryOf (fileOf s i)) p q
+
+  -- it has its place
+  module _ (m : ℕ) (short : eqb v 0 ≡ false → eqb v 1 ≡ false → length given ≤ m) where
+    branch-within : endOf (branchSpan (s .dirs) (rowAt (s .rows) i)) ≤ s .fs .«text_len»
+    branch-within = at (eqb (rowAt (s .rows) i .«path_index») 1073741823) (eqb (rowAt (s .rows) i .«path_index») 1073741822) refl refl
+      where
+        at : (a b : Bool) → eqb (rowAt (s .rows) i .«path_index») 1073741823 ≡ a → eqb (rowAt (s .rows) i .«path_index») 1073741822 ≡ b → endOf (branchSpan (s .dirs) (rowAt (s .rows) i)) ≤ s .fs .«text_len»
+        at true b p q = rw p (omega arith)
+        at false true p q = rw (p, q) (omega arith)
+        at false false p q =
+            rw (p, q)
+            (rw (dir-span s (rowAt (s .rows) i .«path_index») (ok .placed i h (below _ (ok .indexed i h) (eqb-false _ _ p) (eqb-false _ _ q)))) at (ok .within (dirName (rowAt (s .rows) i .«path_index»))))
+          where
+            below : (j : ℕ) → j ≤ 1073741823 → (j ≡ 1073741823 → ⊥) → (j ≡ 1073741822 → ⊥) → j < 1073741822
+            below j a b c = omega arith
+
+    name-within : endOf (rowAt (s .rows) i .name) ≤ s .fs .«text_len»
+    name-within = rw (name-span s i h) at (ok .within (fileName i))
+
+    has-place : eqb v 0 ≡ false → hasPlace m v s i ≡ true
+    has-place p = at (eqb v 1) refl
+      where
+        at : (b : Bool) → eqb v 1 ≡ b → cond b (ownFits s i given) (besideFits m s i given) ≡ true
+        at true q =
+            rw (
+              le-leb (endOf (branchSpan (s .dirs) (rowAt (s .rows) i))) (s .fs .«text_len») branch-within,
+              le-leb (endOf (rowAt (s .rows) i .name)) (s .fs .«text_len») name-within,
+            )
+            (le-leb (length given) (length (s .text) - s .fs .«text_len») (omega (arith, room, grows p, bare q)))
+        at false q =
+            rw (le-leb (length given) m (short p q))
+            (le-leb (length given) (length (s .text) - (s .fs .«text_len» - goneAt s i .len)) (omega (arith, room, grows p, text-len s ok i h, gone, inside)))
+
+    rewritten-is : rewrittenAt m v s i ≡ writtenAt v s i
+    rewritten-is = at (eqb v 0) refl
+      where
+        at : (b : Bool) → eqb v 0 ≡ b → cond b s (cond (hasPlace m v s i) (writtenAt v s i) s) ≡ writtenAt v s i
+        at true p = ap (λ (b : Bool). cond b s (cond (eqb v 1) (linked s i given) (relinked s i given))) (sym p)
+        at false p = ap (λ (b : Bool). cond b (writtenAt v s i) s) (has-place p)
+
+    rewrite-step : Passed s (rewrittenAt m v s i) (atFile i (rewrittenFile v)) 0 (grown v (entryOf (fileOf s i)))
+    rewrite-step =
+        subst (λ (t : Store). Passed s t (atFile i (rewrittenFile v)) 0 (grown v (entryOf (fileOf s i)))) (sym rewritten-is) written-step
+
+rewritten-none : (f : File) → rewrittenFile 0 f ≡ f
+rewritten-none f = refl
+
+pub rewritten-turned : (m : ℕ) (vs : List ℕ) (i : ℕ) (s : Store) → Sound s → i + length vs ≤ s .fs .«num_files»
+    → ((k : ℕ) → i ≤ k → k < i + length vs → eqb (fateOf vs i k) 0 ≡ false → isHeld (fileOf s k .link) ≡ true)
+    → ((k : ℕ) → i ≤ k → k < i + length vs → eqb (fateOf vs i k) 1 ≡ true → textLength s k ≡ 0)
+    → ((k : ℕ) → i ≤ k → k < i + length vs → eqb (fateOf vs i k) 0 ≡ false → eqb (fateOf vs i k) 1 ≡ false → length (textBy (fateOf vs i k) (entryOf (fileOf s k))) ≤ m)
+    → s .fs .«text_len» + amount grown vs i s ≤ length (s .text)
+    → Passed s (rewritten m vs i s) (λ k. rewrittenFile (fateOf vs i k)) 0 (amount grown vs i s)
+rewritten-turned m [] i s ok h e z y r = record { turned = turned-self s ok; used = refl }
+rewritten-turned m (v ∷ vs) i s ok h e z y r =
+    let p =
+    rewrite-step s ok i (omega arith) v
+    (λ q. e i (omega arith) (omega arith) (rw (fate-here v vs i) q))
+    (λ q. z i (omega arith) (omega arith) (rw (fate-here v vs i) q))
+    (omega arith)
+    m
+    (λ p q. short p q) in
+    let n = count-is (p .turned) in
+    let same : (k : ℕ) → i + 1 ≤ k → k < i + 1 + length vs → fileOf (rewrittenAt m v s i) k ≡ fileOf s k =
+    λ k a b. stays (rewrittenFile v) i (p .turned) k (omega arith) (λ q. omega arith) in
+    let x : amount grown vs (i + 1) (rewrittenAt m v s i) ≡ amount grown vs (i + 1) s =
+    amount-same grown grown vs (i + 1) (rewrittenAt m v s i) s (λ k a b. ap (λ (f : File). grown (fateOf vs (i + 1) k) (entryOf f)) (same k a b)) in
+    let q =
+    rewritten-turned m vs (i + 1) (rewrittenAt m v s i) (p .turned .sound) (omega arith)
+    (λ k a b q. ap (λ (f : File). isHeld (f .link)) (same k a b) ∙ e k (omega arith) (omega arith) (rw (fate-behind v vs i k a) q))
+    (λ k a b q. ap (λ (f : File). length (entryOf f .text)) (same k a b) ∙ z k (omega arith) (omega arith) (rw (fate-behind v vs i k a) q))
+    (λ k a b c d. behind k a b (same k a b) c d)
+    (omega (arith, p .used, p .turned .long, x)) in
+    subst (λ (y : ℕ). Passed s (rewritten m (v ∷ vs) i s) (λ k. rewrittenFile (fateOf (v ∷ vs) i k)) 0 (grown v (entryOf (fileOf s i)) + y)) x
+    (then rewrittenFile rewritten-none v vs i p q)
+  where
+    short : eqb v 0 ≡ false → eqb v 1 ≡ false → length (textBy v (entryOf (fileOf s i))) ≤ m
+    short p q =
+        rw (fate-here v vs i) at (y i (omega arith) (omega arith) (rw (fate-here v vs i) p) (rw (fate-here v vs i) q))
+
+    behind : (k : ℕ) → i + 1 ≤ k → k < i + 1 + length vs → fileOf (rewrittenAt m v s i) k ≡ fileOf s k
+        → eqb (fateOf vs (i + 1) k) 0 ≡ false → eqb (fateOf vs (i + 1) k) 1 ≡ false → length (textBy (fateOf vs (i + 1) k) (entryOf (fileOf (rewrittenAt m v s i) k))) ≤ m
+    behind k a b f p q =
+        subst (λ (x : File). length (textBy (fateOf vs (i + 1) k) (entryOf x)) ≤ m) (sym f)
+        (rw (fate-behind v vs i k a) at (y k (omega arith) (omega arith) (rw (fate-behind v vs i k a) p) (rw (fate-behind v vs i k a) q)))
