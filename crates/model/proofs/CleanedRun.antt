@@ -38,10 +38,10 @@ fate-before [] i k h = refl
 fate-before (v ∷ vs) i k h =
     ap (λ (b : Bool). cond b v (fateOf vs (i + 1) k)) (ne-eqb k i (λ e. omega arith)) ∙ fate-before vs (i + 1) k (omega arith)
 
-fate-here : (v : ℕ) (vs : List ℕ) (i : ℕ) → fateOf (v ∷ vs) i i ≡ v
+pub fate-here : (v : ℕ) (vs : List ℕ) (i : ℕ) → fateOf (v ∷ vs) i i ≡ v
 fate-here v vs i = ap (λ (b : Bool). cond b v (fateOf vs (i + 1) i)) (eq-eqb i i refl)
 
-fate-behind : (v : ℕ) (vs : List ℕ) (i k : ℕ) → i + 1 ≤ k → fateOf (v ∷ vs) i k ≡ fateOf vs (i + 1) k
+pub fate-behind : (v : ℕ) (vs : List ℕ) (i k : ℕ) → i + 1 ≤ k → fateOf (v ∷ vs) i k ≡ fateOf vs (i + 1) k
 fate-behind v vs i k h = ap (λ (b : Bool). cond b v (fateOf vs (i + 1) k)) (ne-eqb k i (λ e. omega arith))
 
 -- what a pass does to a file, by its fate

@@ -23,4 +23,5 @@ pub mod Trimmed
 pub mod CleanedText
 pub mod CleanedStep
 pub mod CleanedRun
+pub mod Cleaned
 pub mod Documents
