@@ -24,4 +24,5 @@ pub mod CleanedText
 pub mod CleanedStep
 pub mod CleanedRun
 pub mod Cleaned
+pub mod CleanedLent
 pub mod Documents
