@@ -28,6 +28,7 @@ use Rattle.model.specs.Sound.{linkText, spanOf, sumTo, textAtRow, Sound}
 use Rattle.model.proofs.Common.{sum-more, sum-tabled}
 use Rattle.model.proofs.Files.{map-tabled}
 use Rattle.model.proofs.Texts.{link-span, text-is}
+use Rattle.model.proofs.CleanedFiles.{held-flagged}
 use Rattle.model.proofs.CleanedText.{Turned, turned-then, turned-view}
 use Rattle.model.proofs.CleanedStep.{gone-is}
 use Rattle.model.proofs.CleanedRun.{fateOf, fate-here, fate-behind, textLength, text-len, amount, amount-same, emptiedFile, freed, Passed, emptied-turned, rewrittenFile, grown, text-longer, rewritten-turned}
@@ -53,14 +54,6 @@ module _ (files : List Entry) (dirs : List (List ℕ)) where
       rw e
       (ap (λ (b : Bool). cond b (fate (g 0)) (fateOf (fatesFor files dirs (tabled n (λ j. g (suc j)))) (i + 1) (i + 1 + k))) (ne-eqb (i + 1 + k) i (λ q. omega arith))
       ∙ fate-at n (λ j. g (suc j)) (i + 1) k (omega arith))
-
--- of a flagged link a text is held
-held-flagged : (f : File) → entryOf f .flagged ≡ true → isHeld (f .link) ≡ true
-held-flagged f e = at (has (f .flags) 8) (isHeld (f .link)) e
-  where
-    at : (a b : Bool) → cond a b false ≡ true → b ≡ true
-    at true b q = q
-    at false b q = absurd (false≢true q)
 
 -- a fate other than 0 is that of a flagged link
 fated-flagged : (b : Bool) (v : ℕ) → eqb (cond b v 0) 0 ≡ false → b ≡ true

@@ -1,5 +1,5 @@
--- What BEP 3, 47 and 52 say of a set holds of every set that opening, additions and trims lead to. It relies on what the
--- search for a tail pad finds.
+-- What BEP 3, 47 and 52 say of a set holds of every set that opening, additions, trims and cleanings lead to. It relies on what
+-- the search for a tail pad finds, and on what a cleaning keeps of each file.
 use mathlib.Core.Path.{_≡_, refl, sym, ap, subst, _∙_}
 use mathlib.Core.Bool.{Bool, true, false, cond, false≢true}
 use mathlib.Core.List.{List, [], _∷_, _++_, map, map-append, map-map}
@@ -16,11 +16,13 @@ use Rattle.tables.specs.Model.{Optional, absent, present, presentIf, File, Mode
 use Rattle.storage.specs.Addition.{Addition, added, fileAdded, padAdded, padOf, sizeAdded, flagsKept, keeps, isPresent, filesOf, isV2, isOpen, decides, padTo, padAfter}
 use Rattle.storage.specs.Rules.{both, either}
 use Rattle.storage.specs.Trim.{tailPad, sizeAt, beginningAt, without, trimmedIf}
+use Rattle.links.specs.Clean.{cleanedOf}
 use Rattle.model.specs.Documents as documents
 use Rattle.model.specs.Documents.{sizes, EndToEnd, sizeOnDisk, OnDisk, Marked, OnPiece, Each, none, more, LinkEmpty}
-use Rattle.model.specs.Reached.{Reached, opened, addition, trim}
+use Rattle.model.specs.Reached.{Reached, opened, addition, trim, cleaning}
 use Rattle.model.proofs.Trimming.{flagsAt, Last, TailPad, tail-pad}
-use Rattle.model.proofs.Files.{map-take, map-drop, each-append, each-front, each-take, each-drop, each-map, sum-zero, sum-except, sizesOf, Laid, done, next, laid-append, laid-take, laid-empty, laid-offset}
+use Rattle.model.proofs.Files.{map-take, map-drop, each-append, each-front, each-take, each-drop, each-map, each-unmap, sum-zero, sum-except, sizesOf, Laid, done, next, laid-append, laid-take, laid-map, laid-empty, laid-offset}
+use Rattle.model.proofs.CleanedFiles.{cleanedIn, clean-same, clean-held, clean-map, clean-map-same}
 
 -- the pad that an addition makes, where it makes one
 pad-laid : (o n : ℕ) → Laid o (padAdded o n)
@@ -108,6 +110,13 @@ ends-added m a e =
       total = ap (λ (t : ℕ). t + sizeAdded a + padOf m a) (e .total) ∙ sym (sizes-more (m .files) g (padOf m a) (m .total + sizeAdded a));
     }
 
+ends-cleaned : (m : Model) → Ends m → Ends (cleanedOf m)
+ends-cleaned m e =
+    record {
+      laid = laid-map (cleanedIn m) (clean-same m (λ (f : File). f .offset) (λ l f. refl)) (clean-same m (λ (f : File). f .size) (λ l f. refl)) (e .laid);
+      total = e .total ∙ ap sum (sym (clean-map-same m (λ (f : File). f .size) (λ l f. refl)));
+    }
+
 ends : {m : Model} → Reached m → Ends m
 ends (opened n h k) = record { laid = done; total = refl }
 ends (addition {m} r rooms a p) = ends-added m a (ends r)
@@ -116,6 +125,7 @@ ends (trim {m} r) = at (tailPad (m .files)) refl (ends r)
     at : (o : Optional ℕ) → tailPad (m .files) ≡ o → Ends m → Ends (trimmedIf o m)
     at absent q e = e
     at (present f) q e = ends-without m f (tail-pad (m .files) f q .last) e
+ends (cleaning {m} r) = ends-cleaned m (ends r)
 
 pub end-to-end : {m : Model} → Reached m → EndToEnd m
 end-to-end {m} r =
@@ -170,6 +180,7 @@ on-disk (trim {m} r) = at (tailPad (m .files)) refl (on-disk r)
     at : (o : Optional ℕ) → tailPad (m .files) ≡ o → OnDisk m → OnDisk (trimmedIf o m)
     at absent q e = e
     at (present f) q e = disk-without m f (tail-pad (m .files) f q) e
+on-disk (cleaning {m} r) = on-disk r ∙ ap sum (sym (clean-map-same m sizeOnDisk (λ l f. refl)))
 
 pad-marked : (o n : ℕ) → Each Marked (padAdded o n)
 pad-marked o n = at (eqb n 0) refl
@@ -182,6 +193,10 @@ begin-marked : (o : ℕ) (f : File) → Marked f → Marked (beginningAt o f)
 begin-marked o f (documents.given e) = documents.given e
 begin-marked o f (documents.marked e) = documents.marked e
 
+clean-marked : (m : Model) (f : File) → Marked f → Marked (cleanedIn m f)
+clean-marked m f (documents.given e) = documents.given (clean-same m (λ (g : File). g .made) (λ l g. refl) f ∙ e)
+clean-marked m f (documents.marked e) = documents.marked (clean-same m (λ (g : File). g .flags % 2) (λ l g. refl) f ∙ e)
+
 pub marked : {m : Model} → Reached m → Each Marked (m .files)
 marked (opened n h k) = none
 marked (addition {m} r rooms a p) =
@@ -193,6 +208,7 @@ marked (trim {m} r) = at (tailPad (m .files)) (marked r)
     at (present f) e =
         let o = m .total - sizeAt f (m .files) in
         each-append (each-take f e) (each-map (beginningAt o) (begin-marked o) (each-drop (f + 1) e))
+marked (cleaning {m} r) = each-map (cleanedIn m) (clean-marked m) (marked r)
 
 -- ---- BEP 52
 
@@ -293,6 +309,30 @@ module _ (m : Model) (a : Addition) (total : m .total ≡ sum (sizes m)) (links 
         each = λ e. each-append (before e .1) (more (documents.starts (before e .0)) (pad-pieces (m .pieceLength) (m .total + sizeAdded a) (padOf m a)));
       }
 
+-- a cleaning keeps all that counts here
+module _ (m : Model) (f : File) where
+  clean-on-piece : (n : ℕ) → OnPiece n f → OnPiece n (cleanedIn m f)
+  clean-on-piece n (documents.empty e) = documents.empty (clean-same m (λ (g : File). g .size) (λ l g. refl) f ∙ e)
+  clean-on-piece n (documents.pad e) = documents.pad (clean-same m (λ (g : File). g .made) (λ l g. refl) f ∙ e)
+  clean-on-piece n (documents.starts e) = documents.starts (clean-same m (λ (g : File). g .offset % n) (λ l g. refl) f ∙ e)
+
+  uncleaned-empty : LinkEmpty (cleanedIn m f) → LinkEmpty f
+  uncleaned-empty (documents.no-link e) = documents.no-link (none (f .link) (sym (clean-held m f) ∙ ap isPresent e))
+    where
+      none : (l : Optional (List ℕ)) → isPresent l ≡ false → l ≡ absent
+      none absent q = refl
+      none (present t) q = absurd (false≢true (sym q))
+  uncleaned-empty (documents.no-size e) = documents.no-size (sym (clean-same m (λ (g : File). g .size) (λ l g. refl) f) ∙ e)
+
+pieces-cleaned : (m : Model) → Pieces m → Pieces (cleanedOf m)
+pieces-cleaned m p =
+    record {
+      long = p .long;
+      counted = p .counted ∙ ap sum (sym (clean-map m linkOne (λ f. ap (λ (b : Bool). cond b 1 0) (clean-held m f))));
+      whole = p .whole;
+      each = λ e. each-map (cleanedIn m) (λ f. clean-on-piece m f (m .pieceLength)) (p .each e);
+    }
+
 -- an earlier set's files come first, and nothing was trimmed there either
 pieces : {m : Model} → Reached m → m .trimmed ≡ false → Each LinkEmpty (m .files) → Pieces m
 pieces (opened n h k) t l =
@@ -305,6 +345,8 @@ pieces (trim {m} r) t l = at (tailPad (m .files)) t l (λ t₁ l₁. pieces r t�
     at : (o : Optional ℕ) → trimmedIf o m .trimmed ≡ false → Each LinkEmpty (trimmedIf o m .files) → (m .trimmed ≡ false → Each LinkEmpty (m .files) → Pieces m) → Pieces (trimmedIf o m)
     at absent t l ih = ih t l
     at (present f) t l ih = absurd (false≢true (sym t))
+pieces (cleaning {m} r) t l =
+    pieces-cleaned m (pieces r t (each-unmap (cleanedIn m) (uncleaned-empty m) (m .files) l))
 
 pub on-piece : {m : Model} → Reached m → m .trimmed ≡ false → m .v2 ≡ true → Each LinkEmpty (m .files) → Each (OnPiece (m .pieceLength)) (m .files)
 on-piece r t v l = pieces r t l .each v

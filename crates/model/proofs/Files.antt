@@ -1,6 +1,6 @@
 -- Small laws on lists of files and tables by place: what holds of each file of a list and where the files lie, sums by place, and tables
 -- without one of their places. They rely on the laws of sums in `lists` and of tables in `tables`.
-use mathlib.Core.Path.{_≡_, refl, sym, ap, _∙_}
+use mathlib.Core.Path.{_≡_, refl, sym, ap, subst, _∙_}
 use mathlib.Core.List.{List, [], _∷_, _++_, map}
 use mathlib.Core.Logic.{_⊎_, inl, inr}
 use Prim.Native.Nat.{ℕ, zero, suc, _+_, _-_, _≤_, _<_}
@@ -53,6 +53,10 @@ module _ {P : File → Type 0} where
   each-map g h none = none
   each-map g h (more {f} p ps) = more (h f p) (each-map g h ps)
 
+  pub each-unmap : (g : File → File) → ((f : File) → P (g f) → P f) → (fs : List File) → Each P (map g fs) → Each P fs
+  each-unmap g h [] p = none
+  each-unmap g h (f ∷ fs) (more p ps) = more (h f p) (each-unmap g h fs ps)
+
 abbrev pub sizesOf : List File → List ℕ
 sizesOf fs = map (λ (f : File). f .size) fs
 
@@ -70,6 +74,11 @@ pub laid-take : {o : ℕ} {fs : List File} (n : ℕ) → Laid o fs → Laid o (t
 laid-take zero p = done
 laid-take (suc n) done = done
 laid-take (suc n) (next e p) = next e (laid-take n p)
+
+-- files that lie and are as long as those
+pub laid-map : (g : File → File) → ((f : File) → g f .offset ≡ f .offset) → ((f : File) → g f .size ≡ f .size) → {o : ℕ} {fs : List File} → Laid o fs → Laid o (map g fs)
+laid-map g a b done = done
+laid-map g a b (next {o} {f} {fs} e p) = next (a f ∙ e) (subst (λ (n : ℕ). Laid (o + n) (map g fs)) (sym (b f)) (laid-map g a b p))
 
 -- empty files all begin where the first does
 pub laid-empty : (o : ℕ) (fs : List File) → ((k : ℕ) → sizeAt k fs ≡ 0) → Laid o (map (beginningAt o) fs)

@@ -1,4 +1,4 @@
--- Theorems on sets' tables: what opening, additions and trims do to what the tables mean, and what BEP 3, 47 and 52 say of
+-- Theorems on sets' tables: what opening, additions, trims and cleanings do to what the tables mean, and what BEP 3, 47 and 52 say of
 -- the sets that these calls lead to.
 pub mod Common
 pub mod Files
@@ -20,6 +20,7 @@ pub mod TrimmedSpans
 pub mod TrimmedTexts
 pub mod TrimmedView
 pub mod Trimmed
+pub mod CleanedFiles
 pub mod CleanedText
 pub mod CleanedStep
 pub mod CleanedRun

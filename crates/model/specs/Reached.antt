@@ -1,18 +1,13 @@
--- The sets that opening, additions and trims lead to, as models and as stores.
-use Prim.Native.Nat.{ℕ, _≤_, _%_}
+-- The sets that opening, additions, trims and cleanings lead to, as models.
+use Prim.Native.Nat.{ℕ, _≤_}
 use mathlib.Core.Path.{_≡_}
 use mathlib.Core.Bool.{false}
-use mathlib.Core.List.{List, []}
-use lib.IntN.{ℤ}
-use lib.ListN.{length}
+use mathlib.Core.List.{[]}
 use Rattle.types.specs.Refusals.{value}
-use Rattle.tables.specs.Model.{Model, Store, viewOf}
+use Rattle.tables.specs.Model.{Model}
 use Rattle.storage.specs.Addition.{Addition, Rooms, added, addedTo}
 use Rattle.storage.specs.Trim.{trimmedOf}
-use Rattle.storage.specs.Write.{storeAdded}
-use Rattle.storage.specs.Outcomes.{addingNumber, trimmedBy}
-use Rattle.storage.specs.Opening.{empty}
-use Rattle.storage.specs.Trim.{tailPad}
+use Rattle.links.specs.Clean.{cleanedOf}
 
 -- a newly opened set
 abbrev pub fresh : ℕ → Model
@@ -35,3 +30,4 @@ pub data Reached : Model → Type 1 where
   opened : (n : ℕ) → 1 ≤ n → n ≤ 2147483647 → Reached (fresh n)
   addition : {m : Model} → Reached m → (rooms : Rooms) (a : Addition) → addedTo rooms m a ≡ value (added m a) → Reached (added m a)
   trim : {m : Model} → Reached m → Reached (trimmedOf m)
+  cleaning : {m : Model} → Reached m → Reached (cleanedOf m)
