@@ -24,6 +24,7 @@ pub mod CleanedFiles
 pub mod CleanedText
 pub mod CleanedStep
 pub mod CleanedRun
+pub mod CleanedFates
 pub mod Cleaned
 pub mod CleanedLent
 pub mod Documents
