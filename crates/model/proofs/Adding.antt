@@ -38,11 +38,11 @@ module _ (s : Store) (ok : Sound s) where
 
 -- ---- what holds where nothing is refused
 
-pass-one : (t : Bool) (n k : ℕ) → cond t (n + 1) k ≡ 0 → (t ≡ false) × (k ≡ 0)
+pub pass-one : (t : Bool) (n k : ℕ) → cond t (n + 1) k ≡ 0 → (t ≡ false) × (k ≡ 0)
 pass-one true n k e = absurd (omega arith)
 pass-one false n k e = (refl, e)
 
-neither : (a b : Bool) → either a b ≡ false → (a ≡ false) × (b ≡ false)
+pub neither : (a b : Bool) → either a b ≡ false → (a ≡ false) × (b ≡ false)
 neither true b e = let z : _≡_ {A = ℕ} 0 1 = cc in absurd (omega arith)
 neither false b e = (refl, e)
 

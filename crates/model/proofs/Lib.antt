@@ -20,6 +20,7 @@ pub mod TrimmedSpans
 pub mod TrimmedTexts
 pub mod TrimmedView
 pub mod Trimmed
+pub mod Cleaning
 pub mod CleanedFiles
 pub mod CleanedText
 pub mod CleanedStep
