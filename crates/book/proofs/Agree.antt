@@ -6,19 +6,23 @@ use mathlib.Core.Bool.{Bool, true, false, cond, not}
 use mathlib.Core.List.{List, [], _∷_, map}
 use Prim.Native.Nat.{ℕ, _≤_, _<_}
 use native.Mathlib.Omega.{arith}
-use lib.Dec.{eqb}
+use lib.Dec.{eqb, ltb}
 use lib.IntN.{pos}
-use borrow.Author.Tests.{eqb-true, eqb-false}
+use lib.ListN.{length}
+use borrow.Author.Tests.{eqb-true, eqb-false, ltb-false}
 use Rattle.lists.specs.Lists.{sum}
 use Rattle.types.specs.Refusals.{value, refused}
 use Rattle.tables.specs.declared.storage.FileStorage.{FileStorage}
-use Rattle.tables.specs.Model.{Optional, absent, present, File, Store, fileOf, viewOf}
+use Rattle.tables.specs.Model.{Optional, absent, present, File, Model, Store, fileOf, viewOf}
 use Rattle.storage.specs.Rules.{outcomeOf, firstOf, when}
 use Rattle.storage.specs.Addition.{Addition, added, badLength}
 use Rattle.storage.specs.Trim.{tailPad}
 use Rattle.storage.specs.Write.{storeAdded}
 use Rattle.storage.specs.Opening.{empty, opened}
 use Rattle.storage.specs.Outcomes.{Changed, changedIf, roomsOf, holds, addingNumber, trimmedBy}
+use Rattle.links.specs.Clean.{space}
+use Rattle.links.specs.Judging.{lent, entriesOf, judgingNumber, cleared}
+use Rattle.cleaning.specs.Cleaning.{cleanedStore, textNeeded, Cleaned, cleanedTo, cleanStored}
 use Rattle.model.specs.Sound.{Sound}
 use Rattle.model.specs.Documents.{sizes, EndToEnd, OnDisk, Marked, OnPiece, Each, LinkEmpty}
 use Rattle.model.specs.Reached.{Reached, fresh}
@@ -27,12 +31,15 @@ use Rattle.model.proofs.Common.{sum-tabled}
 use Rattle.model.proofs.Opened.{sound-opened, view-opened}
 use Rattle.model.proofs.Adding.{adding}
 use Rattle.model.proofs.Trimmed.{view-trimmed, sound-trimmed}
+use Rattle.model.proofs.Cleaning.{work-enough}
+use Rattle.model.proofs.Cleaned.{sound-cleaned, view-cleaned}
+use Rattle.model.proofs.CleanedLent.{cleaned-lent, needed-lent}
 use Rattle.model.proofs.Documents.{end-to-end, on-disk, marked, on-piece}
-use Rattle.book.specs.Book.{Call, add, trim, Made, Book, sizesOf, afterAddition, afterTrim, book}
+use Rattle.book.specs.Book.{Call, add, trim, clean, rename, «import», Made, Book, sizesOf, afterAddition, afterTrim, entry, book}
 use Rattle.book.specs.Book as books
-use Rattle.book.specs.Calls.{storeAfter, call, SameSet, Leads}
+use Rattle.book.specs.Calls.{cameOf, storeAfter, call, cleanedBy, SameSet, Leads}
 use Rattle.book.specs.Calls as calls
-use Rattle.book.proofs.Entries.{bookOf, sizes-rows, book-added, book-trimmed}
+use Rattle.book.proofs.Entries.{bookOf, sizes-rows, book-added, book-trimmed, book-cleaned, entry-rename, entry-import}
 use Rattle.book.proofs.Rooted.{Settled, settled}
 use Rattle.book.proofs.Lent.{lent-sound, lent-view}
 
@@ -71,6 +78,36 @@ module _ {ℓ} (P : Made → Store → Type ℓ) (k : Call) (number : ℕ) (s t 
 -- what a trim is refused by, which on tables in order is nothing
 abbrev pub trimNumber : Store → ℕ
 trimNumber s = firstOf (when (badLength (s .fs .«piece_length»)) 1 ∷ when (not (holds s)) 10 ∷ [])
+
+-- the same of a cleaning, which is lent neither roots nor times: it is done where links can be judged and the texts have room
+module _ {ℓ} (P : Made → Store → Type ℓ) (s : Store) (marks stage path : List ℕ) where
+  abbrev Cleans : Cleaned → Type ℓ
+  Cleans c = P (call clean (cleanedBy s c)) (storeAfter (s .fs) (cleanedBy s c))
+
+  abbrev bare : Store
+  bare = lent (s .fs) (s .rows) (s .dirs) (s .text)
+
+  abbrev judged : ℕ
+  judged = judgingNumber s (length marks) (length stage) (length path)
+
+  pub after-clean : (judged ≡ 0 → textNeeded s ≤ length (s .text) → P (record { call = clean; came = books.done }) (cleanedStore (length stage) s))
+      → ((k : ℕ) → P (record { call = clean; came = books.refused k }) s)
+      → (c : Cleaned) → c ≡ cleanStored bare marks stage path → Cleans c
+  after-clean d r c e = subst Cleans (sym e) (at (eqb judged 0) refl (ltb (length (s .text)) (textNeeded bare)) refl)
+    where
+      cleaned : Cleaned
+      cleaned =
+          cleanedTo (value (cleanedStore (length stage) bare .fs)) (cleanedStore (length stage) bare) (cleared marks) (cleared stage) (cleared path)
+
+      fits : ltb (length (s .text)) (textNeeded bare) ≡ false → textNeeded s ≤ length (s .text)
+      fits q = rw (needed-lent s) (ltb-false (length (s .text)) (textNeeded bare) q)
+
+      at : (a : Bool) → eqb judged 0 ≡ a → (b : Bool) → ltb (length (s .text)) (textNeeded bare) ≡ b
+          → Cleans (cond a (cond b (cleanedTo (refused 10) bare (cleared marks) (cleared stage) (cleared path)) cleaned) (cleanedTo (refused judged) bare marks stage path))
+      at true p true q = r 10
+      at true p false q =
+          subst (P (record { call = clean; came = books.done })) (cleaned-lent (length stage) s) (d (eqb-true judged 0 p) (fits q))
+      at false p b q = r judged
 
 -- ---- opening
 
@@ -138,6 +175,21 @@ agrees-trimmed s g =
     same-length absent = refl
     same-length (present f) = refl
 
+agrees-cleaned : {n : ℕ} {made : List Made} (m : ℕ) (s : Store) → Agrees n made s → textNeeded s ≤ length (s .text) → space (entriesOf s) ≤ m → Agrees n (record { call = clean; came = books.done } ∷ made) (cleanedStore m s)
+agrees-cleaned m s g room work =
+    record {
+      sound = sound-cleaned s (g .sound) m room work;
+      some = g .some;
+      short = g .short;
+      lengths = ap (λ (x : Model). x .pieceLength) (view-cleaned s (g .sound) m room work) ∙ g .lengths;
+      books = ap bookOf (view-cleaned s (g .sound) m room work) ∙ book-cleaned (viewOf s) ∙ g .books;
+    }
+
+-- a call that leaves the set, and that the book does not enter
+agrees-beside : {n : ℕ} {made : List Made} {s : Store} (m : Made) → entry (book n made) (m .call) (m .came) ≡ book n made → Agrees n made s → Agrees n (m ∷ made) s
+agrees-beside m e g =
+    record { sound = g .sound; some = g .some; short = g .short; lengths = g .lengths; books = g .books ∙ sym e }
+
 -- other tables that hold the same set mean the same, so they agree with the same book
 agrees-lent : {n : ℕ} {made : List Made} (s t : Store) → Agrees n made s → SameSet s t → Agrees n made t
 agrees-lent s t g same =
@@ -167,6 +219,17 @@ agrees {n} (calls.trim {made} {s} c p e) =
     (agrees-refused trim (trimNumber s) g)
     c
     e
+agrees {n} (calls.cleaning {made} {s} marks stage path c p e) =
+    let g = agrees p in
+    after-clean (λ (m : Made) (t : Store). Agrees n (m ∷ made) t) s marks stage path
+    (λ z room. agrees-cleaned (length stage) s g room (work-enough s (length marks) (length stage) (length path) z))
+    (λ k. agrees-refused clean k g)
+    c
+    e
+agrees {n} (calls.renaming {made} {s} rf entries names x c p e) =
+    agrees-beside (record { call = rename x; came = cameOf (c .says) }) (entry-rename (book n made) x (cameOf (c .says))) (agrees p)
+agrees {n} (calls.importing {made} {s} rf entries names xs c p e) =
+    agrees-beside (record { call = «import» xs; came = cameOf (c .says) }) (entry-import (book n made) xs (cameOf (c .says))) (agrees p)
 agrees (calls.lending {made} {s} {t} p same) = agrees-lent s t (agrees p) same
 
 pub sizes-agree : {n : ℕ} {made : List Made} {s : Store} → Leads n made s → map (λ (f : File). f .size) (viewOf s .files) ≡ sizesOf (book n made .rows)
@@ -194,6 +257,14 @@ reached (calls.trim {made} {s} c p e) =
     (reached p)
     c
     e
+reached (calls.cleaning {made} {s} marks stage path c p e) =
+    after-clean (λ (m : Made) (t : Store). Reached (viewOf t)) s marks stage path
+    (λ z room. subst Reached (sym (view-cleaned s (agrees p .sound) (length stage) room (work-enough s (length marks) (length stage) (length path) z))) (reach.cleaning (reached p)))
+    (λ k. reached p)
+    c
+    e
+reached (calls.renaming {made} {s} rf entries names x c p e) = reached p
+reached (calls.importing {made} {s} rf entries names xs c p e) = reached p
 reached (calls.lending {made} {s} {t} p same) = subst Reached (sym (lent-view s t (agrees p .sound) same)) (reached p)
 
 module _ {n : ℕ} {made : List Made} {s : Store} (p : Leads n made s) where

@@ -1,5 +1,5 @@
--- What the book keeps of a set is, after an addition and after a trim, what the book enters for it. All on the model; it
--- relies on what the search for a tail pad finds.
+-- What the book keeps of a set is, after an addition and after a trim, what the book enters for it, and after a cleaning what
+-- it was. All on the model; it relies on what the search for a tail pad finds, and on what a cleaning keeps of each file.
 use mathlib.Core.Path.{_≡_, refl, sym, ap, ap₂, _∙_}
 use mathlib.Core.Bool.{Bool, true, false, cond, not, _&&_, _||_}
 use mathlib.Core.List.{List, [], _∷_, _++_, map, map-append, map-map}
@@ -17,10 +17,13 @@ use Rattle.storage.specs.Rules.{both, either}
 use Rattle.storage.specs.Addition.{Addition, added, fileAdded, padAdded, padTo, padAfter, padOf, sizeAdded, flagsKept, keeps, isPresent, isV2, decides, isOpen, filesOf}
 use Rattle.storage.specs.Trim.{tailPad, sizeAt, beginningAt, trimmedIf, trimmedOf}
 use Rattle.storage.proofs.Rules.{pad-none, pad-some}
+use Rattle.links.specs.Clean.{cleanedOf}
+use Rattle.renames.specs.Imports.{Naming}
 use Rattle.model.specs.Documents.{sizes}
 use Rattle.model.proofs.Files.{sum-zero}
+use Rattle.model.proofs.CleanedFiles.{clean-map-same}
 use Rattle.model.proofs.Trimming.{flagsAt, Last, tail-pad, NoTailPad, bare, other, no-tail-pad}
-use Rattle.book.specs.Book.{Row, Book, sizesOf, bytesOf, hasLink, versionAfter, rowFor, filling, linksAfter, afterAddition, trimmedRows, afterTrim}
+use Rattle.book.specs.Book.{Came, done, refused, rename, «import», Row, Book, sizesOf, bytesOf, hasLink, versionAfter, rowFor, filling, linksAfter, afterAddition, trimmedRows, afterTrim, entry}
 
 -- ---- what the book keeps of a set
 
@@ -187,3 +190,18 @@ book-trimmed m = at (tailPad (m .files)) refl
         (trimmed-last (m .files) f (p .last)
         ∙ ap (λ (b : Bool). cond b (rowsOf (take f (m .files) ++ drop (suc f) (m .files))) (rowsOf (m .files))) (eq-eqb (flagsAt f (m .files) % 2) 1 (p .pad))))
         refl
+
+-- ---- calls that the book does not enter
+
+-- a cleaning leaves sizes, pads and the number of link texts
+pub book-cleaned : (m : Model) → bookOf (cleanedOf m) ≡ bookOf m
+book-cleaned m = same-book refl (clean-map-same m rowOf (λ l f. refl)) refl
+
+-- whatever comes of a rename or of an import
+pub entry-rename : (b : Book) (x : Naming) (o : Came) → entry b (rename x) o ≡ b
+entry-rename b x done = refl
+entry-rename b x (refused k) = refl
+
+pub entry-import : (b : Book) (xs : List Naming) (o : Came) → entry b («import» xs) o ≡ b
+entry-import b xs done = refl
+entry-import b xs (refused k) = refl

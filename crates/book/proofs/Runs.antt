@@ -1,6 +1,6 @@
 -- The relation of calls is not empty: on every store each call that it knows has exactly one outcome and store after it,
--- from every newly opened set, whatever its tables hold, every list of additions and trims has a run, and a refused call can
--- be made again on longer tables. Relies on the definitions, on Agree.antt and on Lent.antt.
+-- from every newly opened set, whatever its tables hold, every list of calls has a run, and a refused call can be made again
+-- on longer tables. Relies on the definitions, on Agree.antt and on Lent.antt.
 use mathlib.Core.Path.{_≡_, refl, sym, ap, subst, _∙_}
 use mathlib.Core.Bool.{false}
 use mathlib.Core.List.{List, [], _∷_, map}
@@ -15,47 +15,72 @@ use Rattle.storage.specs.Trim.{tailPad}
 use Rattle.storage.specs.Opening.{empty, opened}
 use Rattle.storage.specs.Write.{storeAdded}
 use Rattle.storage.specs.Outcomes.{Changed, changedIf, addingNumber, addStored, trimStored, trimmedBy}
+use Rattle.links.specs.Judging.{lent}
+use Rattle.cleaning.specs.Cleaning.{Cleaned, cleanStored}
+use Rattle.renames.specs.declared.rename.RenamedFiles.{RenamedFiles}
+use Rattle.renames.specs.Renames.{renameFile}
+use Rattle.renames.specs.Renames as renames
+use Rattle.renames.specs.Imports.{Naming, importFilenames}
 use Rattle.model.proofs.Adding.{sound-holds}
-use Rattle.book.specs.Book.{Call, add, trim, Came, refused, Made}
-use Rattle.book.specs.Calls.{cameOf, storeAfter, SameSet, Leads}
+use Rattle.book.specs.Book.{Call, add, trim, clean, rename, «import», Came, refused, Made}
+use Rattle.book.specs.Calls.{cameOf, storeAfter, cleanedBy, SameSet, Leads}
 use Rattle.book.specs.Calls as calls
 use Rattle.book.proofs.Lent.{same-self, same-through, Longer, longer}
-use Rattle.book.proofs.Agree.{agrees, after-call, trimNumber}
+use Rattle.book.proofs.Agree.{agrees, after-call, after-clean, trimNumber}
 
 -- ---- one call
 
--- the calls that the relation knows
+-- the calls that the relation knows; a cleaning is lent its work space, renames the tables that they lie in
 pub data Known : Type 0 where
   adding : Addition → Known
   trimming : Known
+  cleaning : (marks stage path : List ℕ) → Known
+  renaming : RenamedFiles → (entries names : List ℕ) → Naming → Known
+  importing : RenamedFiles → (entries names : List ℕ) → List Naming → Known
 
 abbrev pub callOf : Known → Call
 callOf (adding a) = add a
 callOf trimming = trim
+callOf (cleaning marks stage path) = clean
+callOf (renaming rf entries names x) = rename x
+callOf (importing rf entries names xs) = «import» xs
+
+-- what comes of a call, and the set's tables after it
+pub record Answer : Type 0 where
+  pub came : Came
+  pub store : Store
+
+abbrev pub changing : Store → Changed → Answer
+changing s c = record { came = cameOf (c .says); store = storeAfter (s .fs) c }
 
 -- what the function called says, and leaves
-abbrev pub answerOf : Store → Known → Changed
-answerOf s (adding a) = addStored s a
-answerOf s trimming = trimStored s
+abbrev pub answerOf : Store → Known → Answer
+answerOf s (adding a) = changing s (addStored s a)
+answerOf s trimming = changing s (trimStored s)
+answerOf s (cleaning marks stage path) =
+    changing s (cleanedBy s (cleanStored (lent (s .fs) (s .rows) (s .dirs) (s .text)) marks stage path))
+answerOf s (renaming rf entries names x) = record { came = cameOf (renameFile (s .fs) rf entries names (x .file) (x .name) .says); store = s }
+answerOf s (importing rf entries names xs) = record { came = cameOf (importFilenames (s .fs) rf entries names xs .says); store = s }
 
 abbrev pub entered : Known → Came → Made
 entered k o = record { call = callOf k; came = o }
 
 -- one step of the relation
 pub record Step (s : Store) (k : Known) (o : Came) (t : Store) : Type 0 where
-  pub changed : Changed
-  pub ensured : changed ≡ answerOf s k
-  pub came : cameOf (changed .says) ≡ o
-  pub store : storeAfter (s .fs) changed ≡ t
+  pub came : answerOf s k .came ≡ o
+  pub store : answerOf s k .store ≡ t
 
 -- the relation goes on by such steps and by lendings, and by nothing else
 pub stepped : {n : ℕ} {made : List Made} {s t : Store} {o : Came} (k : Known) → Leads n made s → Step s k o t → Leads n (entered k o ∷ made) t
 stepped {n} {made} {s} {t} {o} k p q =
-    subst (λ (u : Store). Leads n (entered k o ∷ made) u) (q .store) (subst (λ (x : Came). Leads n (entered k x ∷ made) (storeAfter (s .fs) (q .changed))) (q .came) (at k (q .ensured)))
+    subst (λ (u : Store). Leads n (entered k o ∷ made) u) (q .store) (subst (λ (x : Came). Leads n (entered k x ∷ made) (answerOf s k .store)) (q .came) (at k))
   where
-    at : (k : Known) → q .changed ≡ answerOf s k → Leads n (entered k (cameOf (q .changed .says)) ∷ made) (storeAfter (s .fs) (q .changed))
-    at (adding a) e = calls.addition a (q .changed) p e
-    at trimming e = calls.trim (q .changed) p e
+    at : (k : Known) → Leads n (entered k (answerOf s k .came) ∷ made) (answerOf s k .store)
+    at (adding a) = calls.addition a (addStored s a) p refl
+    at trimming = calls.trim (trimStored s) p refl
+    at (cleaning marks stage path) = calls.cleaning marks stage path (cleanStored (lent (s .fs) (s .rows) (s .dirs) (s .text)) marks stage path) p refl
+    at (renaming rf entries names x) = calls.renaming rf entries names x (renameFile (s .fs) rf entries names (x .file) (x .name)) p refl
+    at (importing rf entries names xs) = calls.importing rf entries names xs (importFilenames (s .fs) rf entries names xs) p refl
 
 -- the last call led to the tables `left`; those at the end are they, or others lent behind it that hold the same set
 pub record LastStep (n : ℕ) (made : List Made) (m : Made) (t : Store) : Type 0 where
@@ -74,7 +99,7 @@ last-step (calls.addition {made} {s} a c p e) =
       left = storeAfter (s .fs) c;
       known = adding a;
       leads = p;
-      step = record { changed = c; ensured = e; came = refl; store = refl };
+      step = record { came = ap (λ (x : Changed). cameOf (x .says)) (sym e); store = ap (storeAfter (s .fs)) (sym e) };
       call = refl;
       lent = same-self (storeAfter (s .fs) c);
     }
@@ -84,9 +109,39 @@ last-step (calls.trim {made} {s} c p e) =
       left = storeAfter (s .fs) c;
       known = trimming;
       leads = p;
-      step = record { changed = c; ensured = e; came = refl; store = refl };
+      step = record { came = ap (λ (x : Changed). cameOf (x .says)) (sym e); store = ap (storeAfter (s .fs)) (sym e) };
       call = refl;
       lent = same-self (storeAfter (s .fs) c);
+    }
+last-step (calls.cleaning {made} {s} marks stage path c p e) =
+    record {
+      before = s;
+      left = storeAfter (s .fs) (cleanedBy s c);
+      known = cleaning marks stage path;
+      leads = p;
+      step = record { came = ap (λ (x : Cleaned). cameOf (x .says)) (sym e); store = ap (λ (x : Cleaned). storeAfter (s .fs) (cleanedBy s x)) (sym e) };
+      call = refl;
+      lent = same-self (storeAfter (s .fs) (cleanedBy s c));
+    }
+last-step (calls.renaming {made} {s} rf entries names x c p e) =
+    record {
+      before = s;
+      left = s;
+      known = renaming rf entries names x;
+      leads = p;
+      step = record { came = ap (λ (y : renames.Changed). cameOf (y .says)) (sym e); store = refl };
+      call = refl;
+      lent = same-self s;
+    }
+last-step (calls.importing {made} {s} rf entries names xs c p e) =
+    record {
+      before = s;
+      left = s;
+      known = importing rf entries names xs;
+      leads = p;
+      step = record { came = ap (λ (y : renames.Changed). cameOf (y .says)) (sym e); store = refl };
+      call = refl;
+      lent = same-self s;
     }
 last-step (calls.lending {made} {s} {t} p same) =
     let l = last-step p in
@@ -110,10 +165,10 @@ pub record One (s : Store) (k : Known) : Type 0 where
 pub came : (s : Store) (k : Known) → One s k
 came s k =
     record {
-      outcome = cameOf (answerOf s k .says);
-      store = storeAfter (s .fs) (answerOf s k);
-      step = record { changed = answerOf s k; ensured = refl; came = refl; store = refl };
-      only = λ o t q. (sym (q .came) ∙ ap (λ (c : Changed). cameOf (c .says)) (q .ensured), sym (q .store) ∙ ap (storeAfter (s .fs)) (q .ensured));
+      outcome = answerOf s k .came;
+      store = answerOf s k .store;
+      step = record { came = refl; store = refl };
+      only = λ o t q. (sym (q .came), sym (q .store));
     }
 
 -- ---- lists of calls
@@ -158,16 +213,23 @@ still : (number : ℕ) (s t : Store) (i : ℕ) → cameOf (changedIf number s t 
 still number s t i =
     after-call (λ (m : Made) (u : Store). m .came ≡ refused i → u ≡ s) trim number s t (λ z e. cc) (λ e. refl) (changedIf number s t) refl
 
-refused-step : (s : Store) (k : Known) (i : ℕ) → cameOf (answerOf s k .says) ≡ refused i → Step s k (refused i) s
-refused-step s k i r = record { changed = answerOf s k; ensured = refl; came = r; store = at k r }
+still-clean : (s : Store) (marks stage path : List ℕ) (i : ℕ) → answerOf s (cleaning marks stage path) .came ≡ refused i → answerOf s (cleaning marks stage path) .store ≡ s
+still-clean s marks stage path i =
+    after-clean (λ (m : Made) (u : Store). m .came ≡ refused i → u ≡ s) s marks stage path (λ z h e. cc) (λ k e. refl) (cleanStored (lent (s .fs) (s .rows) (s .dirs) (s .text)) marks stage path) refl
+
+refused-step : (s : Store) (k : Known) (i : ℕ) → answerOf s k .came ≡ refused i → Step s k (refused i) s
+refused-step s k i r = record { came = r; store = at k r }
   where
-    at : (k : Known) → cameOf (answerOf s k .says) ≡ refused i → storeAfter (s .fs) (answerOf s k) ≡ s
+    at : (k : Known) → answerOf s k .came ≡ refused i → answerOf s k .store ≡ s
     at (adding a) = still (addingNumber s (viewOf s) a) s (storeAdded s (viewOf s) a) i
     at trimming = still (trimNumber s) s (trimmedBy (tailPad (viewOf s .files)) s) i
+    at (cleaning marks stage path) = still-clean s marks stage path i
+    at (renaming rf entries names x) = λ e. refl
+    at (importing rf entries names xs) = λ e. refl
 
 -- refused, by 10 for instance, on tables too short, it can be made again on longer ones, and the calls go on from there
 pub again : {n : ℕ} {made : List Made} {s t u : Store} {o : Came} (k : Known) (i : ℕ)
-    → Leads n made s → cameOf (answerOf s k .says) ≡ refused i → Longer s t → Step t k o u → Leads n (entered k o ∷ entered k (refused i) ∷ made) u
+    → Leads n made s → answerOf s k .came ≡ refused i → Longer s t → Step t k o u → Leads n (entered k o ∷ entered k (refused i) ∷ made) u
 again {s = s} {t = t} k i p r l q =
     stepped k (calls.lending (stepped k p (refused-step s k i r)) (longer s t (agrees p .sound) l)) q
 

@@ -1,6 +1,7 @@
 -- A cleaning looks neither at roots nor at times, so tables without them are cleaned alike, and say the same. It relies on the
 -- definitions alone.
 --     cleaned-lent    the tables after a cleaning
+--     needed-lent     the text needed
 --     clean-lent      what the call says and leaves
 use mathlib.Core.Path.{_≡_, refl, sym, ap, ap₂, _∙_}
 use mathlib.Core.Bool.{Bool, true, false, cond}
@@ -84,6 +85,9 @@ module _ (roots : List ℕ) (times : List ℤ) where
 -- the tables as they are lent
 pub cleaned-lent : (n : ℕ) (s : Store) → cleanedStore n s ≡ besides (s .roots) (s .times) (cleanedStore n (lent (s .fs) (s .rows) (s .dirs) (s .text)))
 cleaned-lent n s = cleaned-besides (s .roots) (s .times) n (lent (s .fs) (s .rows) (s .dirs) (s .text))
+
+pub needed-lent : (s : Store) → textNeeded s ≡ textNeeded (lent (s .fs) (s .rows) (s .dirs) (s .text))
+needed-lent s = needed-besides (s .roots) (s .times) (lent (s .fs) (s .rows) (s .dirs) (s .text))
 
 pub clean-lent : (s : Store) (marks stage path : List ℕ) → cleanStored (lent (s .fs) (s .rows) (s .dirs) (s .text)) marks stage path ≡ cleanStored s marks stage path
 clean-lent s marks stage path = sym (said-besides (s .roots) (s .times) (lent (s .fs) (s .rows) (s .dirs) (s .text)) marks stage path)
