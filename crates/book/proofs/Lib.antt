@@ -11,5 +11,6 @@ pub mod Rooted
 pub mod Lent
 pub mod Agree
 pub mod Runs
+pub mod Example
 pub mod Says
 pub mod Theorem

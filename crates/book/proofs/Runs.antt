@@ -4,25 +4,31 @@
 use mathlib.Core.Path.{_≡_, refl, sym, ap, subst, _∙_}
 use mathlib.Core.Bool.{false}
 use mathlib.Core.List.{List, [], _∷_, map}
-use Prim.Native.Nat.{ℕ, _≤_, _<_}
+use Prim.Native.Nat.{ℕ, _*_, _≤_, _<_}
 use native.Mathlib.Omega.{arith}
 use lib.IntN.{pos}
+use lib.ListN.{length}
 use borrow.Author.Tests.{ne-eqb, le-ltb}
 use Rattle.types.specs.Refusals.{value}
 use Rattle.tables.specs.Model.{Store, viewOf}
-use Rattle.storage.specs.Addition.{Addition, badLength}
+use Rattle.storage.specs.Addition.{Addition, badLength, textOf}
 use Rattle.storage.specs.Trim.{tailPad}
 use Rattle.storage.specs.Opening.{empty, opened}
 use Rattle.storage.specs.Write.{storeAdded}
 use Rattle.storage.specs.Outcomes.{Changed, changedIf, addingNumber, addStored, trimStored, trimmedBy}
-use Rattle.links.specs.Judging.{lent}
+use Rattle.links.specs.Clean.{cleanedOf, space, linkCount}
+use Rattle.links.specs.Judging.{lent, entriesOf}
 use Rattle.cleaning.specs.Cleaning.{Cleaned, cleanStored}
 use Rattle.renames.specs.declared.rename.RenamedFiles.{RenamedFiles}
 use Rattle.renames.specs.Renames.{renameFile}
 use Rattle.renames.specs.Renames as renames
 use Rattle.renames.specs.Imports.{Naming, importFilenames}
 use Rattle.model.proofs.Adding.{sound-holds}
-use Rattle.book.specs.Book.{Call, add, trim, clean, rename, «import», Came, refused, Made}
+use Rattle.model.proofs.Cleaning as cleanings
+use Rattle.model.proofs.Cleaning.{space-enough}
+use Rattle.model.proofs.Cleaned.{needed-is}
+use Rattle.model.proofs.CleanedLent.{clean-lent}
+use Rattle.book.specs.Book.{Call, add, trim, clean, rename, «import», Came, done, refused, Made}
 use Rattle.book.specs.Calls.{cameOf, storeAfter, cleanedBy, SameSet, Leads}
 use Rattle.book.specs.Calls as calls
 use Rattle.book.proofs.Lent.{same-self, same-through, Longer, longer}
@@ -182,28 +188,34 @@ pub led : {n : ℕ} {made : List Made} {s t : Store} → opened (pos n) ≡ valu
 led e h none = calls.opening h e
 led e h (more k o c q) = stepped k (led e h c) q
 
+-- the tables after a list of calls, the latest first, and what came of each
+abbrev pub storeOf : Store → List Known → Store
+storeOf s [] = s
+storeOf s (k ∷ ks) = answerOf (storeOf s ks) k .store
+
+abbrev pub madeOf : Store → List Known → List Made
+madeOf s [] = []
+madeOf s (k ∷ ks) = entered k (answerOf (storeOf s ks) k .came) ∷ madeOf s ks
+
 pub record Played (n : ℕ) (s : Store) (ks : List Known) : Type 0 where
-  pub made : List Made
-  pub last : Store
-  pub same : map (λ (m : Made). m .call) made ≡ map callOf ks
-  pub chain : Chain s made last
-  pub leads : Leads n made last
+  pub same : map (λ (m : Made). m .call) (madeOf s ks) ≡ map callOf ks
+  pub chain : Chain s (madeOf s ks) (storeOf s ks)
+  pub leads : Leads n (madeOf s ks) (storeOf s ks)
 
 -- a set can be opened with every piece length from 1 on
 pub opens : (n : ℕ) → 0 < n → opened (pos n) ≡ value (empty n)
 opens n h = rw (ne-eqb n 0 (λ e. omega arith))
 
 pub played : (n : ℕ) (s : Store) → opened (pos n) ≡ value (s .fs) → n ≤ 2147483647 → (ks : List Known) → Played n s ks
-played n s e h [] = record { made = []; last = s; same = refl; chain = none; leads = calls.opening h e }
+played n s e h [] = record { same = refl; chain = none; leads = calls.opening h e }
 played n s e h (k ∷ ks) =
     let r = played n s e h ks in
-    let x = came (r .last) k in
+    let a = answerOf (storeOf s ks) k in
+    let x : Step (storeOf s ks) k (a .came) (a .store) = record { came = refl; store = refl } in
     record {
-      made = entered k (x .outcome) ∷ r .made;
-      last = x .store;
       same = ap (λ (l : List Call). callOf k ∷ l) (r .same);
-      chain = more k (x .outcome) (r .chain) (x .step);
-      leads = stepped k (r .leads) (x .step);
+      chain = more k (a .came) (r .chain) x;
+      leads = stepped k (r .leads) x;
     }
 
 -- ---- a refused call made again
@@ -227,16 +239,26 @@ refused-step s k i r = record { came = r; store = at k r }
     at (renaming rf entries names x) = λ e. refl
     at (importing rf entries names xs) = λ e. refl
 
--- refused, by 10 for instance, on tables too short, it can be made again on longer ones, and the calls go on from there
-pub again : {n : ℕ} {made : List Made} {s t u : Store} {o : Came} (k : Known) (i : ℕ)
-    → Leads n made s → answerOf s k .came ≡ refused i → Longer s t → Step t k o u → Leads n (entered k o ∷ entered k (refused i) ∷ made) u
-again {s = s} {t = t} k i p r l q =
-    stepped k (calls.lending (stepped k p (refused-step s k i r)) (longer s t (agrees p .sound) l)) q
+-- refused, by 10 for instance, on tables too short, it can be made again on longer ones, a cleaning with more work space too, and
+-- the calls go on from there
+pub again : {n : ℕ} {made : List Made} {s t u : Store} {o : Came} (k j : Known) (i : ℕ)
+    → Leads n made s → answerOf s k .came ≡ refused i → Longer s t → Step t j o u → Leads n (entered j o ∷ entered k (refused i) ∷ made) u
+again {s = s} {t = t} k j i p r l q =
+    stepped j (calls.lending (stepped k p (refused-step s k i r)) (longer s t (agrees p .sound) l)) q
 
--- ---- no trim is refused
+-- ---- what is not refused
 
-pub trim-done : {n : ℕ} {made : List Made} {s : Store} → Leads n made s → trimStored s .says ≡ value (trimmedBy (tailPad (viewOf s .files)) s .fs)
-trim-done {n} {made} {s} p =
-    let g = agrees p in
-    let a : badLength (s .fs .«piece_length») ≡ false = rw (g .lengths, le-ltb n 1 (g .some)) (le-ltb 2147483647 n (g .short)) in
-    rw (a, sound-holds s (g .sound))
+module _ {n : ℕ} {made : List Made} {s : Store} (p : Leads n made s) where
+  good : badLength (s .fs .«piece_length») ≡ false
+  good = let g = agrees p in rw (g .lengths, le-ltb n 1 (g .some)) (le-ltb 2147483647 n (g .short))
+
+  -- no trim
+  pub trim-done : trimStored s .says ≡ value (trimmedBy (tailPad (viewOf s .files)) s .fs)
+  trim-done = rw (good, sound-holds s (agrees p .sound))
+
+  -- no cleaning with document 01's work space, and room for the texts that the set then has
+  pub clean-done : (marks stage path : List ℕ) → linkCount (entriesOf s) ≤ length marks → space (entriesOf s) ≤ length stage → 2 * space (entriesOf s) ≤ length path
+      → textOf (cleanedOf (viewOf s)) ≤ length (s .text) → answerOf s (cleaning marks stage path) .came ≡ done
+  clean-done marks stage path a b c room =
+      ap (λ (x : Cleaned). cameOf (x .says)) (clean-lent s marks stage path
+      ∙ cleanings.clean-done s marks stage path (agrees p .sound) good (space-enough s (length marks) (length stage) (length path) a b c) (rw (needed-is s (agrees p .sound)) room))
