@@ -1,6 +1,6 @@
 -- Theorems on the book of demand 3: walks over files and their blocks, what tables hold, demand 3 of a set in order,
 -- questions for every cut, other tables that hold the same set, the book's agreement with the set over every list of calls,
--- and the demand itself.
+-- one list with each kind of call, and the demand itself.
 pub mod Walks
 pub mod Blocks
 pub mod Tables

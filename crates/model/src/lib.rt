@@ -1,2 +1,2 @@
-// What additions and trims do to the meaning of a set's tables: definitions and theorems, no code.
-// Relies on the definitions of `tables` and `storage`.
+// What additions, trims and cleanings do to the meaning of a set's tables: definitions and theorems, no code.
+// Relies on the definitions of `tables`, `storage`, `links` and `cleaning`.
