@@ -43,6 +43,7 @@ module _ (s : Store) (ok : Sound s) where
   abbrev n : ℕ
   n = s .fs .«num_files»
 
+  -- the fates of the set's files
   count : length vs ≡ n
   count = length-fates files dirs files ∙ length-tabled n (λ i. entryOf (fileOf s i))
 
@@ -65,6 +66,7 @@ module _ (s : Store) (ok : Sound s) where
       let e = amount-sum w (λ k. w (fateOf vs 0 k) (entryOf (fileOf s k))) vs 0 s (λ k a b. refl) in
       sum-from (amount w vs 0 s) n (λ k. w (fateOf vs 0 k) (entryOf (fileOf s k))) (rw z at e)
 
+  -- the tables between the two passes
   abbrev between : Store
   between = emptied vs 0 s
 
@@ -103,6 +105,7 @@ module _ (s : Store) (ok : Sound s) where
         new-bytes vs 0 s,
       )
 
+  -- what the second pass asks of them
   held-between : (k : ℕ) → 0 ≤ k → k < 0 + length vs → eqb (fateOf vs 0 k) 0 ≡ false → isHeld (fileOf between k .link) ≡ true
   held-between k a b e = ap (λ (f : File). isHeld (f .link)) (file-between k b) ∙ at (eqb (fateOf vs 0 k) 1)
     where
@@ -115,6 +118,7 @@ module _ (s : Store) (ok : Sound s) where
       ap (λ (f : File). length (entryOf f .text)) (file-between k b)
       ∙ ap (λ (c : Bool). length (entryOf (cond c (linkedTo (present []) (fileOf s k)) (fileOf s k)) .text)) e
 
+  -- both passes do to the files what the cleaning does
   files-cleaned : tabled n (λ k. rewrittenFile (fateOf vs 0 k) (emptiedFile (fateOf vs 0 k) (fileOf s k))) ≡ cleanedOf (viewOf s) .files
   files-cleaned =
       tabled-same n (λ k. rewrittenFile (fateOf vs 0 k) (emptiedFile (fateOf vs 0 k) (fileOf s k))) (λ k. cleanFile files dirs (fileOf s k))

@@ -31,6 +31,7 @@ use Rattle.model.proofs.CleanedRun.{fateOf, fate-here, fate-behind, tex
 -- ---- the fates of a set's files
 
 module _ (files : List Entry) (dirs : List (List ℕ)) where
+  -- the fate of a file, one for each, and where it stands in the list
   abbrev pub fate : Entry → ℕ
   fate f = cond (f .flagged) (verdictOf files dirs f) 0
 
@@ -57,6 +58,7 @@ fated-flagged false v e = absurd (false≢true (sym e))
 
 -- ---- what becomes of a file
 
+-- a link text that is held
 still-held : (l : Optional (List ℕ)) → isHeld l ≡ true → l ≡ present (heldText l)
 still-held absent e = absurd (false≢true e)
 still-held (present t) e = refl
@@ -105,6 +107,7 @@ new v f = cond (eqb v 0) 0 (length (textBy v f))
 abbrev pub longer : ℕ → Entry → ℕ
 longer v f = cond (eqb v 0) 0 (cond (eqb v 1) (length (textBy v f)) (length (textBy v f) - length (f .text)))
 
+-- two sums are two others where the summands are
 pub amount-two : (w x y z : ℕ → Entry → ℕ) → ((v : ℕ) (f : Entry) → w v f + x v f ≡ y v f + z v f) → (vs : List ℕ) (i : ℕ) (s : Store) → amount w vs i s + amount x vs i s ≡ amount y vs i s + amount z vs i s
 amount-two w x y z e [] i s = refl
 amount-two w x y z e (v ∷ vs) i s = omega (arith, e v (entryOf (fileOf s i)), amount-two w x y z e vs (i + 1) s)
@@ -121,6 +124,7 @@ amount-sum w g (v ∷ vs) i s e = more (amount-sum w g vs (i + 1) s (λ k a b. e
         let q : g i ≡ w v (entryOf (fileOf s i)) = e i (omega arith) (omega arith) ∙ ap (λ (x : ℕ). w x (entryOf (fileOf s i))) (fate-here v vs i) in
         rw z (omega (arith, r, q, sum-more i g))
 
+-- sums by place
 pub sum-from : (a n : ℕ) (g : ℕ → ℕ) → a + sumTo 0 g ≡ sumTo n g → a ≡ sumTo n g
 unfolding sumTo
 sum-from a n g e = omega arith
@@ -130,6 +134,7 @@ unfolding sumTo
 sum-two zero a b c d e = refl
 sum-two (suc n) a b c d e = omega (arith, sum-two n a b c d (λ k h. e k (omega arith)), e n (omega arith))
 
+-- new texts and those gone already are the growth and the texts replaced
 pub balance : (v : ℕ) (f : Entry) → new v f + freed v f ≡ longer v f + replaced v f
 balance v f = at (eqb v 0) (eqb v 1) refl refl
   where
@@ -143,6 +148,7 @@ balance v f = at (eqb v 0) (eqb v 1) refl refl
     at false true p q = refl
     at false false p q = omega (arith, text-longer v f p q)
 
+-- what `textNeeded` adds and takes away
 pub new-bytes : (vs : List ℕ) (i : ℕ) (s : Store) → newBytes vs i s ≡ amount new vs i s
 new-bytes [] i s = refl
 new-bytes (v ∷ vs) i s = ap (λ (n : ℕ). new v (entryOf (fileOf s i)) + n) (new-bytes vs (i + 1) s)
@@ -176,6 +182,7 @@ module _ (s : Store) (ok : Sound s) where
 
 -- ---- the work space
 
+-- a join has at most one byte more
 appended-short : (b l : List ℕ) → length (appended b l) ≤ length b + length l + 1
 appended-short b l = at (isAlone b) (isEmpty l) (isClosed b)
   where
@@ -193,6 +200,7 @@ beside-short single t = omega arith
 beside-short absolute t = omega arith
 beside-short (stored d outside) t = omega (arith, appended-short d t)
 
+-- what one flagged link adds to the work space
 pub space-at : (n : ℕ) (g : ℕ → Entry) (k : ℕ) → k < n → g k .flagged ≡ true → directoryLength (g k .directory) + length (g k .text) + 2 ≤ space (tabled n g)
 unfolding tabled
 space-at zero g k h e = absurd (omega arith)

@@ -22,6 +22,7 @@ besides roots times s =
     record { fs = s .fs; rows = s .rows; roots = roots; times = times; dirs = s .dirs; text = s .text }
 
 module _ (roots : List ℕ) (times : List ℤ) where
+  -- each step, and so both passes
   either-store : (b : Bool) (x y : Store) → cond b (besides roots times x) (besides roots times y) ≡ besides roots times (cond b x y)
   either-store true x y = refl
   either-store false x y = refl
@@ -53,6 +54,7 @@ module _ (roots : List ℕ) (times : List ℤ) where
   cleaned-besides n s =
       ap (rewritten n (fates s) 0) (emptied-besides (fates s) 0 s) ∙ rewritten-besides n (fates s) 0 (emptied (fates s) 0 s)
 
+  -- the text needed, and so what the call says
   kept-besides : (vs : List ℕ) (i : ℕ) (s : Store) (u : ℕ) → keptAfter vs i (besides roots times s) u ≡ keptAfter vs i s u
   kept-besides [] i s u = refl
   kept-besides (v ∷ vs) i s u = kept-besides vs (i + 1) s (u - cond (eqb v 0) 0 (goneAt s i .len))

@@ -33,6 +33,7 @@ abbrev pub fateOf : List ℕ → ℕ → ℕ → ℕ
 fateOf [] i k = 0
 fateOf (v ∷ vs) i k = cond (eqb k i) v (fateOf vs (i + 1) k)
 
+-- files before the list's first have none, the first has its own, those behind it theirs
 fate-before : (vs : List ℕ) (i k : ℕ) → k < i → fateOf vs i k ≡ 0
 fate-before [] i k h = refl
 fate-before (v ∷ vs) i k h =
@@ -59,6 +60,7 @@ module _ (change : ℕ → File → File) (same : (f : File) → change 0 f ≡ 
 abbrev pub textLength : Store → ℕ → ℕ
 textLength s k = length (entryOf (fileOf s k) .text)
 
+-- a text is held where the row's flags say so
 held-if : (b : Bool) (t : List ℕ) → isHeld (presentIf b t) ≡ b
 held-if true t = refl
 held-if false t = refl
@@ -75,6 +77,7 @@ text-len s ok k h = at (has (rowAt (s .rows) k .flags) 16) refl
         ap (λ (x : Span). length (textAt (s .text) x)) (sym (link-span s k h)) ∙ text-length s ok (linkText k) ∙ ap (λ (x : Span). x .len) (link-span s k h)
     at false q = sym (ok .unlinked k h q)
 
+-- and lies in the used part
 link-inside : (s : Store) → Sound s → (k : ℕ) → k < s .fs .«num_files» → rowAt (s .rows) k .link .len ≤ s .fs .«text_len»
 link-inside s ok k h = omega (arith, ok .within (linkText k), ap (λ (x : Span). x .len) (link-span s k h))
 
@@ -84,6 +87,7 @@ abbrev pub amount : (ℕ → Entry → ℕ) → List ℕ → ℕ → Store → �
 amount w [] i s = 0
 amount w (v ∷ vs) i s = w v (entryOf (fileOf s i)) + amount w vs (i + 1) s
 
+-- sums over other files with the same summands
 pub amount-same : (w x : ℕ → Entry → ℕ) (vs : List ℕ) (i : ℕ) (s t : Store)
     → ((k : ℕ) → i ≤ k → k < i + length vs → w (fateOf vs i k) (entryOf (fileOf s k)) ≡ x (fateOf vs i k) (entryOf (fileOf t k)))
     → amount w vs i s ≡ amount x vs i t
@@ -110,6 +114,7 @@ pub record Passed (s t : Store) (g : ℕ → File → File) (gone came : ℕ) : 
   pub turned : Turned s t g
   pub used : t .fs .«text_len» + gone ≡ s .fs .«text_len» + came
 
+-- a change that changes nothing
 same-files : (i : ℕ) (k : ℕ) (f : File) → f ≡ atFile i (λ (g : File). g) k f
 same-files i k f = at (eqb k i)
   where
@@ -122,6 +127,7 @@ module _ (s : Store) (ok : Sound s) (i : ℕ) (h : i < s .fs .«num_files») whe
   idle : Passed s s (atFile i (λ (f : File). f)) 0 0
   idle = record { turned = turned-same (λ k b. same-files i k (fileOf s k)) (turned-self s ok); used = refl }
 
+  -- a text goes where its fate is 1
   empty-step : (v : ℕ) → (eqb v 1 ≡ true → isHeld (fileOf s i .link) ≡ true) → Passed s (cond (eqb v 1) (relinked s i []) s) (atFile i (emptiedFile v)) (freed v (entryOf (fileOf s i))) 0
   empty-step v held = at (eqb v 1) held
     where
@@ -147,12 +153,15 @@ then change same v vs i {s} p q =
 stays : {s t : Store} (g : File → File) (i : ℕ) → Turned s t (atFile i g) → (k : ℕ) → k < s .fs .«num_files» → (k ≡ i → ⊥) → fileOf t k ≡ fileOf s k
 stays {s} {t} g i p k h d = p .files k h ∙ ap (λ (b : Bool). cond b (g (fileOf s k)) (fileOf s k)) (ne-eqb k i d)
 
+-- so many files as before
 count-is : {s t : Store} {g : ℕ → File → File} → Turned s t g → t .fs .«num_files» ≡ s .fs .«num_files»
 count-is p = ap (λ (x : FileStorage). x .«num_files») (p .record-is)
 
+-- fate 0 leaves a file
 emptied-none : (f : File) → emptiedFile 0 f ≡ f
 emptied-none f = refl
 
+-- all of them, from file i on
 pub emptied-turned : (vs : List ℕ) (i : ℕ) (s : Store) → Sound s → i + length vs ≤ s .fs .«num_files»
     → ((k : ℕ) → i ≤ k → k < i + length vs → eqb (fateOf vs i k) 1 ≡ true → isHeld (fileOf s k .link) ≡ true)
     → Passed s (emptied vs i s) (λ k. emptiedFile (fateOf vs i k)) (amount freed vs i s) 0
@@ -179,6 +188,7 @@ rewrittenFile v f = cond (eqb v 0) f (linkedTo (present (textBy v (entryOf f))) 
 abbrev pub grown : ℕ → Entry → ℕ
 grown v f = cond (eqb v 0) 0 (length (textBy v f) - length (f .text))
 
+-- joins are no shorter than what is joined
 appended-longer : (b l : List ℕ) → length l ≤ length (appended b l)
 appended-longer b l = at (isAlone b) (isClosed b)
   where
@@ -216,6 +226,7 @@ module _ (s : Store) (ok : Sound s) (i : ℕ) (h : i < s .fs .«num_files») (v 
       at true q = ap (λ (j : ℕ). linkedTo (present (textBy v (entryOf (fileOf s j)))) (fileOf s k)) (sym (eqb-true k i q))
       at false q = refl
 
+  -- what it grows by, what goes, and that this is in the used part
   grows : eqb v 0 ≡ false → grown v (entryOf (fileOf s i)) ≡ length given - textLength s i
   grows p = ap (λ (b : Bool). cond b 0 (length given - textLength s i)) p
 
@@ -225,6 +236,7 @@ module _ (s : Store) (ok : Sound s) (i : ℕ) (h : i < s .fs .«num_files») (v 
   inside : rowAt (s .rows) i .link .len ≤ s .fs .«text_len»
   inside = link-inside s ok i h
 
+  -- a text is put where its fate is not 0
   written-step : Passed s (writtenAt v s i) (atFile i (rewrittenFile v)) 0 (grown v (entryOf (fileOf s i)))
   written-step = at (eqb v 0) (eqb v 1) refl refl
     where
@@ -288,9 +300,11 @@ module _ (s : Store) (ok : Sound s) (i : ℕ) (h : i < s .fs .«num_files») (v 
     rewrite-step =
         subst (λ (t : Store). Passed s t (atFile i (rewrittenFile v)) 0 (grown v (entryOf (fileOf s i)))) (sym rewritten-is) written-step
 
+-- fate 0 leaves a file
 rewritten-none : (f : File) → rewrittenFile 0 f ≡ f
 rewritten-none f = refl
 
+-- all of them, from file i on, where no text gives way any more and there is room for the texts and in the stage
 pub rewritten-turned : (m : ℕ) (vs : List ℕ) (i : ℕ) (s : Store) → Sound s → i + length vs ≤ s .fs .«num_files»
     → ((k : ℕ) → i ≤ k → k < i + length vs → eqb (fateOf vs i k) 0 ≡ false → isHeld (fileOf s k .link) ≡ true)
     → ((k : ℕ) → i ≤ k → k < i + length vs → eqb (fateOf vs i k) 1 ≡ true → textLength s k ≡ 0)

@@ -68,6 +68,7 @@ linked-twice x i l h =
           text = sets (x .text) v l;
         }
 
+-- of two texts put for one file the second counts
 twice : (i : ℕ) (a b : List ℕ) (k : ℕ) (f : File) → atFile i (linkedTo (present b)) k (atFile i (linkedTo (present a)) k f) ≡ atFile i (linkedTo (present b)) k f
 twice i a b k f = at (eqb k i)
   where
@@ -77,6 +78,7 @@ twice i a b k f = at (eqb k i)
 
 -- ---- where texts lie
 
+-- where a store's texts lie
 abbrev areaOf : Store → Area
 areaOf t = record { name = t .fs .name; used = t .fs .«text_len»; rows = t .rows; dirs = t .dirs; text = t .text }
 
@@ -85,6 +87,7 @@ module _ (s : Store) (i : ℕ) (a : Area) (m : Span → Span) (none : m nowhere 
     (dir : (k : ℕ) → k < s .fs .«num_paths» → dirAt (a .dirs) k ≡ m (dirAt (s .dirs) k))
     (file : (k : ℕ) → k < s .fs .«num_files» → rowAt (a .rows) k .name ≡ m (rowAt (s .rows) k .name))
     (link : (k : ℕ) → k < s .fs .«num_files» → (k ≡ i → ⊥) → rowAt (a .rows) k .link ≡ m (rowAt (s .rows) k .link)) where
+  -- past the end of a table there is none
   past : (k n : ℕ) (x y : Span) → (k < n → x ≡ m y) → cond (ltb k n) x nowhere ≡ m (cond (ltb k n) y nowhere)
   past k n x y e = at (le-or-lt n k)
     where
@@ -109,6 +112,7 @@ module _ (s : Store) (ok : Sound s) (i : ℕ) (h : i < s .fs .«num_files») whe
   abbrev c : Span
   c = rowAt (s .rows) i .link
 
+  -- the text lies in the used part, so nothing is clipped
   inside : endOf c ≤ u
   inside = rw (link-span s i h) at (ok .within (linkText i))
 
@@ -126,6 +130,7 @@ module _ (s : Store) (ok : Sound s) (i : ℕ) (h : i < s .fs .«num_files») whe
   bound : (k : ℕ) → k < n → k * 8 + 8 ≤ length (s .rows)
   bound k b = omega (arith, ok .rows-hold)
 
+  -- its row, every other row, and any row but for its spans
   row-here : rowAt (without .rows) i ≡ rowWith (rowAt (s .rows) i) (low c (rowAt (s .rows) i .name)) (record { at = u - c .len; len = 0 })
   row-here =
       row-back lowered i (rowWith (rowAt lowered i) (rowAt lowered i .name) (record { at = u - c .len; len = 0 })) (omega (arith, bound i h, length-rows-lowered (s .rows) n c)) (mod-lt _ (omega arith)) (mod-lt _ (omega arith))
@@ -151,6 +156,7 @@ module _ (s : Store) (ok : Sound s) (i : ℕ) (h : i < s .fs .«num_files») whe
   dir-there : (k : ℕ) → k < s .fs .«num_paths» → dirAt (without .dirs) k ≡ low c (dirAt (s .dirs) k)
   dir-there k b = dir-lowered (s .dirs) (s .fs .«num_paths») c k b (omega (arith, ok .dirs-hold))
 
+  -- where the other texts lie then, and where its own
   span-there : (p : Place) → isLink i p ≡ false → spanOf without p ≡ low c (spanOf s p)
   span-there =
       moved s i (areaOf without) (low c) (low-nowhere c) refl dir-there (λ k b. row-of k b .0) (λ k b d. ap (λ (r : Row). r .link) (row-there k b d))
@@ -158,6 +164,7 @@ module _ (s : Store) (ok : Sound s) (i : ℕ) (h : i < s .fs .«num_files») whe
   span-here : spanOf without (linkText i) ≡ record { at = u - c .len; len = 0 }
   span-here = link-span without i h ∙ ap (λ (r : Row). r .link) row-here
 
+  -- no other text has a byte in common with it
   aside : (p : Place) → isLink i p ≡ false → Apart c (spanOf s p)
   aside p e = rw (link-span s i h) at (ok .apart (linkText i) p (link-not i p e))
 
@@ -217,6 +224,7 @@ module _ (s : Store) (ok : Sound s) (i : ℕ) (h : i < s .fs .«num_files») whe
     abbrev newRow : Row
     newRow = rowWith (rowAt (s .rows) i) (rowAt (s .rows) i .name) new
 
+    -- its row, every other row, and any row but for its spans
     put-here : rowAt (put .rows) i ≡ newRow
     put-here = row-back (s .rows) i newRow (bound i h) (mod-lt _ (omega arith)) (mod-lt _ (omega arith))
 
@@ -235,6 +243,7 @@ module _ (s : Store) (ok : Sound s) (i : ℕ) (h : i < s .fs .«num_files») whe
             let e = put-there k (eqb-false k i q) in
             (ap (λ (r : Row). r .name) e, row-form (rowAt (put .rows) k) (rowAt (s .rows) k) (rowAt (s .rows) k .name) (rowAt (s .rows) k .link) e)
 
+    -- the other texts lie where they lay, and the new one behind the used part
     span-kept : (p : Place) → isLink i p ≡ false → spanOf put p ≡ spanOf s p
     span-kept =
         moved s i (areaOf put) (λ (x : Span). x) refl refl (λ k b. refl) (λ k b. put-of k .0) (λ k b d. ap (λ (r : Row). r .link) (put-there k d))

@@ -35,6 +35,7 @@ isLink i (dirName k) = false
 isLink i (fileName k) = false
 isLink i (linkText k) = eqb k i
 
+-- which one it is, and that no other is it
 pub link-is : (i : ℕ) (p : Place) → isLink i p ≡ true → p ≡ linkText i
 link-is i setName e = absurd (false≢true e)
 link-is i (dirName k) e = absurd (false≢true e)
@@ -104,6 +105,7 @@ pub record Turned (s t : Store) (g : ℕ → File → File) : Type 0 where
   pub directories : (k : ℕ) → k < s .fs .«num_paths» → directoryText t k ≡ directoryText s k
   pub files : (k : ℕ) → k < s .fs .«num_files» → fileOf t k ≡ g k (fileOf s k)
 
+-- no change
 pub turned-self : (s : Store) → Sound s → Turned s s (λ k f. f)
 turned-self s ok =
     record {
@@ -296,6 +298,7 @@ module _ (s : Store) (ok : Sound s) (i : ℕ) (h : i < s .fs .«num_files») (l 
           file-after k b l e ∙ ap (λ (c : Bool). linkedTo (presentIf c l) (fileOf s k)) f
       at false q = file-after k b (textAt (s .text) (rowAt (s .rows) k .link)) (link-kept k b (eqb-false k i q))
 
+  -- together
   pub turn : Turned s (over s a) (atFile i (linkedTo (present l)))
   turn =
       record {

@@ -3,14 +3,15 @@
 --     work-enough     links that are judged have their work space
 --     judging-is      the number on tables in order
 --     clean-done      a cleaning with work space and room is done
+--     clean-short     one without room for the texts afterwards is refused by 10
 use mathlib.Core.Path.{_≡_, ap, _∙_}
 use mathlib.Core.Bool.{Bool, true, false, cond, not}
 use mathlib.Core.List.{List}
-use Prim.Native.Nat.{ℕ, _*_, _/_, _≤_}
+use Prim.Native.Nat.{ℕ, _*_, _/_, _≤_, _<_}
 use native.Mathlib.Omega.{arith}
 use lib.Dec.{eqb, leb, ltb}
 use lib.ListN.{length}
-use borrow.Author.Tests.{le-leb, le-ltb, ltb-false}
+use borrow.Author.Tests.{le-leb, le-ltb, lt-ltb, ltb-false}
 use Rattle.types.specs.Refusals.{value, refused}
 use Rattle.tables.specs.Model.{Store}
 use Rattle.storage.specs.Rules.{both}
@@ -57,19 +58,24 @@ pub space-enough : (s : Store) (marks stage path : ℕ) → linkCount (entriesOf
 space-enough s marks stage path a b c =
     rw (le-ltb marks (linkCount (entriesOf s)) a, le-ltb stage (space (entriesOf s)) b) (le-ltb path (2 * space (entriesOf s)) c)
 
-pub clean-done : (s : Store) (marks stage path : List ℕ) → Sound s → badLength (s .fs .«piece_length») ≡ false
-    → lacksSpace (entriesOf s) (length marks) (length stage) (length path) ≡ false → textNeeded s ≤ length (s .text)
-    → cleanStored s marks stage path ≡ cleanedTo (value (cleanedStore (length stage) s .fs)) (cleanedStore (length stage) s) (cleared marks) (cleared stage) (cleared path)
-clean-done s marks stage path ok good work room =
-    ap (λ (k : ℕ). cond (eqb k 0) (cond (ltb (length (s .text)) (textNeeded s)) short done) (cleanedTo (refused k) s marks stage path)) none
-    ∙ ap (λ (b : Bool). cond b short done) (le-ltb (length (s .text)) (textNeeded s) room)
-  where
-    short : Cleaned
-    short = cleanedTo (refused 10) s (cleared marks) (cleared stage) (cleared path)
+-- with work space enough, the text needed decides
+module _ (s : Store) (marks stage path : List ℕ) (ok : Sound s) (good : badLength (s .fs .«piece_length») ≡ false) (work : lacksSpace (entriesOf s) (length marks) (length stage) (length path) ≡ false) where
+  abbrev short : Cleaned
+  short = cleanedTo (refused 10) s (cleared marks) (cleared stage) (cleared path)
 
-    done : Cleaned
-    done =
-        cleanedTo (value (cleanedStore (length stage) s .fs)) (cleanedStore (length stage) s) (cleared marks) (cleared stage) (cleared path)
+  abbrev done : Cleaned
+  done =
+      cleanedTo (value (cleanedStore (length stage) s .fs)) (cleanedStore (length stage) s) (cleared marks) (cleared stage) (cleared path)
 
-    none : judgingNumber s (length marks) (length stage) (length path) ≡ 0
-    none = judging-is s (length marks) (length stage) (length path) ok good ∙ ap (λ (b : Bool). cond b 10 0) work
+  answer-is : cleanStored s marks stage path ≡ cond (ltb (length (s .text)) (textNeeded s)) short done
+  answer-is =
+      ap (λ (k : ℕ). cond (eqb k 0) (cond (ltb (length (s .text)) (textNeeded s)) short done) (cleanedTo (refused k) s marks stage path))
+      (judging-is s (length marks) (length stage) (length path) ok good ∙ ap (λ (b : Bool). cond b 10 0) work)
+
+  pub clean-done : textNeeded s ≤ length (s .text)
+      → cleanStored s marks stage path ≡ cleanedTo (value (cleanedStore (length stage) s .fs)) (cleanedStore (length stage) s) (cleared marks) (cleared stage) (cleared path)
+  clean-done room = answer-is ∙ ap (λ (b : Bool). cond b short done) (le-ltb (length (s .text)) (textNeeded s) room)
+
+  pub clean-short : length (s .text) < textNeeded s → cleanStored s marks stage path .says ≡ refused 10
+  clean-short room =
+      ap (λ (c : Cleaned). c .says) (answer-is ∙ ap (λ (b : Bool). cond b short done) (lt-ltb (length (s .text)) (textNeeded s) room))
