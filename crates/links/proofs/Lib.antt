@@ -14,3 +14,5 @@ pub mod Events
 pub mod Packed
 pub mod Written
 pub mod Walked
+pub mod Leads
+pub mod Safe

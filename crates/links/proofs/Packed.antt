@@ -63,13 +63,6 @@ module _ (ms : List ℕ) (k m : ℕ) (h : m < 8) where
   pub set-lead-fates : map fate (set ms k (getD ms k 0 / 8 * 8 + m)) ≡ map fate ms
   set-lead-fates = map-set-same fate ms k (getD ms k 0 / 8 * 8 + m) 0 (fate-of (getD ms k 0 / 8) m h)
 
--- a fate is set
-pub set-fate-leads : (ms : List ℕ) (k v : ℕ) → map lead (set ms k (v * 8 + lead (getD ms k 0))) ≡ map lead ms
-set-fate-leads ms k v = map-set-same lead ms k (v * 8 + lead (getD ms k 0)) 0 (let e : lead (getD ms k 0) < 8 = omega arith in lead-of v (lead (getD ms k 0)) e)
-
-pub fate-set : (ms : List ℕ) (k v : ℕ) → fate (v * 8 + lead (getD ms k 0)) ≡ v
-fate-set ms k v = omega arith
-
 -- leads and fates together are the marks
 pub marks-from : (a b : List ℕ) → map lead a ≡ map lead b → map fate a ≡ map fate b → a ≡ b
 marks-from [] [] h k = refl

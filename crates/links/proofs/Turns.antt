@@ -57,4 +57,4 @@ module _ (dir ends : List ℕ → Bool) (ls : List Link) (p : List ℕ) (e : ℕ
       turn-link = sym (goes-on dir ends ls p e ls′ p′ e′ next)
 
       pub turn-link-less : left ls′ p′ e′ < left ls p e
-      turn-link-less = step-less dir ls p e ls′ p′ e′ next .fewer
+      turn-link-less = step-less dir ls p e ls′ p′ e′ next

@@ -1,5 +1,5 @@
--- Laws of the walk of Clean.antt: every turn makes `left` less, so the turns that a walk is allowed are no part of its meaning, and
--- the path stays short. They rely on nothing else of this crate.
+-- Laws of the walk of Clean.antt: every turn makes `left` less, so the turns that a walk is allowed are no part of its meaning.
+-- They rely on nothing else of this crate.
 use Prim.Native.Nat.{ℕ, zero, suc, _+_, _≤_, _<_}
 use mathlib.Core.Path.{_≡_, refl, ap}
 use mathlib.Core.Bool.{Bool, true, false, cond}
@@ -44,22 +44,17 @@ lead-less (l ∷ ls) p t h = go (equal (l .path) p) (λ q. lead-less ls p t q) h
     go true r q = let e : l .text ≡ t = cc in omega (arith, ap length e)
     go false r q = omega (arith, r q)
 
--- what holds after a turn that goes on: less is left, and the path with what the links can add is no longer
-pub record Less (ls : List Link) (p : List ℕ) (e : ℕ) (ls′ : List Link) (p′ : List ℕ) (e′ : ℕ) : Type 0 where
-  pub fewer : left ls′ p′ e′ < left ls p e
-  pub short : length p′ + weight ls′ ≤ length p + weight ls
-
--- so after a directory
-further-less : (ls : List Link) (p : List ℕ) (e n : ℕ) (ls′ : List Link) (p′ : List ℕ) (e′ : ℕ) → e < length p → further ls p e n ≡ on ls′ p′ e′ → Less ls p e ls′ p′ e′
+-- a turn that goes on through a directory makes `left` less
+further-less : (ls : List Link) (p : List ℕ) (e n : ℕ) (ls′ : List Link) (p′ : List ℕ) (e′ : ℕ) → e < length p → further ls p e n ≡ on ls′ p′ e′ → left ls′ p′ e′ < left ls p e
 further-less ls p e n ls′ p′ e′ h q = go (ltb e n) refl q
   where
-    go : (b : Bool) → ltb e n ≡ b → cond b (on ls p n) stop ≡ on ls′ p′ e′ → Less ls p e ls′ p′ e′
+    go : (b : Bool) → ltb e n ≡ b → cond b (on ls p n) stop ≡ on ls′ p′ e′ → left ls′ p′ e′ < left ls p e
     go true b q = let i : ls ≡ ls′ = cc in let j : p ≡ p′ = cc in let k : n ≡ e′ = cc in
-        record { fewer = omega (arith, ltb-true e n b, ap length j, ap weight i); short = omega (arith, ap length j, ap weight i) }
+        omega (arith, ltb-true e n b, ap length j, ap weight i)
     go false b q = absurd (let z : _≡_ {A = ℕ} 0 1 = cc in omega arith)
 
--- so after a link
-through-less : (x : Lead) (ls : List Link) (p : List ℕ) (e : ℕ) (ls′ : List Link) (p′ : List ℕ) (e′ : ℕ) → e < length p → leadAt ls (take e p) ≡ x → through x ls p e ≡ on ls′ p′ e′ → Less ls p e ls′ p′ e′
+-- so does one through a link
+through-less : (x : Lead) (ls : List Link) (p : List ℕ) (e : ℕ) (ls′ : List Link) (p′ : List ℕ) (e′ : ℕ) → e < length p → leadAt ls (take e p) ≡ x → through x ls p e ≡ on ls′ p′ e′ → left ls′ p′ e′ < left ls p e
 through-less none ls p e ls′ p′ e′ h x q = absurd (let z : _≡_ {A = ℕ} 0 1 = cc in omega arith)
 through-less (to t) ls p e ls′ p′ e′ h x q =
     let i : without (take e p) ls ≡ ls′ = cc in
@@ -67,14 +62,14 @@ through-less (to t) ls p e ls′ p′ e′ h x q =
     let w = lead-less ls (take e p) t x in
     let s = combine-short t (drop (e + 1) p) in
     let d = length-drop (e + 1) p in
-    record { fewer = omega (arith, ap length j, ap weight i, w, s, d); short = omega (arith, ap length j, ap weight i, w, s, d) }
+    omega (arith, ap length j, ap weight i, w, s, d)
 
--- so after every turn that goes on
-pub step-less : (dir : List ℕ → Bool) (ls : List Link) (p : List ℕ) (e : ℕ) (ls′ : List Link) (p′ : List ℕ) (e′ : ℕ) → step dir ls p e ≡ on ls′ p′ e′ → Less ls p e ls′ p′ e′
+-- so does every turn that goes on
+pub step-less : (dir : List ℕ → Bool) (ls : List Link) (p : List ℕ) (e : ℕ) (ls′ : List Link) (p′ : List ℕ) (e′ : ℕ) → step dir ls p e ≡ on ls′ p′ e′ → left ls′ p′ e′ < left ls p e
 unfolding step
 step-less dir ls p e ls′ p′ e′ q = go (ltb e (length p)) (dir (take e p)) refl q
   where
-    go : (b d : Bool) → ltb e (length p) ≡ b → cond b (cond d (further ls p e (cut p (e + 1))) (through (leadAt ls (take e p)) ls p e)) done ≡ on ls′ p′ e′ → Less ls p e ls′ p′ e′
+    go : (b d : Bool) → ltb e (length p) ≡ b → cond b (cond d (further ls p e (cut p (e + 1))) (through (leadAt ls (take e p)) ls p e)) done ≡ on ls′ p′ e′ → left ls′ p′ e′ < left ls p e
     go true true b q = further-less ls p e (cut p (e + 1)) ls′ p′ e′ (ltb-true e (length p) b) q
     go true false b q = through-less (leadAt ls (take e p)) ls p e ls′ p′ e′ (ltb-true e (length p) b) refl q
     go false d b q = absurd (let z : _≡_ {A = ℕ} 0 1 = cc in omega arith)
@@ -89,7 +84,7 @@ enough dir ends (suc n) (suc m) ls p e h k = go (step dir ls p e) refl (λ ls′
     go : (x : Next) → step dir ls p e ≡ x → ((ls′ : List Link) (p′ : List ℕ) (e′ : ℕ) → left ls′ p′ e′ < n → left ls′ p′ e′ < m → walk dir ends n ls′ p′ e′ ≡ walk dir ends m ls′ p′ e′) → follow (ends p) (walk dir ends n) x ≡ follow (ends p) (walk dir ends m) x
     go stop q r = refl
     go done q r = refl
-    go (on ls′ p′ e′) q r = let f = step-less dir ls p e ls′ p′ e′ q .fewer in r ls′ p′ e′ (omega arith) (omega arith)
+    go (on ls′ p′ e′) q r = let f = step-less dir ls p e ls′ p′ e′ q in r ls′ p′ e′ (omega arith) (omega arith)
 
 -- the walk by its first turn: it stops, it comes to the path's end, or it is the walk from there
 module _ (dir ends : List ℕ → Bool) (ls : List Link) (p : List ℕ) (e : ℕ) where
@@ -104,5 +99,5 @@ module _ (dir ends : List ℕ → Bool) (ls : List Link) (p : List ℕ) (e : ℕ
   pub goes-on : (ls′ : List Link) (p′ : List ℕ) (e′ : ℕ) → step dir ls p e ≡ on ls′ p′ e′ → goes dir ends ls p e ≡ goes dir ends ls′ p′ e′
   unfolding walk
   goes-on ls′ p′ e′ q =
-      let f = step-less dir ls p e ls′ p′ e′ q .fewer in
+      let f = step-less dir ls p e ls′ p′ e′ q in
       rw q (enough dir ends (left ls p e) (suc (left ls′ p′ e′)) ls′ p′ e′ f (omega arith))
