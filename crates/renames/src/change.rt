@@ -10,11 +10,12 @@ ghost use Rattle.answers.specs.Answers.{askedFile};
 ghost use Rattle.renames.specs.Renames.{Changed, modeWord, modeFor, orderedFrom, renamesOf, withRename, wordsOf, textsOf, stateOf, renameFile};
 ghost use Rattle.renames.specs.Results.{renamesSays};
 ghost use Rattle.renames.specs.Places.{placeOf};
-ghost use Rattle.renames.specs.Changing.{placeSays, placeAsked, isShort, renameOf};
+ghost use Rattle.renames.specs.Changing.{placeSays, placeAsked, isShort};
 use crate::check::is_in_order;
 use crate::place::Place;
 use crate::place::PlaceResult;
 use crate::place::place_of;
+use crate::rename::RenameMode;
 use crate::rename::RenamedFiles;
 use crate::rename::RenamesResult;
 use crate::splice::put_entry;
@@ -72,26 +73,41 @@ fn place_in(
     }
 }
 
-// The word of a name's mode: an absolute name is read alone.
-fn mode_for(name: &[u8]) -> u64
-    ensures { λ r. ⌜ r ≡ modeWord (modeFor (now (name .entry))) ⌝ }
+// A name's mode: an absolute name is read alone.
+pub(crate) fn mode_for(name: &[u8]) -> RenameMode
+    ensures { λ r. ⌜ r ≡ modeFor (now (name .entry)) ⌝ }
 {
-    if path::is_complete(name) { 2 } else { 0 }
+    if path::is_complete(name) {
+        return RenameMode::AbsolutePath;
+    }
+    RenameMode::FullPath
+}
+
+// The word of a mode.
+fn mode_word(mode: RenameMode) -> u64
+    ensures { λ r. ⌜ r ≡ modeWord mode ⌝ }
+{
+    match mode {
+        RenameMode::FullPath => 0,
+        RenameMode::NoRootPath => 1,
+        RenameMode::AbsolutePath => 2,
+    }
 }
 
 // Writes a rename at its place, for which there is room, and gives the record.
-fn put_rename(
+pub(crate) fn put_rename(
     renames: RenamedFiles,
     entries: &mut [u64],
     text: &mut [u8],
     file: u64,
     p: Place,
+    mode: RenameMode,
     name: &[u8],
 ) -> RenamedFiles
     requires { ⌜ (orderedFrom (renames .«num_renames») 0 0 (renames .«text_len») (now entries) ≡ true) × (p ≡ placeOf (renames .«num_renames») file (now entries)) × (renames .«num_renames» ≤ length (now entries) / 3) × (renames .«text_len» ≤ length (now text)) × (renames .«num_renames» + 1 - p .same ≤ length (now entries) / 3) × (renames .«text_len» - p .old + length (now name) ≤ length (now text)) ⌝ }
-    ensures { λ r. ⌜ r ≡ stateOf (withRename (renameOf file (now (name .entry))) (renamesOf renames (now (entries .entry)) (now (text .entry)))) ⌝ }
-    ensures { λ _. ⌜ now (entries .exit) ≡ sets (now (entries .entry)) 0 (wordsOf (withRename (renameOf file (now (name .entry))) (renamesOf renames (now (entries .entry)) (now (text .entry))))) ⌝ }
-    ensures { λ _. ⌜ now (text .exit) ≡ sets (now (text .entry)) 0 (textsOf (withRename (renameOf file (now (name .entry))) (renamesOf renames (now (entries .entry)) (now (text .entry))))) ⌝ }
+    ensures { λ r. ⌜ r ≡ stateOf (withRename (record { file = file; mode = mode; name = now (name .entry) }) (renamesOf renames (now (entries .entry)) (now (text .entry)))) ⌝ }
+    ensures { λ _. ⌜ now (entries .exit) ≡ sets (now (entries .entry)) 0 (wordsOf (withRename (record { file = file; mode = mode; name = now (name .entry) }) (renamesOf renames (now (entries .entry)) (now (text .entry))))) ⌝ }
+    ensures { λ _. ⌜ now (text .exit) ≡ sets (now (text .entry)) 0 (textsOf (withRename (record { file = file; mode = mode; name = now (name .entry) }) (renamesOf renames (now (entries .entry)) (now (text .entry))))) ⌝ }
 {
     let n = renames.num_renames;
     let used = renames.text_len;
@@ -102,7 +118,7 @@ fn put_rename(
         p.entry * 3,
         p.same,
         file,
-        mode_for(name),
+        mode_word(mode),
         name.len() as u64,
     );
     RenamedFiles {
@@ -130,6 +146,7 @@ pub fn rename_file(
             text,
             index.get() as u64,
             p,
+            mode_for(new_filename),
             new_filename,
         )),
         PlaceResult::Err(e) => RenamesResult::Err(e),

@@ -4,7 +4,7 @@ use mathlib.Core.Path.{ap, _∙_}
 use mathlib.Core.List.{[], _∷_}
 use native.Mathlib.Omega.{arith}
 use lib.ListN.{length}
-use Rattle.renames.specs.Changing.{renameOf}
+use Rattle.renames.specs.Renames.{Renamed}
 use Rattle.renames.specs.Places.{spliced}
 use Rattle.renames.proofs.Changes.{place-in, put-state, put-entries, put-text}
 use borrow.Author.Needs.{needs}
@@ -25,25 +25,25 @@ mul-put-entry c = search needs
 mul-put-entry-2 : tie.Need-mul-put-entry-2
 mul-put-entry-2 c = record { fits = omega (arith, lies (c .before .before .before .before .before .before .before .before .before), c .before .before .before .before .before .before .before .before .before .pre .2) }
 
-mode-for-requires : tie.Need-mode-for-requires
-mode-for-requires c κs = search needs
+mode-word-requires : tie.Need-mode-word-requires
+mode-word-requires c κs = search needs
 
 put-entry-requires : tie.Need-put-entry-requires
 put-entry-requires c κs =
     let k = lies (c .before .before .before .before .before .before .before .before .before .before) in
     (omega (arith, k), omega (arith, k, c .before .before .before .before .before .before .before .before .before .before .pre .2, c .before .before .before .before .before .before .before .before .before .before .pre .4), k .1)
 
-add-t14 : tie.Need-add-t14
-add-t14 c = search needs
+add-t15 : tie.Need-add-t15
+add-t15 c = search needs
 
-sub-t15 : tie.Need-sub-t15
-sub-t15 c = omega (arith, lies (c .before .before .before .before .before .before .before .before .before .before .before .before .before .before))
+sub-t16 : tie.Need-sub-t16
+sub-t16 c = omega (arith, lies (c .before .before .before .before .before .before .before .before .before .before .before .before .before .before))
 
-sub-t17 : tie.Need-sub-t17
-sub-t17 c = omega (arith, lies (c .before .before .before .before .before .before .before .before .before .before .before .before .before .before .before))
+sub-t18 : tie.Need-sub-t18
+sub-t18 c = omega (arith, lies (c .before .before .before .before .before .before .before .before .before .before .before .before .before .before .before))
 
-add-t20 : tie.Need-add-t20
-add-t20 c = search needs
+add-t21 : tie.Need-add-t21
+add-t21 c = search needs
 
 same-length : tie.Need-same-length
 same-length c = search needs
@@ -57,9 +57,9 @@ returns c =
     let a = s .args in
     let n = a .renames .«num_renames» in
     let u = a .renames .«text_len» in
-    let r = renameOf (a .file) (a .name .now) in
+    let r : Renamed = record { file = a .file; mode = a .mode; name = a .name .now } in
     let held : n * 3 ≤ length (a .entries .now) = omega (arith, s .pre .2) in
-    let word = ap (λ (m : ℕ). spliced (a .entries .now) (n * 3) (a .p .entry * 3) (a .p .same * 3) (a .file ∷ m ∷ length (a .name .now) ∷ [])) (c .before .before .before .before .before .mode-for .ensures) in (
+    let word = ap (λ (m : ℕ). spliced (a .entries .now) (n * 3) (a .p .entry * 3) (a .p .same * 3) (a .file ∷ m ∷ length (a .name .now) ∷ [])) (c .before .before .before .before .before .mode-word .ensures) in (
       put-state n u r (a .entries .now) (a .text .now) (s .pre .0) held (s .pre .3) (a .p) (s .pre .1),
       (
         c .before .before .before .before .put-entry .ensures ∙ word ∙ put-entries n u r (a .entries .now) (a .text .now) (s .pre .0) held (s .pre .3) (a .p) (s .pre .1),
@@ -74,12 +74,12 @@ put-rename-spec =
     replace-text-requires
     mul-put-entry
     mul-put-entry-2
-    mode-for-requires
+    mode-word-requires
     put-entry-requires
-    add-t14
-    sub-t15
-    sub-t17
-    add-t20
+    add-t15
+    sub-t16
+    sub-t18
+    add-t21
     same-length
     same-length-2
     returns)

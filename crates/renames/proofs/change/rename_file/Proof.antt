@@ -1,12 +1,14 @@
 -- `renames::change::rename_file` meets its contract.
 use Prim.Native.Nat.{ℕ}
 use mathlib.Core.Path.{_≡_, sym, ap, _∙_}
+use mathlib.Core.List.{List}
 use lib.Seq.{sets}
 use lib.ListN.{length}
 use Rattle.types.specs.Refusals.{numberOf, value}
 use Rattle.answers.specs.Answers.{indexOf}
-use Rattle.renames.specs.Renames.{stateOf, wordsOf, textsOf, withRename, renamesOf}
-use Rattle.renames.specs.Changing.{renameOf, placeSays, placeAsked}
+use Rattle.renames.specs.declared.rename.RenameMode.{RenameMode}
+use Rattle.renames.specs.Renames.{Renamed, stateOf, wordsOf, textsOf, withRename, renamesOf}
+use Rattle.renames.specs.Changing.{placeSays, placeAsked}
 use Rattle.names.proofs.Deciding.{index-is}
 use Rattle.renames.proofs.Decisions.{place-known, place-changed, place-refused}
 use borrow.Author.Needs.{needs}
@@ -20,6 +22,11 @@ place-is c = ap placeSays (sym (c .place .given .1)) ∙ c .before .before .plac
 file-is : (c : tie.After-get) → c .get .result ≡ indexOf (c .before .before .before .before .before .before .before .before .before .before .before .args .index .0)
 file-is c = c .get .ensures ∙ index-is (c .before .before .before .before .before .before .before .before .before .before .before .args .index .0)
 
+-- the rename that is written is the file's, with the name's mode
+same-rename : (i i′ : ℕ) (m m′ : RenameMode) (name : List ℕ) → i ≡ i′ → m ≡ m′
+    → _≡_ {A = Renamed} (record { file = i; mode = m; name = name }) (record { file = i′; mode = m′; name = name })
+same-rename i i′ m m′ name p q = rw (p, q)
+
 place-in-requires : tie.Need-place-in-requires
 place-in-requires c κs = search needs
 
@@ -29,11 +36,14 @@ enum-known-place c = search needs
 get-requires : tie.Need-get-requires
 get-requires c κs = search needs
 
+mode-for-requires : tie.Need-mode-for-requires
+mode-for-requires c κs = search needs
+
 put-rename-requires : tie.Need-put-rename-requires
 put-rename-requires c κs =
-    let a = c .before .before .before .before .before .before .before .before .before .before .before .args in
-    let k = place-known (a .fs) (a .renames) (a .entries .now) (a .text .now) (a .index .0) (a .new-filename .now) _ (place-is (c .before .before .before .before)) in
-    rw (file-is c) k
+    let a = c .before .before .before .before .before .before .before .before .before .before .before .before .args in
+    let k = place-known (a .fs) (a .renames) (a .entries .now) (a .text .now) (a .index .0) (a .new-filename .now) _ (place-is (c .before .before .before .before .before)) in
+    rw (file-is (c .before)) k
 
 enum-known-place-2 : tie.Need-enum-known-place-2
 enum-known-place-2 c = search needs
@@ -46,13 +56,14 @@ same-length-2 c = search needs
 
 returns : tie.Need-returns
 returns c =
-    let a = c .before .before .before .before .before .before .before .before .before .before .before .before .before .before .before .before .args in
-    let k = file-is (c .before .before .before .before .before) in
+    let a = c .before .before .before .before .before .before .before .before .before .before .before .before .before .before .before .before .before .args in
+    let rs = renamesOf (a .renames) (a .entries .now) (a .text .now) in
+    let k = same-rename _ _ _ _ (a .new-filename .now) (file-is (c .before .before .before .before .before .before)) (c .before .before .before .before .before .mode-for .ensures) in
     let w = c .before .before .before .before .put-rename .ensures in
-    place-changed (a .fs) (a .renames) (a .entries .now) (a .text .now) (a .index .0) (a .new-filename .now) _ (place-is (c .before .before .before .before .before .before .before .before .before)) _ _ _
-    (w .0 ∙ ap (λ (i : ℕ). stateOf (withRename (renameOf i (a .new-filename .now)) (renamesOf (a .renames) (a .entries .now) (a .text .now)))) k)
-    (w .1 .0 ∙ ap (λ (i : ℕ). sets (a .entries .now) 0 (wordsOf (withRename (renameOf i (a .new-filename .now)) (renamesOf (a .renames) (a .entries .now) (a .text .now))))) k)
-    (w .1 .1 ∙ ap (λ (i : ℕ). sets (a .text .now) 0 (textsOf (withRename (renameOf i (a .new-filename .now)) (renamesOf (a .renames) (a .entries .now) (a .text .now))))) k)
+    place-changed (a .fs) (a .renames) (a .entries .now) (a .text .now) (a .index .0) (a .new-filename .now) _ (place-is (c .before .before .before .before .before .before .before .before .before .before)) _ _ _
+    (w .0 ∙ ap (λ (r : Renamed). stateOf (withRename r rs)) k)
+    (w .1 .0 ∙ ap (λ (r : Renamed). sets (a .entries .now) 0 (wordsOf (withRename r rs))) k)
+    (w .1 .1 ∙ ap (λ (r : Renamed). sets (a .text .now) 0 (textsOf (withRename r rs))) k)
 
 same-length-3 : tie.Need-same-length-3
 same-length-3 c = search needs
@@ -69,6 +80,7 @@ rename-file-spec =
     place-in-requires
     enum-known-place
     get-requires
+    mode-for-requires
     put-rename-requires
     enum-known-place-2
     same-length
