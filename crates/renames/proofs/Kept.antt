@@ -1,18 +1,16 @@
 -- A change keeps the tables in order, and what they read afterwards is the changed list: so one change may follow another. These
--- laws rely on those of proofs/Ordered.antt and proofs/Decisions.antt.
+-- laws rely on those of proofs/Rising.antt and proofs/Decisions.antt.
 use Prim.Native.Nat.{ℕ, zero, suc, _+_, _-_, _*_, _/_, _≤_, _<_}
 use mathlib.Core.Path.{_≡_, refl, sym, ap, _∙_}
 use mathlib.Core.Bool.{Bool, true, false, cond, not}
-use mathlib.Core.Logic.{_⊎_, inl, inr}
 use mathlib.Core.List.{List, [], _∷_, _++_, append-assoc}
 use native.Mathlib.Nat.{add-zero}
 use native.Mathlib.Omega.{arith}
-use borrow.Author.Tests.{ltb-false, lt-ltb, le-ltb, eq-eqb, ne-eqb, le-leb}
+use borrow.Author.Tests.{ltb-false, le-leb}
 use lib.Dec.{ltb, eqb}
 use lib.IntN.{ℤ}
 use lib.ListN.{length, getD, take, drop, length-append}
 use lib.Seq.{sets, sets-eq, length-sets, getD-drop, drop-drop, take-append-seam, drop-append-seam}
-use Rattle.lists.proofs.Orders.{le-or-lt}
 use Rattle.types.specs.Refusals.{value}
 use Rattle.tables.specs.declared.storage.FileStorage.{FileStorage}
 use Rattle.storage.specs.Addition.{badLength}
@@ -23,40 +21,8 @@ use Rattle.renames.specs.declared.rename.RenameMode.the-variants.{FullPa
 use Rattle.renames.specs.declared.rename.RenamedFiles.{RenamedFiles}
 use Rattle.renames.specs.Renames.{Renamed, modeWord, modeOf, renamesFrom, renamesOf, orderedFrom, inOrder, lacksRoom, stateOf, wordsOf, textsOf, withRename, renamedTo, changedIf, renameFile}
 use Rattle.renames.specs.Changing.{renameOf}
-use Rattle.renames.proofs.Ordered.{order-first, order-rest}
+use Rattle.renames.proofs.Rising.{Rises, Small, rises-read, small-read, rises-with, small-with}
 use Rattle.renames.proofs.Decisions.{order-in}
-
--- numbers of 31 bits, each above the one before it, from `least` on
-abbrev pub Ascends : ℕ → List Renamed → Type 0
-Ascends least [] = Unit
-Ascends least (r ∷ rs) = (least ≤ r .file) × (r .file ≤ 2147483647) × Ascends (r .file + 1) rs
-
--- tables in order read an ascending list
-pub ascends-read : (n i least left : ℕ) (e t : List ℕ) → orderedFrom n i least left e ≡ true → Ascends least (renamesFrom n i e t)
-unfolding renamesFrom
-ascends-read zero i least left e t h = tt
-ascends-read (suc n) i least left e t h =
-    let o = order-first n i least left e h in
-    let l = getD e (i * 3 + 2) 0 in
-    (o .0, o .1, ascends-read n (i + 1) (getD e (i * 3) 0 + 1) (left - l) e (drop l t) (order-rest n i least left e h))
-
-weaker : (rs : List Renamed) (least m : ℕ) → m ≤ least → Ascends least rs → Ascends m rs
-weaker [] least m h a = tt
-weaker (r ∷ rs) least m h a = (omega (arith, a .0), a .1, a .2)
-
--- and a rename more leaves it ascending
-pub ascends-with : (r : Renamed) (rs : List Renamed) (least : ℕ) → least ≤ r .file → r .file ≤ 2147483647 → Ascends least rs → Ascends least (withRename r rs)
-ascends-with r [] least h k a = (h, k, tt)
-ascends-with r (x ∷ xs) least h k a =
-    step (le-or-lt (r .file) (x .file)) (le-or-lt (x .file) (r .file)) (λ g. ascends-with r xs (x .file + 1) g k (a .2))
-  where
-    step : (r .file ≤ x .file) ⊎ (x .file < r .file) → (x .file ≤ r .file) ⊎ (r .file < x .file)
-        → (x .file + 1 ≤ r .file → Ascends (x .file + 1) (withRename r xs)) → Ascends least (withRename r (x ∷ xs))
-    step (inr g) b ih =
-        rw (le-ltb (r .file) (x .file) (omega arith), ne-eqb (r .file) (x .file) (λ q. omega arith)) (a .0, a .1, ih (omega arith))
-    step (inl g) (inr b) ih = rw (lt-ltb (r .file) (x .file) b) (h, k, (omega arith, a .1, a .2))
-    step (inl g) (inl b) ih =
-        rw (le-ltb (r .file) (x .file) b, eq-eqb (r .file) (x .file) (omega arith)) (h, k, weaker xs (x .file + 1) (r .file + 1) (omega arith) (a .2))
 
 -- ---- a list written is read back
 
@@ -104,27 +70,27 @@ list-read (r ∷ rs) i e post more h =
     )
     (ap (λ (x : List Renamed). r ∷ x) (list-read rs (i + 1) e post more (words-rest r rs i e post h)))
 
-pub list-ordered : (rs : List Renamed) (i least : ℕ) (e post : List ℕ) → drop (i * 3) e ≡ wordsOf rs ++ post → Ascends least rs
+pub list-ordered : (rs : List Renamed) (i least : ℕ) (e post : List ℕ) → drop (i * 3) e ≡ wordsOf rs ++ post → Rises least rs → Small rs
     → orderedFrom (length rs) i least (length (textsOf rs)) e ≡ true
 unfolding orderedFrom
-list-ordered [] i least e post h a = refl
-list-ordered (r ∷ rs) i least e post h a =
+list-ordered [] i least e post h a b = refl
+list-ordered (r ∷ rs) i least e post h a b =
     let n : length (r .name ++ textsOf rs) - length (r .name) ≡ length (textsOf rs) = omega (arith, length-append (r .name) (textsOf rs)) in
     rw (
       word-file r rs i e post h,
       at-word r rs i e post h 1,
       at-word r rs i e post h 2,
       le-leb least (r .file) (a .0),
-      le-leb (r .file) 2147483647 (a .1),
+      le-leb (r .file) 2147483647 (b .0),
       le-leb (modeWord (r .mode)) 2 (mode-small (r .mode)),
       le-leb (length (r .name)) (length (r .name ++ textsOf rs)) (omega (arith, length-append (r .name) (textsOf rs))),
       n,
     )
-    (list-ordered rs (i + 1) (r .file + 1) e post (words-rest r rs i e post h) (a .2))
+    (list-ordered rs (i + 1) (r .file + 1) e post (words-rest r rs i e post h) (a .1) (b .1))
 
 -- ---- tables that hold a list
 
-module _ (rs : List Renamed) (e t : List ℕ) (up : Ascends 0 rs) (held : length rs ≤ length e / 3) (room : length (textsOf rs) ≤ length t) where
+module _ (rs : List Renamed) (e t : List ℕ) (up : Rises 0 rs) (small : Small rs) (held : length rs ≤ length e / 3) (room : length (textsOf rs) ≤ length t) where
   abbrev entries : List ℕ
   entries = sets e 0 (wordsOf rs)
 
@@ -145,7 +111,7 @@ module _ (rs : List Renamed) (e t : List ℕ) (up : Ascends 0 rs) (held : length
         le-leb (length rs) (length e / 3) held,
         le-leb (length (textsOf rs)) (length t) room,
       )
-      (list-ordered rs 0 0 entries (drop (0 + length (wordsOf rs)) e) entries-are up)
+      (list-ordered rs 0 0 entries (drop (0 + length (wordsOf rs)) e) entries-are up small)
 
   pub kept-list : renamesOf (stateOf rs) entries text ≡ rs
   kept-list =
@@ -175,7 +141,9 @@ module _ (fs : FileStorage) (rf rf′ : RenamedFiles) (e t : List ℕ) (z : ℤ)
       let k = passes (badLength (fs .«piece_length»)) (not (isBelow (fs .«num_files») z)) (inOrder rf e t) (lacksRoom after e t) after e t rf′ h in
       let o = order-in rf e (length t) (k .1) in
       let s = either-false (ltb (length e / 3) (length after)) (ltb (length t) (length (textsOf after))) (k .2) in
-      let up = ascends-with (renameOf (indexOf z) name) (renamesOf rf e t) 0 (omega arith) small (ascends-read (rf .«num_renames») 0 0 (rf .«text_len») e t (o .2)) in
+      let r : Renamed = renameOf (indexOf z) name in
+      let up = rises-with r (renamesOf rf e t) 0 (omega arith) (rises-read (rf .«num_renames») 0 0 (rf .«text_len») e t (o .2)) in
+      let low = small-with r (renamesOf rf e t) small (small-read (rf .«num_renames») 0 0 (rf .«text_len») e t (o .2)) in
       let held = ltb-false _ _ (s .0) in
       let room = ltb-false _ _ (s .1) in
-      rw (k .0, ← k .3) (kept-order after e t up held room, kept-list after e t up held room)
+      rw (k .0, ← k .3) (kept-order after e t up low held room, kept-list after e t up low held room)

@@ -7,4 +7,8 @@ pub mod Changes
 pub mod Decisions
 pub mod Questions
 pub mod Paths
+pub mod Rising
 pub mod Kept
+pub mod Numbers
+pub mod Imported
+pub mod Keeping

@@ -5,3 +5,4 @@ pub mod Changing
 pub mod Results
 pub mod Questions
 pub mod Imports
+pub mod Importing

@@ -3,6 +3,8 @@
 mod change;
 mod check;
 mod compose;
+mod keep;
+mod listed;
 mod place;
 mod question;
 mod rename;

@@ -61,7 +61,7 @@ fn move_words(words: &mut [u64], used: usize, from: usize)
 }
 
 // Writes three words from place `at` on.
-fn put_three(words: &mut [u64], at: usize, first: u64, second: u64, third: u64)
+pub(crate) fn put_three(words: &mut [u64], at: usize, first: u64, second: u64, third: u64)
     requires { ⌜ at + 3 ≤ length (now words) ⌝ }
     ensures { λ _. ⌜ now (words .exit) ≡ sets (now (words .entry)) at (first ∷ second ∷ third ∷ []) ⌝ }
 {

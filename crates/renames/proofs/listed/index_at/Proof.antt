@@ -1,0 +1,25 @@
+-- `renames::listed::index_at` meets its contract.
+use mathlib.Core.Path.{_∙_}
+use mir.Syntax.{w32}
+use mir.Val.{SFits}
+use mir.Facts.{toZ-ofZ}
+use Rattle.renames.proofs.Numbers.{index-small}
+use borrow.Author.Needs.{needs}
+use Rattle.renames.proofs.listed.index_at.Statement.{statement}
+use Rattle.renames.proofs.listed.index_at.Tie as tie
+use Rattle.renames.proofs.listed.index_at.Reads as reads
+use Rattle.renames.proofs.listed.index_at.Lts as lts
+use Rattle.renames.proofs.listed.number_at.Reads as number-at-reads
+
+-- src/listed.rt:53:15
+number-at-requires : tie.Need-number-at-requires
+number-at-requires c κs = search needs
+
+-- src/listed.rt:50:1
+returns : tie.Need-returns
+returns c =
+    let f : SFits w32 (c .number-at .result) = record { sfits = c .number-at .ok } in
+    (toZ-ofZ f ∙ c .number-at .ensures, rw (toZ-ofZ f) (index-small (c .number-at .result) f))
+
+pub index-at-spec : {M : Type 1} → statement M
+index-at-spec = tie.close (tie.spec number-at-requires returns)

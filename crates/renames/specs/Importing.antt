@@ -1,0 +1,103 @@
+-- How `import_filenames` goes: the renames that the list does not name stay, and of each number's names the last comes to them. So
+-- the room is judged, and so both tables are written without a step that needs more room than the result.
+use Prim.Native.Nat.{ℕ, zero, suc, _+_, _*_, _/_}
+use mathlib.Core.Bool.{Bool, false, cond, not}
+use mathlib.Core.Path.{_≡_}
+use mathlib.Core.List.{List, [], _∷_}
+use lib.Dec.{eqb, ltb}
+use lib.IntN.{ℤ}
+use lib.ListN.{length, getD, take, drop}
+use Rattle.types.specs.Refusals.{Outcome}
+use Rattle.lists.specs.Lists.{any}
+use Rattle.tables.specs.declared.storage.FileStorage.{FileStorage}
+use Rattle.storage.specs.Rules.{when, firstOf, outcomeOf, both, either}
+use Rattle.storage.specs.Addition.{badLength, isNegative}
+use Rattle.answers.specs.Answers.{indexOf, isBelow}
+use Rattle.renames.specs.declared.rename.RenamedFiles.{RenamedFiles}
+use Rattle.renames.specs.Renames.{Renamed, withRename, textsOf}
+use Rattle.renames.specs.Changing.{inOrderIn}
+use Rattle.renames.specs.Imports.{fullPath}
+
+-- ---- the list
+
+-- whether a number is that of file k, one of so many
+abbrev pub isOf : ℕ → ℕ → ℤ → Bool
+isOf files k z = both (isBelow files z) (eqb (indexOf z) k)
+
+-- whether one of the numbers is
+abbrev pub isListed : ℕ → List ℤ → ℕ → Bool
+isListed files zs k = any (isOf files k) zs
+
+-- whether a number with those behind it counts: it is one of the files', and none of them repeats it
+abbrev pub counts : ℕ → ℤ → List ℤ → Bool
+counts files z zs = both (isBelow files z) (not (isListed files zs (indexOf z)))
+
+-- the renames that stay
+abbrev pub kept : ℕ → List ℤ → List Renamed → List Renamed
+kept files zs [] = []
+kept files zs (r ∷ rs) = cond (isListed files zs (r .file)) (kept files zs rs) (r ∷ kept files zs rs)
+
+-- the renames that come
+abbrev pub given : ℕ → List ℤ → List ℕ → List ℕ → List Renamed
+given files [] lengths t = []
+given files (z ∷ zs) lengths t =
+    cond (counts files z zs)
+    (fullPath (record { file = z; name = take (getD lengths 0 0) t }) ∷ given files zs (drop 1 lengths) (drop (getD lengths 0 0) t))
+    (given files zs (drop 1 lengths) (drop (getD lengths 0 0) t))
+
+-- renames more, one after the other
+abbrev pub withAll : List Renamed → List Renamed → List Renamed
+withAll [] rs = rs
+withAll (r ∷ xs) rs = withAll xs (withRename r rs)
+
+-- none of the renames is named by the list
+abbrev pub Fresh : ℕ → List ℤ → List Renamed → Type 0
+Fresh files zs [] = Unit
+Fresh files zs (r ∷ rs) = (isListed files zs (r .file) ≡ false) × Fresh files zs rs
+
+-- ---- the entries
+
+-- how many of the n entries from entry i on stay, how many bytes of text they have, and their words
+unfoldable pub keptCount : ℕ → List ℤ → ℕ → ℕ → List ℕ → ℕ
+keptCount files zs zero i entries = 0
+keptCount files zs (suc n) i entries = cond (isListed files zs (getD entries (i * 3) 0)) 0 1 + keptCount files zs n (i + 1) entries
+
+unfoldable pub keptBytes : ℕ → List ℤ → ℕ → ℕ → List ℕ → ℕ
+keptBytes files zs zero i entries = 0
+keptBytes files zs (suc n) i entries =
+    cond (isListed files zs (getD entries (i * 3) 0)) 0 (getD entries (i * 3 + 2) 0) + keptBytes files zs n (i + 1) entries
+
+unfoldable pub keptWords : ℕ → List ℤ → ℕ → ℕ → List ℕ → List ℕ
+keptWords files zs zero i entries = []
+keptWords files zs (suc n) i entries =
+    cond (isListed files zs (getD entries (i * 3) 0)) (keptWords files zs n (i + 1) entries)
+    (getD entries (i * 3) 0 ∷ getD entries (i * 3 + 1) 0 ∷ getD entries (i * 3 + 2) 0 ∷ keptWords files zs n (i + 1) entries)
+
+-- the record of those that stay
+abbrev pub keptState : ℕ → List ℤ → RenamedFiles → List ℕ → RenamedFiles
+keptState files zs rf entries =
+    record {
+      «num_renames» = keptCount files zs (rf .«num_renames») 0 entries;
+      «text_len» = keptBytes files zs (rf .«num_renames») 0 entries;
+    }
+
+-- ---- the decision
+
+-- `lacksRoom` where so many renames and bytes stay, and so many come
+abbrev pub isFull : ℕ → ℕ → RenamedFiles → RenamedFiles → Bool
+isFull words room stay come =
+    either (ltb (words / 3) (stay .«num_renames» + come .«num_renames»)) (ltb room (stay .«text_len» + come .«text_len»))
+
+abbrev pub importNumber : FileStorage → RenamedFiles → List ℕ → ℕ → List ℤ → RenamedFiles → ℕ
+importNumber fs rf entries room zs come =
+    firstOf
+    (when (badLength (fs .«piece_length»)) 1 ∷
+    when (any isNegative zs) 11 ∷
+    when (not (inOrderIn rf entries room)) 10 ∷
+    when (isFull (length entries) room (keptState (fs .«num_files») zs rf entries) come) 10 ∷
+    [])
+
+-- the record of those that stay, or the refusal
+abbrev pub importAsked : FileStorage → RenamedFiles → List ℕ → ℕ → List ℤ → RenamedFiles → Outcome RenamedFiles
+importAsked fs rf entries room zs come =
+    outcomeOf (importNumber fs rf entries room zs come) (keptState (fs .«num_files») zs rf entries)
