@@ -12,3 +12,4 @@ pub mod Kept
 pub mod Numbers
 pub mod Imported
 pub mod Keeping
+pub mod Giving

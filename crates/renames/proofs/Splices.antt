@@ -70,7 +70,7 @@ sets-own l t k h =
     rw (own, z) at (sets-append (take k l) t l 0)
 
 -- a table's own first cells change nothing
-sets-self : (l : List ℕ) (m : ℕ) → sets l 0 (take m l) ≡ l
+pub sets-self : (l : List ℕ) (m : ℕ) → sets l 0 (take m l) ≡ l
 sets-self [] m = rw (take-nil m)
 sets-self (x ∷ l) zero = refl
 sets-self (x ∷ l) (suc m) = sets-behind (take m l) (x ∷ []) l 0 ∙ ap (λ (r : List ℕ). x ∷ r) (sets-self l m)

@@ -50,6 +50,10 @@ abbrev pub withAll : List Renamed → List Renamed → List Renamed
 withAll [] rs = rs
 withAll (r ∷ xs) rs = withAll xs (withRename r rs)
 
+-- the renames with one name more, if its number counts
+abbrev pub withOne : ℕ → ℤ → List ℤ → List ℕ → List Renamed → List Renamed
+withOne files z zs name rs = cond (counts files z zs) (withRename (fullPath (record { file = z; name = name })) rs) rs
+
 -- none of the renames is named by the list
 abbrev pub Fresh : ℕ → List ℤ → List Renamed → Type 0
 Fresh files zs [] = Unit

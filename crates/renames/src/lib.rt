@@ -3,6 +3,7 @@
 mod change;
 mod check;
 mod compose;
+mod give;
 mod keep;
 mod listed;
 mod place;
