@@ -1,15 +1,17 @@
 -- Deciding before a change: the order of the refusals, what is known once none stops the call, and that the decision on numbers is
 -- that of the change. These laws rely on those of proofs/Changes.antt.
-use Prim.Native.Nat.{ℕ, _+_, _-_, _*_, _/_, _≤_}
+use Prim.Native.Nat.{ℕ, _+_, _-_, _*_, _/_, _≤_, _<_}
 use mathlib.Core.Path.{_≡_, refl, _∙_}
 use mathlib.Core.Bool.{Bool, true, false, cond, not}
+use mathlib.Core.Logic.{_⊎_, inl, inr}
 use mathlib.Core.List.{List}
 use native.Mathlib.Omega.{arith}
-use borrow.Author.Tests.{leb-true, ltb-false}
+use borrow.Author.Tests.{leb-true, ltb-false, lt-ltb, le-ltb}
 use lib.Dec.{eqb, ltb, leb}
 use lib.IntN.{ℤ, pos, negsuc}
 use lib.ListN.{length}
 use lib.Seq.{sets}
+use Rattle.lists.proofs.Orders.{le-or-lt}
 use Rattle.types.specs.Refusals.{Outcome, value, refused}
 use Rattle.types.specs.Signed.{belowOr}
 use Rattle.tables.specs.declared.storage.FileStorage.{FileStorage}
@@ -27,11 +29,11 @@ use Rattle.renames.proofs.Changes.{count-after, bytes-after}
 
 -- ---- the set's refusals
 
-good : {A : Type 0} (bad : Bool) (x a : A) → value x ≡ outcomeOf (cond bad 1 0) a → bad ≡ false
+pub good : {A : Type 0} (bad : Bool) (x a : A) → value x ≡ outcomeOf (cond bad 1 0) a → bad ≡ false
 good true x a e = absurd (let z : _≡_ {A = ℕ} 0 1 = cc in omega arith)
 good false x a e = refl
 
-ill : {A : Type 0} (bad : Bool) (m : ℕ) (a : A) → refused m ≡ outcomeOf (cond bad 1 0) a → (bad ≡ true) × (m ≡ 1)
+pub ill : {A : Type 0} (bad : Bool) (m : ℕ) (a : A) → refused m ≡ outcomeOf (cond bad 1 0) a → (bad ≡ true) × (m ≡ 1)
 ill true m a e = (refl, cc)
 ill false m a e = absurd (let z : _≡_ {A = ℕ} 0 1 = cc in omega arith)
 
@@ -94,6 +96,38 @@ order-in rf e room h =
     let b = both-true (leb (rf .«text_len») room) (orderedFrom (rf .«num_renames») 0 0 (rf .«text_len») e) (a .1) in
     (leb-true _ _ (a .0), leb-true _ _ (b .0), b .1)
 
+-- ---- four refusals in a row
+
+-- none of them: what is known
+pub passes : {A : Type 0} (a b o s : Bool) (p q : A) → value p ≡ outcomeOf (cond a 1 (cond b 11 (cond (not o) 10 (cond s 10 0)))) q
+    → (eqb (cond a 1 (cond b 11 (cond (not o) 10 (cond s 10 0)))) 0 ≡ true) × (o ≡ true) × (s ≡ false) × (p ≡ q)
+passes true b o s p q h = absurd (let z : _≡_ {A = ℕ} 0 1 = cc in omega arith)
+passes false true o s p q h = absurd (let z : _≡_ {A = ℕ} 0 1 = cc in omega arith)
+passes false false false s p q h = absurd (let z : _≡_ {A = ℕ} 0 1 = cc in omega arith)
+passes false false true true p q h = absurd (let z : _≡_ {A = ℕ} 0 1 = cc in omega arith)
+passes false false true false p q h = (refl, refl, refl, cc)
+
+-- one of them
+pub refuses : {A : Type 0} (n m : ℕ) (q : A) → refused m ≡ outcomeOf n q → (eqb n 0 ≡ false) × (m ≡ n)
+refuses {A} n m q h = at (eqb n 0) h
+  where
+    at : (b : Bool) → refused m ≡ cond b (value q) (refused n) → (b ≡ false) × (m ≡ n)
+    at true h = absurd (let z : _≡_ {A = ℕ} 0 1 = cc in omega arith)
+    at false h = (refl, cc)
+
+-- the last two, where the last is known only in order
+pub same-test : (o x y : Bool) → (o ≡ true → x ≡ y) → _≡_ {A = ℕ} (cond (not o) 10 (cond x 10 0)) (cond (not o) 10 (cond y 10 0))
+same-test true x y h = rw (h refl)
+same-test false x y h = refl
+
+-- room that is left once what stays is taken off
+pub left-is : (room stays len : ℕ) → stays ≤ room → ltb (room - stays) len ≡ ltb room (stays + len)
+left-is room stays len h = at (le-or-lt len (room - stays))
+  where
+    at : (len ≤ room - stays) ⊎ (room - stays < len) → ltb (room - stays) len ≡ ltb room (stays + len)
+    at (inl g) = rw (le-ltb (room - stays) len g, le-ltb room (stays + len) (omega arith))
+    at (inr g) = rw (lt-ltb (room - stays) len g, lt-ltb room (stays + len) (omega arith))
+
 -- ---- the decision is that of the change
 
 module _ (fs : FileStorage) (rf : RenamedFiles) (e t : List ℕ) (z : ℤ) (name : List ℕ) where
@@ -112,10 +146,6 @@ module _ (fs : FileStorage) (rf : RenamedFiles) (e t : List ℕ) (z : ℤ) (name
       let held : n * 3 ≤ length e = omega arith in
       rw (count-after n u r e t (o .2) held (o .1), bytes-after n u r e t (o .2) held (o .1))
 
-  same-test : (o x y : Bool) → (o ≡ true → x ≡ y) → _≡_ {A = ℕ} (cond (not o) 10 (cond x 10 0)) (cond (not o) 10 (cond y 10 0))
-  same-test true x y h = rw (h refl)
-  same-test false x y h = refl
-
   abbrev changeNumber : ℕ
   changeNumber =
       cond (badLength (fs .«piece_length»)) 1
@@ -124,15 +154,6 @@ module _ (fs : FileStorage) (rf : RenamedFiles) (e t : List ℕ) (z : ℤ) (name
   number-is : changeNumber ≡ placeNumber fs rf e (length t) z (length name)
   number-is =
       rw (same-test (inOrderIn rf e (length t)) (lacksRoom after e t) (isShort rf there (length e) (length t) (length name)) room-is)
-
-  -- none stops it: what is known, and what the change is
-  passes : (a b o s : Bool) (p q : Place) → value p ≡ outcomeOf (cond a 1 (cond b 11 (cond (not o) 10 (cond s 10 0)))) q
-      → (eqb (cond a 1 (cond b 11 (cond (not o) 10 (cond s 10 0)))) 0 ≡ true) × (o ≡ true) × (s ≡ false) × (p ≡ q)
-  passes true b o s p q h = absurd (let z : _≡_ {A = ℕ} 0 1 = cc in omega arith)
-  passes false true o s p q h = absurd (let z : _≡_ {A = ℕ} 0 1 = cc in omega arith)
-  passes false false false s p q h = absurd (let z : _≡_ {A = ℕ} 0 1 = cc in omega arith)
-  passes false false true true p q h = absurd (let z : _≡_ {A = ℕ} 0 1 = cc in omega arith)
-  passes false false true false p q h = (refl, refl, refl, cc)
 
   module _ (p : Place) (h : value p ≡ placeAsked fs rf e (length t) z (length name)) where
     abbrev known : (eqb (placeNumber fs rf e (length t) z (length name)) 0 ≡ true) × (inOrderIn rf e (length t) ≡ true) × (isShort rf there (length e) (length t) (length name) ≡ false) × (p ≡ there)
@@ -152,13 +173,6 @@ module _ (fs : FileStorage) (rf : RenamedFiles) (e t : List ℕ) (z : ℤ) (name
     place-changed rf′ e′ t′ a b d = rw (number-is, known .0, a, b, d)
 
   -- one stops it
-  refuses : (n m : ℕ) (q : Place) → refused m ≡ outcomeOf n q → (eqb n 0 ≡ false) × (m ≡ n)
-  refuses n m q h = at (eqb n 0) h
-    where
-      at : (b : Bool) → refused m ≡ cond b (value q) (refused n) → (b ≡ false) × (m ≡ n)
-      at true h = absurd (let z : _≡_ {A = ℕ} 0 1 = cc in omega arith)
-      at false h = (refl, cc)
-
   pub place-refused : (m : ℕ) → refused m ≡ placeAsked fs rf e (length t) z (length name)
       → _≡_ {A = Changed} (record { says = refused m; entries = e; text = t }) (renameFile fs rf e t z name)
   place-refused m h =

@@ -1,7 +1,7 @@
 -- The names that a list gives, put one after the other to renames that it does not name: how the names are taken from the lent
 -- slices, that each step has room and leaves the tables in order, and that all of them lead to the whole. These laws rely on those of
 -- proofs/Changes.antt, proofs/Kept.antt and proofs/Imported.antt.
-use Prim.Native.Nat.{ℕ, zero, suc, _+_, _-_, _*_, _/_, _≤_, _<_}
+use Prim.Native.Nat.{ℕ, _+_, _-_, _*_, _/_, _≤_, _<_, min}
 use mathlib.Core.Path.{_≡_, refl, sym, ap, _∙_}
 use mathlib.Core.Bool.{Bool, true, false, cond, not}
 use mathlib.Core.List.{List, [], _∷_}
@@ -9,7 +9,7 @@ use native.Mathlib.Nat.{add-zero}
 use native.Mathlib.Numerals.{add-one}
 use native.Mathlib.Omega.{arith}
 use lib.IntN.{ℤ, pos}
-use lib.ListN.{length, getD, take, drop, length-append, length-take, length-drop, drop-of-length-le}
+use lib.ListN.{length, getD, take, drop, length-append, length-take, drop-of-length-le}
 use lib.Seq.{sets, length-sets, length-take-le, drop-cons, drop-drop, getD-drop}
 use Rattle.lists.specs.Lists.{partOf}
 use Rattle.lists.proofs.Parts.{drop-clipped, part-length}
@@ -30,7 +30,7 @@ use Rattle.renames.proofs.Changes.{count-after, bytes-after}
 use Rattle.renames.proofs.Decisions.{order-in}
 use Rattle.renames.proofs.Rising.{rises-read, small-read, rises-with, small-with}
 use Rattle.renames.proofs.Kept.{length-words, kept-order, kept-list}
-use Rattle.renames.proofs.Imported.{fresh-rest, fresh-with, fresh-longer, with-given}
+use Rattle.renames.proofs.Imported.{fresh-rest, fresh-with, with-given}
 
 -- ---- the names, taken from the lent slices
 
@@ -52,7 +52,7 @@ module _ (files : ℕ) (zs : List ℤ) (lengths t : List ℕ) where
   behind-name : (i at : ℕ) → drop (getD lengths i 0) (drop at t) ≡ drop (at + length (nameAt i at)) t
   behind-name i at =
       let l = getD lengths i 0 in
-      rw (length-take l (drop at t), ← drop-drop (Prim.Native.Nat.min l (length (drop at t))) at t) (sym (drop-clipped l (drop at t)))
+      rw (length-take l (drop at t), ← drop-drop (min l (length (drop at t))) at t) (sym (drop-clipped l (drop at t)))
 
   given-turn : (i at : ℕ) → i < length zs → givenFrom i at ≡ cond (countsAt i) (giveAt i at ∷ givenFrom (i + 1) (at + length (nameAt i at))) (givenFrom (i + 1) (at + length (nameAt i at)))
   given-turn i at h =

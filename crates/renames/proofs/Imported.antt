@@ -1,6 +1,6 @@
 -- The renames that a list of names leads to: those that it does not name, and of each number's names the last. These laws rely on
 -- those of proofs/Rising.antt.
-use Prim.Native.Nat.{ℕ, _+_, _≤_, _<_}
+use Prim.Native.Nat.{ℕ, _+_, _<_}
 use mathlib.Core.Path.{_≡_, refl, sym, ap, _∙_}
 use mathlib.Core.Bool.{Bool, true, false, cond, not, true≢false}
 use mathlib.Core.List.{List, [], _∷_, _++_}
@@ -13,8 +13,8 @@ use Rattle.storage.specs.Rules.{both}
 use Rattle.answers.specs.Answers.{indexOf, isBelow}
 use Rattle.renames.specs.Renames.{Renamed, textsOf, withRename}
 use Rattle.renames.specs.Imports.{Naming, namings, fullPath, imported}
-use Rattle.renames.specs.Importing.{isOf, isListed, counts, kept, given, withAll, Fresh}
-use Rattle.renames.proofs.Rising.{Rises, Side, below, same, above, side, rises-weaker, rises-with, with-before, with-same, with-behind}
+use Rattle.renames.specs.Importing.{isOf, isListed, kept, given, withAll, Fresh}
+use Rattle.renames.proofs.Rising.{Rises, Small, Side, below, same, above, side, rises-weaker, rises-with, with-before, with-same, with-behind}
 
 -- ---- one number more in the list
 
@@ -75,6 +75,14 @@ rises-kept files zs (r ∷ rs) least a = at (isListed files zs (r .file)) (rises
   where
     at : (b : Bool) → Rises (r .file + 1) (kept files zs rs) → Rises least (cond b (kept files zs rs) (r ∷ kept files zs rs))
     at true ih = rises-weaker (kept files zs rs) (r .file + 1) least (omega (arith, a .0)) ih
+    at false ih = (a .0, ih)
+
+pub small-kept : (files : ℕ) (zs : List ℤ) (rs : List Renamed) → Small rs → Small (kept files zs rs)
+small-kept files zs [] a = tt
+small-kept files zs (r ∷ rs) a = at (isListed files zs (r .file)) (small-kept files zs rs (a .1))
+  where
+    at : (b : Bool) → Small (kept files zs rs) → Small (cond b (kept files zs rs) (r ∷ kept files zs rs))
+    at true ih = ih
     at false ih = (a .0, ih)
 
 with-first : (r : Renamed) (rs : List Renamed) → Rises (r .file + 1) rs → withRename r rs ≡ r ∷ rs

@@ -12,7 +12,7 @@ use lib.ListN.{length, getD, take, drop, length-append, length-drop}
 use lib.Seq.{sets, length-sets, length-take-le, drop-drop, getD-drop}
 use Rattle.lists.specs.Lists.{partOf}
 use Rattle.lists.proofs.Runs.{sets-append, drop-sets-le}
-use Rattle.renames.specs.Renames.{Renamed, modeWord, modeOf, renamesFrom, wordsOf, textsOf}
+use Rattle.renames.specs.Renames.{Renamed, modeWord, renamesFrom, wordsOf, textsOf}
 use Rattle.renames.specs.Places.{bytesFrom}
 use Rattle.renames.specs.Importing.{isListed, kept, keptCount, keptBytes, keptWords}
 use Rattle.renames.proofs.Readings.{mode-word}

@@ -1,6 +1,6 @@
 -- A change keeps the tables in order, and what they read afterwards is the changed list: so one change may follow another. These
 -- laws rely on those of proofs/Rising.antt and proofs/Decisions.antt.
-use Prim.Native.Nat.{ℕ, zero, suc, _+_, _-_, _*_, _/_, _≤_, _<_}
+use Prim.Native.Nat.{ℕ, _+_, _-_, _*_, _/_, _≤_}
 use mathlib.Core.Path.{_≡_, refl, sym, ap, _∙_}
 use mathlib.Core.Bool.{Bool, true, false, cond, not}
 use mathlib.Core.List.{List, [], _∷_, _++_, append-assoc}
@@ -9,7 +9,7 @@ use native.Mathlib.Omega.{arith}
 use borrow.Author.Tests.{ltb-false, le-leb}
 use lib.Dec.{ltb, eqb}
 use lib.IntN.{ℤ}
-use lib.ListN.{length, getD, take, drop, length-append}
+use lib.ListN.{length, getD, drop, length-append}
 use lib.Seq.{sets, sets-eq, length-sets, getD-drop, drop-drop, take-append-seam, drop-append-seam}
 use Rattle.types.specs.Refusals.{value}
 use Rattle.tables.specs.declared.storage.FileStorage.{FileStorage}
@@ -19,7 +19,7 @@ use Rattle.answers.specs.Answers.{indexOf, isBelow}
 use Rattle.renames.specs.declared.rename.RenameMode.{RenameMode}
 use Rattle.renames.specs.declared.rename.RenameMode.the-variants.{FullPath, NoRootPath, AbsolutePath}
 use Rattle.renames.specs.declared.rename.RenamedFiles.{RenamedFiles}
-use Rattle.renames.specs.Renames.{Renamed, modeWord, modeOf, renamesFrom, renamesOf, orderedFrom, inOrder, lacksRoom, stateOf, wordsOf, textsOf, withRename, renamedTo, changedIf, renameFile}
+use Rattle.renames.specs.Renames.{Renamed, modeWord, modeOf, renamesFrom, renamesOf, orderedFrom, inOrder, lacksRoom, stateOf, wordsOf, textsOf, renamedTo, changedIf, renameFile}
 use Rattle.renames.specs.Changing.{renameOf}
 use Rattle.renames.proofs.Rising.{Rises, Small, rises-read, small-read, rises-with, small-with}
 use Rattle.renames.proofs.Decisions.{order-in}

@@ -13,3 +13,4 @@ pub mod Numbers
 pub mod Imported
 pub mod Keeping
 pub mod Giving
+pub mod Importing

@@ -14,7 +14,7 @@ use Rattle.storage.specs.Rules.{when, firstOf, outcomeOf, both, either}
 use Rattle.storage.specs.Addition.{badLength, isNegative}
 use Rattle.answers.specs.Answers.{indexOf, isBelow}
 use Rattle.renames.specs.declared.rename.RenamedFiles.{RenamedFiles}
-use Rattle.renames.specs.Renames.{Renamed, withRename, textsOf}
+use Rattle.renames.specs.Renames.{Renamed, withRename}
 use Rattle.renames.specs.Changing.{inOrderIn}
 use Rattle.renames.specs.Imports.{fullPath}
 

@@ -4,6 +4,7 @@ mod change;
 mod check;
 mod compose;
 mod give;
+mod import;
 mod keep;
 mod listed;
 mod place;
@@ -13,6 +14,7 @@ mod splice;
 
 pub use change::rename_file;
 pub use compose::file_path;
+pub use import::import_filenames;
 pub use question::export_filename;
 pub use question::file_absolute_path;
 pub use question::file_name;

@@ -1,22 +1,11 @@
 -- `renames::change::is_short` meets its contract.
-use Prim.Native.Nat.{ℕ, _+_, _-_, _≤_, _<_}
-use mathlib.Core.Path.{_≡_}
-use mathlib.Core.Logic.{_⊎_, inl, inr}
+use Prim.Native.Nat.{_-_}
 use native.Mathlib.Omega.{arith}
 use borrow.Author.Tests.{lt-ltb, le-ltb}
-use lib.Dec.{ltb}
-use Rattle.lists.proofs.Orders.{le-or-lt}
+use Rattle.renames.proofs.Decisions.{left-is}
 use borrow.Author.Needs.{needs}
 use Rattle.renames.proofs.change.is_short.Statement.{statement}
 use Rattle.renames.proofs.change.is_short.Tie as tie
-
--- the room that is left once the kept bytes are taken off
-left-is : (room kept len : ℕ) → kept ≤ room → ltb (room - kept) len ≡ ltb room (kept + len)
-left-is room kept len h = at (le-or-lt len (room - kept))
-  where
-    at : (len ≤ room - kept) ⊎ (room - kept < len) → ltb (room - kept) len ≡ ltb room (kept + len)
-    at (inl g) = rw (le-ltb (room - kept) len g, le-ltb room (kept + len) (omega arith))
-    at (inr g) = rw (lt-ltb (room - kept) len g, lt-ltb room (kept + len) (omega arith))
 
 add-if1 : tie.Need-add-if1
 add-if1 c = search needs

@@ -1,9 +1,8 @@
 -- `renames::give::count_given` meets its contract. The loop's invariant: what is counted and what the names from number i on count
 -- give the whole; no more is counted than was passed.
-use Prim.Native.Nat.{ℕ, _+_, _-_, _≤_}
+use Prim.Native.Nat.{_+_, _-_, _≤_}
 use mathlib.Core.Path.{_≡_, ap, _∙_}
-use mathlib.Core.Bool.{Bool, cond}
-use mathlib.Core.List.{List}
+use mathlib.Core.Bool.{cond}
 use native.Mathlib.Nat.{zero-add}
 use native.Mathlib.Omega.{arith}
 use borrow.Author.Needs.{needs}
@@ -14,11 +13,6 @@ use Rattle.renames.specs.Importing.{given}
 use Rattle.renames.proofs.Giving.{givenFrom, nameAt, name-in, given-more, given-none}
 use Rattle.renames.proofs.give.count_given.Statement.{statement}
 use Rattle.renames.proofs.give.count_given.Tie as tie
-use Rattle.renames.proofs.give.count_given.Reads as reads
-use Rattle.renames.proofs.give.count_given.Lts as lts
-use Rattle.lists.proofs.part.Reads as part-reads
-use Rattle.lists.proofs.word.Reads as word-reads
-use Rattle.renames.proofs.listed.does_count.Reads as does-count-reads
 
 abbrev Inv-loop : tie.InvT-loop
 Inv-loop numbers lengths names files i₀ at₀ count₀ bytes₀ i at count bytes = (i ≤ length numbers) × (at ≤ length names) × (count ≤ i) × (bytes ≤ at) × (count + length (givenFrom files numbers lengths names i at) ≡ length (given files numbers lengths names)) × (bytes + length (textsOf (givenFrom files numbers lengths names i at)) ≡ length (textsOf (given files numbers lengths names)))
@@ -42,43 +36,33 @@ adds c =
     let a = c .before .before .before .before .before .before .before .args in
     given-more (a .files) (a .numbers .now) (a .lengths .now) (a .names .now) (c .before .before .before .before .loop .i) (c .before .before .before .before .loop .at) (length (c .part .result .now)) (c .before .before .does-count .result) (c .before .before .before .loop-test .taken) (c .before .before .does-count .ensures) (name-is c)
 
--- src/give.rt:31:5
 loop-holds : tie.Need-loop-holds Inv-loop μ-loop
 loop-holds c = (omega arith, omega arith, omega arith, omega arith, rw zero-add, rw zero-add)
 
--- src/give.rt:32:13
 does-count-requires : tie.Need-does-count-requires Inv-loop μ-loop
 does-count-requires c κs = search needs
 
--- src/give.rt:33:42
 word-requires : tie.Need-word-requires Inv-loop μ-loop
 word-requires c κs = search needs
 
--- src/give.rt:33:19
 part-requires : tie.Need-part-requires Inv-loop μ-loop
 part-requires c κs = search needs
 
--- src/give.rt:34:9
 add-at : tie.Need-add-at Inv-loop μ-loop
 add-at c = record { fits = omega (arith, ends c) }
 
--- src/give.rt:35:9
 add-i : tie.Need-add-i Inv-loop μ-loop
 add-i c = search needs
 
--- src/give.rt:37:13
 add-count : tie.Need-add-count Inv-loop μ-loop
 add-count c = search needs
 
--- src/give.rt:38:13
 add-bytes : tie.Need-add-bytes Inv-loop μ-loop
 add-bytes c = record { fits = omega (arith, ends (c .before), c .before .before .before .before .before .loop .inv .3) }
 
--- src/give.rt:31:5
 loop-less : tie.Need-loop-less Inv-loop μ-loop
 loop-less c = search needs
 
--- src/give.rt:31:5
 loop-again : tie.Need-loop-again Inv-loop μ-loop
 loop-again c =
     let v = c .before .before .before .before .before .loop .inv in
@@ -86,11 +70,9 @@ loop-again c =
     let y = adds (c .before) .1 in
     (omega arith, ends (c .before), omega (arith, v .2), omega (arith, v .3), omega (arith, v .4, rw (c .if1 .taken) at x), omega (arith, v .5, rw (c .if1 .taken) at y))
 
--- src/give.rt:31:5
 loop-less-2 : tie.Need-loop-less-2 Inv-loop μ-loop
 loop-less-2 c = search needs
 
--- src/give.rt:31:5
 loop-again-2 : tie.Need-loop-again-2 Inv-loop μ-loop
 loop-again-2 c =
     let v = c .before .before .before .before .before .loop .inv in
@@ -98,7 +80,6 @@ loop-again-2 c =
     let y = adds (c .before) .1 in
     (omega arith, ends (c .before), omega (arith, v .2), omega (arith, v .3), omega (arith, v .4, rw (c .if1 .left) at x), omega (arith, v .5, rw (c .if1 .left) at y))
 
--- src/give.rt:19:1
 returns : tie.Need-returns Inv-loop μ-loop
 returns c =
     let a = c .before .before .before .before .args in

@@ -1,6 +1,6 @@
 -- `renames::give::give` meets its contract. The loop's invariant is `Giving`: the names before number i are put, and those from
 -- number i on give the whole.
-use Prim.Native.Nat.{ℕ, _+_, _-_, _≤_}
+use Prim.Native.Nat.{_-_}
 use mathlib.Core.Path.{_≡_, ap, _∙_}
 use native.Mathlib.Omega.{arith}
 use borrow.Author.Needs.{needs}
@@ -11,11 +11,6 @@ use Rattle.renames.specs.Importing.{given, withAll}
 use Rattle.renames.proofs.Giving.{Giving, nameAt, name-in, giving-start, giving-room, giving-turn, giving-end}
 use Rattle.renames.proofs.give.give.Statement.{statement}
 use Rattle.renames.proofs.give.give.Tie as tie
-use Rattle.renames.proofs.give.give.Reads as reads
-use Rattle.renames.proofs.give.give.Lts as lts
-use Rattle.lists.proofs.part.Reads as part-reads
-use Rattle.lists.proofs.word.Reads as word-reads
-use Rattle.renames.proofs.give.give_one.Reads as give-one-reads
 
 abbrev Inv-loop : tie.InvT-loop
 Inv-loop entries₀ text₀ numbers lengths names files rf₀ i₀ at₀ entries text rf i at = Giving files numbers lengths names (withAll (given files numbers lengths names) (renamesOf rf₀ entries₀ text₀)) entries₀ text₀ rf entries text i at
@@ -27,22 +22,18 @@ abbrev μ-loop : tie.MeasureT-loop
 name-is : (c : tie.After-part Inv-loop μ-loop) → let a = c .before .before .before .before .before .before .before .before .args in c .part .result .now ≡ nameAt (a .files) (a .numbers .now) (a .lengths .now) (a .names .now) (c .before .before .before .loop .i) (c .before .before .before .loop .at)
 name-is c = c .part .ensures ∙ ap (partOf (c .before .before .before .before .before .before .before .before .args .names .now) (c .before .before .before .loop .at)) (c .before .word .ensures)
 
--- src/give.rt:89:5
 loop-holds : tie.Need-loop-holds Inv-loop μ-loop
 loop-holds c =
     let s = c .before .before .before .before in
     let a = s .args in
     giving-start (a .files) (a .numbers .now) (a .lengths .now) (a .names .now) (a .entries .now) (a .text .now) (a .renames) (s .pre .0) (s .pre .1) (s .pre .2) (s .pre .3)
 
--- src/give.rt:90:43
 word-requires : tie.Need-word-requires Inv-loop μ-loop
 word-requires c κs = search needs
 
--- src/give.rt:90:13
 part-requires : tie.Need-part-requires Inv-loop μ-loop
 part-requires c κs = search needs
 
--- src/give.rt:91:9
 give-one-requires : tie.Need-give-one-requires Inv-loop μ-loop
 give-one-requires c κs =
     let a = c .before .before .before .before .before .before .before .before .before .before .args in
@@ -50,22 +41,18 @@ give-one-requires c κs =
     let k = giving-room (a .files) (a .numbers .now) (a .lengths .now) (a .names .now) (a .entries .now) (a .text .now) _ (l .rf) (l .entries) (l .text) (l .i) (l .at) (l .inv) (c .before .before .before .before .loop-test .taken) (c .before .before .part .result .now) (name-is (c .before .before)) in
     (c .before .before .before .before .loop-test .taken, l .inv .ordered, k .0, k .1)
 
--- src/give.rt:92:9
 add-at : tie.Need-add-at Inv-loop μ-loop
 add-at c =
     let a = c .before .before .before .before .before .before .before .before .before .before .before .before .before .before .before .args in
     let l = c .before .before .before .before .before .before .before .before .before .before .loop in
     record { fits = omega (arith, c .before .before .before .before .before .before .before .before .before .before .before .before .before .before .before .good, ap length (name-is (c .before .before .before .before .before .before .before)), name-in (a .files) (a .numbers .now) (a .lengths .now) (a .names .now) (l .i) (l .at) (l .inv .place)) }
 
--- src/give.rt:93:9
 add-i : tie.Need-add-i Inv-loop μ-loop
 add-i c = search needs
 
--- src/give.rt:89:5
 loop-less : tie.Need-loop-less Inv-loop μ-loop
 loop-less c = search needs
 
--- src/give.rt:89:5
 loop-again : tie.Need-loop-again Inv-loop μ-loop
 loop-again c =
     let a = c .before .before .before .before .before .before .before .before .before .before .before .before .before .before .before .args in
@@ -73,15 +60,12 @@ loop-again c =
     let w = c .before .before .before .before .give-one .ensures in
     giving-turn (a .files) (a .numbers .now) (a .lengths .now) (a .names .now) (a .entries .now) (a .text .now) _ (l .rf) (l .entries) (l .text) (l .i) (l .at) (l .inv) (c .before .before .before .before .before .before .before .before .before .loop-test .taken) (c .before .before .before .before .before .before .before .part .result .now) (name-is (c .before .before .before .before .before .before .before)) _ _ _ (w .0) (w .1 .0) (w .1 .1 .0) (w .1 .1 .1)
 
--- src/give.rt:72:1
 same-length : tie.Need-same-length Inv-loop μ-loop
 same-length c = search needs
 
--- src/give.rt:72:1
 same-length-2 : tie.Need-same-length-2 Inv-loop μ-loop
 same-length-2 c = search needs
 
--- src/give.rt:72:1
 returns : tie.Need-returns Inv-loop μ-loop
 returns c =
     let a = c .before .before .before .before .before .before .args in

@@ -1,7 +1,7 @@
 -- `renames::give::give_one` meets its contract.
-use Prim.Native.Nat.{ℕ, _+_, _*_, _≤_}
+use Prim.Native.Nat.{_+_}
 use mathlib.Core.Path.{_≡_, refl, sym, _∙_}
-use mathlib.Core.Bool.{true, false}
+use mathlib.Core.Bool.{false}
 use native.Mathlib.Omega.{arith}
 use borrow.Author.Tests.{not-true, not-false}
 use lib.IntN.{pos}
@@ -15,12 +15,6 @@ use Rattle.renames.proofs.Giving.{own-entries, own-text, one-comes, one
 use borrow.Author.Needs.{needs}
 use Rattle.renames.proofs.give.give_one.Statement.{statement}
 use Rattle.renames.proofs.give.give_one.Tie as tie
-use Rattle.renames.proofs.give.give_one.Reads as reads
-use Rattle.renames.proofs.give.give_one.Lts as lts
-use Rattle.renames.proofs.change.put_rename.Reads as put-rename-reads
-use Rattle.renames.proofs.listed.does_count.Reads as does-count-reads
-use Rattle.renames.proofs.listed.file_at.Reads as file-at-reads
-use Rattle.renames.proofs.place.place_of.Reads as place-of-reads
 
 -- the number counts, and its name is a rename more
 abbrev made : (c : tie.After-file-at) → Renamed
@@ -31,11 +25,9 @@ comes c =
     let a = c .before .before .before .before .before .before .args in
     one-comes (a .files) (getD (a .numbers .now) (a .i) (pos 0)) (drop (a .i + 1) (a .numbers .now)) (a .name .now) (renamesOf (a .renames) (a .entries .now) (a .text .now)) (c .file-at .result) (sym (c .before .before .does-count .ensures) ∙ not-false _ (c .before .if1 .left)) (c .file-at .ensures .0)
 
--- src/give.rt:63:9
 does-count-requires : tie.Need-does-count-requires
 does-count-requires c κs = search needs
 
--- src/give.rt:64:9
 returns : tie.Need-returns
 returns c =
     let s = c .before .before .before .before .before in
@@ -43,11 +35,9 @@ returns c =
     let q : counts (a .files) (getD (a .numbers .now) (a .i) (pos 0)) (drop (a .i + 1) (a .numbers .now)) ≡ false = sym (c .before .does-count .ensures) ∙ not-true _ (c .if1 .taken) in
     rw q (s .pre .1, (refl, (own-entries (a .renames) (a .entries .now) (a .text .now) (s .pre .1), own-text (a .renames) (a .entries .now) (a .text .now) (s .pre .1))))
 
--- src/give.rt:66:9
 file-at-requires : tie.Need-file-at-requires
 file-at-requires c κs = search needs
 
--- src/give.rt:67:9
 place-of-requires : tie.Need-place-of-requires
 place-of-requires c κs =
     let s = c .before .before .before .before .before .before .before in
@@ -55,7 +45,6 @@ place-of-requires c κs =
     let o = order-in (a .renames) (a .entries .now) (length (a .text .now)) (s .pre .1) in
     (omega (arith, o .0), omega (arith, o .1, order-bytes (a .renames .«num_renames») 0 0 (a .renames .«text_len») (a .entries .now) (o .2)))
 
--- src/give.rt:68:5
 put-rename-requires : tie.Need-put-rename-requires
 put-rename-requires c κs =
     let s = c .before .before .before .before .before .before .before .before .before .before in
@@ -64,15 +53,12 @@ put-rename-requires c κs =
     let r = s .pre .3 in
     one-room (a .renames) (a .entries .now) (a .text .now) (s .pre .1) (made (c .before .before .before .before)) (rw (comes (c .before .before .before .before)) at h) (rw (comes (c .before .before .before .before)) at r) (c .before .before .place-of .result) (c .before .before .place-of .ensures)
 
--- src/give.rt:48:1
 same-length : tie.Need-same-length
 same-length c = search needs
 
--- src/give.rt:48:1
 same-length-2 : tie.Need-same-length-2
 same-length-2 c = search needs
 
--- src/give.rt:48:1
 returns-2 : tie.Need-returns-2
 returns-2 c =
     let s = c .before .before .before .before .before .before .before .before .before .before .before .before .before .before .before in

@@ -1,8 +1,8 @@
 -- `renames::keep::count_kept` meets its contract. The loop's invariant: what is counted and what the entries from i on count give
 -- the whole, which fits.
-use Prim.Native.Nat.{ℕ, _+_, _-_, _*_, _≤_, _<_, _^_}
+use Prim.Native.Nat.{_+_, _-_, _*_, _≤_, _<_, _^_}
 use mathlib.Core.Path.{_≡_, ap, _∙_}
-use mathlib.Core.Bool.{Bool, cond, not}
+use mathlib.Core.Bool.{cond, not}
 use native.Mathlib.Nat.{sub-zero, zero-add}
 use native.Mathlib.Omega.{arith}
 use borrow.Author.Needs.{needs}
@@ -12,10 +12,6 @@ use Rattle.renames.specs.Importing.{isListed, keptCount, keptBytes}
 use Rattle.renames.proofs.Keeping.{counted, count-end, size-end, kept-few, kept-short}
 use Rattle.renames.proofs.keep.count_kept.Statement.{statement}
 use Rattle.renames.proofs.keep.count_kept.Tie as tie
-use Rattle.renames.proofs.keep.count_kept.Reads as reads
-use Rattle.renames.proofs.keep.count_kept.Lts as lts
-use Rattle.lists.proofs.word.Reads as word-reads
-use Rattle.renames.proofs.listed.is_listed.Reads as is-listed-reads
 
 abbrev Inv-loop : tie.InvT-loop
 Inv-loop entries numbers files n i₀ count₀ bytes₀ i count bytes = (i ≤ n) × (n * 3 ≤ length entries) × (bytesFrom n 0 entries < 2 ^ 64) × (count + keptCount files numbers (n - i) i entries ≡ keptCount files numbers n 0 entries) × (bytes + keptBytes files numbers (n - i) i entries ≡ keptBytes files numbers n 0 entries)
@@ -29,59 +25,47 @@ adds c =
     let a = c .before .before .before .before .before .before .args in
     counted (a .files) (a .numbers .now) (a .renames .«num_renames») (c .before .before .before .before .loop .i) (a .entries .now) (c .before .before .before .loop-test .taken) (not (c .before .is-listed .result)) (c .word2 .result) (ap not (c .before .is-listed .ensures ∙ ap (isListed (a .files) (a .numbers .now)) (c .before .before .word .ensures))) (c .word2 .ensures)
 
--- src/keep.rt:32:5
 loop-holds : tie.Need-loop-holds Inv-loop μ-loop
 loop-holds c =
     let n = c .before .args .renames .«num_renames» in
     (omega arith, c .before .pre .0, c .before .pre .1, rw (sub-zero n, zero-add), rw (sub-zero n, zero-add))
 
--- src/keep.rt:33:72
 mul-word : tie.Need-mul-word Inv-loop μ-loop
 mul-word c = search needs
 
--- src/keep.rt:33:51
 word-requires : tie.Need-word-requires Inv-loop μ-loop
 word-requires c κs = search needs
 
--- src/keep.rt:33:22
 is-listed-requires : tie.Need-is-listed-requires Inv-loop μ-loop
 is-listed-requires c κs = search needs
 
--- src/keep.rt:34:40
 mul-word-2 : tie.Need-mul-word-2 Inv-loop μ-loop
 mul-word-2 c = search needs
 
--- src/keep.rt:34:40
 add-word : tie.Need-add-word Inv-loop μ-loop
 add-word c = search needs
 
--- src/keep.rt:34:19
 word-requires-2 : tie.Need-word-requires-2 Inv-loop μ-loop
 word-requires-2 c κs = search needs
 
--- src/keep.rt:35:9
 add-i : tie.Need-add-i Inv-loop μ-loop
 add-i c = search needs
 
--- src/keep.rt:37:13
 add-count : tie.Need-add-count Inv-loop μ-loop
 add-count c =
     let a = c .before .before .before .before .before .before .before .args in
     let k = adds (c .before) .0 in
     record { fits = omega (arith, rw (c .if1 .taken) at k, c .before .before .before .before .before .loop .inv .3, kept-few (a .files) (a .numbers .now) (a .renames .«num_renames») 0 (a .entries .now)) }
 
--- src/keep.rt:38:13
 add-bytes : tie.Need-add-bytes Inv-loop μ-loop
 add-bytes c =
     let a = c .before .before .before .before .before .before .before .args in
     let k = adds (c .before) .1 in
     record { fits = omega (arith, rw (c .if1 .taken) at k, c .before .before .before .before .before .loop .inv .4, kept-short (a .files) (a .numbers .now) (a .renames .«num_renames») 0 (a .entries .now)) }
 
--- src/keep.rt:32:5
 loop-less : tie.Need-loop-less Inv-loop μ-loop
 loop-less c = search needs
 
--- src/keep.rt:32:5
 loop-again : tie.Need-loop-again Inv-loop μ-loop
 loop-again c =
     let v = c .before .before .before .before .before .loop .inv in
@@ -89,11 +73,9 @@ loop-again c =
     let y = adds (c .before) .1 in
     (omega arith, v .1, v .2, omega (arith, v .3, rw (c .if1 .taken) at x), omega (arith, v .4, rw (c .if1 .taken) at y))
 
--- src/keep.rt:32:5
 loop-less-2 : tie.Need-loop-less-2 Inv-loop μ-loop
 loop-less-2 c = search needs
 
--- src/keep.rt:32:5
 loop-again-2 : tie.Need-loop-again-2 Inv-loop μ-loop
 loop-again-2 c =
     let v = c .before .before .before .before .before .loop .inv in
@@ -101,7 +83,6 @@ loop-again-2 c =
     let y = adds (c .before) .1 in
     (omega arith, v .1, v .2, omega (arith, v .3, rw (c .if1 .left) at x), omega (arith, v .4, rw (c .if1 .left) at y))
 
--- src/keep.rt:19:1
 returns : tie.Need-returns Inv-loop μ-loop
 returns c =
     let a = c .before .before .before .args in

@@ -1,19 +1,14 @@
 -- `renames::keep::keep_entries` meets its contract. The loop's invariant: the entries from i on are as they were, and what is left
 -- of them behind those that were moved gives the whole.
-use Prim.Native.Nat.{ℕ, _-_}
+use Prim.Native.Nat.{_-_}
 use mathlib.Core.Path.{_≡_, ap, _∙_}
-use mathlib.Core.Bool.{Bool, not}
+use mathlib.Core.Bool.{not}
 use native.Mathlib.Omega.{arith}
 use borrow.Author.Needs.{needs}
 use Rattle.renames.specs.Importing.{isListed}
 use Rattle.renames.proofs.Keeping.{Moved, moved-start, moved-turn, moved-end}
 use Rattle.renames.proofs.keep.keep_entries.Statement.{statement}
 use Rattle.renames.proofs.keep.keep_entries.Tie as tie
-use Rattle.renames.proofs.keep.keep_entries.Reads as reads
-use Rattle.renames.proofs.keep.keep_entries.Lts as lts
-use Rattle.lists.proofs.word.Reads as word-reads
-use Rattle.renames.proofs.keep.keep_entry.Reads as keep-entry-reads
-use Rattle.renames.proofs.listed.is_listed.Reads as is-listed-reads
 
 abbrev Inv-loop : tie.InvT-loop
 Inv-loop entries₀ n numbers files i₀ to₀ entries i to = Moved files numbers n entries₀ entries i to
@@ -21,39 +16,31 @@ Inv-loop entries₀ n numbers files i₀ to₀ entries i to = Moved files number
 abbrev μ-loop : tie.MeasureT-loop
 μ-loop entries₀ n numbers files i₀ to₀ entries i to = n - i
 
--- src/keep.rt:70:5
 loop-holds : tie.Need-loop-holds Inv-loop μ-loop
 loop-holds c =
     let a = c .before .args in
     moved-start (a .files) (a .numbers .now) (a .n) (a .entries .now) (c .before .pre)
 
--- src/keep.rt:71:72
 mul-word : tie.Need-mul-word Inv-loop μ-loop
 mul-word c = search needs
 
--- src/keep.rt:71:51
 word-requires : tie.Need-word-requires Inv-loop μ-loop
 word-requires c κs = search needs
 
--- src/keep.rt:71:22
 is-listed-requires : tie.Need-is-listed-requires Inv-loop μ-loop
 is-listed-requires c κs = search needs
 
--- src/keep.rt:72:9
 keep-entry-requires : tie.Need-keep-entry-requires Inv-loop μ-loop
 keep-entry-requires c κs =
     let l = c .before .before .before .before .before .loop in
     (l .inv .0, omega (arith, l .inv))
 
--- src/keep.rt:73:9
 add-i : tie.Need-add-i Inv-loop μ-loop
 add-i c = search needs
 
--- src/keep.rt:70:5
 loop-less : tie.Need-loop-less Inv-loop μ-loop
 loop-less c = search needs
 
--- src/keep.rt:70:5
 loop-again : tie.Need-loop-again Inv-loop μ-loop
 loop-again c =
     let a = c .before .before .before .before .before .before .before .before .before .before .args in
@@ -61,11 +48,9 @@ loop-again c =
     let stays : not (c .before .before .before .before .is-listed .result) ≡ not (isListed (a .files) (a .numbers .now) _) = ap not (c .before .before .before .before .is-listed .ensures ∙ ap (isListed (a .files) (a .numbers .now)) (c .before .before .before .before .before .word .ensures)) in
     moved-turn (a .files) (a .numbers .now) (a .n) (a .entries .now) (l .entries) (c .before .before .keep-entry .last .0) (l .i) (l .to) (c .before .before .keep-entry .result) (not (c .before .before .before .before .is-listed .result)) (l .inv) (c .before .before .before .before .before .before .before .loop-test .taken) stays (c .before .before .keep-entry .ensures .1) (c .before .before .keep-entry .ensures .0)
 
--- src/keep.rt:64:1
 same-length : tie.Need-same-length Inv-loop μ-loop
 same-length c = search needs
 
--- src/keep.rt:64:1
 returns : tie.Need-returns Inv-loop μ-loop
 returns c =
     let a = c .before .before .before .args in

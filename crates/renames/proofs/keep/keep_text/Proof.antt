@@ -10,9 +10,6 @@ use Rattle.lists.proofs.Parts.{drop-take}
 use borrow.Author.Needs.{needs}
 use Rattle.renames.proofs.keep.keep_text.Statement.{statement}
 use Rattle.renames.proofs.keep.keep_text.Tie as tie
-use Rattle.renames.proofs.keep.keep_text.Reads as reads
-use Rattle.renames.proofs.keep.keep_text.Lts as lts
-use Rattle.tables.proofs.remove_text.Reads as remove-text-reads
 
 -- what slides down is the text
 slides : (t : List ℕ) (from len to : ℕ) → to ≤ from → drop (to + (from - to)) (take (from + len) t) ≡ partOf t from len
@@ -21,34 +18,27 @@ slides t from len to h =
     let b : from + len - from ≡ len = omega arith in
     rw a (drop-take from (from + len) t ∙ rw b)
 
--- src/keep.rt:87:13
 add-remove-text : tie.Need-add-remove-text
 add-remove-text c = search needs
 
--- src/keep.rt:90:22
 sub-t11 : tie.Need-sub-t11
 sub-t11 c = search needs
 
--- src/keep.rt:85:9
 remove-text-requires : tie.Need-remove-text-requires
 remove-text-requires c κs = search needs
 
--- src/keep.rt:93:16
 add-result : tie.Need-add-result
 add-result c = search needs
 
--- src/keep.rt:93:9
 same-length : tie.Need-same-length
 same-length c = search needs
 
--- src/keep.rt:93:9
 returns : tie.Need-returns
 returns c =
     let s = c .before .before .before .before .before .before in
     let a = s .args in
     rw (c .before .before .before .before .if1 .taken) (refl, c .before .before .remove-text .ensures ∙ ap (λ (x : List ℕ). sets (a .text .now) (a .to) x) (slides (a .text .now) (a .from) (a .len) (a .to) (s .pre .0)))
 
--- src/keep.rt:79:1
 returns-2 : tie.Need-returns-2
 returns-2 c = search needs
 

@@ -1,8 +1,8 @@
 -- `renames::keep::keep_texts` meets its contract. The loop's invariant: the texts from `from` on are as they were, and what is left
 -- of them behind those that were moved gives the whole.
-use Prim.Native.Nat.{ℕ, _+_, _-_, _*_, _≤_}
+use Prim.Native.Nat.{_-_, _*_, _≤_}
 use mathlib.Core.Path.{_≡_, ap, _∙_}
-use mathlib.Core.Bool.{Bool, not}
+use mathlib.Core.Bool.{not}
 use native.Mathlib.Omega.{arith}
 use borrow.Author.Needs.{needs}
 use lib.ListN.{length}
@@ -10,11 +10,6 @@ use Rattle.renames.specs.Importing.{isListed}
 use Rattle.renames.proofs.Keeping.{Joined, joined-start, joined-in, joined-turn, joined-end}
 use Rattle.renames.proofs.keep.keep_texts.Statement.{statement}
 use Rattle.renames.proofs.keep.keep_texts.Tie as tie
-use Rattle.renames.proofs.keep.keep_texts.Reads as reads
-use Rattle.renames.proofs.keep.keep_texts.Lts as lts
-use Rattle.lists.proofs.word.Reads as word-reads
-use Rattle.renames.proofs.keep.keep_text.Reads as keep-text-reads
-use Rattle.renames.proofs.listed.is_listed.Reads as is-listed-reads
 
 abbrev Inv-loop : tie.InvT-loop
 Inv-loop text₀ entries n numbers files i₀ from₀ to₀ text i from to = (n * 3 ≤ length entries) × Joined files numbers n entries text₀ text i from to
@@ -22,44 +17,35 @@ Inv-loop text₀ entries n numbers files i₀ from₀ to₀ text i from to = (n 
 abbrev μ-loop : tie.MeasureT-loop
 μ-loop text₀ entries n numbers files i₀ from₀ to₀ text i from to = n - i
 
--- src/keep.rt:112:5
 loop-holds : tie.Need-loop-holds Inv-loop μ-loop
 loop-holds c =
     let a = c .before .before .args in
     (c .before .before .pre .0, joined-start (a .files) (a .numbers .now) (a .n) (a .entries .now) (a .text .now) (c .before .before .pre .1))
 
--- src/keep.rt:113:72
 mul-word : tie.Need-mul-word Inv-loop μ-loop
 mul-word c = search needs
 
--- src/keep.rt:113:51
 word-requires : tie.Need-word-requires Inv-loop μ-loop
 word-requires c κs = search needs
 
--- src/keep.rt:113:22
 is-listed-requires : tie.Need-is-listed-requires Inv-loop μ-loop
 is-listed-requires c κs = search needs
 
--- src/keep.rt:114:40
 mul-word-2 : tie.Need-mul-word-2 Inv-loop μ-loop
 mul-word-2 c = search needs
 
--- src/keep.rt:114:40
 add-word : tie.Need-add-word Inv-loop μ-loop
 add-word c = search needs
 
--- src/keep.rt:114:19
 word-requires-2 : tie.Need-word-requires-2 Inv-loop μ-loop
 word-requires-2 c κs = search needs
 
--- src/keep.rt:115:9
 keep-text-requires : tie.Need-keep-text-requires Inv-loop μ-loop
 keep-text-requires c κs =
     let a = c .before .before .before .before .before .before .before .before .args in
     let l = c .before .before .before .before .before .loop in
     (l .inv .1 .0, rw (c .before .word2 .ensures) (joined-in (a .files) (a .numbers .now) (a .n) (a .entries .now) (a .text .now) (l .text) (l .i) (l .from) (l .to) (l .inv .1) (c .before .before .before .before .loop-test .taken)))
 
--- src/keep.rt:116:9
 add-from : tie.Need-add-from Inv-loop μ-loop
 add-from c =
     let a = c .before .before .before .before .before .before .before .before .before .before .before .args in
@@ -67,15 +53,12 @@ add-from c =
     let k = joined-in (a .files) (a .numbers .now) (a .n) (a .entries .now) (a .text .now) (l .text) (l .i) (l .from) (l .to) (l .inv .1) (c .before .before .before .before .before .before .before .loop-test .taken) in
     record { fits = omega (arith, k, c .before .before .before .before .word2 .ensures) }
 
--- src/keep.rt:117:9
 add-i : tie.Need-add-i Inv-loop μ-loop
 add-i c = search needs
 
--- src/keep.rt:112:5
 loop-less : tie.Need-loop-less Inv-loop μ-loop
 loop-less c = search needs
 
--- src/keep.rt:112:5
 loop-again : tie.Need-loop-again Inv-loop μ-loop
 loop-again c =
     let a = c .before .before .before .before .before .before .before .before .before .before .before .args in
@@ -83,11 +66,9 @@ loop-again c =
     let stays : not (c .before .before .before .before .before .is-listed .result) ≡ not (isListed (a .files) (a .numbers .now) _) = ap not (c .before .before .before .before .before .is-listed .ensures ∙ ap (isListed (a .files) (a .numbers .now)) (c .before .before .before .before .before .before .word .ensures)) in
     (l .inv .0, joined-turn (a .files) (a .numbers .now) (a .n) (a .entries .now) (a .text .now) (l .text) (c .before .before .keep-text .last .0) (l .i) (l .from) (l .to) (c .before .before .keep-text .result) (c .before .before .before .before .word2 .result) (not (c .before .before .before .before .before .is-listed .result)) (l .inv .1) (c .before .before .before .before .before .before .before .loop-test .taken) stays (c .before .before .before .before .word2 .ensures) (c .before .before .keep-text .ensures .1) (c .before .before .keep-text .ensures .0))
 
--- src/keep.rt:99:1
 same-length : tie.Need-same-length Inv-loop μ-loop
 same-length c = search needs
 
--- src/keep.rt:99:1
 returns : tie.Need-returns Inv-loop μ-loop
 returns c =
     let a = c .before .before .before .before .args in

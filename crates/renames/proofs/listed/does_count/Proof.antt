@@ -1,5 +1,5 @@
 -- `renames::listed::does_count` meets its contract.
-use mathlib.Core.Path.{_≡_, sym, ap, _∙_}
+use mathlib.Core.Path.{sym, ap, _∙_}
 use lib.IntN.{pos}
 use lib.ListN.{getD}
 use Rattle.types.specs.Refusals.{usizeSays}
@@ -8,44 +8,31 @@ use Rattle.renames.proofs.Numbers.{within-yes, within-no}
 use borrow.Author.Needs.{needs}
 use Rattle.renames.proofs.listed.does_count.Statement.{statement}
 use Rattle.renames.proofs.listed.does_count.Tie as tie
-use Rattle.renames.proofs.listed.does_count.Reads as reads
-use Rattle.renames.proofs.listed.does_count.Lts as lts
-use Rattle.renames.proofs.listed.index_at.Reads as index-at-reads
-use Rattle.renames.proofs.listed.is_listed.Reads as is-listed-reads
-use Rattle.types.proofs.index.FileIndex.within.Reads as within-reads
 
--- src/listed.rt:92:11
 index-at-requires : tie.Need-index-at-requires
 index-at-requires c κs = search needs
 
--- src/listed.rt:92:11
 within-requires : tie.Need-within-requires
 within-requires c κs = search needs
 
--- src/listed.rt:93:25
 enum-known-k : tie.Need-enum-known-k
 enum-known-k c = search needs
 
--- src/listed.rt:93:51
 add-is-listed : tie.Need-add-is-listed
 add-is-listed c = search needs
 
--- src/listed.rt:93:32
 is-listed-requires : tie.Need-is-listed-requires
 is-listed-requires c κs = search needs
 
--- src/listed.rt:94:32
 enum-told : tie.Need-enum-told
 enum-told c = search needs
 
--- src/listed.rt:88:1
 returns : tie.Need-returns
 returns c =
     let a = c .before .before .before .before .before .before .args in
     let k = within-yes (a .files) (getD (a .numbers .now) (a .i) (pos 0)) _ (ap usizeSays (sym (c .before .before .k .given .1)) ∙ c .before .before .before .before .within .ensures ∙ ap (belowOr 11 (a .files)) (c .before .before .before .before .before .index-at .ensures .0)) in
     rw (k .0, c .is-listed .ensures, k .1)
 
--- src/listed.rt:88:1
 returns-2 : tie.Need-returns-2
 returns-2 c =
     let a = c .before .before .before .before .args in

@@ -6,23 +6,16 @@ use Rattle.names.proofs.Deciding.{index-is}
 use borrow.Author.Needs.{needs}
 use Rattle.renames.proofs.listed.file_at.Statement.{statement}
 use Rattle.renames.proofs.listed.file_at.Tie as tie
-use Rattle.renames.proofs.listed.file_at.Reads as reads
-use Rattle.renames.proofs.listed.file_at.Lts as lts
-use Rattle.renames.proofs.listed.index_at.Reads as index-at-reads
-use Rattle.types.proofs.index.FileIndex.get.Reads as get-reads
 
 file-is : (c : tie.After-get) → c .get .result ≡ indexOf (c .before .index-at .result .0)
 file-is c = c .get .ensures ∙ index-is (c .before .index-at .result .0)
 
--- src/listed.rt:84:5
 index-at-requires : tie.Need-index-at-requires
 index-at-requires c κs = search needs
 
--- src/listed.rt:84:5
 get-requires : tie.Need-get-requires
 get-requires c κs = search needs
 
--- src/listed.rt:81:1
 returns : tie.Need-returns
 returns c = (file-is c ∙ ap indexOf (c .before .index-at .ensures .0), omega (arith, file-is c, c .before .index-at .ensures .1))
 

@@ -9,9 +9,6 @@ use Rattle.lists.specs.Lists.{any}
 use Rattle.storage.specs.Addition.{isNegative}
 use Rattle.renames.proofs.listed.has_negative.Statement.{statement}
 use Rattle.renames.proofs.listed.has_negative.Tie as tie
-use Rattle.renames.proofs.listed.has_negative.Reads as reads
-use Rattle.renames.proofs.listed.has_negative.Lts as lts
-use Rattle.renames.proofs.listed.is_negative.Reads as is-negative-reads
 
 abbrev Inv-loop : tie.InvT-loop
 Inv-loop numbers i₀ i = any isNegative (drop i numbers) ≡ any isNegative numbers
@@ -19,37 +16,30 @@ Inv-loop numbers i₀ i = any isNegative (drop i numbers) ≡ any isNegative num
 abbrev μ-loop : tie.MeasureT-loop
 μ-loop numbers i₀ i = length numbers - i
 
--- src/listed.rt:40:5
 loop-holds : tie.Need-loop-holds Inv-loop μ-loop
 loop-holds c = refl
 
--- src/listed.rt:41:12
 is-negative-requires : tie.Need-is-negative-requires Inv-loop μ-loop
 is-negative-requires c κs = search needs
 
--- src/listed.rt:42:13
 returns : tie.Need-returns Inv-loop μ-loop
 returns c =
     let a = c .before .before .before .before .args in
     let l = c .before .before .before .loop in
     sym (any-stop isNegative (a .numbers .now) (l .i) (pos 0) (c .before .before .loop-test .taken) (sym (c .before .is-negative .ensures) ∙ c .if1 .taken)) ∙ l .inv
 
--- src/listed.rt:44:9
 add-i : tie.Need-add-i Inv-loop μ-loop
 add-i c = search needs
 
--- src/listed.rt:40:5
 loop-less : tie.Need-loop-less Inv-loop μ-loop
 loop-less c = search needs
 
--- src/listed.rt:40:5
 loop-again : tie.Need-loop-again Inv-loop μ-loop
 loop-again c =
     let a = c .before .before .before .before .args in
     let l = c .before .before .before .loop in
     sym (any-turn isNegative (a .numbers .now) (l .i) (pos 0) (c .before .before .loop-test .taken) (sym (c .before .is-negative .ensures) ∙ c .if1 .left)) ∙ l .inv
 
--- src/listed.rt:36:1
 returns-2 : tie.Need-returns-2 Inv-loop μ-loop
 returns-2 c =
     let a = c .before .before .args in

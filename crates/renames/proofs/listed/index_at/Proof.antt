@@ -7,15 +7,10 @@ use Rattle.renames.proofs.Numbers.{index-small}
 use borrow.Author.Needs.{needs}
 use Rattle.renames.proofs.listed.index_at.Statement.{statement}
 use Rattle.renames.proofs.listed.index_at.Tie as tie
-use Rattle.renames.proofs.listed.index_at.Reads as reads
-use Rattle.renames.proofs.listed.index_at.Lts as lts
-use Rattle.renames.proofs.listed.number_at.Reads as number-at-reads
 
--- src/listed.rt:53:15
 number-at-requires : tie.Need-number-at-requires
 number-at-requires c κs = search needs
 
--- src/listed.rt:50:1
 returns : tie.Need-returns
 returns c =
     let f : SFits w32 (c .number-at .result) = record { sfits = c .number-at .ok } in

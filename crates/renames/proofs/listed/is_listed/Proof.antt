@@ -8,9 +8,6 @@ use Rattle.lists.proofs.Tests.{any-turn, any-stop, any-end}
 use Rattle.renames.specs.Importing.{isOf, isListed}
 use Rattle.renames.proofs.listed.is_listed.Statement.{statement}
 use Rattle.renames.proofs.listed.is_listed.Tie as tie
-use Rattle.renames.proofs.listed.is_listed.Reads as reads
-use Rattle.renames.proofs.listed.is_listed.Lts as lts
-use Rattle.renames.proofs.listed.is_of.Reads as is-of-reads
 
 abbrev Inv-loop : tie.InvT-loop
 Inv-loop numbers from files file i₀ i = isListed files (drop i numbers) file ≡ isListed files (drop from numbers) file
@@ -18,37 +15,30 @@ Inv-loop numbers from files file i₀ i = isListed files (drop i numbers) file �
 abbrev μ-loop : tie.MeasureT-loop
 μ-loop numbers from files file i₀ i = length numbers - i
 
--- src/listed.rt:71:5
 loop-holds : tie.Need-loop-holds Inv-loop μ-loop
 loop-holds c = refl
 
--- src/listed.rt:72:12
 is-of-requires : tie.Need-is-of-requires Inv-loop μ-loop
 is-of-requires c κs = search needs
 
--- src/listed.rt:73:13
 returns : tie.Need-returns Inv-loop μ-loop
 returns c =
     let a = c .before .before .before .before .args in
     let l = c .before .before .before .loop in
     sym (any-stop (isOf (a .files) (a .file)) (a .numbers .now) (l .i) (pos 0) (c .before .before .loop-test .taken) (sym (c .before .is-of .ensures) ∙ c .if1 .taken)) ∙ l .inv
 
--- src/listed.rt:75:9
 add-i : tie.Need-add-i Inv-loop μ-loop
 add-i c = search needs
 
--- src/listed.rt:71:5
 loop-less : tie.Need-loop-less Inv-loop μ-loop
 loop-less c = search needs
 
--- src/listed.rt:71:5
 loop-again : tie.Need-loop-again Inv-loop μ-loop
 loop-again c =
     let a = c .before .before .before .before .args in
     let l = c .before .before .before .loop in
     sym (any-turn (isOf (a .files) (a .file)) (a .numbers .now) (l .i) (pos 0) (c .before .before .loop-test .taken) (sym (c .before .is-of .ensures) ∙ c .if1 .left)) ∙ l .inv
 
--- src/listed.rt:67:1
 returns-2 : tie.Need-returns-2 Inv-loop μ-loop
 returns-2 c =
     let a = c .before .before .args in

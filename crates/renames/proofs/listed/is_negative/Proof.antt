@@ -13,10 +13,6 @@ use Rattle.storage.specs.Addition.{isNegative}
 use borrow.Author.Needs.{needs}
 use Rattle.renames.proofs.listed.is_negative.Statement.{statement}
 use Rattle.renames.proofs.listed.is_negative.Tie as tie
-use Rattle.renames.proofs.listed.is_negative.Reads as reads
-use Rattle.renames.proofs.listed.is_negative.Lts as lts
-use Rattle.renames.proofs.listed.number_at.Reads as number-at-reads
-use Rattle.types.proofs.unsigned32.Reads as unsigned32-reads
 
 abbrev isBelowZero : Unsigned → Bool
 isBelowZero (Of n) = false
@@ -32,27 +28,21 @@ told c =
     let f : SFits w32 (c .before .number-at .result) = record { sfits = c .before .number-at .ok } in
     ap isBelowZero (c .unsigned32 .ensures) ∙ negative-is (toZ w32 (ofZ w32 (c .before .number-at .result))) ∙ ap isNegative (toZ-ofZ f ∙ c .before .number-at .ensures)
 
--- src/listed.rt:29:29
 number-at-requires : tie.Need-number-at-requires
 number-at-requires c κs = search needs
 
--- src/listed.rt:29:11
 unsigned32-requires : tie.Need-unsigned32-requires
 unsigned32-requires c κs = search needs
 
--- src/listed.rt:30:28
 enum-told : tie.Need-enum-told
 enum-told c = search needs
 
--- src/listed.rt:31:31
 enum-told-2 : tie.Need-enum-told-2
 enum-told-2 c = search needs
 
--- src/listed.rt:26:1
 returns : tie.Need-returns
 returns c = sym (ap isBelowZero (c .enum-told .given .1)) ∙ told (c .before .before)
 
--- src/listed.rt:26:1
 returns-2 : tie.Need-returns-2
 returns-2 c = sym (ap isBelowZero (c .enum-told2 .given .1)) ∙ told (c .before .before)
 

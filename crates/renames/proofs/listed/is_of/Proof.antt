@@ -1,5 +1,5 @@
 -- `renames::listed::is_of` meets its contract.
-use mathlib.Core.Path.{_≡_, sym, ap, _∙_}
+use mathlib.Core.Path.{sym, ap, _∙_}
 use lib.IntN.{pos}
 use lib.ListN.{getD}
 use Rattle.types.specs.Refusals.{usizeSays}
@@ -8,35 +8,25 @@ use Rattle.renames.proofs.Numbers.{within-yes, within-no}
 use borrow.Author.Needs.{needs}
 use Rattle.renames.proofs.listed.is_of.Statement.{statement}
 use Rattle.renames.proofs.listed.is_of.Tie as tie
-use Rattle.renames.proofs.listed.is_of.Reads as reads
-use Rattle.renames.proofs.listed.is_of.Lts as lts
-use Rattle.renames.proofs.listed.index_at.Reads as index-at-reads
-use Rattle.types.proofs.index.FileIndex.within.Reads as within-reads
 
--- src/listed.rt:60:11
 index-at-requires : tie.Need-index-at-requires
 index-at-requires c κs = search needs
 
--- src/listed.rt:60:11
 within-requires : tie.Need-within-requires
 within-requires c κs = search needs
 
--- src/listed.rt:61:25
 enum-known-k : tie.Need-enum-known-k
 enum-known-k c = search needs
 
--- src/listed.rt:62:32
 enum-told : tie.Need-enum-told
 enum-told c = search needs
 
--- src/listed.rt:57:1
 returns : tie.Need-returns
 returns c =
     let a = c .before .before .before .before .before .args in
     let k = within-yes (a .files) (getD (a .numbers .now) (a .i) (pos 0)) _ (ap usizeSays (sym (c .before .k .given .1)) ∙ c .before .before .before .within .ensures ∙ ap (belowOr 11 (a .files)) (c .before .before .before .before .index-at .ensures .0)) in
     rw (k .0, k .1)
 
--- src/listed.rt:57:1
 returns-2 : tie.Need-returns-2
 returns-2 c =
     let a = c .before .before .before .before .args in

@@ -1,0 +1,88 @@
+// `import_filenames`: names for many files at once, decided first and written after. Relies on check.rt for the
+// order of the tables, on keep.rt and give.rt for what stays and what comes, and on the laws of
+// proofs/Importing.antt.
+ghost use mathlib.Core.Path.{_≡_};
+ghost use Prim.Native.Nat.{_/_, _≤_};
+ghost use Rattle.renames.specs.Renames.{Changed, stateOf};
+ghost use Rattle.renames.specs.Results.{renamesSays};
+ghost use Rattle.renames.specs.Imports.{namings, importFilenames};
+ghost use Rattle.renames.specs.Importing.{given, isFull, importAsked};
+use crate::check::is_in_order;
+use crate::give::count_given;
+use crate::give::give;
+use crate::keep::count_kept;
+use crate::keep::keep_entries;
+use crate::keep::keep_texts;
+use crate::listed::has_negative;
+use crate::rename::RenamedFiles;
+use crate::rename::RenamesResult;
+use answers::I32Result;
+use tables::FileStorage;
+use types::Refusal;
+
+// Whether tables of so many words and bytes are too short for what stays and what comes.
+fn is_full(words: usize, room: usize, stay: RenamedFiles, come: RenamedFiles) -> bool
+    requires { ⌜ (stay .«num_renames» ≤ words / 3) × (stay .«text_len» ≤ room) ⌝ }
+    ensures { λ r. ⌜ r ≡ isFull words room stay come ⌝ }
+{
+    if words / 3 - stay.num_renames < come.num_renames {
+        return true;
+    }
+    room - stay.text_len < come.text_len
+}
+
+// The record of the renames that stay, or why the list is refused.
+fn decide(
+    fs: FileStorage,
+    renames: RenamedFiles,
+    entries: &[u64],
+    room: usize,
+    numbers: &[i32],
+    lengths: &[u64],
+    names: &[u8],
+) -> RenamesResult
+    ensures { λ r. ⌜ renamesSays r ≡ importAsked fs renames (now (entries .entry)) room (now (numbers .entry)) (stateOf (given (fs .«num_files») (now (numbers .entry)) (now (lengths .entry)) (now (names .entry)))) ⌝ }
+{
+    match answers::piece_length(fs) {
+        I32Result::Ok(_) => {
+            if has_negative(numbers) {
+                return RenamesResult::Err(Refusal::NoSuchFile);
+            }
+            if !is_in_order(renames, entries, room) {
+                return RenamesResult::Err(Refusal::NoRoom);
+            }
+            let stay = count_kept(renames, entries, numbers, fs.num_files);
+            let come = count_given(numbers, lengths, names, fs.num_files);
+            if is_full(entries.len(), room, stay, come) {
+                return RenamesResult::Err(Refusal::NoRoom);
+            }
+            RenamesResult::Ok(stay)
+        }
+        I32Result::Err(e) => RenamesResult::Err(e),
+    }
+}
+
+// Records other paths for many files, or why not: number i and the name of `lengths[i]` bytes, the names one
+// behind the other. Numbers past the end are skipped, and of repeats the last counts.
+pub fn import_filenames(
+    fs: FileStorage,
+    renames: RenamedFiles,
+    entries: &mut [u64],
+    text: &mut [u8],
+    numbers: &[i32],
+    lengths: &[u64],
+    names: &[u8],
+) -> RenamesResult
+    ensures { λ r. ⌜ _≡_ {A = Changed} (record { says = renamesSays r; entries = now (entries .exit); text = now (text .exit) }) (importFilenames fs renames (now (entries .entry)) (now (text .entry)) (namings (now (numbers .entry)) (now (lengths .entry)) (now (names .entry)))) ⌝ }
+{
+    let decision = decide(fs, renames, entries, text.len(), numbers, lengths, names);
+    match decision {
+        RenamesResult::Ok(stay) => {
+            let files = fs.num_files;
+            keep_texts(text, entries, renames.num_renames, numbers, files);
+            keep_entries(entries, renames.num_renames, numbers, files);
+            RenamesResult::Ok(give(stay, entries, text, numbers, lengths, names, files))
+        }
+        RenamesResult::Err(e) => RenamesResult::Err(e),
+    }
+}
