@@ -74,7 +74,7 @@ fn place_in(
 }
 
 // A name's mode: an absolute name is read alone.
-pub(crate) fn mode_for(name: &[u8]) -> RenameMode
+fn mode_for(name: &[u8]) -> RenameMode
     ensures { λ r. ⌜ r ≡ modeFor (now (name .entry)) ⌝ }
 {
     if path::is_complete(name) {
