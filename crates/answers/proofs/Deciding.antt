@@ -13,12 +13,16 @@ use Rattle.types.specs.declared.refusal.UsizeResult.{UsizeResult}
 use Rattle.types.specs.declared.refusal.UsizeResult.the-variants as usize
 use Rattle.path.specs.Join.{appended, Joined, joinedIf, fits}
 use Rattle.tables.specs.declared.storage.FileStorage.{FileStorage}
-use Rattle.storage.specs.Rules.{when, firstOf, outcomeOf}
+use Rattle.storage.specs.Rules.{both, when, firstOf, outcomeOf}
 use Rattle.storage.specs.Addition.{badLength}
 use Rattle.answers.specs.declared.result.UnitResult.{UnitResult}
 use Rattle.answers.specs.declared.result.UnitResult.the-variants as unit
 use Rattle.answers.specs.Results.{unitSays}
 use Rattle.answers.specs.Answers.{indexOf, isBelow, askedHeld, askedDirectory, askedFile, askedLink, composedIf, composedFile}
+
+-- two tests, each known in other words
+pub both-is : {r x y a b : Bool} → r ≡ both x y → x ≡ a → y ≡ b → r ≡ both a b
+both-is e f g = e ∙ rw (f, g)
 
 -- what the outcome of a number says of it
 module _ {A : Type 0} (n : ℕ) (a : A) where

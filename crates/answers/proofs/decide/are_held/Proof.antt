@@ -1,5 +1,6 @@
 -- `answers::decide::are_held` meets its contract.
 use borrow.Author.Needs.{needs}
+use Rattle.answers.proofs.Deciding.{both-is}
 use Rattle.answers.proofs.decide.are_held.Statement.{statement}
 use Rattle.answers.proofs.decide.are_held.Tie as tie
 
@@ -13,7 +14,7 @@ are-both-requires : tie.Need-are-both-requires
 are-both-requires c κs = search needs
 
 returns : tie.Need-returns
-returns c = cc
+returns c = both-is (c .are-both .ensures) (c .before .before .is-held .ensures) (c .before .is-held2 .ensures)
 
 pub are-held-spec : {M : Type 1} → statement M
 are-held-spec = tie.close (tie.spec is-held-requires is-held-requires-2 are-both-requires returns)

@@ -5,12 +5,12 @@ use Rattle.tables.specs.Rows.{dirAt}
 use Rattle.tables.specs.Span.{textAt}
 use Rattle.storage.specs.Rules.{both}
 use Rattle.answers.specs.Answers.{dirsHeld, textHeld}
-use Rattle.answers.proofs.Deciding.{directory-value, directory-refused}
+use Rattle.answers.proofs.Deciding.{both-is, directory-value, directory-refused}
 use Rattle.answers.proofs.set.path_at.Statement.{statement}
 use Rattle.answers.proofs.set.path_at.Tie as tie
 
 held-is : (c : tie.After-are-both) → let a = c .before .before .before .before .before .args in c .are-both .result ≡ both (dirsHeld (a .fs) (a .dirs .now)) (textHeld (a .fs) (a .text .now))
-held-is c = cc
+held-is c = both-is (c .are-both .ensures) (c .before .before .is-held .ensures) (c .before .is-held2 .ensures)
 
 is-held-requires : tie.Need-is-held-requires
 is-held-requires c κs = search needs

@@ -4,12 +4,12 @@ use borrow.Author.Needs.{needs}
 use Rattle.tables.specs.Rows.{rowAt}
 use Rattle.storage.specs.Rules.{both}
 use Rattle.answers.specs.Answers.{rowsHeld, dirsHeld, textHeld, internalPath}
-use Rattle.answers.proofs.Deciding.{composed-value, composed-refused}
+use Rattle.answers.proofs.Deciding.{both-is, composed-value, composed-refused}
 use Rattle.answers.proofs.text.internal_file_path.Statement.{statement}
 use Rattle.answers.proofs.text.internal_file_path.Tie as tie
 
 held-is : (c : tie.After-are-both2) → let a = c .before .before .before .before .before .before .before .before .before .args in c .are-both2 .result ≡ both (rowsHeld (a .fs) (a .rows .now)) (both (dirsHeld (a .fs) (a .dirs .now)) (textHeld (a .fs) (a .text .now)))
-held-is c = cc
+held-is c = both-is (c .are-both2 .ensures) (c .before .is-held3 .ensures) (both-is (c .before .before .are-both .ensures) (c .before .before .before .before .is-held .ensures) (c .before .before .before .is-held2 .ensures))
 
 is-held-requires : tie.Need-is-held-requires
 is-held-requires c κs = search needs
