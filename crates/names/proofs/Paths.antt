@@ -56,12 +56,21 @@ module _ (fs : FileStorage) (dirs text : List ℕ) (r : Row) where
   abbrev pub dirSpan : Span
   dirSpan = cond (isInside r) (dirAt dirs (r .«path_index»)) nowhere
 
-  pub path-is : (save : List ℕ) → appended (appended (appended (cond (isAbsolute r) [] save) (textAt text setSpan)) (textAt text dirSpan)) (nameOf text r) ≡ filePath fs dirs text save r
+  path-is : (save : List ℕ) → appended (appended (appended (cond (isAbsolute r) [] save) (textAt text setSpan)) (textAt text dirSpan)) (nameOf text r) ≡ filePath fs dirs text save r
   path-is save = path-if text save (nameOf text r) (fs .name) (dirAt dirs (r .«path_index»)) (isAbsolute r) (isSingle r) (has (r .flags) 32)
 
   -- without a save path, two parts lead the name
-  pub path-unsaved : appended (appended (textAt text setSpan) (textAt text dirSpan)) (nameOf text r) ≡ filePath fs dirs text [] r
+  path-unsaved : appended (appended (textAt text setSpan) (textAt text dirSpan)) (nameOf text r) ≡ filePath fs dirs text [] r
   path-unsaved = ap (λ (l : List ℕ). appended (appended (appended l (textAt text setSpan)) (textAt text dirSpan)) (nameOf text r)) (sym (none-if (isAbsolute r))) ∙ path-is []
+
+  -- a path of parts that were read one by one
+  pub path-from : {save set dir name : List ℕ} {u v : Span} (given : List ℕ) → save ≡ cond (isAbsolute r) [] given → set ≡ textAt text u → u ≡ setSpan → dir ≡ textAt text v → v ≡ dirSpan → name ≡ nameOf text r
+      → appended (appended (appended save set) dir) name ≡ filePath fs dirs text given r
+  path-from given e f g h i j = rw (e, f, g, h, i, j) (path-is given)
+
+  pub unsaved-from : {set dir name : List ℕ} {u v : Span} → set ≡ textAt text u → u ≡ setSpan → dir ≡ textAt text v → v ≡ dirSpan → name ≡ nameOf text r
+      → appended (appended set dir) name ≡ filePath fs dirs text [] r
+  unsaved-from f g h i j = rw (f, g, h, i, j) path-unsaved
 
   pub hashed-is : (save : List ℕ) → led (cond (isAbsolute r) [] save) ++ (cond (both (isInside r) (not (has (r .flags) 32))) (textAt text (fs .name) ++ (47 ∷ [])) [] ++ (led (textAt text dirSpan) ++ nameOf text r)) ≡ hashedPath fs dirs text save r
   hashed-is save = hashed-if text save (nameOf text r) (fs .name) (dirAt dirs (r .«path_index»)) (isAbsolute r) (isSingle r) (has (r .flags) 32)

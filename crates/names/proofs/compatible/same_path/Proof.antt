@@ -1,7 +1,7 @@
 -- `names::compatible::same_path` meets its contract.
 use mathlib.Core.List.{[]}
 use Rattle.names.specs.Paths.{filePath}
-use Rattle.names.proofs.Paths.{compared, path-unsaved}
+use Rattle.names.proofs.Paths.{compared, unsaved-from}
 use borrow.Author.Needs.{needs}
 use Rattle.names.proofs.compatible.same_path.Statement.{statement}
 use Rattle.names.proofs.compatible.same_path.Tie as tie
@@ -44,8 +44,8 @@ returns c =
     let a = c .before .before .before .before .before .before .before .before .before .before .before .before .before .before .before .args in
     compared (c .same-composed .result) (c .before .before .before .before .before .before .before .before .before .text-at .result .now) (c .before .before .before .before .before .before .before .text-at2 .result .now) (c .before .before .before .before .before .before .text-at3 .result .now) (c .before .before .before .before .text-at4 .result .now) (c .before .before .text-at5 .result .now) (c .before .text-at6 .result .now)
     (filePath (a .a) (a .dirs-a .now) (a .text-a .now) [] (a .row-a)) (filePath (a .b) (a .dirs-b .now) (a .text-b .now) [] (a .row-b)) (c .same-composed .ensures)
-    (rw (c .before .before .before .before .before .before .before .before .before .text-at .ensures, c .before .before .before .before .before .before .before .before .before .before .set-span .ensures, c .before .before .before .before .before .before .before .text-at2 .ensures, c .before .before .before .before .before .before .before .before .directory-span .ensures, c .before .before .before .before .before .before .text-at3 .ensures) (path-unsaved (a .a) (a .dirs-a .now) (a .text-a .now) (a .row-a)))
-    (rw (c .before .before .before .before .text-at4 .ensures, c .before .before .before .before .before .set-span2 .ensures, c .before .before .text-at5 .ensures, c .before .before .before .directory-span2 .ensures, c .before .text-at6 .ensures) (path-unsaved (a .b) (a .dirs-b .now) (a .text-b .now) (a .row-b)))
+    (unsaved-from (a .a) (a .dirs-a .now) (a .text-a .now) (a .row-a) (c .before .before .before .before .before .before .before .before .before .text-at .ensures) (c .before .before .before .before .before .before .before .before .before .before .set-span .ensures) (c .before .before .before .before .before .before .before .text-at2 .ensures) (c .before .before .before .before .before .before .before .before .directory-span .ensures) (c .before .before .before .before .before .before .text-at3 .ensures))
+    (unsaved-from (a .b) (a .dirs-b .now) (a .text-b .now) (a .row-b) (c .before .before .before .before .text-at4 .ensures) (c .before .before .before .before .before .set-span2 .ensures) (c .before .before .text-at5 .ensures) (c .before .before .before .directory-span2 .ensures) (c .before .text-at6 .ensures))
 
 pub same-path-spec : {M : Type 1} → statement M
 same-path-spec =
