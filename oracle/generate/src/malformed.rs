@@ -113,6 +113,7 @@ const LINES: &[&[u8]] = &[
 const SET_LINES: &[&[u8]] = &[
     b"name",
     b"trim",
+    b"clean",
     b"dirs",
     b"text_bytes",
     b"file_size 0",
@@ -239,6 +240,9 @@ const SET_LINES: &[&[u8]] = &[
     b"all_path_hashes 0",
     b"all_path_hashes :",
     b"all_path_hashes",
+    b"clean 0",
+    b"clean :",
+    b"  clean ",
     b"rename",
     b"rename 0",
     b"rename :n 0",
