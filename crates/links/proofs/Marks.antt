@@ -2,7 +2,7 @@
 -- walk of every link with them. These laws rely on those of proofs/Room.antt.
 use Prim.Native.Nat.{ℕ, zero, suc, _+_, _-_, _*_, _≤_}
 use mathlib.Core.Path.{_≡_, refl, sym, ap, _∙_}
-use mathlib.Core.Bool.{Bool, true, false, cond}
+use mathlib.Core.Bool.{Bool, true, false, cond, false≢true}
 use mathlib.Core.List.{List, [], _∷_, map}
 use native.Mathlib.Omega.{arith}
 use lib.Dec.{ltb}
@@ -22,20 +22,17 @@ pub record Says (f : Entry) (r : First) (m : ℕ) : Type 0 where
   pub leads : leading m ≡ r .leads
   pub text : r .leads ≡ true → leadText m f ≡ r .text
 
-no : {A : Type 0} → false ≡ true → A
-no e = absurd (let z : _≡_ {A = ℕ} 0 1 = cc in omega arith)
-
 -- so where the text is taken from the link's directory
 settled-says : (f : Entry) (b : Bool) (s : Seen) (t : List ℕ) (o : First) (m : ℕ) → besideText (f .directory) (f .text) ≡ t → Says f o (lead m) → Says f (settled b s t o) (lead (settledMark b s m))
 settled-says f true s t o m e h = record { leads = refl; text = λ q. e }
 settled-says f false link t o m e h = record { leads = refl; text = λ q. e }
-settled-says f false file t o m e h = record { leads = refl; text = λ q. no q }
+settled-says f false file t o m e h = record { leads = refl; text = λ q. absurd (false≢true q) }
 settled-says f false nothing t o m e h = h
 
 -- so where the text is taken as given
 direct-says : (f : Entry) (s : Seen) (b : Bool) (o : First) (m : ℕ) → Says f o (lead m) → Says f (direct s b (f .text) o) (lead (directMark s b m))
 direct-says f link b o m h = record { leads = refl; text = λ q. refl }
-direct-says f file b o m h = record { leads = refl; text = λ q. no q }
+direct-says f file b o m h = record { leads = refl; text = λ q. absurd (false≢true q) }
 direct-says f nothing true o m h = record { leads = refl; text = λ q. refl }
 direct-says f nothing false o m h = h
 
@@ -81,7 +78,7 @@ module _ (files : List Entry) (dirs : List (List ℕ)) where
       near (stored d outside) e = settled-says f (isDirectory dirs (appended d (f .text))) (fileAt files (appended d (f .text))) (appended d (f .text)) other 25 (ap (λ (p : Directory). besideText p (f .text)) e) base
 
       go : (b : Bool) → Says f (cond b (record { text = own f; leads = false; walked = false }) (direct (fileAt files (f .text)) (isDirectory dirs (f .text)) (f .text) (relative files dirs (f .directory) (f .text) other))) (lead (cond b 8 (directMark (fileAt files (f .text)) (isDirectory dirs (f .text)) (relativeMark files dirs (f .directory) (f .text) 25))))
-      go true = record { leads = refl; text = λ q. no q }
+      go true = record { leads = refl; text = λ q. absurd (false≢true q) }
       go false = direct-says f (fileAt files (f .text)) (isDirectory dirs (f .text)) (relative files dirs (f .directory) (f .text) other) (relativeMark files dirs (f .directory) (f .text) 25) (near (f .directory) refl)
 
   -- it is no use yet

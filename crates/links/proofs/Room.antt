@@ -1,7 +1,7 @@
 -- The work space suffices: the texts by which links lead on fit in document 01's sum. These laws rely on those of proofs/Walk.antt.
 use Prim.Native.Nat.{ℕ, _+_, _≤_}
 use mathlib.Core.Path.{_≡_, refl, ap}
-use mathlib.Core.Bool.{Bool, true, false, cond}
+use mathlib.Core.Bool.{Bool, true, false, cond, false≢true}
 use mathlib.Core.List.{List, [], _∷_}
 use native.Mathlib.Omega.{arith}
 use lib.ListN.{length}
@@ -17,7 +17,7 @@ pub record Fits (f : Entry) (r : First) : Type 0 where
   pub given : r .walked ≡ true → r .text ≡ f .text
 
 plain : (f : Entry) (t : List ℕ) (l : Bool) → length t ≤ directoryLength (f .directory) + length (f .text) + 1 → Fits f (record { text = t; leads = l; walked = false })
-plain f t l h = record { leading = λ q. h; given = λ q. absurd (let z : _≡_ {A = ℕ} 0 1 = cc in omega arith) }
+plain f t l h = record { leading = λ q. h; given = λ q. absurd (false≢true q) }
 
 settled-fits : (f : Entry) (b : Bool) (s : Seen) (t : List ℕ) (o : First) → length t ≤ directoryLength (f .directory) + length (f .text) + 1 → Fits f o → Fits f (settled b s t o)
 settled-fits f true s t o h k = plain f t true h
@@ -47,7 +47,7 @@ module _ (files : List Entry) (dirs : List (List ℕ)) where
       near (stored d outside) e = settled-fits f (isDirectory dirs (appended d (f .text))) (fileAt files (appended d (f .text))) (appended d (f .text)) other (omega (arith, append-short d (f .text), ap directoryLength e)) base
 
       go : (b : Bool) → Fits f (cond b (record { text = own f; leads = false; walked = false }) (direct (fileAt files (f .text)) (isDirectory dirs (f .text)) (f .text) (relative files dirs (f .directory) (f .text) other)))
-      go true = record { leading = λ q. absurd (let z : _≡_ {A = ℕ} 0 1 = cc in omega arith); given = λ q. absurd (let z : _≡_ {A = ℕ} 0 1 = cc in omega arith) }
+      go true = record { leading = λ q. absurd (false≢true q); given = λ q. absurd (false≢true q) }
       go false = direct-fits f (fileAt files (f .text)) (isDirectory dirs (f .text)) (f .text) (relative files dirs (f .directory) (f .text) other) (omega arith) (near (f .directory) refl)
 
   -- the texts of all links that lead on, with one byte each

@@ -1,8 +1,8 @@
--- The scan of the links for the one at a path, with the leads that say which are open. These laws rely on
--- those of proofs/Rows.antt.
+-- The scan of the links for the one at a path, with the leads that say which are open. These laws rely on those
+-- of proofs/Rows.antt.
 use Prim.Native.Nat.{ℕ, zero, suc, _+_, _<_, _≤_}
 use mathlib.Core.Path.{_≡_, refl, sym, ap, _∙_}
-use mathlib.Core.Bool.{Bool, true, false, cond}
+use mathlib.Core.Bool.{Bool, true, false, cond, true≢false, false≢true}
 use mathlib.Core.List.{List, [], _∷_}
 use native.Mathlib.Omega.{arith}
 use lib.Dec.{ltb}
@@ -23,10 +23,10 @@ use Rattle.links.proofs.Rows.{flagged-at, own-at}
 -- a choice that is made
 pub cond-yes : {A : Type 0} (x y : A) (b : Bool) → b ≡ true → cond b x y ≡ x
 cond-yes x y true h = refl
-cond-yes x y false h = absurd (let z : _≡_ {A = ℕ} 0 1 = cc in omega arith)
+cond-yes x y false h = absurd (false≢true h)
 
 pub cond-no : {A : Type 0} (x y : A) (b : Bool) → b ≡ false → cond b x y ≡ y
-cond-no x y true h = absurd (let z : _≡_ {A = ℕ} 0 1 = cc in omega arith)
+cond-no x y true h = absurd (true≢false h)
 cond-no x y false h = refl
 
 -- a link that leads on and is not traversed has lead 1 or 2
@@ -34,7 +34,7 @@ pub mark-small : (m : ℕ) → leading m ≡ true → m ≤ 2
 mark-small zero h = omega arith
 mark-small (suc zero) h = omega arith
 mark-small (suc (suc zero)) h = omega arith
-mark-small (suc (suc (suc m))) h = absurd (let z : _≡_ {A = ℕ} 0 1 = cc in omega arith)
+mark-small (suc (suc (suc m))) h = absurd (false≢true h)
 
 -- what a lead other than 0 tells of the link
 pub record Here (f : Entry) (m : ℕ) (p : List ℕ) (later : Bool) (r : ℕ) : Type 0 where
@@ -54,6 +54,7 @@ here f m p later r e z = go (f .flagged) (leading m) (equal (own f) p) later ref
     go true false c d x y w v q = absurd (z q)
     go false b c d x y w v q = absurd (z q)
 
+-- which leads let a walk through
 pub leading-not : (m : ℕ) → 2 < m → leading m ≡ false
 leading-not zero h = absurd (omega arith)
 leading-not (suc zero) h = absurd (omega arith)
@@ -114,8 +115,9 @@ pub record Scan (all rest : List Entry) (ms p : List ℕ) (k : ℕ) : Type 0 whe
 pub scan-start : (all : List Entry) (ms p : List ℕ) → Scan all all ms p 0
 scan-start all ms p = record { same-lead = refl; closing = λ ms′ t a q. q }
 
+-- such a lead is not 0
 mark-zero : (m : ℕ) → leading m ≡ true → m ≡ 0 → ⊥
-mark-zero zero h z = let y : _≡_ {A = ℕ} 0 1 = cc in omega arith
+mark-zero zero h z = false≢true h
 mark-zero (suc m) h z = omega arith
 
 -- a link that isn't taken: it doesn't lead, a later one is at its path, or it is elsewhere
@@ -126,11 +128,12 @@ skipped f m p later e h = go (leading m) (equal (own f) p) (later (own f)) refl 
     go true true false x y v q h =
         let w : later p ≡ false = rw (equal-true (own f) p y) at v in
         absurd (mark-zero m x (sym (rw w at q)))
-    go true true true x y v q h = absurd (let z : _≡_ {A = ℕ} 0 1 = cc in omega arith)
+    go true true true x y v q h = absurd (false≢true h)
     go true false d x y v q h = y
-    go false c true x y v q h = absurd (let z : _≡_ {A = ℕ} 0 1 = cc in omega arith)
-    go false c false x y v q h = absurd (let z : _≡_ {A = ℕ} 0 1 = cc in omega arith)
+    go false c true x y v q h = absurd (false≢true h)
+    go false c false x y v q h = absurd (false≢true h)
 
+-- past such a link: the same link is found, and the same one taken off
 skip-lead : (f : Entry) (m : ℕ) (p : List ℕ) (ls : List Link) (b : Bool) → (b ≡ true → equal (own f) p ≡ false) → leadAt (opened b m f ls) p ≡ leadAt ls p
 skip-lead f m p ls false h = refl
 skip-lead f m p ls true h = rw (h refl)
@@ -139,18 +142,21 @@ skip-without : (f : Entry) (m : ℕ) (p : List ℕ) (ls ls′ : List Link) (b : 
 skip-without f m p ls ls′ false h q = q
 skip-without f m p ls ls′ true h q = rw (h refl, q)
 
+-- the marks from a place on
 drop-one : (ms : List ℕ) (k : ℕ) → drop 1 (drop k ms) ≡ drop (k + 1) ms
 drop-one ms k = drop-drop 1 k ms
 
 getD-here : (ms : List ℕ) (k : ℕ) → getD (drop k ms) 0 0 ≡ getD ms k 0
 getD-here ms k = getD-drop k ms 0 0 ∙ (let q : k + 0 ≡ k = omega arith in rw q)
 
+-- the open links from file f on: f is a flagged link, or it is not
 open-yes : (f : Entry) (rest : List Entry) (ms : List ℕ) (k : ℕ) → f .flagged ≡ true → openOf (f ∷ rest) (drop k ms) ≡ opened (butLater (anyAt rest (drop (k + 1) ms) (own f)) (leading (getD ms k 0))) (getD ms k 0) f (openOf rest (drop (k + 1) ms))
 open-yes f rest ms k b = cond-yes (opened (butLater (anyAt rest (drop 1 (drop k ms)) (own f)) (leading (getD (drop k ms) 0 0))) (getD (drop k ms) 0 0) f (openOf rest (drop 1 (drop k ms)))) (openOf rest (drop k ms)) (f .flagged) b ∙ rw (getD-here ms k, drop-one ms k)
 
 open-no : (f : Entry) (rest : List Entry) (ms : List ℕ) → f .flagged ≡ false → openOf (f ∷ rest) ms ≡ openOf rest ms
 open-no f rest ms b = cond-no (opened (butLater (anyAt rest (drop 1 ms) (own f)) (leading (getD ms 0 0))) (getD ms 0 0) f (openOf rest (drop 1 ms))) (openOf rest ms) (f .flagged) b
 
+-- whether a link stands at a path, from file f on: f is a flagged link, or it is not
 any-yes : (f : Entry) (rest : List Entry) (ms q : List ℕ) (k : ℕ) → f .flagged ≡ true → anyAt (f ∷ rest) (drop k ms) q ≡ cond (ltb 0 (getD ms k 0)) (cond (equal (own f) q) true (anyAt rest (drop (k + 1) ms) q)) (anyAt rest (drop (k + 1) ms) q)
 any-yes f rest ms q k b = cond-yes (cond (ltb 0 (getD (drop k ms) 0 0)) (cond (equal (own f) q) true (anyAt rest (drop 1 (drop k ms)) q)) (anyAt rest (drop 1 (drop k ms)) q)) (anyAt rest (drop k ms) q) (f .flagged) b ∙ rw (getD-here ms k, drop-one ms k)
 
@@ -168,7 +174,7 @@ pub any-turn : (f : Entry) (rest : List Entry) (ms p : List ℕ) (k j : ℕ) →
 any-turn f rest ms p k j e q = go (f .flagged) refl q
   where
     here-not : (b c : Bool) → false ≡ cond b c false → anyAt rest (drop (k + 1) ms) p ≡ cond b (cond c true (anyAt rest (drop (k + 1) ms) p)) (anyAt rest (drop (k + 1) ms) p)
-    here-not true true h = absurd (let z : _≡_ {A = ℕ} 0 1 = cc in omega arith)
+    here-not true true h = absurd (false≢true h)
     here-not true false h = refl
     here-not false c h = refl
 
@@ -182,13 +188,14 @@ any-hit f rest ms p k e = go (f .flagged) refl
   where
     here-is : (b c : Bool) → true ≡ cond b c false → cond b (cond c true (anyAt rest (drop (k + 1) ms) p)) (anyAt rest (drop (k + 1) ms) p) ≡ true
     here-is true true h = refl
-    here-is true false h = absurd (let z : _≡_ {A = ℕ} 0 1 = cc in omega arith)
-    here-is false c h = absurd (let z : _≡_ {A = ℕ} 0 1 = cc in omega arith)
+    here-is true false h = absurd (true≢false h)
+    here-is false c h = absurd (true≢false h)
 
     go : (b : Bool) → f .flagged ≡ b → anyAt (f ∷ rest) (drop k ms) p ≡ true
     go true b = any-yes f rest ms p k b ∙ here-is (ltb 0 (getD ms k 0)) (equal (own f) p) (e ∙ cond-yes (cond (ltb 0 (getD ms k 0)) (equal (own f) p) false) false (f .flagged) b)
-    go false b = absurd (let y : true ≡ false = e ∙ cond-no (cond (ltb 0 (getD ms k 0)) (equal (own f) p) false) false (f .flagged) b in let z : _≡_ {A = ℕ} 0 1 = cc in omega arith)
+    go false b = absurd (true≢false (e ∙ cond-no (cond (ltb 0 (getD ms k 0)) (equal (own f) p) false) false (f .flagged) b))
 
+-- the first k + 1 of two lists are the same
 take-more : (k : ℕ) (a b : List ℕ) → take (k + 1) a ≡ take (k + 1) b → (take k a ≡ take k b) × (getD a k 0 ≡ getD b k 0)
 take-more k a b h = (
   sym (take-take k (k + 1) a (omega arith)) ∙ ap (take k) h ∙ take-take k (k + 1) b (omega arith),
@@ -240,7 +247,7 @@ scan-hit all f rest ms p k v h b z g s =
     )
   where
     pos : (m : ℕ) → leading m ≡ true → 0 < m
-    pos zero h = absurd (let z : _≡_ {A = ℕ} 0 1 = cc in omega arith)
+    pos zero h = absurd (false≢true h)
     pos (suc m) h = omega arith
 
 -- past the last link
@@ -267,16 +274,16 @@ space-at s (suc n) i j h k f = go (ltb i j) refl (λ q. space-at s n (i + 1) j q
 -- ---- a lead once its link is traversed
 
 pub used-off : (m : ℕ) → leading m ≡ true → leading (m + 2) ≡ false
-used-off zero h = absurd (let z : _≡_ {A = ℕ} 0 1 = cc in omega arith)
+used-off zero h = absurd (false≢true h)
 used-off (suc zero) h = refl
 used-off (suc (suc zero)) h = refl
-used-off (suc (suc (suc m))) h = absurd (let z : _≡_ {A = ℕ} 0 1 = cc in omega arith)
+used-off (suc (suc (suc m))) h = absurd (false≢true h)
 
 pub used-fresh : (m : ℕ) → leading m ≡ true → fresh (m + 2) ≡ fresh m
-used-fresh zero h = absurd (let z : _≡_ {A = ℕ} 0 1 = cc in omega arith)
+used-fresh zero h = absurd (false≢true h)
 used-fresh (suc zero) h = refl
 used-fresh (suc (suc zero)) h = refl
-used-fresh (suc (suc (suc m))) h = absurd (let z : _≡_ {A = ℕ} 0 1 = cc in omega arith)
+used-fresh (suc (suc (suc m))) h = absurd (false≢true h)
 
 pub used-some : (m : ℕ) → ltb 0 (m + 2) ≡ true
 used-some m = lt-ltb 0 (m + 2) (omega arith)
