@@ -1,1 +1,3 @@
 -- Laws of cleanings.
+pub mod Stores
+pub mod NewTexts

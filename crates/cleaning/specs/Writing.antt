@@ -1,0 +1,83 @@
+-- What the private parts of a cleaning's code give: joins by their parts, and fates read from flags and marks. The meaning is
+-- that of Cleaning.antt.
+use Prim.Native.Nat.{ℕ, zero, suc, _+_, _-_}
+use mathlib.Core.Bool.{Bool, true, false, cond, not}
+use mathlib.Core.List.{List, [], _∷_, _++_}
+use lib.Dec.{eqb, ltb}
+use lib.ListN.{length, getD}
+use Rattle.path.specs.Join.{isAlone, isClosed}
+use Rattle.types.specs.Refusals.{value, refused}
+use Rattle.tables.specs.declared.span.Span.{Span}
+use Rattle.tables.specs.declared.rows.Row.{Row}
+use Rattle.tables.specs.Rows.{rowAt, has}
+use Rattle.tables.specs.Model.{Store, fileOf}
+use Rattle.links.specs.Clean.{entryOf}
+use Rattle.links.specs.Judging.{textBy, cleared}
+use Rattle.cleaning.specs.Cleaning.{relinked, emptied, rewritten, keptAfter, newBytes, Cleaned, cleanedTo}
+
+-- ---- joins by their parts
+
+-- whether a separator stands between the branch d and a leaf of n bytes
+abbrev pub isParted : List ℕ → ℕ → Bool
+isParted d n = cond (eqb n 0) false (not (isClosed d))
+
+-- what a join has before its leaf of n bytes
+abbrev pub prefixOf : List ℕ → ℕ → List ℕ
+prefixOf d n = cond (isAlone d) [] (cond (isParted d n) (d ++ (47 ∷ [])) d)
+
+-- where the leaf of a link's new text lies: the link's name, or its old text where it holds one
+abbrev pub leafSpan : ℕ → Row → Span
+leafSpan v r = cond (eqb v 1) (r .name) (cond (has (r .flags) 16) (r .link) (record { at = 0; len = 0 }))
+
+-- ---- fates
+
+-- flag 8, and a text is held
+abbrev pub isLink : ℕ → Bool
+isLink flags = cond (has flags 8) (has flags 16) false
+
+abbrev pub flagsIn : List ℕ → ℕ → ℕ
+flagsIn rows i = rowAt rows i .flags
+
+-- the verdict on a file with those flags, if it is a flagged link that has the k-th mark; and the next link's mark
+abbrev pub fateOf : ℕ → List ℕ → ℕ → ℕ
+fateOf flags marks k = cond (isLink flags) (getD marks k 0) 0
+
+abbrev pub markAfter : ℕ → ℕ → ℕ
+markAfter flags k = cond (isLink flags) (k + 1) k
+
+-- the fates of the n files from place i on, whose flags are g; the next link has the k-th mark
+unfoldable pub fatesBy : (ℕ → ℕ) → List ℕ → ℕ → ℕ → ℕ → List ℕ
+fatesBy g marks zero i k = []
+fatesBy g marks (suc n) i k = fateOf (g i) marks k ∷ fatesBy g marks n (i + 1) (markAfter (g i) k)
+
+abbrev pub allFates : Store → List ℕ → List ℕ
+allFates s marks = fatesBy (flagsIn (s .rows)) marks (s .fs .«num_files») 0 0
+
+-- ---- passes over the files
+
+-- each file's step, by its fate
+abbrev pub passed : (ℕ → Store → ℕ → Store) → List ℕ → ℕ → Store → Store
+passed f [] i s = s
+passed f (v ∷ vs) i s = passed f vs (i + 1) (f v s i)
+
+abbrev pub emptiedAt : ℕ → Store → ℕ → Store
+emptiedAt v s i = cond (eqb v 1) (relinked s i []) s
+
+-- ---- the text needed
+
+abbrev pub newLength : ℕ → Store → ℕ → ℕ
+newLength v s i = cond (eqb v 0) 0 (length (textBy v (entryOf (fileOf s i))))
+
+abbrev pub neededBy : List ℕ → Store → ℕ
+neededBy vs s = keptAfter vs 0 s (s .fs .«text_len») + newBytes vs 0 s
+
+-- ---- the call, once links are judged
+
+abbrev pub cleanedBy : List ℕ → Store → List ℕ → List ℕ → Cleaned
+cleanedBy vs s marks stage =
+    cond (ltb (length (s .text)) (neededBy vs s)) (cleanedTo (refused 10) s (cleared marks) stage [])
+    (cleanedTo (value (rewritten (length stage) vs 0 (emptied vs 0 s) .fs))
+    (rewritten (length stage) vs 0 (emptied vs 0 s))
+    (cleared marks)
+    (cleared stage)
+    [])
