@@ -1,3 +1,4 @@
 -- Laws of cleanings.
 pub mod Stores
 pub mod NewTexts
+pub mod Placed

@@ -36,13 +36,32 @@ join-parts d l = at (isAlone d) (isClosed d) l
 pub join-length : (d l : List ℕ) → length (appended d l) ≡ length (prefixOf d (length l)) + length l
 join-length d l = ap length (join-parts d l) ∙ length-append (prefixOf d (length l)) l
 
-pub prefix-short : (d : List ℕ) (n : ℕ) → length (prefixOf d n) ≤ length d + 1
-prefix-short d n = at (isAlone d) (isParted d n)
-  where
-    at : (alone parted : Bool) → length (cond alone [] (cond parted (d ++ (47 ∷ [])) d)) ≤ length d + 1
-    at true parted = omega arith
-    at false true = omega (arith, length-append d (47 ∷ []))
-    at false false = omega arith
+-- what stands before the leaf, in each case
+module _ (d : List ℕ) (n : ℕ) where
+  pub prefix-alone : isAlone d ≡ true → prefixOf d n ≡ []
+  prefix-alone e = rw e
+
+  pub prefix-parted : isAlone d ≡ false → isParted d n ≡ true → prefixOf d n ≡ d ++ (47 ∷ [])
+  prefix-parted e h = rw (e, h)
+
+  pub prefix-plain : isAlone d ≡ false → isParted d n ≡ false → prefixOf d n ≡ d
+  prefix-plain e h = rw (e, h)
+
+  -- it has at most one byte more than the branch, and no less where the branch does not stand alone
+  pub prefix-short : length (prefixOf d n) ≤ length d + 1
+  prefix-short = at (isAlone d) (isParted d n)
+    where
+      at : (alone parted : Bool) → length (cond alone [] (cond parted (d ++ (47 ∷ [])) d)) ≤ length d + 1
+      at true parted = omega arith
+      at false true = omega (arith, length-append d (47 ∷ []))
+      at false false = omega arith
+
+  pub prefix-long : isAlone d ≡ false → length d ≤ length (prefixOf d n)
+  prefix-long e = rw e (at (isParted d n))
+    where
+      at : (parted : Bool) → length d ≤ length (cond parted (d ++ (47 ∷ [])) d)
+      at true = omega (arith, length-append d (47 ∷ []))
+      at false = omega arith
 
 -- ---- places
 

@@ -6,6 +6,7 @@ use Rattle.tables.specs.declared.span.Span.{Span}
 use Rattle.tables.specs.declared.storage.FileStorage.{FileStorage}
 use Rattle.tables.specs.Model.{Store}
 use Rattle.links.specs.Judging.{lent}
+use Rattle.cleaning.specs.Cleaning.{cutOut, goneAt, linked, relinked}
 
 module _ {fs fs′ : FileStorage} {rows rows′ dirs dirs′ text text′ : List ℕ} where
   pub same-lent : fs ≡ fs′ → rows ≡ rows′ → dirs ≡ dirs′ → text ≡ text′ → lent fs rows dirs text ≡ lent fs′ rows′ dirs′ text′
@@ -14,3 +15,11 @@ module _ {fs fs′ : FileStorage} {rows rows′ dirs dirs′ text text′ : List
       ∙ ap (λ (x : List ℕ). lent fs′ x dirs text) q
       ∙ ap (λ (x : List ℕ). lent fs′ rows′ x text) r
       ∙ ap (lent fs′ rows′ dirs′) s
+
+-- a store that was cut and then written is relinked
+module _ (s left : Store) (i : ℕ) (t : List ℕ) (gone : Span) (g : gone ≡ goneAt s i) where
+  pub cut-length : left ≡ cutOut s gone → left .fs .«text_len» ≡ s .fs .«text_len» - goneAt s i .len
+  cut-length e = ap (λ (x : Store). x .fs .«text_len») e ∙ ap (λ (x : Span). s .fs .«text_len» - x .len) g
+
+  pub relinked-is : left ≡ cutOut s gone → (u : Store) → u ≡ linked left i t → u ≡ relinked s i t
+  relinked-is e u h = h ∙ ap (λ (x : Store). linked x i t) e ∙ ap (λ (x : Span). linked (cutOut s x) i t) g

@@ -2,3 +2,4 @@
 // It relies on the total accessors and writers of `lists` and `tables` and on the joins of `path`.
 mod cut;
 mod parts;
+mod put;

@@ -18,7 +18,7 @@ const NO_PATH: u64 = 1073741823;
 const PATH_IS_ABSOLUTE: u64 = 1073741822;
 
 // Whether a path is empty or `.`, which leaves the other part of a join alone.
-fn is_alone(path: &[u8]) -> bool
+pub(crate) fn is_alone(path: &[u8]) -> bool
     ensures { λ r. ⌜ r ≡ isAlone (now (path .entry)) ⌝ }
 {
     if path.len() == 0 {
@@ -35,7 +35,7 @@ fn is_closed(path: &[u8]) -> bool
 }
 
 // Whether a separator stands between a branch and a leaf of n bytes.
-fn is_parted(branch: &[u8], n: usize) -> bool
+pub(crate) fn is_parted(branch: &[u8], n: usize) -> bool
     ensures { λ r. ⌜ r ≡ isParted (now (branch .entry)) n ⌝ }
 {
     if n == 0 {

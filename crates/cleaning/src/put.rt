@@ -1,0 +1,122 @@
+// A link's new text is put behind the used part of the text area: copied from its parts there, or from the
+// stage. Relies on cut.rt, parts.rt, the joins of `path` and the laws of proofs/Placed.antt.
+ghost use mathlib.Core.Path.{_≡_};
+ghost use mathlib.Core.Bool.{cond};
+ghost use mathlib.Core.List.{[]};
+ghost use Prim.Native.Nat.{_+_, _-_, _^_, _<_, _≤_};
+ghost use lib.ListN.{length};
+ghost use lib.Seq.{sets};
+ghost use Rattle.lists.specs.Lists.{partOf};
+ghost use Rattle.types.specs.Refusals.{usizeSays};
+ghost use Rattle.path.specs.Join.{appended, Joined, joinedIf, fits};
+ghost use Rattle.tables.specs.Span.{endOf, textAt, clip};
+ghost use Rattle.tables.specs.Rows.{rowAt, putRow};
+ghost use Rattle.tables.specs.Model.{Store};
+ghost use Rattle.links.specs.Judging.{lent};
+ghost use Rattle.cleaning.specs.Cleaning.{storageWith, rowWith, goneAt, relinked, branchSpan, rewrittenAt};
+ghost use Rattle.cleaning.specs.Writing.{prefixOf, leafSpan, emptiedAt};
+use crate::cut::cut_out;
+use crate::cut::row_with;
+use crate::cut::storage_with;
+use crate::parts::branch_of;
+use crate::parts::is_alone;
+use crate::parts::is_parted;
+use crate::parts::is_within;
+use crate::parts::joined_length;
+use crate::parts::leaf_of;
+use lists::minus;
+use tables::FileStorage;
+use tables::Row;
+use tables::Span;
+use types::UsizeResult;
+
+// Copies n bytes to a place behind them.
+fn copy_within(text: &mut [u8], from: usize, n: usize, to: usize)
+    requires { ⌜ (from + n ≤ to) × (n ≤ length (now text) - to) ⌝ }
+    ensures { λ _. ⌜ now (text .exit) ≡ sets (now (text .entry)) to (partOf (now (text .entry)) from n) ⌝ }
+{
+    let mut j = 0;
+    while j < n {
+        text[to + j] = text[from + j];
+        j += 1;
+    }
+}
+
+// Copies the text of a span to a place behind it, and gives its length.
+fn copy_span(text: &mut [u8], s: Span, to: usize) -> usize
+    requires { ⌜ (endOf s ≤ to) × (length (textAt (now text) s) ≤ length (now text) - to) ⌝ }
+    ensures { λ r. ⌜ r ≡ length (textAt (now (text .entry)) s) ⌝ }
+    ensures { λ _. ⌜ now (text .exit) ≡ sets (now (text .entry)) to (textAt (now (text .entry)) s) ⌝ }
+{
+    let part = tables::text_at(text, s);
+    let n = part.len();
+    copy_within(text, s.at, n, to);
+    n
+}
+
+// Puts what a join has before its leaf of n bytes to a place behind the branch, and gives its length.
+fn put_prefix(text: &mut [u8], branch: Span, n: usize, to: usize) -> usize
+    requires { ⌜ (endOf branch ≤ to) × (length (prefixOf (textAt (now text) branch) n) ≤ length (now text) - to) ⌝ }
+    ensures { λ r. ⌜ r ≡ length (prefixOf (textAt (now (text .entry)) branch) n) ⌝ }
+    ensures { λ _. ⌜ now (text .exit) ≡ sets (now (text .entry)) to (prefixOf (textAt (now (text .entry)) branch) n) ⌝ }
+{
+    let part = tables::text_at(text, branch);
+    if is_alone(part) {
+        return 0;
+    }
+    let parted = is_parted(part, n);
+    let k = copy_span(text, branch, to);
+    if parted {
+        lists::put_byte(text, to + k, b'/');
+        return k + 1;
+    }
+    k
+}
+
+// Puts a branch and a leaf, joined, to a place behind both, and gives the length.
+fn put_joined(text: &mut [u8], branch: Span, leaf: Span, to: usize) -> usize
+    requires { ⌜ (endOf branch ≤ to) × (endOf leaf ≤ to) × (length (appended (textAt (now text) branch) (textAt (now text) leaf)) ≤ length (now text) - to) ⌝ }
+    ensures { λ r. ⌜ r ≡ length (appended (textAt (now (text .entry)) branch) (textAt (now (text .entry)) leaf)) ⌝ }
+    ensures { λ _. ⌜ now (text .exit) ≡ sets (now (text .entry)) to (appended (textAt (now (text .entry)) branch) (textAt (now (text .entry)) leaf)) ⌝ }
+{
+    let part = tables::text_at(text, leaf);
+    let n = part.len();
+    let k = put_prefix(text, branch, n, to);
+    k + copy_span(text, leaf, to + k)
+}
+
+// Lets the link text of file i be the n bytes behind the used part, and gives the set's record with them.
+fn put_link(fs: FileStorage, rows: &mut [u64], i: usize, n: usize) -> FileStorage
+    requires { ⌜ fs .«text_len» + n < 2 ^ 64 ⌝ }
+    ensures { λ r. ⌜ r ≡ storageWith fs (fs .name) (fs .«text_len» + n) ⌝ }
+    ensures { λ _. ⌜ now (rows .exit) ≡ putRow (now (rows .entry)) i (rowWith (rowAt (now (rows .entry)) i) (rowAt (now (rows .entry)) i .name) (record { at = fs .«text_len»; len = n })) ⌝ }
+{
+    let row = tables::row_at(rows, i);
+    let name = row.name;
+    let link = Span {
+        at: fs.text_len,
+        len: n,
+    };
+    tables::put_row(rows, i, row_with(row, name, link));
+    let set_name = fs.name;
+    storage_with(fs, set_name, fs.text_len + n)
+}
+
+// Cuts the link text of file i out, and puts a new one behind what is left.
+fn relink(
+    fs: FileStorage,
+    rows: &mut [u64],
+    dirs: &mut [u64],
+    text: &mut [u8],
+    i: usize,
+    new: &[u8],
+) -> FileStorage
+    requires { ⌜ fs .«text_len» - goneAt (lent fs (now rows) (now dirs) (now text)) i .len + length (now new) < 2 ^ 64 ⌝ }
+    ensures { λ r. ⌜ _≡_ {A = Store} (lent r (now (rows .exit)) (now (dirs .exit)) (now (text .exit))) (relinked (lent fs (now (rows .entry)) (now (dirs .entry)) (now (text .entry))) i (now (new .entry))) ⌝ }
+{
+    let row = tables::row_at(rows, i);
+    let gone = tables::clipped(fs.text_len, row.link);
+    let left = cut_out(fs, rows, dirs, text, gone);
+    lists::copy_behind(text, left.text_len, new);
+    put_link(left, rows, i, new.len())
+}
