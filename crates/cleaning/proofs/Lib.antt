@@ -2,3 +2,4 @@
 pub mod Stores
 pub mod NewTexts
 pub mod Placed
+pub mod OneLink

@@ -1,12 +1,15 @@
 -- Laws of a set's record and its tables as a cleaning writes them: two stores with the same parts are the same.
-use Prim.Native.Nat.{ℕ, _-_}
-use mathlib.Core.Path.{_≡_, ap, _∙_}
+use Prim.Native.Nat.{ℕ, _+_, _-_}
+use mathlib.Core.Path.{_≡_, refl, ap, _∙_}
 use mathlib.Core.List.{List}
+use lib.ListN.{length}
+use lib.Seq.{sets}
 use Rattle.tables.specs.declared.span.Span.{Span}
 use Rattle.tables.specs.declared.storage.FileStorage.{FileStorage}
+use Rattle.tables.specs.Rows.{rowAt, putRow}
 use Rattle.tables.specs.Model.{Store}
 use Rattle.links.specs.Judging.{lent}
-use Rattle.cleaning.specs.Cleaning.{cutOut, goneAt, linked, relinked}
+use Rattle.cleaning.specs.Cleaning.{storageWith, rowWith, cutOut, goneAt, linked, relinked}
 
 module _ {fs fs′ : FileStorage} {rows rows′ dirs dirs′ text text′ : List ℕ} where
   pub same-lent : fs ≡ fs′ → rows ≡ rows′ → dirs ≡ dirs′ → text ≡ text′ → lent fs rows dirs text ≡ lent fs′ rows′ dirs′ text′
@@ -15,6 +18,20 @@ module _ {fs fs′ : FileStorage} {rows rows′ dirs dirs′ text text′ : List
       ∙ ap (λ (x : List ℕ). lent fs′ x dirs text) q
       ∙ ap (λ (x : List ℕ). lent fs′ rows′ x text) r
       ∙ ap (lent fs′ rows′ dirs′) s
+
+-- a store whose used part is followed by t, which is file i's link text
+module _ (fs : FileStorage) (rows dirs text : List ℕ) (i : ℕ) (t : List ℕ) where
+  pub linked-is : {n : ℕ} {fs′ : FileStorage} {rows′ text′ : List ℕ} → n ≡ length t
+      → fs′ ≡ storageWith fs (fs .name) (fs .«text_len» + n)
+      → rows′ ≡ putRow rows i (rowWith (rowAt rows i) (rowAt rows i .name) (record { at = fs .«text_len»; len = n }))
+      → text′ ≡ sets text (fs .«text_len») t
+      → lent fs′ rows′ dirs text′ ≡ linked (lent fs rows dirs text) i t
+  linked-is e p q r =
+      same-lent
+      (p ∙ ap (λ (k : ℕ). storageWith fs (fs .name) (fs .«text_len» + k)) e)
+      (q ∙ ap (λ (k : ℕ). putRow rows i (rowWith (rowAt rows i) (rowAt rows i .name) (record { at = fs .«text_len»; len = k }))) e)
+      refl
+      r
 
 -- a store that was cut and then written is relinked
 module _ (s left : Store) (i : ℕ) (t : List ℕ) (gone : Span) (g : gone ≡ goneAt s i) where

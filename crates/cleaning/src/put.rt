@@ -4,6 +4,7 @@ ghost use mathlib.Core.Path.{_≡_};
 ghost use mathlib.Core.Bool.{cond};
 ghost use mathlib.Core.List.{[]};
 ghost use Prim.Native.Nat.{_+_, _-_, _^_, _<_, _≤_};
+ghost use lib.Dec.{leb};
 ghost use lib.ListN.{length};
 ghost use lib.Seq.{sets};
 ghost use Rattle.lists.specs.Lists.{partOf};
@@ -12,8 +13,9 @@ ghost use Rattle.path.specs.Join.{appended, Joined, joinedIf, fits};
 ghost use Rattle.tables.specs.Span.{endOf, textAt, clip};
 ghost use Rattle.tables.specs.Rows.{rowAt, putRow};
 ghost use Rattle.tables.specs.Model.{Store};
+ghost use Rattle.storage.specs.Rules.{both};
 ghost use Rattle.links.specs.Judging.{lent};
-ghost use Rattle.cleaning.specs.Cleaning.{storageWith, rowWith, goneAt, relinked, branchSpan, rewrittenAt};
+ghost use Rattle.cleaning.specs.Cleaning.{storageWith, rowWith, goneAt, relinked, branchSpan, isWithin, rewrittenAt};
 ghost use Rattle.cleaning.specs.Writing.{prefixOf, leafSpan, emptiedAt};
 use crate::cut::cut_out;
 use crate::cut::row_with;
@@ -77,6 +79,7 @@ fn put_prefix(text: &mut [u8], branch: Span, n: usize, to: usize) -> usize
 fn put_joined(text: &mut [u8], branch: Span, leaf: Span, to: usize) -> usize
     requires { ⌜ (endOf branch ≤ to) × (endOf leaf ≤ to) × (length (appended (textAt (now text) branch) (textAt (now text) leaf)) ≤ length (now text) - to) ⌝ }
     ensures { λ r. ⌜ r ≡ length (appended (textAt (now (text .entry)) branch) (textAt (now (text .entry)) leaf)) ⌝ }
+    ensures { λ r. ⌜ to + r < 2 ^ 64 ⌝ }
     ensures { λ _. ⌜ now (text .exit) ≡ sets (now (text .entry)) to (appended (textAt (now (text .entry)) branch) (textAt (now (text .entry)) leaf)) ⌝ }
 {
     let part = tables::text_at(text, leaf);
@@ -119,4 +122,109 @@ fn relink(
     let left = cut_out(fs, rows, dirs, text, gone);
     lists::copy_behind(text, left.text_len, new);
     put_link(left, rows, i, new.len())
+}
+
+// Whether the parts of a link's own path lie in the used part, and the path fits behind it.
+fn own_fits(text: &[u8], used: usize, branch: Span, name: Span) -> bool
+    ensures { λ r. ⌜ r ≡ both (isWithin used branch) (both (isWithin used name) (leb (length (appended (textAt (now (text .entry)) branch) (textAt (now (text .entry)) name))) (length (now (text .entry)) - used))) ⌝ }
+{
+    if !is_within(used, branch) {
+        return false;
+    }
+    if !is_within(used, name) {
+        return false;
+    }
+    let directory = tables::text_at(text, branch);
+    let leaf = tables::text_at(text, name);
+    joined_length(directory, leaf) <= minus(text.len(), used)
+}
+
+// Lets the text of link i, which is gone, be the link's own path, where that has its place.
+fn write_own(
+    fs: FileStorage,
+    rows: &mut [u64],
+    dirs: &[u64],
+    text: &mut [u8],
+    i: usize,
+) -> FileStorage
+    ensures { λ r. ⌜ _≡_ {A = Store} (lent r (now (rows .exit)) (now (dirs .entry)) (now (text .exit))) (rewrittenAt 0 1 (lent fs (now (rows .entry)) (now (dirs .entry)) (now (text .entry))) i) ⌝ }
+{
+    let row = tables::row_at(rows, i);
+    let branch = branch_of(dirs, row);
+    let name = row.name;
+    if !own_fits(text, fs.text_len, branch, name) {
+        return fs;
+    }
+    let n = put_joined(text, branch, name, fs.text_len);
+    put_link(fs, rows, i, n)
+}
+
+// Puts the text of a link from its directory into the stage, and gives its length.
+fn stage_text(dirs: &[u64], text: &[u8], row: Row, stage: &mut [u8]) -> UsizeResult
+    ensures { λ r. ⌜ _≡_ {A = Joined} (record { says = usizeSays r; buf = now (stage .exit) }) (joinedIf (fits (appended (textAt (now (text .entry)) (branchSpan (now (dirs .entry)) row)) (textAt (now (text .entry)) (leafSpan 2 row))) (now (stage .entry))) (appended (textAt (now (text .entry)) (branchSpan (now (dirs .entry)) row)) (textAt (now (text .entry)) (leafSpan 2 row))) (now (stage .entry))) ⌝ }
+{
+    let directory = tables::text_at(text, branch_of(dirs, row));
+    let leaf = tables::text_at(text, leaf_of(row, 2));
+    path::join_path(directory, leaf, stage)
+}
+
+// Lets the text of link i be that from the link's directory, where that has its place.
+fn write_beside(
+    fs: FileStorage,
+    rows: &mut [u64],
+    dirs: &mut [u64],
+    text: &mut [u8],
+    stage: &mut [u8],
+    i: usize,
+) -> FileStorage
+    ensures { λ r. ⌜ _≡_ {A = Store} (lent r (now (rows .exit)) (now (dirs .exit)) (now (text .exit))) (rewrittenAt (length (now (stage .entry))) 2 (lent fs (now (rows .entry)) (now (dirs .entry)) (now (text .entry))) i) ⌝ }
+{
+    let row = tables::row_at(rows, i);
+    let gone = tables::clipped(fs.text_len, row.link);
+    let room = minus(text.len(), minus(fs.text_len, gone.len));
+    let UsizeResult::Ok(n) = stage_text(dirs, text, row, stage) else {
+        return fs;
+    };
+    if room < n {
+        return fs;
+    }
+    relink(fs, rows, dirs, text, i, lists::part(stage, 0, n))
+}
+
+// Writes the new text of file i, by its fate.
+pub(crate) fn write_link(
+    fs: FileStorage,
+    rows: &mut [u64],
+    dirs: &mut [u64],
+    text: &mut [u8],
+    stage: &mut [u8],
+    i: usize,
+    fate: u8,
+) -> FileStorage
+    ensures { λ r. ⌜ _≡_ {A = Store} (lent r (now (rows .exit)) (now (dirs .exit)) (now (text .exit))) (rewrittenAt (length (now (stage .entry))) fate (lent fs (now (rows .entry)) (now (dirs .entry)) (now (text .entry))) i) ⌝ }
+{
+    if fate == 0 {
+        return fs;
+    }
+    if fate == 1 {
+        return write_own(fs, rows, dirs, text, i);
+    }
+    write_beside(fs, rows, dirs, text, stage, i)
+}
+
+// Takes the old text of file i away, where its fate is the link's own path.
+pub(crate) fn empty_link(
+    fs: FileStorage,
+    rows: &mut [u64],
+    dirs: &mut [u64],
+    text: &mut [u8],
+    i: usize,
+    fate: u8,
+) -> FileStorage
+    ensures { λ r. ⌜ _≡_ {A = Store} (lent r (now (rows .exit)) (now (dirs .exit)) (now (text .exit))) (emptiedAt fate (lent fs (now (rows .entry)) (now (dirs .entry)) (now (text .entry))) i) ⌝ }
+{
+    if fate == 1 {
+        return relink(fs, rows, dirs, text, i, b"");
+    }
+    fs
 }

@@ -47,7 +47,8 @@ returns : tie.Need-returns
 returns c =
     let a = c .before .before .before .before .before .before .before .before .before .before .before .args in
     let t = a .text .now in
-    put-join t (textAt t (a .branch)) (a .leaf) (a .to) (c .before .before .before .before .before .before .before .before .before .before .before .pre .1) (ap length (c .before .before .before .before .before .before .before .before .text-at .ensures)) (c .before .before .before .before .before .before .put-prefix .ensures) (c .before .before .copy-span .ensures .0) (c .before .before .copy-span .ensures .1)
+    let p = put-join t (textAt t (a .branch)) (a .leaf) (a .to) (c .before .before .before .before .before .before .before .before .before .before .before .pre .1) (ap length (c .before .before .before .before .before .before .before .before .text-at .ensures)) (c .before .before .before .before .before .before .put-prefix .ensures) (c .before .before .copy-span .ensures .0) (c .before .before .copy-span .ensures .1) in
+    (p .0, (omega (arith, p .0, c .before .before .before .before .before .before .before .before .before .before .before .pre .2, c .before .before .before .before .before .before .before .before .before .before .before .good .0 .0, c .before .before .before .before .before .before .before .before .before .before .before .fits .to), p .1))
 
 pub put-joined-spec : {M : Type 1} → statement M
 put-joined-spec =

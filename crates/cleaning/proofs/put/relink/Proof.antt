@@ -8,7 +8,7 @@ use Rattle.tables.specs.Span.{clip}
 use Rattle.tables.specs.Model.{Store}
 use Rattle.links.specs.Judging.{lent}
 use Rattle.cleaning.specs.Cleaning.{goneAt}
-use Rattle.cleaning.proofs.Stores.{same-lent, cut-length, relinked-is}
+use Rattle.cleaning.proofs.Stores.{linked-is, cut-length, relinked-is}
 use Rattle.cleaning.proofs.put.relink.Statement.{statement}
 use Rattle.cleaning.proofs.put.relink.Tie as tie
 
@@ -52,7 +52,8 @@ same-length-3 c = search needs
 returns : tie.Need-returns
 returns c =
     let s = given (c .before .before .before .before .before .before .before .before .before .before .before .before .before .before .before .before .before .before .before .before .before .before .before .before .before) in
-    let put = same-lent (c .before .before .put-link .ensures .0) (c .before .before .put-link .ensures .1) refl (c .before .before .before .before .before .before .copy-behind .ensures) in
+    let t = left (c .before .before .before .before .before .before .before .before .before .before .before .before .before .before) in
+    let put = linked-is (t .fs) (t .rows) (t .dirs) (t .text) (c .before .before .before .before .before .before .before .before .before .before .before .before .before .before .before .before .before .before .before .before .before .before .before .before .before .args .i) (c .before .before .before .before .before .before .before .before .before .before .before .before .before .before .before .before .before .before .before .before .before .before .before .before .before .args .new .now) refl (c .before .before .put-link .ensures .0) (c .before .before .put-link .ensures .1) (c .before .before .before .before .before .before .copy-behind .ensures) in
     relinked-is s (left (c .before .before .before .before .before .before .before .before .before .before .before .before .before .before)) (c .before .before .before .before .before .before .before .before .before .before .before .before .before .before .before .before .before .before .before .before .before .before .before .before .before .args .i) (c .before .before .before .before .before .before .before .before .before .before .before .before .before .before .before .before .before .before .before .before .before .before .before .before .before .args .new .now) (c .before .before .before .before .before .before .before .before .before .before .before .before .before .before .before .before .before .before .clipped .result) (gone-is (c .before .before .before .before .before .before .before .before .before .before .before .before .before .before .before .before .before .before)) (c .before .before .before .before .before .before .before .before .before .before .before .before .before .before .cut-out .ensures) _ put
 
 pub relink-spec : {M : Type 1} → statement M

@@ -1,0 +1,46 @@
+-- `cleaning::put::stage_text` meets its contract.
+use borrow.Author.Needs.{needs}
+use mathlib.Core.Path.{_≡_, ap, _∙_}
+use mathlib.Core.List.{List}
+use Prim.Native.Nat.{ℕ}
+use Rattle.path.specs.Join.{appended, joinedIf, fits}
+use Rattle.tables.specs.Span.{textAt}
+use Rattle.cleaning.proofs.put.stage_text.Statement.{statement}
+use Rattle.cleaning.proofs.put.stage_text.Tie as tie
+
+branch-of-requires : tie.Need-branch-of-requires
+branch-of-requires c κs = search needs
+
+text-at-requires : tie.Need-text-at-requires
+text-at-requires c κs = search needs
+
+leaf-of-requires : tie.Need-leaf-of-requires
+leaf-of-requires c κs = search needs
+
+text-at-requires-2 : tie.Need-text-at-requires-2
+text-at-requires-2 c κs = search needs
+
+join-path-requires : tie.Need-join-path-requires
+join-path-requires c κs = search needs
+
+same-length : tie.Need-same-length
+same-length c = search needs
+
+returns : tie.Need-returns
+returns c =
+    let a = c .before .before .before .before .before .before .before .before .before .before .before .args in
+    let b = c .before .before .before .before .before .before .text-at .ensures ∙ ap (textAt (a .text .now)) (c .before .before .before .before .before .before .before .branch-of .ensures) in
+    let l = c .before .before .before .before .text-at2 .ensures ∙ ap (textAt (a .text .now)) (c .before .before .before .before .before .leaf-of .ensures) in
+    c .before .before .join-path .ensures ∙ rw (b, l)
+
+pub stage-text-spec : {M : Type 1} → statement M
+stage-text-spec =
+    tie.close
+    (tie.spec
+    branch-of-requires
+    text-at-requires
+    leaf-of-requires
+    text-at-requires-2
+    join-path-requires
+    same-length
+    returns)
