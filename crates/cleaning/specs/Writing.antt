@@ -5,15 +5,15 @@ use mathlib.Core.Bool.{Bool, true, false, cond, not}
 use mathlib.Core.List.{List, [], _∷_, _++_}
 use lib.Dec.{eqb, ltb}
 use lib.ListN.{length, getD}
-use Rattle.path.specs.Join.{isAlone, isClosed}
+use Rattle.path.specs.Join.{isAlone, isClosed, appended}
 use Rattle.types.specs.Refusals.{value, refused}
 use Rattle.tables.specs.declared.span.Span.{Span}
 use Rattle.tables.specs.declared.rows.Row.{Row}
+use Rattle.tables.specs.Span.{textAt, clip}
 use Rattle.tables.specs.Rows.{rowAt, has}
-use Rattle.tables.specs.Model.{Store, fileOf}
-use Rattle.links.specs.Clean.{entryOf}
-use Rattle.links.specs.Judging.{textBy, cleared}
-use Rattle.cleaning.specs.Cleaning.{relinked, emptied, rewritten, keptAfter, newBytes, Cleaned, cleanedTo}
+use Rattle.tables.specs.Model.{Store}
+use Rattle.links.specs.Judging.{cleared}
+use Rattle.cleaning.specs.Cleaning.{branchSpan, relinked, emptied, rewritten, keptAfter, newBytes, Cleaned, cleanedTo}
 
 -- ---- joins by their parts
 
@@ -65,8 +65,21 @@ emptiedAt v s i = cond (eqb v 1) (relinked s i []) s
 
 -- ---- the text needed
 
-abbrev pub newLength : ℕ → Store → ℕ → ℕ
-newLength v s i = cond (eqb v 0) 0 (length (textBy v (entryOf (fileOf s i))))
+-- the bytes of file i's old text that go, and those of its new text, by its fate
+abbrev pub goneBytes : List ℕ → ℕ → ℕ → ℕ → ℕ
+goneBytes rows used v i = cond (eqb v 0) 0 (clip used (rowAt rows i .link) .len)
+
+abbrev pub newLength : List ℕ → List ℕ → ℕ → Row → ℕ
+newLength dirs text v r = cond (eqb v 0) 0 (length (appended (textAt text (branchSpan dirs r)) (textAt text (leafSpan v r))))
+
+-- what is left of u bytes, and the sum, file by file from i on
+abbrev pub leftBy : (ℕ → ℕ → ℕ) → List ℕ → ℕ → ℕ → ℕ
+leftBy h [] i u = u
+leftBy h (v ∷ vs) i u = leftBy h vs (i + 1) (u - h v i)
+
+abbrev pub sumBy : (ℕ → ℕ → ℕ) → List ℕ → ℕ → ℕ
+sumBy h [] i = 0
+sumBy h (v ∷ vs) i = h v i + sumBy h vs (i + 1)
 
 abbrev pub neededBy : List ℕ → Store → ℕ
 neededBy vs s = keptAfter vs 0 s (s .fs .«text_len») + newBytes vs 0 s

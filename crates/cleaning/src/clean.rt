@@ -1,0 +1,105 @@
+// A cleaning: links are judged, the room for their new texts is measured, and the texts are written. Relies
+// on `links` for the judgement, on put.rt for one link's text and on the laws of proofs/Passes.antt.
+ghost use mathlib.Core.Path.{_≡_};
+ghost use mathlib.Core.List.{[]};
+ghost use lib.ListN.{length};
+ghost use Rattle.tables.specs.Model.{Store};
+ghost use Rattle.storage.specs.Outcomes.{storageSays};
+ghost use Rattle.links.specs.Judging.{lent};
+ghost use Rattle.cleaning.specs.Cleaning.{emptied, rewritten, Cleaned};
+ghost use Rattle.cleaning.specs.Writing.{flagsIn, fatesBy, allFates, cleanedBy};
+use crate::fates::clear;
+use crate::fates::fate_of;
+use crate::fates::mark_after;
+use crate::put::empty_link;
+use crate::put::write_link;
+use crate::room::lacks_room;
+use storage::StorageResult;
+use tables::FileStorage;
+use types::Refusal;
+
+// Takes every text of the first n files away that gives way to its link's own path.
+fn empty_links(
+    fs: FileStorage,
+    n: usize,
+    rows: &mut [u64],
+    dirs: &mut [u64],
+    text: &mut [u8],
+    marks: &[u8],
+) -> FileStorage
+    ensures { λ r. ⌜ _≡_ {A = Store} (lent r (now (rows .exit)) (now (dirs .exit)) (now (text .exit))) (emptied (fatesBy (flagsIn (now (rows .entry))) (now (marks .entry)) n 0 0) 0 (lent fs (now (rows .entry)) (now (dirs .entry)) (now (text .entry)))) ⌝ }
+{
+    let mut set = fs;
+    let mut i = 0;
+    let mut k = 0;
+    while i < n {
+        let flags = tables::flags_at(rows, i);
+        let fate = fate_of(flags, marks, k);
+        set = empty_link(set, rows, dirs, text, i, fate);
+        k = mark_after(flags, k);
+        i += 1;
+    }
+    set
+}
+
+// Writes every new text of the first n files.
+fn write_links(
+    fs: FileStorage,
+    n: usize,
+    rows: &mut [u64],
+    dirs: &mut [u64],
+    text: &mut [u8],
+    marks: &[u8],
+    stage: &mut [u8],
+) -> FileStorage
+    ensures { λ r. ⌜ _≡_ {A = Store} (lent r (now (rows .exit)) (now (dirs .exit)) (now (text .exit))) (rewritten (length (now (stage .entry))) (fatesBy (flagsIn (now (rows .entry))) (now (marks .entry)) n 0 0) 0 (lent fs (now (rows .entry)) (now (dirs .entry)) (now (text .entry)))) ⌝ }
+{
+    let mut set = fs;
+    let mut i = 0;
+    let mut k = 0;
+    while i < n {
+        let flags = tables::flags_at(rows, i);
+        let fate = fate_of(flags, marks, k);
+        set = write_link(set, rows, dirs, text, stage, i, fate);
+        k = mark_after(flags, k);
+        i += 1;
+    }
+    set
+}
+
+// Takes the old texts of the first n files away and writes their new ones.
+fn rewrite_links(
+    fs: FileStorage,
+    n: usize,
+    rows: &mut [u64],
+    dirs: &mut [u64],
+    text: &mut [u8],
+    marks: &[u8],
+    stage: &mut [u8],
+) -> FileStorage
+    ensures { λ r. ⌜ _≡_ {A = Store} (lent r (now (rows .exit)) (now (dirs .exit)) (now (text .exit))) (rewritten (length (now (stage .entry))) (fatesBy (flagsIn (now (rows .entry))) (now (marks .entry)) n 0 0) 0 (emptied (fatesBy (flagsIn (now (rows .entry))) (now (marks .entry)) n 0 0) 0 (lent fs (now (rows .entry)) (now (dirs .entry)) (now (text .entry))))) ⌝ }
+{
+    let without = empty_links(fs, n, rows, dirs, text, marks);
+    write_links(without, n, rows, dirs, text, marks, stage)
+}
+
+// Cleans a set whose links are judged, and clears the marks, and the stage where it was used.
+fn clean_judged(
+    fs: FileStorage,
+    rows: &mut [u64],
+    dirs: &mut [u64],
+    text: &mut [u8],
+    marks: &mut [u8],
+    stage: &mut [u8],
+) -> StorageResult
+    ensures { λ r. ⌜ _≡_ {A = Cleaned} (record { says = storageSays r; rows = now (rows .exit); dirs = now (dirs .exit); text = now (text .exit); marks = now (marks .exit); stage = now (stage .exit); path = [] }) (cleanedBy (allFates (lent fs (now (rows .entry)) (now (dirs .entry)) (now (text .entry))) (now (marks .entry))) (lent fs (now (rows .entry)) (now (dirs .entry)) (now (text .entry))) (now (marks .entry)) (now (stage .entry))) ⌝ }
+{
+    if lacks_room(fs, rows, dirs, text, marks) {
+        clear(marks);
+        return StorageResult::Err(Refusal::NoRoom);
+    }
+    let cleaned = rewrite_links(fs, fs.num_files, rows, dirs, text, marks, stage);
+    clear(marks);
+    clear(stage);
+    StorageResult::Ok(cleaned)
+}

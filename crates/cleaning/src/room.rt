@@ -1,0 +1,99 @@
+// The room that a cleaning needs, taken off the text area's length text by text, since a sum could be too
+// large. Relies on fates.rt, parts.rt and the laws of proofs/Passes.antt.
+ghost use mathlib.Core.Path.{_≡_};
+ghost use mathlib.Core.Bool.{cond};
+ghost use Prim.Native.Nat.{_-_};
+ghost use lib.Dec.{eqb, ltb};
+ghost use lib.ListN.{length};
+ghost use Rattle.tables.specs.Span.{clip};
+ghost use Rattle.tables.specs.Rows.{rowAt};
+ghost use Rattle.links.specs.Judging.{lent};
+ghost use Rattle.cleaning.specs.Writing.{flagsIn, fatesBy, allFates, goneBytes, newLength, leftBy, sumBy, neededBy};
+use crate::fates::fate_of;
+use crate::fates::mark_after;
+use crate::parts::branch_of;
+use crate::parts::joined_length;
+use crate::parts::leaf_of;
+use lists::minus;
+use tables::FileStorage;
+use tables::Row;
+use tables::Span;
+
+// What is left of `left` bytes once a link's old text goes, where its fate changes it.
+fn left_after(used: usize, link: Span, fate: u8, left: usize) -> usize
+    ensures { λ r. ⌜ r ≡ left - cond (eqb fate 0) 0 (clip used link .len) ⌝ }
+{
+    if fate == 0 {
+        return left;
+    }
+    let gone = tables::clipped(used, link);
+    minus(left, gone.len)
+}
+
+// What is left of the text held once the old texts of the first n files that change are gone.
+fn kept_after(used: usize, n: usize, rows: &[u64], marks: &[u8]) -> usize
+    ensures { λ r. ⌜ r ≡ leftBy (goneBytes (now (rows .entry)) used) (fatesBy (flagsIn (now (rows .entry))) (now (marks .entry)) n 0 0) 0 used ⌝ }
+{
+    let mut left = used;
+    let mut i = 0;
+    let mut k = 0;
+    while i < n {
+        let row = tables::row_at(rows, i);
+        let fate = fate_of(row.flags, marks, k);
+        left = left_after(used, row.link, fate, left);
+        k = mark_after(row.flags, k);
+        i += 1;
+    }
+    left
+}
+
+// How long the new text of a file is, by its fate.
+fn new_length(dirs: &[u64], text: &[u8], row: Row, fate: u8) -> usize
+    ensures { λ r. ⌜ r ≡ newLength (now (dirs .entry)) (now (text .entry)) fate row ⌝ }
+{
+    if fate == 0 {
+        return 0;
+    }
+    let branch = tables::text_at(text, branch_of(dirs, row));
+    let leaf = tables::text_at(text, leaf_of(row, fate));
+    joined_length(branch, leaf)
+}
+
+// Whether the new texts of the first n files have more than `room` bytes.
+fn lacks_bytes(n: usize, rows: &[u64], dirs: &[u64], text: &[u8], marks: &[u8], room: usize) -> bool
+    ensures { λ r. ⌜ r ≡ ltb room (sumBy (λ v i. newLength (now (dirs .entry)) (now (text .entry)) v (rowAt (now (rows .entry)) i)) (fatesBy (flagsIn (now (rows .entry))) (now (marks .entry)) n 0 0) 0) ⌝ }
+{
+    let mut left = room;
+    let mut i = 0;
+    let mut k = 0;
+    while i < n {
+        let row = tables::row_at(rows, i);
+        let fate = fate_of(row.flags, marks, k);
+        let more = new_length(dirs, text, row, fate);
+        if left < more {
+            return true;
+        }
+        left -= more;
+        k = mark_after(row.flags, k);
+        i += 1;
+    }
+    false
+}
+
+// Whether the text area is shorter than all texts held after the cleaning.
+pub(crate) fn lacks_room(
+    fs: FileStorage,
+    rows: &[u64],
+    dirs: &[u64],
+    text: &[u8],
+    marks: &[u8],
+) -> bool
+    ensures { λ r. ⌜ r ≡ ltb (length (now (text .entry))) (neededBy (allFates (lent fs (now (rows .entry)) (now (dirs .entry)) (now (text .entry))) (now (marks .entry))) (lent fs (now (rows .entry)) (now (dirs .entry)) (now (text .entry)))) ⌝ }
+{
+    let n = fs.num_files;
+    let kept = kept_after(fs.text_len, n, rows, marks);
+    if text.len() < kept {
+        return true;
+    }
+    lacks_bytes(n, rows, dirs, text, marks, text.len() - kept)
+}
