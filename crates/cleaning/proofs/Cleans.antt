@@ -1,15 +1,64 @@
--- Laws of the whole call: the fates that the marks give are those of the definition, and each way out is its case.
-use Prim.Native.Nat.{ℕ}
+-- Laws of the whole call: the fates that the marks give are those of the definition, and each way out is its case. They rely on
+-- the laws of the files from a place on and of the judgement (`links`).
+use Prim.Native.Nat.{ℕ, zero, suc, _+_, _≤_}
 use mathlib.Core.Path.{_≡_, refl, sym, ap, _∙_}
 use mathlib.Core.Bool.{Bool, true, false, cond}
-use mathlib.Core.List.{List, [], _∷_}
-use lib.Dec.{ltb}
-use lib.ListN.{length, replicate}
-use Rattle.types.specs.Refusals.{value, refused}
+use mathlib.Core.List.{List, [], _∷_, _++_}
+use native.Mathlib.Omega.{arith}
+use native.Mathlib.Nat.{add-zero}
+use lib.Dec.{eqb, ltb}
+use lib.ListN.{length, getD, drop, replicate, length-replicate}
+use lib.Seq.{sets, length-sets, getD-drop, drop-drop}
+use borrow.Author.Tests.{eqb-true}
+use Rattle.types.specs.Refusals.{numberOf, value, refused, usizeSays}
+use Rattle.types.specs.declared.refusal.Refusal.{Refusal}
+use Rattle.types.proofs.Refusals.{numbered}
 use Rattle.tables.specs.Model.{Store}
-use Rattle.links.specs.Judging.{lent, cleared}
-use Rattle.cleaning.specs.Cleaning.{emptied, rewritten, Cleaned, cleanedTo}
-use Rattle.cleaning.specs.Writing.{neededBy, cleanedBy}
+use Rattle.links.specs.Clean.{Entry, linkCount}
+use Rattle.links.specs.Judging.{lent, entriesOf, directoriesOf, verdictOf, verdictsFor, verdicts, judgingNumber, cleared, Judged, judged}
+use Rattle.links.specs.Walking.{entryAt, entriesFrom}
+use Rattle.links.proofs.Rows.{flagged-at, entries-all}
+use Rattle.links.proofs.Judgements.{verdicts-set, Roomy, roomy}
+use Rattle.cleaning.specs.Cleaning.{fatesFor, fates, emptied, rewritten, cleanedStore, textNeeded, Cleaned, cleanedTo, cleanStored}
+use Rattle.cleaning.specs.Writing.{isLink, flagsIn, fatesBy, allFates, neededBy, cleanedBy}
+use Rattle.cleaning.proofs.OneLink.{cond-yes, cond-no}
+
+-- ---- fates
+
+-- marks that go on with the verdicts give the fates of the files from i on
+module _ (s : Store) (marks : List ℕ) (files : List Entry) (dirs : List (List ℕ)) where
+  -- one file: its verdict is the next mark where it is a flagged link
+  one-fate : (b : Bool) (v k n i : ℕ) (vs fs rest : List ℕ) → drop k marks ≡ cond b (v ∷ vs) vs ++ rest
+      → ((j : ℕ) → drop j marks ≡ vs ++ rest → fatesBy (flagsIn (s .rows)) marks n (i + 1) j ≡ fs)
+      → cond b (getD marks k 0) 0 ∷ fatesBy (flagsIn (s .rows)) marks n (i + 1) (cond b (k + 1) k) ≡ cond b v 0 ∷ fs
+  one-fate true v k n i vs fs rest e others =
+      let z : k + 0 ≡ k = omega arith in
+      let read : getD marks k 0 ≡ v = ap (λ (x : ℕ). getD marks x 0) (sym z) ∙ sym (getD-drop k marks 0 0) ∙ ap (λ (l : List ℕ). getD l 0 0) e in
+      let next : drop (k + 1) marks ≡ vs ++ rest = sym (drop-drop 1 k marks) ∙ ap (drop 1) e in
+      rw (read, others (k + 1) next)
+  one-fate false v k n i vs fs rest e others = rw (others k e)
+
+  fates-from : (n i k : ℕ) (rest : List ℕ) → drop k marks ≡ verdictsFor files dirs (entriesFrom s n i) ++ rest
+      → fatesBy (flagsIn (s .rows)) marks n i k ≡ fatesFor files dirs (entriesFrom s n i)
+  unfolding fatesBy entriesFrom
+  fates-from zero i k rest e = refl
+  fates-from (suc n) i k rest e =
+      let f = entryAt s i in
+      let v = verdictOf files dirs f in
+      let vs = verdictsFor files dirs (entriesFrom s n (i + 1)) in
+      let fs = fatesFor files dirs (entriesFrom s n (i + 1)) in
+      let flag : f .flagged ≡ isLink (flagsIn (s .rows) i) = sym (flagged-at s i) in
+      one-fate (isLink (flagsIn (s .rows) i)) v k n i vs fs rest (e ∙ ap (λ (b : Bool). cond b (v ∷ vs) vs ++ rest) flag) (λ j q. fates-from n (i + 1) j rest q)
+      ∙ ap (λ (b : Bool). cond b v 0 ∷ fs) (sym flag)
+
+-- the marks that a judgement leaves give all fates
+pub marked-fates : (s : Store) (marks : List ℕ) → linkCount (entriesOf s) ≤ length marks → allFates s (sets marks 0 (verdicts s)) ≡ fates s
+marked-fates s marks h =
+    let e : verdicts s ++ drop (linkCount (entriesOf s)) marks ≡ sets marks 0 (verdicts s) = verdicts-set s marks (verdicts s) (linkCount (entriesOf s)) refl h refl in
+    let all = entries-all s in
+    let q = sym e ∙ ap (λ (l : List Entry). verdictsFor (entriesOf s) (directoriesOf s) l ++ drop (linkCount (entriesOf s)) marks) (sym all) in
+    fates-from s (sets marks 0 (verdicts s)) (entriesOf s) (directoriesOf s) (s .fs .«num_files») 0 0 (drop (linkCount (entriesOf s)) marks) q
+    ∙ ap (fatesFor (entriesOf s) (directoriesOf s)) all
 
 -- ---- once links are judged
 
@@ -31,3 +80,92 @@ module _ (vs : List ℕ) (s : Store) (marks stage : List ℕ) where
     where
       u : Store
       u = rewritten (length stage) vs 0 (emptied vs 0 s)
+
+-- ---- the call
+
+-- the same with another path
+abbrev pub withPath : List ℕ → Cleaned → Cleaned
+withPath p c =
+    record { says = c .says; rows = c .rows; dirs = c .dirs; text = c .text; marks = c .marks; stage = c .stage; path = p }
+
+with-path : (p : List ℕ) (b : Bool) (x y : Cleaned) → withPath p (cond b x y) ≡ cond b (withPath p x) (withPath p y)
+with-path p true x y = refl
+with-path p false x y = refl
+
+-- a judgement that says no, and one that says yes
+module _ (b : Bool) (yes no : Judged) (m t p : List ℕ) where
+  said-no : (k n : ℕ) → yes .says ≡ value n → _≡_ {A = Judged} (record { says = refused k; marks = m; stage = t; path = p }) (cond b yes no)
+      → (b ≡ false) × (_≡_ {A = Judged} (record { says = refused k; marks = m; stage = t; path = p }) no)
+  said-no k n e q = at b q
+    where
+      at : (b : Bool) → _≡_ {A = Judged} (record { says = refused k; marks = m; stage = t; path = p }) (cond b yes no)
+          → (b ≡ false) × (_≡_ {A = Judged} (record { says = refused k; marks = m; stage = t; path = p }) no)
+      at true h = absurd (let z = ap (λ (j : Judged). j .says) h ∙ e in let y : _≡_ {A = ℕ} 0 1 = cc in omega arith)
+      at false h = (refl, h)
+
+  said-yes : (k n : ℕ) → no .says ≡ refused k → _≡_ {A = Judged} (record { says = value n; marks = m; stage = t; path = p }) (cond b yes no)
+      → (b ≡ true) × (_≡_ {A = Judged} (record { says = value n; marks = m; stage = t; path = p }) yes)
+  said-yes k n e q = at b q
+    where
+      at : (b : Bool) → _≡_ {A = Judged} (record { says = value n; marks = m; stage = t; path = p }) (cond b yes no)
+          → (b ≡ true) × (_≡_ {A = Judged} (record { says = value n; marks = m; stage = t; path = p }) yes)
+      at true h = (refl, h)
+      at false h = absurd (let z = ap (λ (j : Judged). j .says) h ∙ e in let y : _≡_ {A = ℕ} 0 1 = cc in omega arith)
+
+-- a refusal with its tables
+same-refusal : {k k′ : ℕ} (s : Store) {m m′ t t′ p p′ : List ℕ} → k ≡ k′ → m ≡ m′ → t ≡ t′ → p ≡ p′ → cleanedTo (refused k) s m t p ≡ cleanedTo (refused k′) s m′ t′ p′
+same-refusal s a b c d = rw (a, b, c, d)
+
+module _ (s : Store) (marks stage path : List ℕ) where
+  abbrev number : ℕ
+  number = judgingNumber s (length marks) (length stage) (length path)
+
+  -- where links are judged
+  abbrev yes : Judged
+  yes = record { says = value (linkCount (entriesOf s)); marks = sets marks 0 (verdicts s); stage = cleared stage; path = cleared path }
+
+  -- where they are not
+  abbrev no : Judged
+  no = record { says = refused number; marks = marks; stage = stage; path = path }
+
+  -- all that is said once they are
+  abbrev written : Cleaned
+  written =
+      cond (ltb (length (s .text)) (textNeeded s))
+      (cleanedTo (refused 10) s (cleared marks) (cleared stage) (cleared path))
+      (cleanedTo (value (cleanedStore (length stage) s .fs)) (cleanedStore (length stage) s) (cleared marks) (cleared stage) (cleared path))
+
+  pub judging-stops : (e : Refusal) (m t p : List ℕ)
+      → _≡_ {A = Judged} (record { says = refused (numberOf e); marks = m; stage = t; path = p }) (judged s marks stage path)
+      → cleanedTo (refused (numberOf e)) s m t p ≡ cleanStored s marks stage path
+  judging-stops e m t p q =
+      let h = said-no (eqb number 0) yes no m t p (numberOf e) (linkCount (entriesOf s)) refl q in
+      let says : refused (numberOf e) ≡ refused number = ap (λ (j : Judged). j .says) (h .1) in
+      same-refusal s (cc) (ap (λ (j : Judged). j .marks) (h .1)) (ap (λ (j : Judged). j .stage) (h .1)) (ap (λ (j : Judged). j .path) (h .1))
+      ∙ cond-no (eqb number 0) written (cleanedTo (refused number) s marks stage path) (h .0)
+
+  -- links are judged: what the marks and the stage then hold gives the outcome
+  module _ (n : ℕ) (m t p : List ℕ) (q : _≡_ {A = Judged} (record { says = value n; marks = m; stage = t; path = p }) (judged s marks stage path)) where
+    went : (eqb number 0 ≡ true) × (_≡_ {A = Judged} (record { says = value n; marks = m; stage = t; path = p }) yes)
+    went = said-yes (eqb number 0) yes no m t p number n refl q
+
+    all-fates : allFates s m ≡ fates s
+    all-fates =
+        let k = eqb-true number 0 (went .0) in
+        ap (allFates s) (ap (λ (j : Judged). j .marks) (went .1))
+        ∙ marked-fates s marks (roomy s (length marks) (length stage) (length path) k .marked)
+
+    written-is : withPath (cleared path) (cleanedBy (fates s) s (sets marks 0 (verdicts s)) (cleared stage)) ≡ written
+    written-is =
+        let short = cleanedTo (refused 10) s (cleared (sets marks 0 (verdicts s))) (cleared stage) [] in
+        let u = rewritten (length (cleared stage)) (fates s) 0 (emptied (fates s) 0 s) in
+        with-path (cleared path) (ltb (length (s .text)) (textNeeded s)) short (cleanedTo (value (u .fs)) u (cleared (sets marks 0 (verdicts s))) (cleared (cleared stage)) [])
+        ∙ rw (length-replicate {A = ℕ} (length stage) 0, length-sets marks 0 (verdicts s))
+
+    pub judging-goes : (c : Cleaned) → c ≡ cleanedBy (allFates s m) s m t → withPath p c ≡ cleanStored s marks stage path
+    judging-goes c h =
+        ap (withPath p) h
+        ∙ ap (λ (vs : List ℕ). withPath p (cleanedBy vs s m t)) all-fates
+        ∙ ap (λ (j : Judged). withPath (j .path) (cleanedBy (fates s) s (j .marks) (j .stage))) (went .1)
+        ∙ written-is
+        ∙ cond-yes (eqb number 0) written (cleanedTo (refused number) s marks stage path) (went .0)

@@ -1,5 +1,5 @@
 -- Laws of the parts of a link's new text: a join by its parts, and where they lie. They rely on the laws of lists and `path`.
-use Prim.Native.Nat.{ℕ, suc, _+_, _/_, _%_, _≤_}
+use Prim.Native.Nat.{ℕ, suc, _+_, _≤_}
 use mathlib.Core.Path.{_≡_, refl, sym, ap, _∙_}
 use mathlib.Core.Bool.{Bool, true, false, cond, not}
 use mathlib.Core.List.{List, [], _∷_, _++_, append-nil, append-assoc}
@@ -7,16 +7,16 @@ use native.Mathlib.Omega.{arith}
 use borrow.Author.Tests.{ne-eqb}
 use lib.Dec.{eqb}
 use lib.ListN.{length, length-append}
-use Rattle.path.specs.Join.{isAlone, isClosed, isEmpty, glued, appended}
+use Rattle.path.specs.Join.{isAlone, isClosed, isEmpty, appended}
 use Rattle.tables.specs.declared.span.Span.{Span}
 use Rattle.tables.specs.declared.rows.Row.{Row}
 use Rattle.tables.specs.Span.{textAt}
 use Rattle.tables.specs.Rows.{rowAt, dirAt, has}
-use Rattle.tables.specs.Model.{presentIf, Directory, single, absolute, stored, Store, fileOf}
-use Rattle.links.specs.Clean.{Entry, entryOf, isHeld, heldText, pathIn, own}
+use Rattle.tables.specs.Model.{presentIf, single, absolute, stored, Store, fileOf}
+use Rattle.links.specs.Clean.{entryOf, heldText, pathIn, own}
 use Rattle.links.specs.Judging.{besideText, textBy}
 use Rattle.cleaning.specs.Cleaning.{branchSpan}
-use Rattle.cleaning.specs.Writing.{isParted, prefixOf, leafSpan, isLink}
+use Rattle.cleaning.specs.Writing.{isParted, prefixOf, leafSpan}
 
 -- ---- joins
 
@@ -85,15 +85,6 @@ held-at : (h : Bool) (text : List ℕ) (c : Span) → heldText (presentIf h (tex
 held-at true text c = refl
 held-at false text c = refl
 
--- the flags that the model keeps have the row's link flag
-flag-kept : (flags : ℕ) → flags % 16 / 8 % 2 ≡ flags / 8 % 2
-flag-kept flags = omega arith
-
-held-is : (l h : Bool) (t : List ℕ) → cond l (isHeld (presentIf h t)) false ≡ cond l h false
-held-is true true t = refl
-held-is true false t = refl
-held-is false h t = refl
-
 module _ (s : Store) (i : ℕ) where
   abbrev row : Row
   row = rowAt (s .rows) i
@@ -111,7 +102,3 @@ module _ (s : Store) (i : ℕ) where
 
   pub text-by : (v : ℕ) → eqb v 0 ≡ false → textBy v (entryOf (fileOf s i)) ≡ appended branch (textAt (s .text) (leafSpan v row))
   text-by v e = rw e (text-parts v (eqb v 1) refl)
-
-  -- whether a file is a flagged link, by its row's flags
-  pub flagged-is : entryOf (fileOf s i) .flagged ≡ isLink (row .flags)
-  flagged-is = rw (flag-kept (row .flags)) (held-is (has (row .flags) 8) (has (row .flags) 16) (textAt (s .text) (row .link)))

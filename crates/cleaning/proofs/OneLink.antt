@@ -25,10 +25,11 @@ use Rattle.cleaning.specs.Cleaning.{goneAt, linked, relinked, branchSpan
 use Rattle.cleaning.specs.Writing.{leafSpan}
 use Rattle.cleaning.proofs.NewTexts.{text-by}
 
-cond-yes : {A : Type 0} (b : Bool) (x y : A) → b ≡ true → x ≡ cond b x y
+-- a choice where the test is known
+pub cond-yes : {A : Type 0} (b : Bool) (x y : A) → b ≡ true → x ≡ cond b x y
 cond-yes b x y e = rw e
 
-cond-no : {A : Type 0} (b : Bool) (x y : A) → b ≡ false → y ≡ cond b x y
+pub cond-no : {A : Type 0} (b : Bool) (x y : A) → b ≡ false → y ≡ cond b x y
 cond-no b x y e = rw e
 
 pub both-true : (a b : Bool) → both a b ≡ true → (a ≡ true) × (b ≡ true)

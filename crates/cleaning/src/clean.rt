@@ -6,7 +6,7 @@ ghost use lib.ListN.{length};
 ghost use Rattle.tables.specs.Model.{Store};
 ghost use Rattle.storage.specs.Outcomes.{storageSays};
 ghost use Rattle.links.specs.Judging.{lent};
-ghost use Rattle.cleaning.specs.Cleaning.{emptied, rewritten, Cleaned};
+ghost use Rattle.cleaning.specs.Cleaning.{emptied, rewritten, Cleaned, cleanStored};
 ghost use Rattle.cleaning.specs.Writing.{flagsIn, fatesBy, allFates, cleanedBy};
 use crate::fates::clear;
 use crate::fates::fate_of;
@@ -17,6 +17,7 @@ use crate::room::lacks_room;
 use storage::StorageResult;
 use tables::FileStorage;
 use types::Refusal;
+use types::UsizeResult;
 
 // Takes every text of the first n files away that gives way to its link's own path.
 fn empty_links(
@@ -102,4 +103,23 @@ fn clean_judged(
     clear(marks);
     clear(stage);
     StorageResult::Ok(cleaned)
+}
+
+// Cleans the links of a set: each flagged link's text is kept, becomes the text from the link's directory, or the
+// link's own internal path. Marks, stage and path are work space, and cleared.
+pub fn sanitize_symlinks(
+    fs: FileStorage,
+    rows: &mut [u64],
+    dirs: &mut [u64],
+    text: &mut [u8],
+    marks: &mut [u8],
+    stage: &mut [u8],
+    path: &mut [u8],
+) -> StorageResult
+    ensures { λ r. ⌜ _≡_ {A = Cleaned} (record { says = storageSays r; rows = now (rows .exit); dirs = now (dirs .exit); text = now (text .exit); marks = now (marks .exit); stage = now (stage .exit); path = now (path .exit) }) (cleanStored (lent fs (now (rows .entry)) (now (dirs .entry)) (now (text .entry))) (now (marks .entry)) (now (stage .entry)) (now (path .entry))) ⌝ }
+{
+    match links::judge_links(fs, rows, dirs, text, marks, stage, path) {
+        UsizeResult::Ok(_) => clean_judged(fs, rows, dirs, text, marks, stage),
+        UsizeResult::Err(e) => StorageResult::Err(e),
+    }
 }

@@ -6,3 +6,5 @@ mod fates;
 mod parts;
 mod put;
 mod room;
+
+pub use clean::sanitize_symlinks;
