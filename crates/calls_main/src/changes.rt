@@ -1,7 +1,8 @@
-// Additions and trims: the set's tables are lent to the library. Relies on `storage`, and on addition.rt
-// for the words of an addition.
+// Additions, trims and cleanings: the set's tables are lent to the library. Relies on `storage`, on
+// addition.rt for the words of an addition, and on cleanings.rt.
 use crate::addition;
 use crate::addition::Addition;
+use crate::cleanings;
 use crate::kinds::Call;
 use crate::kinds::SetCall;
 use crate::output;
@@ -16,6 +17,7 @@ pub(crate) enum Change {
     None,
     Add,
     Trim,
+    Clean,
 }
 
 // What came of a change: the set's record behind it, or why there is none.
@@ -41,6 +43,7 @@ fn wanted_on_sets(call: SetCall) -> Change {
     match call {
         SetCall::Add => Change::Add,
         SetCall::Trim => Change::Trim,
+        SetCall::Clean => Change::Clean,
         _ => Change::None,
     }
 }
@@ -60,6 +63,7 @@ pub(crate) fn make(
         Change::None => Made::BadCall,
         Change::Add => add(line, fs, rows, roots, times, dirs, text),
         Change::Trim => trim(line, fs, rows, roots, times, dirs, text),
+        Change::Clean => cleanings::clean(line, fs, rows, dirs, text),
     }
 }
 
@@ -146,7 +150,7 @@ fn trim(
 }
 
 // What came of a change that the library was asked for.
-fn outcome(result: StorageResult) -> Made {
+pub(crate) fn outcome(result: StorageResult) -> Made {
     match result {
         StorageResult::Ok(fs) => Made::Changed(fs),
         StorageResult::Err(refusal) => Made::Refused(refusal),

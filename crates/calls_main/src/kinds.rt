@@ -28,6 +28,7 @@ pub(crate) enum SetCall {
     Reset,
     Add,
     Trim,
+    Clean,
 }
 
 // A question on a set as a whole.
@@ -189,13 +190,14 @@ fn find_plain(name: &[u8]) -> Call {
 
 // The call of a name that speaks of sets.
 fn find_on_sets(name: &[u8]) -> Call {
-    let n = place(b"open use reset add trim ", name);
+    let n = place(b"open use reset add trim clean ", name);
     match n {
         0 => Call::OnSets(SetCall::Open),
         1 => Call::OnSets(SetCall::Use),
         2 => Call::OnSets(SetCall::Reset),
         3 => Call::OnSets(SetCall::Add),
         4 => Call::OnSets(SetCall::Trim),
+        5 => Call::OnSets(SetCall::Clean),
         _ => find_set_question(name),
     }
 }

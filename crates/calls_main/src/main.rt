@@ -5,6 +5,7 @@ mod addition;
 mod answer;
 mod calls;
 mod changes;
+mod cleanings;
 mod compat;
 mod file_questions;
 mod input;

@@ -1,0 +1,62 @@
+// `clean`: the set's tables and a work space of the program's own are lent to the library. Relies on
+// `cleaning`. A small work space serves most sets; the large one is cleared only where that is too short.
+use crate::changes;
+use crate::changes::Made;
+use crate::words;
+use storage::StorageResult;
+use tables::FileStorage;
+
+// `clean`.
+pub(crate) fn clean(
+    line: &[u8],
+    fs: FileStorage,
+    rows: &mut [u64],
+    dirs: &mut [u64],
+    text: &mut [u8],
+) -> Made {
+    if words::has(line, 1) {
+        return Made::BadCall;
+    }
+    let mut marks = [0u8; 256];
+    let mut stage = [0u8; 2048];
+    let mut path = [0u8; 4096];
+    let cleaned = cleaning::sanitize_symlinks(
+        fs,
+        rows,
+        dirs,
+        text,
+        &mut marks,
+        &mut stage,
+        &mut path,
+    );
+    match cleaned {
+        StorageResult::Ok(changed) => Made::Changed(changed),
+        StorageResult::Err(_) => clean_in_large(fs, rows, dirs, text),
+    }
+}
+
+// A cleaning with the large work space.
+fn clean_in_large(fs: FileStorage, rows: &mut [u64], dirs: &mut [u64], text: &mut [u8]) -> Made {
+    let mut marks = [0u8; 256];
+    let mut stage = large_stage();
+    let mut path = large_path();
+    changes::outcome(cleaning::sanitize_symlinks(
+        fs,
+        rows,
+        dirs,
+        text,
+        &mut marks,
+        &mut stage,
+        &mut path,
+    ))
+}
+
+// A stage for links whose directories and texts have half a million bytes together.
+fn large_stage() -> [u8; 524288] {
+    [0u8; 524288]
+}
+
+// The path that goes with it.
+fn large_path() -> [u8; 1048576] {
+    [0u8; 1048576]
+}
