@@ -7,6 +7,7 @@
 --     go, stop                            the answer after a decision
 --     none, passed                        where no refusal is said, as after `Go`, no rule's test holds
 --     pieces-known, piece-known           what that means for the set and a piece of it
+--     set-held, piece-held                what it means for the rows
 --     file-known, file-counted            what it means for a file and its set
 use Prim.Native.Nat.{ℕ, _+_, _-_, _*_, _%_, _^_, _≤_, _<_}
 use mathlib.Core.Path.{_≡_, refl, sym, ap, _∙_}
@@ -19,7 +20,7 @@ use lib.Dec.{eqb, ltb, leb}
 use lib.IntN.{ℤ, pos, negsuc}
 use mir.Syntax.{w32}
 use mir.Val.{SFits}
-use borrow.Author.Tests.{lt-ltb, le-ltb, ltb-true, ltb-false, eqb-true, ne-eqb, not-false}
+use borrow.Author.Tests.{lt-ltb, le-ltb, ltb-true, ltb-false, leb-true, eqb-true, ne-eqb, not-false}
 use Rattle.lists.specs.Lists.{ceiling}
 use Rattle.lists.proofs.Quotients.{ceiling-above, ceiling-le, ceiling-covers}
 use Rattle.types.specs.Refusals.{numberOf, Outcome, value, refused}
@@ -189,6 +190,19 @@ piece-known fs z bad held p h c e =
 pub piece-range-good : (fs : FileStorage) (z : ℤ) (bad held : Bool) {d : Check}
     → checkNumber d ≡ firstOf (opened fs ∷ manyPieces fs ∷ noPiece fs z ∷ when bad 14 ∷ short held ∷ []) → d ≡ Go → bad ≡ false
 piece-range-good fs z bad held c e = passed (opened fs ∷ manyPieces fs ∷ noPiece fs z ∷ when bad 14 ∷ short held ∷ []) refl c e .1 .1 .1 .0
+
+-- the rows that a question needs are there
+pub set-held : (fs : FileStorage) (bad held : Bool) {d : Check} (room : ℕ) → held ≡ leb (fs .«num_files») room
+    → checkNumber d ≡ firstOf (opened fs ∷ when bad 14 ∷ short held ∷ []) → d ≡ Go → fs .«num_files» ≤ room
+set-held fs bad held room h c e =
+    let q = passed (opened fs ∷ when bad 14 ∷ short held ∷ []) refl c e in
+    leb-true (fs .«num_files») room (sym h ∙ not-false held (q .1 .1 .0))
+
+pub piece-held : (fs : FileStorage) (z : ℤ) (bad held : Bool) {d : Check} (room : ℕ) → held ≡ leb (fs .«num_files») room
+    → checkNumber d ≡ firstOf (opened fs ∷ manyPieces fs ∷ noPiece fs z ∷ when bad 14 ∷ short held ∷ []) → d ≡ Go → fs .«num_files» ≤ room
+piece-held fs z bad held room h c e =
+    let q = passed (opened fs ∷ manyPieces fs ∷ noPiece fs z ∷ when bad 14 ∷ short held ∷ []) refl c e in
+    leb-true (fs .«num_files») room (sym h ∙ not-false held (q .1 .1 .1 .1 .0))
 
 pub record FilePassed (fs : FileStorage) (z : ℤ) (many bad tree : Bool) : Type 0 where
   pub length : badLength (fs .«piece_length») ≡ false

@@ -1,72 +1,115 @@
--- Laws of the search by halving: a turn and the end; and on ascending offsets the file found is the last whose offset is at
--- or below the target. They rely on nothing else.
---     turn-up, turn-down, turn-end     the loop's turns: some number of halvings is enough
---     point-is                         how many rows begin at or before the target
---     found-last                       the file found
-use mathlib.Core.Path.{_≡_, refl, sym, ap, _∙_}
+-- Laws of the search by halving, and what it finds on ascending offsets: the last file whose offset is at or below the
+-- target. They rely on nothing else.
+--     reach-some, reach-mono   how many rows steps tell apart
+--     split                what is left on either side of a step
+--     idle, enough         steps that go nowhere, and how many steps are enough
+--     within               the place found is among the n
+--     found-last           the file found
+use mathlib.Core.Path.{_≡_, refl, ap, subst, _∙_}
 use mathlib.Core.Bool.{Bool, true, false, cond}
 use mathlib.Core.List.{List}
-use Prim.Native.Nat.{ℕ, zero, suc, _+_, _-_, _/_, _^_, _≤_, _<_}
+use Prim.Native.Nat.{ℕ, zero, suc, _+_, _-_, _^_, _≤_, _<_, min}
+use native.Mathlib.Numerals.{add-one}
 use native.Mathlib.Nat.{two-pow-succ}
 use native.Mathlib.Omega.{arith}
-use lib.Dec.{ltb, leb}
-use borrow.Author.Tests.{lt-ltb, le-ltb, le-leb, lt-leb, ltb-true, ltb-false, leb-true, leb-false}
+use lib.Dec.{leb}
+use lib.Pow.{pow-mono, pow-pos}
+use borrow.Author.Tests.{leb-true, leb-false}
 use Rattle.tables.specs.Rows.{rowAt}
-use Rattle.layout.specs.Search.{halved, partitionPoint, fileFound}
+use Rattle.layout.specs.Search.{reach, stride, moved, halved, fileFound}
 
--- some k halvings from lo and hi are enough and give r
-pub record Halving (f : ℕ → ℕ) (t lo hi r : ℕ) : Type 0 where
-  pub turns : ℕ
-  pub enough : hi - lo < 2 ^ turns
-  pub gives : halved turns f t lo hi ≡ r
+-- j steps tell at least one row apart, and one step more at most twice as many
+pub reach-some : (j : ℕ) → 0 < reach j
+reach-some j = omega (arith, pow-pos j)
 
-module _ (f : ℕ → ℕ) (t : ℕ) where
-  up : (k lo hi r : ℕ) → lo < hi → hi - lo < 2 ^ k → halved k f t lo hi ≡ r → f ((lo + hi) / 2) ≤ t → Halving f t ((lo + hi) / 2 + 1) hi r
+reach-next : (j : ℕ) → (reach j ≤ reach (j + 1)) × (reach (j + 1) ≤ reach j + reach j)
+reach-next j =
+    let e : 2 ^ (j + 1) ≡ 2 ^ j + 2 ^ j = ap (λ (i : ℕ). 2 ^ i) (add-one j) ∙ two-pow-succ j in
+    (omega arith, omega arith)
+
+pub reach-mono : (i j : ℕ) → i ≤ j → reach i ≤ reach j
+reach-mono i j h = let p : 2 ^ i ≤ 2 ^ j = pow-mono h in omega arith
+
+-- n steps are enough for n rows
+below : (n : ℕ) → n < 2 ^ n
+below zero = omega arith
+below (suc n) = omega (arith, below n, two-pow-succ n)
+
+pub enough : (n : ℕ) → n ≤ reach n
+enough zero = omega arith
+enough (suc n) = omega (arith, below n, two-pow-succ n)
+
+-- a step among n places of which those from b on are left: before it `more` were told apart, behind it `most` are
+module _ (n most more b : ℕ) (k : most ≤ more) (l : more ≤ most + most) (h : b + min n more ≤ n) where
+  up : b + min (more - most) (n - most) + min n most ≤ n
+  up = omega arith
+
+  down : b + min n most ≤ n
+  down = omega arith
+
+  over : b + min n more ≤ b + min (more - most) (n - most) + min n most
+  over = omega arith
+
+  under : b + min (more - most) (n - most) ≤ b + min n most
+  under = omega arith
+
+none : (n most more : ℕ) → n ≤ most → min (more - most) (n - most) ≡ 0
+none n most more h = omega arith
+
+-- what is left after step j, where it is made and where not; together these are what was left, and the step passes none
+pub record Split (n j b : ℕ) : Type 0 where
+  pub up : b + stride n j + min n (reach j) ≤ n
+  pub down : b + min n (reach j) ≤ n
+  pub over : b + min n (reach (suc j)) ≤ b + stride n j + min n (reach j)
+  pub under : b + stride n j ≤ b + min n (reach j)
+
+pub split : (n j b : ℕ) → b + min n (reach (j + 1)) ≤ n → Split n j b
+split n j b h =
+    let q = reach-next j in
+    record {
+      up = up n (reach j) (reach (j + 1)) b (q .0) (q .1) h;
+      down = down n (reach j) (reach (j + 1)) b (q .0) (q .1) h;
+      over = subst (λ x. b + min n (reach x) ≤ b + stride n j + min n (reach j)) (add-one j) (over n (reach j) (reach (j + 1)) b (q .0) (q .1) h);
+      under = under n (reach j) (reach (j + 1)) b (q .0) (q .1) h;
+    }
+
+module _ (f : ℕ → ℕ) (t n : ℕ) where
+  stays : (b s : ℕ) → s ≡ 0 → moved f t b s ≡ b
+  stays b s e = by (leb (f (b + s)) t)
+    where
+      by : (x : Bool) → cond x (b + s) b ≡ b
+      by true = omega arith
+      by false = refl
+
+  -- steps behind which more places would be left than there are
+  pub idle : (i d b : ℕ) → n ≤ reach i → halved (i + d) f t n b ≡ halved i f t n b
   unfolding halved
-  up zero lo hi r h n e g = absurd (omega arith)
-  up (suc k) lo hi r h n e g =
-      record {
-        turns = k;
-        enough = omega (arith, two-pow-succ k);
-        gives = rw (lt-ltb lo hi h, le-leb (f ((lo + hi) / 2)) t g) at e;
-      }
+  idle i zero b h = let e : i + 0 ≡ i = omega arith in rw e
+  idle i (suc d) b h =
+      let e : i + suc d ≡ suc (i + d) = omega arith in
+      let z : stride n (i + d) ≡ 0 = none n (reach (i + d)) (reach (i + d + 1)) (omega (arith, h, reach-mono i (i + d) (omega arith))) in
+      rw e (ap (halved (i + d) f t n) (stays b (stride n (i + d)) z) ∙ idle i d b h)
 
-  down : (k lo hi r : ℕ) → lo < hi → hi - lo < 2 ^ k → halved k f t lo hi ≡ r → t < f ((lo + hi) / 2) → Halving f t lo ((lo + hi) / 2) r
+  pub within : (j b : ℕ) → b + min n (reach j) ≤ n → halved j f t n b + min n 1 ≤ n
   unfolding halved
-  down zero lo hi r h n e g = absurd (omega arith)
-  down (suc k) lo hi r h n e g =
-      record {
-        turns = k;
-        enough = omega (arith, two-pow-succ k);
-        gives = rw (lt-ltb lo hi h, lt-leb (f ((lo + hi) / 2)) t g) at e;
-      }
+  within zero b h = h
+  within (suc j) b h = by (leb (f (b + stride n j)) t) (within j)
+    where
+      by : (x : Bool) → ((b : ℕ) → b + min n (reach j) ≤ n → halved j f t n b + min n 1 ≤ n) → halved j f t n (cond x (b + stride n j) b) + min n 1 ≤ n
+      by true ih = ih (b + stride n j) (split n j b (rw (add-one j) h) .up)
+      by false ih = ih b (split n j b (rw (add-one j) h) .down)
 
-  end : (k lo hi : ℕ) → hi ≤ lo → halved k f t lo hi ≡ lo
-  unfolding halved
-  end zero lo hi h = refl
-  end (suc k) lo hi h = rw (le-ltb lo hi h)
+pub through : {x y z : ℕ} → x ≤ y → y ≤ z → x ≤ z
+through h k = omega arith
 
-  module _ {lo hi r : ℕ} (w : Halving f t lo hi r) where
-    pub turn-up : (m v : ℕ) → lo < hi → m ≡ lo + (hi - lo) / 2 → v ≡ f m → v ≤ t → Halving f t (m + 1) hi r
-    turn-up m v h e q g =
-        let d : m ≡ (lo + hi) / 2 = omega arith in
-        let b : f ((lo + hi) / 2) ≤ t = rw (← d, ← q) g in
-        rw d (up (w .turns) lo hi r h (w .enough) (w .gives) b)
+beyond : {x y z : ℕ} → x < y → y ≤ z → x < z
+beyond h k = omega arith
 
-    pub turn-down : (m v : ℕ) → lo < hi → m ≡ lo + (hi - lo) / 2 → v ≡ f m → t < v → Halving f t lo m r
-    turn-down m v h e q g =
-        let d : m ≡ (lo + hi) / 2 = omega arith in
-        let b : t < f ((lo + hi) / 2) = rw (← d, ← q) g in
-        rw d (down (w .turns) lo hi r h (w .enough) (w .gives) b)
-
-    pub turn-end : hi ≤ lo → lo ≡ r
-    turn-end h = sym (end (w .turns) lo hi h) ∙ w .gives
-
--- how many of the first n values are at most t, where all those stand in front
-pub record Point (f : ℕ → ℕ) (t n r : ℕ) : Type 0 where
-  pub among : r ≤ n
-  pub low : (i : ℕ) → i < r → f i ≤ t
-  pub high : (i : ℕ) → r ≤ i → i < n → t < f i
+-- the last of n values that is at or below t, at place k
+pub record Lowest (f : ℕ → ℕ) (t n k : ℕ) : Type 0 where
+  pub among : k < n
+  pub low : f k ≤ t
+  pub high : (i : ℕ) → k < i → i < n → t < f i
 
 module _ (f : ℕ → ℕ) (t n : ℕ) (ascends : (i : ℕ) → i + 1 < n → f i ≤ f (i + 1)) where
   steps : (i d : ℕ) → i + d < n → f i ≤ f (i + d)
@@ -78,37 +121,25 @@ module _ (f : ℕ → ℕ) (t n : ℕ) (ascends : (i : ℕ) → i + 1 < n → f 
   mono : (i j : ℕ) → i ≤ j → j < n → f i ≤ f j
   mono i j h l = let e : i + (j - i) ≡ j = omega arith in rw e at (steps i (j - i) (omega arith))
 
-  point : (k lo hi : ℕ) → hi - lo < 2 ^ k → lo ≤ hi → hi ≤ n → ((i : ℕ) → i < lo → f i ≤ t) → ((i : ℕ) → hi ≤ i → i < n → t < f i) → Point f t n (halved k f t lo hi)
+  last : (j b : ℕ) → 0 < n → b + min n (reach j) ≤ n → f b ≤ t → ((i : ℕ) → b + min n (reach j) ≤ i → i < n → t < f i) → Lowest f t n (halved j f t n b)
   unfolding halved
-  point zero lo hi w h l a b = record { among = omega arith; low = a; high = λ i x y. b i (omega arith) y }
-  point (suc k) lo hi w h l a b = by (ltb lo hi) refl (leb (f ((lo + hi) / 2)) t) refl (point k)
+  last zero b s h l a = record { among = omega arith; low = l; high = λ i x y. a i (omega arith) y }
+  last (suc j) b s h l a = by (leb (f (b + stride n j)) t) refl (last j)
     where
-      by : (x : Bool) → ltb lo hi ≡ x → (y : Bool) → leb (f ((lo + hi) / 2)) t ≡ y
-          → ((lo hi : ℕ) → hi - lo < 2 ^ k → lo ≤ hi → hi ≤ n → ((i : ℕ) → i < lo → f i ≤ t) → ((i : ℕ) → hi ≤ i → i < n → t < f i) → Point f t n (halved k f t lo hi))
-          → Point f t n (cond x (cond y (halved k f t ((lo + hi) / 2 + 1) hi) (halved k f t lo ((lo + hi) / 2))) lo)
-      by true e true g ih =
-          let q = ltb-true lo hi e in
-          let p = leb-true (f ((lo + hi) / 2)) t g in
-          ih ((lo + hi) / 2 + 1) hi (omega (arith, two-pow-succ k)) (omega arith) l (λ i x. omega (arith, p, mono i ((lo + hi) / 2) (omega arith) (omega arith))) b
-      by true e false g ih =
-          let q = ltb-true lo hi e in
-          let p = leb-false (f ((lo + hi) / 2)) t g in
-          ih lo ((lo + hi) / 2) (omega (arith, two-pow-succ k)) (omega arith) (omega arith) a (λ i x y. omega (arith, p, mono ((lo + hi) / 2) i x y))
-      by false e y g ih =
-          let q = ltb-false lo hi e in
-          record { among = omega arith; low = a; high = λ i x z. b i (omega arith) z }
+      by : (x : Bool) → leb (f (b + stride n j)) t ≡ x
+          → ((b : ℕ) → 0 < n → b + min n (reach j) ≤ n → f b ≤ t → ((i : ℕ) → b + min n (reach j) ≤ i → i < n → t < f i) → Lowest f t n (halved j f t n b))
+          → Lowest f t n (halved j f t n (cond x (b + stride n j) b))
+      by true e ih =
+          let p = split n j b (rw (add-one j) h) in
+          ih (b + stride n j) s (p .up) (leb-true (f (b + stride n j)) t e) (λ i x y. a i (through (p .over) x) y)
+      by false e ih =
+          let p = split n j b (rw (add-one j) h) in
+          let q = leb-false (f (b + stride n j)) t e in
+          ih b s (p .down) l (λ i x y. beyond q (mono (b + stride n j) i (through (p .under) x) y))
 
 -- rows whose offsets ascend
 abbrev pub Ascending : List ℕ → ℕ → Type 0
 Ascending rows n = (i : ℕ) → i + 1 < n → rowAt rows i .offset ≤ rowAt rows (i + 1) .offset
-
--- n halvings are enough for n rows
-pub enough : (n : ℕ) → n - 0 < 2 ^ n
-enough zero = omega arith
-enough (suc n) = omega (arith, enough n, two-pow-succ n)
-
-pub point-is : (rows : List ℕ) (n t : ℕ) → Ascending rows n → Point (λ i. rowAt rows i .offset) t n (partitionPoint rows n t)
-point-is rows n t a = point (λ i. rowAt rows i .offset) t n a n 0 n (enough n) (omega arith) (omega arith) (λ i x. absurd (omega arith)) (λ i x y. absurd (omega arith))
 
 -- the file found is the last whose offset is at or below the target
 pub record Last (rows : List ℕ) (n t k : ℕ) : Type 0 where
@@ -117,10 +148,13 @@ pub record Last (rows : List ℕ) (n t k : ℕ) : Type 0 where
   pub high : (i : ℕ) → k < i → i < n → t < rowAt rows i .offset
 
 pub found-last : (rows : List ℕ) (n t : ℕ) → Ascending rows n → 0 < n → rowAt rows 0 .offset ≤ t → Last rows n t (fileFound rows n t)
-found-last rows n t a s z = last (partitionPoint rows n t) (point-is rows n t a)
-  where
-    last : (r : ℕ) → Point (λ i. rowAt rows i .offset) t n r → Last rows n t (r - 1)
-    last zero p = absurd (omega (arith, p .high 0 (omega arith) s))
-    last (suc r) p =
-        let e : suc r - 1 ≡ r = omega arith in
-        rw e (record { among = omega (arith, p .among); low = p .low r (omega arith); high = λ i x y. p .high i x y })
+found-last rows n t a s z =
+    let e = enough n in
+    let l = last (λ i. rowAt rows i .offset) t n a n 0 s (omega arith) z (λ i x y. absurd (omega arith)) in
+    record { among = l .among; low = l .low; high = l .high }
+
+-- the file found among some files is one of them
+pub found-below : (rows : List ℕ) (n t : ℕ) → 0 < n → fileFound rows n t < n
+found-below rows n t s =
+    let w = within (λ i. rowAt rows i .offset) t n n 0 (omega arith) in
+    omega arith

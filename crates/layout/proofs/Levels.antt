@@ -1,248 +1,93 @@
--- Laws of the search in turns whose number depends on the number of rows alone (specs/Level.antt). They rely on the laws of
+-- Laws of the search in steps whose number depends on the number of rows alone (specs/Level.antt). They rely on the laws of
 -- halving.
---     all-rows                 where a search begins
---     skipped                  turns that are not needed
---     few, many, pred          what the test of a turn tells
---     gone-up, gone-down       a turn
---     inside                   the row in the middle is in the table
---     behind, ended-up, ended-down   the last turn
-use Prim.Native.Nat.{ℕ, zero, suc, _+_, _-_, _*_, _/_, _%_, _^_, _≤_, _<_, min}
+--     first, later         how many words a step goes
+--     all-rows, found      where a search begins and ends
+--     skipped, begun       steps that are not needed
+--     inside, turned       a step
+use Prim.Native.Nat.{ℕ, suc, _+_, _-_, _*_, _/_, _%_, _^_, _≤_, _<_, min}
 use mathlib.Core.Path.{_≡_, refl, sym, ap, _∙_}
-use mathlib.Core.Bool.{Bool, true, false}
+use mathlib.Core.Bool.{Bool, true, false, cond}
 use mathlib.Core.List.{List}
 use native.Mathlib.Nat.{two-pow-succ, lt-div-mul-add, div-eq-of-lt}
 use native.Mathlib.Numerals.{add-one}
 use native.Mathlib.Omega.{arith}
-use lib.Dec.{ltb}
+use lib.Dec.{ltb, leb}
 use lib.ListN.{getD}
 use lib.Pow.{pow-mono, pow-pos}
 use borrow.Author.Tests.{ltb-true, ltb-false}
 use Rattle.tables.specs.Rows.{rowAt}
-use Rattle.layout.specs.declared.search.Ends.{Ends}
-use Rattle.layout.specs.Search.{partitionPoint}
+use Rattle.layout.specs.Search.{reach, stride, moved, halved, fileFound}
 use Rattle.layout.specs.Level.{Level}
-use Rattle.layout.proofs.Halving.{Halving, enough, turn-up, turn-down, turn-end}
+use Rattle.layout.proofs.Halving.{reach-some, Split, split, idle, enough}
+
+within-words : (b s n most : ℕ) {at w : ℕ} → 0 < most → 0 < n → b + s + min n most ≤ n → at ≡ b * 8 → w ≡ s * 8 → at + w < n * 8
+within-words b s n most z h q p e = omega arith
+
+module _ (n most more : ℕ) where
+  short : n < more → n - most ≡ min (more - most) (n - most)
+  short h = omega arith
+
+  long : more ≤ n → more - most ≡ min (more - most) (n - most)
+  long h = omega arith
+
+-- a step in words: the first one's, and a later one's
+module _ (n j : ℕ) where
+  pub first : n < reach (j + 1) → (n - reach j) * 8 ≡ stride n j * 8
+  first h = ap (λ (s : ℕ). s * 8) (short n (reach j) (reach (j + 1)) h)
+
+  pub later : reach (j + 1) ≤ n → (reach (j + 1) - reach j) * 8 ≡ stride n j * 8
+  later h = ap (λ (s : ℕ). s * 8) (long n (reach j) (reach (j + 1)) h)
 
 module _ (rows : List ℕ) (n t : ℕ) where
-  pub all-rows : (j : ℕ) (e : Ends) → e .lo ≡ 0 → e .hi ≡ n * 32 → n < 2 ^ (j + 1) → Level rows n t j e
-  all-rows j e a b h =
-      record {
-        lo = 0;
-        hi = n;
-        left = omega arith;
-        right = b;
-        among = omega arith;
-        within = omega arith;
-        near = omega arith;
-        far = omega arith;
-        some = omega arith;
-        turns = n;
-        enough = enough n;
-        gives = refl;
-      }
+  abbrev f : ℕ → ℕ
+  f i = rowAt rows i .offset
 
-  pub skipped : (i j : ℕ) {e : Ends} → i < j → n < 2 ^ (i + 1) → Level rows n t j e → Level rows n t i e
-  skipped i j h s l =
-      let p : 2 ^ (i + 1) ≤ 2 ^ j = pow-mono (omega arith) in
-      let q : n ≤ l .hi - l .lo = omega (arith, l .far) in
-      record {
-        lo = l .lo;
-        hi = l .hi;
-        left = l .left;
-        right = l .right;
-        among = l .among;
-        within = l .within;
-        near = omega (arith, l .within);
-        far = omega arith;
-        some = omega arith;
-        turns = l .turns;
-        enough = l .enough;
-        gives = l .gives;
-      }
-
--- numbers of a turn: g is the power of two that n has
-module _ (n g lo hi : ℕ) where
-  far-is : 2 * g ≤ n → min n (2 * g - 1) ≤ hi - lo → 2 * g - 1 ≤ hi - lo
-  far-is h f = omega arith
-
-  some-is : 2 * g ≤ n → min n (2 * g) ≤ lo + hi → 2 * g ≤ lo + hi
-  some-is h f = omega arith
-
-module _ (g lo hi d : ℕ) (p : hi ≡ lo + d) (near : d < 4 * g) (far : 2 * g - 1 ≤ d) where
-  middle-is : (lo + hi) / 2 ≡ lo + d / 2
-  middle-is = omega arith
-
-  up-near : hi - ((lo + hi) / 2 + 1) < 2 * g
-  up-near = rw (middle-is, p) (omega arith)
-
-  up-far : g - 1 ≤ hi - ((lo + hi) / 2 + 1)
-  up-far = rw (middle-is, p) (omega arith)
-
-  down-near : (lo + hi) / 2 - lo < 2 * g
-  down-near = rw middle-is (omega arith)
-
-  down-far : g - 1 ≤ (lo + hi) / 2 - lo
-  down-far = rw middle-is (omega arith)
-
--- the place of the row in the middle
-place : (lo hi : ℕ) → (lo * 32 + hi * 32) / 64 * 64 ≡ (lo + hi) / 2 * 64
-place lo hi = omega arith
-
-pow-one : (i : ℕ) → 2 ^ (i + 1) ≡ 2 * 2 ^ i
-pow-one i =
-    let e : 2 ^ (i + 1) ≡ 2 ^ i + 2 ^ i = ap (λ (k : ℕ). 2 ^ k) (add-one i) ∙ two-pow-succ i in
-    omega (arith, e)
-
--- what n / 2 ^ j tells of n
-pub few : (n j : ℕ) → n / 2 ^ j ≡ 0 → n < 2 ^ j
-few n j e = let h = rw e at (lt-div-mul-add {a = n} {b = 2 ^ j} (pow-pos j)) in omega arith
-
-pub many : (n j : ℕ) → (n / 2 ^ j ≡ 0 → ⊥) → 2 ^ j ≤ n
-many n j h = by (ltb n (2 ^ j)) refl
-  where
-    by : (b : Bool) → ltb n (2 ^ j) ≡ b → 2 ^ j ≤ n
-    by true q = absurd (h (div-eq-of-lt (ltb-true n (2 ^ j) q)))
-    by false q = ltb-false n (2 ^ j) q
-
-pub pred : (j : ℕ) → 0 < j → j - 1 + 1 ≡ j
-pred j h = omega arith
-
--- a turn with i to go after it; the middle is where the code reads
-module _ (rows : List ℕ) (n t i : ℕ) {e : Ends} (l : Level rows n t (i + 1) e) (big : 2 ^ (i + 1) ≤ n) (m : ℕ) (em : m ≡ (e .lo + e .hi) / 64 * 64) where
-  four : 2 ^ (i + 1 + 1) ≡ 4 * 2 ^ i
-  four = omega (arith, pow-one (i + 1), pow-one i)
-
-  far : 2 * 2 ^ i - 1 ≤ l .hi - l .lo
-  far =
-      let f : min n (2 * 2 ^ i - 1) ≤ l .hi - l .lo = rw (pow-one i) at (l .far) in
-      far-is n (2 ^ i) (l .lo) (l .hi) (omega (arith, pow-one i)) f
-
-  some : 2 * 2 ^ i ≤ l .lo + l .hi
-  some =
-      let f : min n (2 * 2 ^ i) ≤ l .lo + l .hi = rw (pow-one i) at (l .some) in
-      some-is n (2 ^ i) (l .lo) (l .hi) (omega (arith, pow-one i)) f
-
-  apart : l .lo < l .hi
-  apart = let p = far in let q = pow-pos i in omega arith
-
-  middle : m ≡ (l .lo + l .hi) / 2 * 64
-  middle = em ∙ (rw (l .left, l .right) (place (l .lo) (l .hi)))
-
-  -- the place is in the table
-  pub inside : m / 8 < n * 8
-  inside =
-      let a = middle in
-      let b = apart in
-      let c = l .within in
-      omega arith
-
-  read : m / 8 ≡ (l .lo + l .hi) / 2 * 8
-  read = let a = middle in omega arith
-
-  halving : Halving (λ k. rowAt rows k .offset) t (l .lo) (l .hi) (partitionPoint rows n t)
-  halving = record { turns = l .turns; enough = l .enough; gives = l .gives }
-
-  mid : (l .lo + l .hi) / 2 ≡ l .lo + (l .hi - l .lo) / 2
-  mid = let a = l .among in omega arith
-
-  distance : l .hi ≡ l .lo + (l .hi - l .lo)
-  distance = let a = l .among in omega arith
-
-  near : l .hi - l .lo < 4 * 2 ^ i
-  near = rw four at (l .near)
-
-  pub gone-up : (v : ℕ) {e′ : Ends} → v ≡ getD rows (m / 8) 0 % 2 ^ 48 → v ≤ t → e′ .lo ≡ m / 2 + 32 → e′ .hi ≡ e .hi → Level rows n t i e′
-  gone-up v ev h el eh =
-      let w = turn-up (λ k. rowAt rows k .offset) t halving ((l .lo + l .hi) / 2) v apart mid (rw read at ev) h in
-      let a = middle in
-      let b = apart in
-      let n1 = up-near (2 ^ i) (l .lo) (l .hi) (l .hi - l .lo) distance near far in
-      let f1 = up-far (2 ^ i) (l .lo) (l .hi) (l .hi - l .lo) distance near far in
-      let s1 = some in
-      record {
-        lo = (l .lo + l .hi) / 2 + 1;
-        hi = l .hi;
-        left = omega arith;
-        right = eh ∙ l .right;
-        among = omega arith;
-        within = l .within;
-        near = omega (arith, pow-one i);
-        far = omega arith;
-        some = omega arith;
-        turns = w .turns;
-        enough = w .enough;
-        gives = w .gives;
-      }
-
-  pub gone-down : (v : ℕ) {e′ : Ends} → v ≡ getD rows (m / 8) 0 % 2 ^ 48 → t < v → e′ .lo ≡ e .lo → e′ .hi ≡ m / 2 → Level rows n t i e′
-  gone-down v ev h el eh =
-      let w = turn-down (λ k. rowAt rows k .offset) t halving ((l .lo + l .hi) / 2) v apart mid (rw read at ev) h in
-      let a = middle in
-      let b = apart in
-      let n1 = down-near (2 ^ i) (l .lo) (l .hi) (l .hi - l .lo) distance near far in
-      let f1 = down-far (2 ^ i) (l .lo) (l .hi) (l .hi - l .lo) distance near far in
-      let s1 = some in
-      let c = l .within in
-      record {
-        lo = l .lo;
-        hi = (l .lo + l .hi) / 2;
-        left = el ∙ l .left;
-        right = omega arith;
-        among = omega arith;
-        within = omega arith;
-        near = omega (arith, pow-one i);
-        far = omega arith;
-        some = omega arith;
-        turns = w .turns;
-        enough = w .enough;
-        gives = w .gives;
-      }
-
--- the last turn: no row is left, or the one before hi
-module _ (rows : List ℕ) (n t : ℕ) {e : Ends} (l : Level rows n t 0 e) (s : 0 < n) where
-  pub behind : 32 ≤ e .hi
-  behind = let a = l .right in let b = l .some in let c = l .among in omega arith
-
-  final : Halving (λ k. rowAt rows k .offset) t (l .lo) (l .hi) (partitionPoint rows n t)
-  final = record { turns = l .turns; enough = l .enough; gives = l .gives }
-
-  one : l .lo < l .hi → l .hi ≡ l .lo + 1
-  one h = let a : l .hi - l .lo < 2 = l .near in omega arith
-
-  last-read : l .lo < l .hi → (e .hi - 32) / 4 ≡ l .lo * 8
-  last-read h = let a = l .right in let b = one h in omega arith
-
-  none : l .hi ≤ l .lo → (l .lo ≡ partitionPoint rows n t) × (l .hi ≡ l .lo)
-  none h = let a = l .among in (turn-end (λ k. rowAt rows k .offset) t final h, omega arith)
-
-  pub ended-up : (v : ℕ) → v ≡ getD rows ((e .hi - 32) / 4) 0 % 2 ^ 48 → v ≤ t → e .hi / 32 ≡ partitionPoint rows n t
-  ended-up v ev h = by (ltb (l .lo) (l .hi)) refl
+  -- from level j on and from level i on, where both are enough for n
+  same : (i j b : ℕ) → n ≤ reach i → n ≤ reach j → halved i f t n b ≡ halved j f t n b
+  same i j b h k = by (ltb i j) refl
     where
-      by : (b : Bool) → ltb (l .lo) (l .hi) ≡ b → e .hi / 32 ≡ partitionPoint rows n t
+      by : (x : Bool) → ltb i j ≡ x → halved i f t n b ≡ halved j f t n b
       by true q =
-          let z = ltb-true (l .lo) (l .hi) q in
-          let o = one z in
-          let w = turn-up (λ k. rowAt rows k .offset) t final (l .lo) v z (omega arith) (rw (last-read z) at ev) h in
-          let r = turn-end (λ k. rowAt rows k .offset) t w (omega arith) in
-          let c = l .right in
-          omega arith
+          let l = ltb-true i j q in
+          let e : i + (j - i) ≡ j = omega arith in
+          sym (rw e at (idle f t n i (j - i) b h))
       by false q =
-          let z = none (ltb-false (l .lo) (l .hi) q) in
-          let c = l .right in
-          omega arith
+          let l = ltb-false i j q in
+          let e : j + (i - j) ≡ i = omega arith in
+          rw e at (idle f t n j (i - j) b k)
 
-  pub ended-down : (v : ℕ) → v ≡ getD rows ((e .hi - 32) / 4) 0 % 2 ^ 48 → t < v → e .lo / 32 ≡ partitionPoint rows n t
-  ended-down v ev h = by (ltb (l .lo) (l .hi)) refl
-    where
-      by : (b : Bool) → ltb (l .lo) (l .hi) ≡ b → e .lo / 32 ≡ partitionPoint rows n t
-      by true q =
-          let z = ltb-true (l .lo) (l .hi) q in
-          let o = one z in
-          let w = turn-down (λ k. rowAt rows k .offset) t final (l .lo) v z (omega arith) (rw (last-read z) at ev) h in
-          let r = turn-end (λ k. rowAt rows k .offset) t w (omega arith) in
-          let c = l .left in
-          omega arith
-      by false q =
-          let z = none (ltb-false (l .lo) (l .hi) q) in
-          let c = l .left in
-          omega arith
+  pub all-rows : (j : ℕ) → n ≤ reach j → Level rows n t j 0
+  all-rows j h = record { b = 0; place = omega arith; left = omega arith; gives = same j n 0 h (enough n) }
+
+  pub skipped : (i j : ℕ) {at : ℕ} → n ≤ reach i → n ≤ reach j → Level rows n t j at → Level rows n t i at
+  skipped i j h k l = record { b = l .b; place = l .place; left = omega (arith, l .left); gives = same i j (l .b) h k ∙ l .gives }
+
+  -- before the first step it stands at the first row
+  pub begun : (j : ℕ) {at : ℕ} → n ≤ reach j → Level rows n t j at → at ≡ 0
+  begun j h l = let p = l .place in let q = l .left in omega arith
+
+  pub found : {at : ℕ} → Level rows n t 0 at → at / 8 ≡ fileFound rows n t
+  unfolding halved
+  found l = let p = l .place in let g = l .gives in omega arith
+
+  -- step j, which goes s words on
+  module _ (j : ℕ) {at : ℕ} (l : Level rows n t (j + 1) at) (s : ℕ) (e : s ≡ stride n j * 8) where
+    parts : Split n j (l .b)
+    parts = split n j (l .b) (l .left)
+
+    pub inside : 0 < n → at + s < n * 8
+    inside h = let p = l .place in let q = parts .up in let z = reach-some j in within-words (l .b) (stride n j) n (reach j) z h q p e
+
+    gives : halved j f t n (moved f t (l .b) (stride n j)) ≡ fileFound rows n t
+    unfolding halved
+    gives = rw (add-one j) at (l .gives)
+
+    pub turned : (r : ℕ) → r ≡ cond (leb (getD rows (at + s) 0 % 2 ^ 48) t) (at + s) at → Level rows n t j r
+    turned r h = by (leb (f (l .b + stride n j)) t) (rw place at h) gives
+      where
+        place : at + s ≡ (l .b + stride n j) * 8
+        place = let p = l .place in omega arith
+
+        by : (x : Bool) → r ≡ cond x ((l .b + stride n j) * 8) at → halved j f t n (cond x (l .b + stride n j) (l .b)) ≡ fileFound rows n t → Level rows n t j r
+        by true k g = record { b = l .b + stride n j; place = k; left = parts .up; gives = g }
+        by false k g = record { b = l .b; place = k ∙ l .place; left = parts .down; gives = g }

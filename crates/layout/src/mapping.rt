@@ -3,7 +3,7 @@
 ghost use mathlib.Core.Path.{_≡_};
 ghost use mathlib.Core.List.{[], _∷_};
 ghost use mathlib.Core.Bool.{cond};
-ghost use Prim.Native.Nat.{_-_};
+ghost use Prim.Native.Nat.{_-_, _/_, _≤_};
 ghost use lib.Dec.{eqb};
 ghost use lib.ListN.{length};
 ghost use lib.Seq.{sets};
@@ -126,6 +126,7 @@ fn put_block(
     out_offset: &mut [u64],
     out_size: &mut [u64],
 ) -> UsizeResult
+    requires { ⌜ fs .«num_files» ≤ length (now rows) / 8 ⌝ }
     ensures { λ r. ⌜ _≡_ {A = Mapped} (record { says = usizeSays r; file = now («out_file» .exit); offset = now («out_offset» .exit); size = now («out_size» .exit) }) (mapped (firstOf (short (hasPlaces (slicesOf fs (now (rows .entry)) target size) (now («out_file» .entry)) (now («out_offset» .entry)) (now («out_size» .entry))) ∷ [])) (slicesOf fs (now (rows .entry)) target size) (now («out_file» .entry)) (now («out_offset» .entry)) (now («out_size» .entry))) ⌝ }
 {
     let files = fs.num_files;

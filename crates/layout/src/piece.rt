@@ -2,8 +2,9 @@
 // signed numbers; each tests its refusals first (decide.rt).
 ghost use mathlib.Core.Path.{_≡_};
 ghost use mathlib.Core.List.{[], _∷_};
-ghost use Prim.Native.Nat.{_+_, _-_, _*_, _%_, _^_, _≤_, _<_};
+ghost use Prim.Native.Nat.{_+_, _-_, _*_, _/_, _%_, _^_, _≤_, _<_};
 ghost use lib.IntN.{pos};
+ghost use lib.ListN.{length};
 ghost use Rattle.storage.specs.Addition.{sizeOf};
 ghost use Rattle.answers.specs.Answers.{indexOf, rowsHeld};
 ghost use Rattle.answers.specs.Results.{i32Says};
@@ -29,6 +30,7 @@ use crate::result::FileResult;
 use crate::result::PieceRangeResult;
 use crate::result::PieceResult;
 use crate::search::find;
+use crate::search::find_near;
 use crate::search::partition_point;
 use answers::I32Result;
 use tables::FileStorage;
@@ -69,7 +71,7 @@ fn size_of(fs: FileStorage, p: u64) -> u64
 
 // Piece p cut where the first file behind its start begins.
 fn size2_of(fs: FileStorage, rows: &[u64], p: u64) -> u64
-    requires { ⌜ (p < 2 ^ 32) × (p * fs .«piece_length» < 2 ^ 64) ⌝ }
+    requires { ⌜ (p < 2 ^ 32) × (p * fs .«piece_length» < 2 ^ 64) × (fs .«num_files» ≤ length (now rows) / 8) ⌝ }
     ensures { λ r. ⌜ r ≡ pieceSize2 fs (now (rows .entry)) p ⌝ }
 {
     let start = start_of(fs, p);
@@ -187,7 +189,7 @@ pub fn file_index_at_offset(fs: FileStorage, rows: &[u64], offset: i64) -> FileR
         is_held(fs.num_files, rows.len() / 8),
     ) {
         Check::Go => FileResult::Ok(FileIndex::new(
-            find(rows, fs.num_files, size64(offset)) as u64,
+            find_near(rows, fs.num_files, size64(offset)) as u64,
         )),
         Check::Stop(e) => FileResult::Err(e),
     }

@@ -1,119 +1,103 @@
 // The file at an offset, by halving over the rows' offsets. It relies on `tables` for the offsets and on
 // the laws of proofs/Halving.antt and proofs/Levels.antt.
 ghost use mathlib.Core.Path.{_≡_};
-ghost use Prim.Native.Nat.{_+_, _-_, _*_, _/_, _≤_, _<_};
+ghost use mathlib.Core.Bool.{cond};
+ghost use Prim.Native.Nat.{_+_, _/_, _%_, _^_, _≤_, _<_};
 ghost use lib.Dec.{leb};
-ghost use lib.ListN.{length};
-ghost use Rattle.storage.specs.Rules.{both};
-ghost use Rattle.layout.specs.Search.{partitionPoint, fileFound};
+ghost use lib.ListN.{length, getD};
+ghost use Rattle.layout.specs.Search.{reach, partitionPoint, fileFound};
 ghost use Rattle.layout.specs.Level.{Level};
 
-// How many of the first n rows begin at or before the target, whatever rows are there.
-fn count_before(rows: &[u64], n: usize, target: u64) -> usize
-    ensures { λ r. ⌜ r ≡ partitionPoint (now (rows .entry)) n target ⌝ }
+// `step` words on, where the offset there is at or before the target.
+fn past(rows: &[u64], target: u64, at: usize, step: usize) -> usize
+    requires { ⌜ at + step < length (now rows) ⌝ }
+    ensures { λ r. ⌜ r ≡ cond (leb (getD (now (rows .entry)) (at + step) 0 % 2 ^ 48) target) (at + step) at ⌝ }
 {
-    let mut lo = 0;
-    let mut hi = n;
-    while lo < hi {
-        let mid = lo + (hi - lo) / 2;
-        if tables::offset_at(rows, mid) <= target {
-            lo = mid + 1;
-        } else {
-            hi = mid;
-        }
+    let next = at + step;
+    if rows[next] % 0x1_0000_0000_0000 <= target {
+        return next;
     }
-    lo
+    at
 }
 
-// The first row that is left to a search, and the one behind the last: 32 to a row, so that the sum of
-// both is, but for its last bits, the place of the row in the middle in bytes.
-pub(crate) struct Ends {
-    lo: usize,
-    hi: usize,
-}
-
-// One turn of the search, where n has more than j bits.
-fn turn(rows: &[u64], n: usize, target: u64, j: usize, at: Ends) -> Ends
-    requires { ⌜ (n * 8 ≤ length (now rows)) × (n < 65536) × (0 < j) × (j < 16) × Level (now rows) n target j at ⌝ }
-    ensures { λ r. ⌜ Level (now (rows .entry)) n target (j - 1) r ⌝ }
+// How many rows j steps tell apart.
+fn reach_of(j: usize) -> usize
+    requires { ⌜ j < 61 ⌝ }
+    ensures { λ r. ⌜ r ≡ reach j ⌝ }
 {
-    if n >> j == 0 {
-        return at;
-    }
-    let middle = (at.lo + at.hi) / 64 * 64;
-    let half = middle / 2;
-    if rows[middle / 8] % 0x1_0000_0000_0000 <= target {
-        return Ends {
-            lo: half + 32,
-            hi: at.hi,
-        };
-    }
-    Ends {
-        lo: at.lo,
-        hi: half,
-    }
+    let p = 1 << j;
+    p - p / 128
 }
 
-// The turns of the search from `top` down to `low`. Both are constants, so that the compiler writes
-// the turns out and moves the ends without a branch.
-fn turns(rows: &[u64], n: usize, target: u64, top: usize, low: usize, at: Ends) -> Ends
-    requires { ⌜ (n * 8 ≤ length (now rows)) × (n < 65536) × (low < top) × (top < 16) × Level (now rows) n target top at ⌝ }
+// Step j of the search, which stands at word `at`. Where j steps do not tell n rows apart but one more
+// does, the step is the first, and where j steps do, there is none.
+fn turn(rows: &[u64], n: usize, target: u64, j: usize, at: usize) -> usize
+    requires { ⌜ (n ≤ length (now rows) / 8) × (j < 60) × Level (now rows) n target (j + 1) at ⌝ }
+    ensures { λ r. ⌜ Level (now (rows .entry)) n target j r ⌝ }
+{
+    let more = reach_of(j + 1);
+    let most = reach_of(j);
+    if more <= n {
+        return past(rows, target, at, (more - most) * 8);
+    }
+    if most < n {
+        return past(rows, target, 0, (n - most) * 8);
+    }
+    at
+}
+
+// The steps of the search from `top` down to `low`. Both are constants, so that the compiler writes
+// the steps out and makes each without a branch.
+fn turns(rows: &[u64], n: usize, target: u64, top: usize, low: usize, at: usize) -> usize
+    requires { ⌜ (n ≤ length (now rows) / 8) × (low ≤ top) × (top ≤ 60) × Level (now rows) n target top at ⌝ }
     ensures { λ r. ⌜ Level (now (rows .entry)) n target low r ⌝ }
 {
-    if n >> (low + 1) == 0 {
+    if n <= reach_of(low) {
         return at;
     }
     let mut e = at;
     let mut j = top;
     while low < j {
-        e = turn(rows, n, target, j, e);
         j -= 1;
+        e = turn(rows, n, target, j, e);
     }
     e
 }
 
-// The last turn: at most one row is left.
-fn last_turn(rows: &[u64], n: usize, target: u64, at: Ends) -> usize
-    requires { ⌜ (n * 8 ≤ length (now rows)) × (0 < n) × (n < 65536) × Level (now rows) n target 0 at ⌝ }
-    ensures { λ r. ⌜ r ≡ partitionPoint (now (rows .entry)) n target ⌝ }
-{
-    let last = at.hi - 32;
-    if rows[last / 4] % 0x1_0000_0000_0000 <= target {
-        return at.hi / 32;
-    }
-    at.lo / 32
-}
-
-// Whether n rows, of those that are there, are searched in turns.
-fn is_plain(n: usize, room: usize) -> bool
-    ensures { λ r. ⌜ r ≡ both (both (leb 2 n) (leb n 65535)) (leb n room) ⌝ }
-{
-    if n < 2 {
-        return false;
-    }
-    if 65535 < n {
-        return false;
-    }
-    n <= room
-}
-
-// How many of the first n rows begin at or before the target. Up to 65,535 rows that are there are
-// searched in a number of turns that depends on n alone.
-pub(crate) fn partition_point(rows: &[u64], n: usize, target: u64) -> usize
-    ensures { λ r. ⌜ r ≡ partitionPoint (now (rows .entry)) n target ⌝ }
-{
-    if !is_plain(n, rows.len() / 8) {
-        return count_before(rows, n, target);
-    }
-    let all = Ends { lo: 0, hi: n * 32 };
-    let high = turns(rows, n, target, 15, 9, all);
-    let low = turns(rows, n, target, 9, 3, high);
-    last_turn(rows, n, target, turns(rows, n, target, 3, 0, low))
-}
-
 // The file found at the target.
 pub(crate) fn find(rows: &[u64], n: usize, target: u64) -> usize
+    requires { ⌜ n ≤ length (now rows) / 8 ⌝ }
     ensures { λ r. ⌜ r ≡ fileFound (now (rows .entry)) n target ⌝ }
 {
-    lists::minus(partition_point(rows, n, target), 1)
+    let far = turns(rows, n, target, 60, 16, 0);
+    let high = turns(rows, n, target, 16, 10, far);
+    let low = turns(rows, n, target, 10, 4, high);
+    turns(rows, n, target, 4, 0, low) / 8
+}
+
+// The file found at the target, without a call where there are few files: the compiler does not take
+// all steps into a question, but it takes these.
+pub(crate) fn find_near(rows: &[u64], n: usize, target: u64) -> usize
+    requires { ⌜ n ≤ length (now rows) / 8 ⌝ }
+    ensures { λ r. ⌜ r ≡ fileFound (now (rows .entry)) n target ⌝ }
+{
+    if n <= 16 {
+        return turns(rows, n, target, 4, 0, 0) / 8;
+    }
+    find(rows, n, target)
+}
+
+// How many of the first n rows begin at or before the target.
+pub(crate) fn partition_point(rows: &[u64], n: usize, target: u64) -> usize
+    requires { ⌜ n ≤ length (now rows) / 8 ⌝ }
+    ensures { λ r. ⌜ r ≡ partitionPoint (now (rows .entry)) n target ⌝ }
+{
+    if n == 0 {
+        return 0;
+    }
+    let k = find(rows, n, target);
+    if tables::offset_at(rows, k) <= target {
+        return k + 1;
+    }
+    0
 }

@@ -1,6 +1,8 @@
 // How many slices a block has, or why it is refused, and where the first begins: what a caller needs to
 // make the slices one by one. It relies on the search and on the count of the slices.
 ghost use mathlib.Core.Path.{_≡_};
+ghost use Prim.Native.Nat.{_/_, _≤_};
+ghost use lib.ListN.{length};
 ghost use Rattle.types.specs.Refusals.{numberOf, usizeSays};
 ghost use Rattle.layout.specs.Mapping.{slicesOf};
 ghost use Rattle.layout.specs.Start.{cursorAt, Started, all, none, blockStart};
@@ -52,6 +54,7 @@ fn refuse(e: Refusal) -> Start
 
 // The start of `size` bytes from the target on.
 fn start_at(fs: FileStorage, rows: &[u64], target: u64, size: u64) -> Start
+    requires { ⌜ fs .«num_files» ≤ length (now rows) / 8 ⌝ }
     ensures { λ r. ⌜ _≡_ {A = Started} (record { says = usizeSays (r .count); from = r .from }) (all (slicesOf fs (now (rows .entry)) target size) (cursorAt fs (now (rows .entry)) target size)) ⌝ }
 {
     let files = fs.num_files;

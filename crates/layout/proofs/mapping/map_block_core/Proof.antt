@@ -13,7 +13,7 @@ use Rattle.answers.specs.Answers.{indexOf, rowsHeld}
 use Rattle.layout.specs.Questions.{opened, manyPieces, noPiece, badRange, short}
 use Rattle.layout.specs.Pieces.{startOf}
 use Rattle.layout.specs.Deciding.{checkNumber}
-use Rattle.layout.proofs.Deciding.{piece-known, piece-range-good, offset-low}
+use Rattle.layout.proofs.Deciding.{piece-known, piece-held, piece-range-good, offset-low}
 use Rattle.layout.proofs.Slices.{stopped, answered}
 use Rattle.layout.proofs.mapping.map_block_core.Statement.{statement}
 use Rattle.layout.proofs.mapping.map_block_core.Tie as tie
@@ -81,7 +81,9 @@ size64-requires-2 : tie.Need-size64-requires-2
 size64-requires-2 c κs = search needs
 
 put-block-requires : tie.Need-put-block-requires
-put-block-requires c κs = search needs
+put-block-requires c κs =
+    let a = c .before .before .before .before .before .before .before .before .before .before .before .before .before .before .before .before .before .args in
+    piece-held (a .fs) (a .piece .0) (c .before .before .before .before .before .before .before .before .before .before .before .is-bad-range .result) _ _ (c .before .before .before .before .before .before .before .before .before .before .is-held .ensures) (c .before .before .before .before .before .before .before .before .before .ask-piece .ensures) (c .before .before .before .before .before .before .before .enum-told .given .1)
 
 same-length : tie.Need-same-length
 same-length c = search needs

@@ -20,7 +20,7 @@ room-is : (c : tie.After-least2) → c .least2 .result ≡ min (length (c .befor
 room-is c = rw (c .before .least .ensures) at (c .least2 .ensures)
 
 find-requires : tie.Need-find-requires
-find-requires c κs = search needs
+find-requires c κs = c .before .before .before .before .pre
 
 offset-at-requires : tie.Need-offset-at-requires
 offset-at-requires c κs = search needs

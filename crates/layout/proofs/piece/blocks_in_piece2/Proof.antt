@@ -6,7 +6,7 @@ use native.Mathlib.Omega.{arith}
 use mir.Syntax.{w32}
 use mir.Val.{SFits}
 use mir.Facts.{toZ-ofZ}
-use Rattle.layout.proofs.Deciding.{go, stop, piece-known}
+use Rattle.layout.proofs.Deciding.{go, stop, piece-known, piece-held}
 use Rattle.layout.proofs.piece.blocks_in_piece2.Statement.{statement}
 use Rattle.layout.proofs.piece.blocks_in_piece2.Tie as tie
 
@@ -26,7 +26,8 @@ size2-of-requires : tie.Need-size2-of-requires
 size2-of-requires c κs =
     let a = c .before .before .before .before .before .before .args in
     let k = piece-known (a .fs) (a .piece .0) false (c .before .before .before .before .is-held .result) _ (c .piece-number .ensures) (c .before .before .before .ask-piece .ensures) (c .before .enum-told .given .1) in
-    omega arith
+    let h = piece-held (a .fs) (a .piece .0) false _ _ (c .before .before .before .before .is-held .ensures) (c .before .before .before .ask-piece .ensures) (c .before .enum-told .given .1) in
+    (omega arith, omega arith, h)
 
 ceil-requires : tie.Need-ceil-requires
 ceil-requires c κs = search needs

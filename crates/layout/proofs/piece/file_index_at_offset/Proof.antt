@@ -4,7 +4,7 @@ use mathlib.Core.Path.{_≡_}
 use mir.Syntax.{w64}
 use mir.Val.{SFits}
 use mir.Facts.{toZ-ofZ}
-use Rattle.layout.proofs.Deciding.{go, stop}
+use Rattle.layout.proofs.Deciding.{go, stop, set-held}
 use Rattle.storage.specs.Addition.{sizeOf}
 use Rattle.layout.specs.Questions.{badOffset}
 use Rattle.layout.proofs.piece.file_index_at_offset.Statement.{statement}
@@ -25,8 +25,10 @@ enum-told c = search needs
 size64-requires : tie.Need-size64-requires
 size64-requires c κs = search needs
 
-find-requires : tie.Need-find-requires
-find-requires c κs = search needs
+find-near-requires : tie.Need-find-near-requires
+find-near-requires c κs =
+    let a = c .before .before .before .before .before .before .before .args in
+    set-held (a .fs) (c .before .before .before .before .before .is-bad-offset .result) _ _ (c .before .before .before .before .is-held .ensures) (c .before .before .before .ask-set .ensures) (c .before .enum-told .given .1)
 
 new-requires : tie.Need-new-requires
 new-requires c κs = search needs
@@ -42,7 +44,7 @@ returns c =
     let s : c .before .before .size64 .result ≡ sizeOf (a .offset) = rw z at (c .before .before .size64 .ensures) in
     let b : c .before .before .before .before .before .before .before .is-bad-offset .result ≡ badOffset (a .fs) (a .offset) .test = rw z at (c .before .before .before .before .before .before .before .is-bad-offset .ensures) in
     go _ (rw (b, c .before .before .before .before .before .before .is-held .ensures) at (c .before .before .before .before .before .ask-set .ensures)) (c .before .before .before .enum-told .given .1) _
-    (rw (c .before .find .ensures, s) at (c .new .ensures))
+    (rw (c .before .find-near .ensures, s) at (c .new .ensures))
 
 returns-2 : tie.Need-returns-2
 returns-2 c =
@@ -60,7 +62,7 @@ file-index-at-offset-spec =
     ask-set-requires
     enum-told
     size64-requires
-    find-requires
+    find-near-requires
     new-requires
     enum-known-e
     returns

@@ -2,7 +2,7 @@
 use borrow.Author.Needs.{needs}
 use mathlib.Core.Bool.{false}
 use native.Mathlib.Omega.{arith}
-use Rattle.layout.proofs.Deciding.{go, stop, piece-known}
+use Rattle.layout.proofs.Deciding.{go, stop, piece-known, piece-held}
 use Rattle.layout.proofs.piece.last_file_index_at_piece.Statement.{statement}
 use Rattle.layout.proofs.piece.last_file_index_at_piece.Tie as tie
 
@@ -25,7 +25,9 @@ last-byte-requires c κs =
     omega arith
 
 find-requires : tie.Need-find-requires
-find-requires c κs = search needs
+find-requires c κs =
+    let a = c .before .before .before .before .before .before .before .args in
+    piece-held (a .fs) (a .piece .0) false _ _ (c .before .before .before .before .before .is-held .ensures) (c .before .before .before .before .ask-piece .ensures) (c .before .before .enum-told .given .1)
 
 new-requires : tie.Need-new-requires
 new-requires c κs = search needs

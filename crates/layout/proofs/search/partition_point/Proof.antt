@@ -1,64 +1,43 @@
 -- `layout::search::partition_point` meets its contract.
-use mathlib.Core.Path.{_≡_, refl, sym, _∙_}
-use mathlib.Core.Bool.{true}
+use Prim.Native.Nat.{ℕ, zero, suc, _<_}
+use mathlib.Core.Path.{_≡_, refl}
 use native.Mathlib.Omega.{arith}
-use Prim.Native.Nat.{_*_, _≤_, _<_}
-use lib.ListN.{length}
-use borrow.Author.Tests.{leb-true, not-false}
 use borrow.Author.Needs.{needs}
-use Rattle.layout.proofs.Deciding.{each}
-use Rattle.layout.proofs.Levels.{all-rows}
+use borrow.Author.Tests.{le-leb, lt-leb, ne-eqb}
+use Rattle.layout.proofs.Halving.{found-below}
 use Rattle.layout.proofs.search.partition_point.Statement.{statement}
 use Rattle.layout.proofs.search.partition_point.Tie as tie
 
--- what is known of n rows that are searched in turns
-plain : (c : tie.Else1) → ((2 ≤ c .before .before .before .args .n) × (c .before .before .before .args .n < 65536)) × (c .before .before .before .args .n * 8 ≤ length (c .before .before .before .args .rows .now))
-plain c =
-    let n = c .before .before .before .args .n in
-    let q = each _ _ (sym (c .before .is-plain .ensures) ∙ not-false _ (c .if1 .left)) in
-    let p = each _ _ (q .0) in
-    let h = leb-true n _ (q .1) in
-    ((leb-true 2 n (p .0), omega (arith, leb-true n 65535 (p .1))), omega arith)
-
-is-plain-requires : tie.Need-is-plain-requires
-is-plain-requires c κs = search needs
-
-count-before-requires : tie.Need-count-before-requires
-count-before-requires c κs = search needs
+some : (n : ℕ) → (n ≡ 0 → ⊥) → 0 < n
+some zero h = absurd (h refl)
+some (suc n) h = omega arith
 
 returns : tie.Need-returns
-returns c = search needs
+returns c = rw (c .if1 .taken)
 
-mul-t8 : tie.Need-mul-t8
-mul-t8 c = let p = plain c in omega arith
+find-requires : tie.Need-find-requires
+find-requires c κs = search needs
 
-turns-requires : tie.Need-turns-requires
-turns-requires c κs =
-    let p = plain c in
-    (p .1, p .0 .1, omega arith, omega arith, all-rows _ _ _ 15 _ refl refl (omega arith))
+offset-at-requires : tie.Need-offset-at-requires
+offset-at-requires c κs = search needs
 
-turns-requires-2 : tie.Need-turns-requires-2
-turns-requires-2 c κs = let p = plain (c .before) in (p .1, p .0 .1, omega arith, omega arith, c .turns .ensures)
-
-turns-requires-3 : tie.Need-turns-requires-3
-turns-requires-3 c κs = let p = plain (c .before .before) in (p .1, p .0 .1, omega arith, omega arith, c .turns2 .ensures)
-
-last-turn-requires : tie.Need-last-turn-requires
-last-turn-requires c κs = let p = plain (c .before .before .before) in (p .1, omega arith, p .0 .1, c .turns3 .ensures)
+add-result : tie.Need-add-result
+add-result c =
+    let a = c .before .before .before .before .before .args in
+    let s : 0 < a .n = some (a .n) (c .before .before .before .if1 .left) in
+    let b = found-below (a .rows .now) (a .n) (a .target) s in
+    record { fits = omega (arith, b, c .before .before .find .ensures) }
 
 returns-2 : tie.Need-returns-2
-returns-2 c = search needs
+returns-2 c =
+    let a = c .before .before .before .before .before .args in
+    rw (ne-eqb (a .n) 0 (c .before .before .before .if1 .left), ← (c .before .before .find .ensures), ← (c .before .offset-at .ensures), le-leb _ (a .target) (c .if2 .taken))
+
+returns-3 : tie.Need-returns-3
+returns-3 c =
+    let a = c .before .before .before .before .before .args in
+    rw (ne-eqb (a .n) 0 (c .before .before .before .if1 .left), ← (c .before .before .find .ensures), ← (c .before .offset-at .ensures), lt-leb _ (a .target) (c .if2 .left))
 
 pub partition-point-spec : {M : Type 1} → statement M
 partition-point-spec =
-    tie.close
-    (tie.spec
-    is-plain-requires
-    count-before-requires
-    returns
-    mul-t8
-    turns-requires
-    turns-requires-2
-    turns-requires-3
-    last-turn-requires
-    returns-2)
+    tie.close (tie.spec returns find-requires offset-at-requires add-result returns-2 returns-3)

@@ -21,7 +21,7 @@ count-is : (c : tie.After-count-slices) → c .count-slices .result ≡ length (
 count-is c = c .count-slices .ensures ∙ ap (λ (k : Cursor). length (slicesFrom (c .before .before .before .before .before .before .before .args .rows .now) k)) (from-is c)
 
 find-requires : tie.Need-find-requires
-find-requires c κs = search needs
+find-requires c κs = c .before .pre
 
 offset-at-requires : tie.Need-offset-at-requires
 offset-at-requires c κs = search needs
