@@ -5,20 +5,18 @@ use mathlib.Core.Path.{_≡_, refl, sym, ap, _∙_}
 use mathlib.Core.Bool.{Bool, true, false, cond}
 use mathlib.Core.List.{List, [], _∷_, _++_}
 use native.Mathlib.Omega.{arith}
-use native.Mathlib.Nat.{add-zero}
 use lib.Dec.{eqb, ltb}
 use lib.ListN.{length, getD, drop, replicate, length-replicate}
 use lib.Seq.{sets, length-sets, getD-drop, drop-drop}
 use borrow.Author.Tests.{eqb-true}
-use Rattle.types.specs.Refusals.{numberOf, value, refused, usizeSays}
+use Rattle.types.specs.Refusals.{numberOf, value, refused}
 use Rattle.types.specs.declared.refusal.Refusal.{Refusal}
-use Rattle.types.proofs.Refusals.{numbered}
 use Rattle.tables.specs.Model.{Store}
 use Rattle.links.specs.Clean.{Entry, linkCount}
-use Rattle.links.specs.Judging.{lent, entriesOf, directoriesOf, verdictOf, verdictsFor, verdicts, judgingNumber, cleared, Judged, judged}
+use Rattle.links.specs.Judging.{entriesOf, directoriesOf, verdictOf, verdictsFor, verdicts, judgingNumber, cleared, Judged, judged}
 use Rattle.links.specs.Walking.{entryAt, entriesFrom}
 use Rattle.links.proofs.Rows.{flagged-at, entries-all}
-use Rattle.links.proofs.Judgements.{verdicts-set, Roomy, roomy}
+use Rattle.links.proofs.Judgements.{verdicts-set, roomy}
 use Rattle.cleaning.specs.Cleaning.{fatesFor, fates, emptied, rewritten, cleanedStore, textNeeded, Cleaned, cleanedTo, cleanStored}
 use Rattle.cleaning.specs.Writing.{isLink, flagsIn, fatesBy, allFates, neededBy, cleanedBy}
 use Rattle.cleaning.proofs.OneLink.{cond-yes, cond-no}

@@ -17,11 +17,9 @@ use Rattle.tables.specs.declared.span.Span.{Span}
 use Rattle.tables.specs.declared.rows.Row.{Row}
 use Rattle.tables.specs.Span.{endOf, textAt}
 use Rattle.tables.specs.Rows.{rowAt}
-use Rattle.tables.specs.Model.{Store, fileOf}
+use Rattle.tables.specs.Model.{Store}
 use Rattle.storage.specs.Rules.{both}
-use Rattle.links.specs.Clean.{entryOf}
-use Rattle.links.specs.Judging.{textBy}
-use Rattle.cleaning.specs.Cleaning.{goneAt, linked, relinked, branchSpan, isWithin, ownFits, besideFits, hasPlace, rewrittenAt}
+use Rattle.cleaning.specs.Cleaning.{goneAt, linked, relinked, branchSpan, isWithin, ownFits, besideFits, rewrittenAt}
 use Rattle.cleaning.specs.Writing.{leafSpan}
 use Rattle.cleaning.proofs.NewTexts.{text-by}
 

@@ -7,20 +7,19 @@ use mathlib.Core.Logic.{⊎-elim}
 use mathlib.Core.List.{List, [], _∷_}
 use native.Mathlib.Omega.{arith}
 use native.Mathlib.Nat.{sub-zero}
-use lib.Dec.{eqb, ltb}
+use lib.Dec.{eqb}
 use lib.ListN.{length, getD, List·getD-eq-default}
 use lib.Seq.{sets, length-sets}
-use borrow.Author.Tests.{lt-ltb, le-ltb}
 use Rattle.lists.proofs.Orders.{le-or-lt}
 use Rattle.lists.proofs.Runs.{getD-sets, getD-sets-below, getD-sets-above}
 use Rattle.tables.specs.declared.span.Span.{Span}
 use Rattle.tables.specs.declared.rows.Row.{Row}
-use Rattle.tables.specs.Rows.{rowAt, words, putRow, filled}
+use Rattle.tables.specs.Rows.{rowAt, words, putRow}
 use Rattle.tables.specs.Model.{Store, fileOf}
 use Rattle.tables.proofs.Filled.{word-filled, word-behind}
 use Rattle.links.specs.Clean.{entryOf}
-use Rattle.links.specs.Judging.{lent, textBy}
-use Rattle.cleaning.specs.Cleaning.{rowWith, rowLowered, rowsLowered, linked, cutOut, goneAt, relinked, hasPlace, writtenAt, rewrittenAt, emptied, rewritten}
+use Rattle.links.specs.Judging.{textBy}
+use Rattle.cleaning.specs.Cleaning.{rowLowered, rowsLowered, linked, cutOut, goneAt, relinked, hasPlace, writtenAt, rewrittenAt, emptied, rewritten}
 use Rattle.cleaning.specs.Writing.{isLink, flagsIn, fateOf, markAfter, fatesBy, passed, emptiedAt}
 
 -- ---- flags stay

@@ -7,9 +7,9 @@ use mathlib.Core.List.{List, [], _∷_}
 use native.Mathlib.Omega.{arith}
 use native.Mathlib.Nat.{add-zero, sub-zero}
 use lib.ListN.{length, getD, set, take, drop, length-set, length-append, length-take}
-use lib.Seq.{sets, length-sets, getD-take, take-set-le, take-all}
+use lib.Seq.{sets, length-sets, getD-take, take-set-le}
 use Rattle.lists.specs.Lists.{partOf}
-use Rattle.lists.proofs.Parts.{part-cons, part-length, take-clipped}
+use Rattle.lists.proofs.Parts.{part-cons, take-clipped}
 use Rattle.lists.proofs.Runs.{sets-append, part-sets-before}
 use Rattle.tables.specs.declared.span.Span.{Span}
 use Rattle.tables.specs.Span.{endOf, textAt}
@@ -51,9 +51,12 @@ module _ (l₀ : List ℕ) (from n to : ℕ) where
 
 -- ---- parts in a row
 
--- as many bytes as a span's text has
-pub span-length : (l : List ℕ) (s : Span) → partOf l (s .at) (length (textAt l s)) ≡ textAt l s
-span-length l s = rw (length-take (s .len) (drop (s .at) l)) (take-clipped (s .len) (drop (s .at) l))
+-- a span's text, copied by its length
+pub span-put : (l : List ℕ) (s : Span) (to : ℕ) {n : ℕ} {l′ : List ℕ} → n ≡ length (textAt l s) → l′ ≡ sets l to (partOf l (s .at) n) → l′ ≡ sets l to (textAt l s)
+span-put l s to e q =
+    let whole : partOf l (s .at) (length (textAt l s)) ≡ textAt l s =
+    rw (length-take (s .len) (drop (s .at) l)) (take-clipped (s .len) (drop (s .at) l)) in
+    q ∙ ap (λ (k : ℕ). sets l to (partOf l (s .at) k)) e ∙ ap (sets l to) whole
 
 -- what a join has before its leaf of n bytes, put to place `to`
 module _ (l d : List ℕ) (n to : ℕ) where

@@ -1,6 +1,6 @@
 -- Laws of the text that a cleaning needs: what is left, and the sum of the new texts, file by file. They rely on the laws of
 -- fates and of a new text's parts.
-use Prim.Native.Nat.{ℕ, zero, suc, _+_, _-_, _≤_, _<_}
+use Prim.Native.Nat.{ℕ, _+_, _-_, _≤_, _<_}
 use mathlib.Core.Path.{_≡_, refl, sym, ap, _∙_}
 use mathlib.Core.Bool.{Bool, true, false, cond}
 use mathlib.Core.Logic.{⊎-elim}

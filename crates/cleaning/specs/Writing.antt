@@ -1,7 +1,7 @@
 -- What the private parts of a cleaning's code give: joins by their parts, and fates read from flags and marks. The meaning is
 -- that of Cleaning.antt.
 use Prim.Native.Nat.{ℕ, zero, suc, _+_, _-_}
-use mathlib.Core.Bool.{Bool, true, false, cond, not}
+use mathlib.Core.Bool.{Bool, false, cond, not}
 use mathlib.Core.List.{List, [], _∷_, _++_}
 use lib.Dec.{eqb, ltb}
 use lib.ListN.{length, getD}

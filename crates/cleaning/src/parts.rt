@@ -1,12 +1,8 @@
 // The parts of a link's new text: where they lie, and how long they are joined. Relies on the accessors of
 // `lists` and `tables` and the laws of proofs/NewTexts.antt.
 ghost use mathlib.Core.Path.{_≡_};
-ghost use mathlib.Core.Bool.{cond};
 ghost use lib.ListN.{length};
-ghost use Rattle.tables.specs.Rows.{rowAt};
-ghost use Rattle.tables.specs.Model.{Store};
 ghost use Rattle.path.specs.Join.{isAlone, isClosed, appended};
-ghost use Rattle.links.specs.Judging.{lent};
 ghost use Rattle.cleaning.specs.Cleaning.{branchSpan, isWithin};
 ghost use Rattle.cleaning.specs.Writing.{isParted, prefixOf, leafSpan};
 use tables::Row;

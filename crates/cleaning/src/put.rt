@@ -1,8 +1,6 @@
 // A link's new text is put behind the used part of the text area: copied from its parts there, or from the
 // stage. Relies on cut.rt, parts.rt, the joins of `path` and the laws of proofs/Placed.antt.
 ghost use mathlib.Core.Path.{_≡_};
-ghost use mathlib.Core.Bool.{cond};
-ghost use mathlib.Core.List.{[]};
 ghost use Prim.Native.Nat.{_+_, _-_, _^_, _<_, _≤_};
 ghost use lib.Dec.{leb};
 ghost use lib.ListN.{length};
@@ -10,7 +8,7 @@ ghost use lib.Seq.{sets};
 ghost use Rattle.lists.specs.Lists.{partOf};
 ghost use Rattle.types.specs.Refusals.{usizeSays};
 ghost use Rattle.path.specs.Join.{appended, Joined, joinedIf, fits};
-ghost use Rattle.tables.specs.Span.{endOf, textAt, clip};
+ghost use Rattle.tables.specs.Span.{endOf, textAt};
 ghost use Rattle.tables.specs.Rows.{rowAt, putRow};
 ghost use Rattle.tables.specs.Model.{Store};
 ghost use Rattle.storage.specs.Rules.{both};

@@ -1,7 +1,7 @@
 -- `cleaning::clean::empty_links` meets its contract. The loop's invariant: the pass is going on at file i.
 use borrow.Author.Needs.{needs}
 use Prim.Native.Nat.{ℕ, _-_}
-use mathlib.Core.Path.{_≡_, ap, _∙_}
+use mathlib.Core.Path.{ap, _∙_}
 use native.Mathlib.Omega.{arith}
 use Rattle.links.specs.Judging.{lent}
 use Rattle.cleaning.specs.Writing.{flagsIn, fateOf, markAfter, fatesBy, emptiedAt}

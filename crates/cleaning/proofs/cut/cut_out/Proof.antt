@@ -1,6 +1,6 @@
 -- `cleaning::cut::cut_out` meets its contract.
 use borrow.Author.Needs.{needs}
-use mathlib.Core.Path.{_≡_, _∙_}
+use mathlib.Core.Path.{_∙_}
 use Rattle.cleaning.proofs.Stores.{same-lent}
 use Rattle.cleaning.proofs.cut.cut_out.Statement.{statement}
 use Rattle.cleaning.proofs.cut.cut_out.Tie as tie

@@ -1,11 +1,8 @@
 -- `cleaning::cut::lower_row` meets its contract.
 use borrow.Author.Needs.{needs}
 use mathlib.Core.Path.{_≡_, ap, _∙_}
-use Rattle.tables.specs.declared.span.Span.{Span}
-use Rattle.tables.specs.declared.rows.Row.{Row}
 use Rattle.tables.specs.Rows.{rowAt, putRow}
-use Rattle.tables.specs.Span.{low}
-use Rattle.cleaning.specs.Cleaning.{rowWith, rowLowered}
+use Rattle.cleaning.specs.Cleaning.{rowLowered}
 use Rattle.cleaning.proofs.cut.lower_row.Statement.{statement}
 use Rattle.cleaning.proofs.cut.lower_row.Tie as tie
 

@@ -1,11 +1,11 @@
 -- `cleaning::fates::clear` meets its contract. The loop's invariant: i bytes are 0, and those still to come give the whole.
 use borrow.Author.Needs.{needs}
 use Prim.Native.Nat.{ℕ, _-_, _≤_}
-use mathlib.Core.Path.{_≡_, refl, sym, _∙_}
+use mathlib.Core.Path.{_≡_, refl, _∙_}
 use mathlib.Core.List.{List}
 use native.Mathlib.Omega.{arith}
 use native.Mathlib.Nat.{sub-zero}
-use lib.ListN.{length, set, replicate, length-set, length-replicate}
+use lib.ListN.{length, replicate, length-set, length-replicate}
 use lib.Seq.{sets}
 use Rattle.lists.proofs.Runs.{fill-turn, sets-whole}
 use Rattle.links.specs.Judging.{cleared}

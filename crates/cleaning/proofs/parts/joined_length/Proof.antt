@@ -1,5 +1,5 @@
 -- `cleaning::parts::joined_length` meets its contract. Slices of bytes are shorter than 2 ^ 63, so that the sum fits.
-use mathlib.Core.Path.{_≡_, sym, _∙_}
+use mathlib.Core.Path.{sym}
 use native.Mathlib.Omega.{arith}
 use lib.ListN.{length}
 use borrow.Author.Needs.{needs}

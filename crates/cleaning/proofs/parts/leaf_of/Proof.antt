@@ -1,5 +1,5 @@
 -- `cleaning::parts::leaf_of` meets its contract.
-use mathlib.Core.Path.{_≡_, sym, _∙_}
+use mathlib.Core.Path.{sym, _∙_}
 use borrow.Author.Needs.{needs}
 use borrow.Author.Tests.{eq-eqb, ne-eqb}
 use Rattle.cleaning.proofs.parts.leaf_of.Statement.{statement}

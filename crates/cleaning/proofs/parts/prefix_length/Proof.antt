@@ -1,7 +1,7 @@
 -- `cleaning::parts::prefix_length` meets its contract.
-use mathlib.Core.Path.{_≡_, sym, ap, _∙_}
+use mathlib.Core.Path.{sym, _∙_}
 use mathlib.Core.List.{[], _∷_}
-use lib.ListN.{length, length-append}
+use lib.ListN.{length-append}
 use borrow.Author.Needs.{needs}
 use Rattle.cleaning.proofs.NewTexts.{prefix-alone, prefix-parted, prefix-plain}
 use Rattle.cleaning.proofs.parts.prefix_length.Statement.{statement}

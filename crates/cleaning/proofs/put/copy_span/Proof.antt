@@ -1,13 +1,11 @@
 -- `cleaning::put::copy_span` meets its contract.
 use borrow.Author.Needs.{needs}
-use Prim.Native.Nat.{ℕ, _+_, _-_, _≤_}
-use mathlib.Core.Path.{_≡_, ap, _∙_}
+use Prim.Native.Nat.{_+_, _-_, _≤_}
+use mathlib.Core.Path.{ap}
 use native.Mathlib.Omega.{arith}
 use lib.ListN.{length}
-use lib.Seq.{sets}
-use Rattle.lists.specs.Lists.{partOf}
 use Rattle.lists.proofs.Parts.{part-length}
-use Rattle.cleaning.proofs.Placed.{span-length}
+use Rattle.cleaning.proofs.Placed.{span-put}
 use Rattle.cleaning.proofs.put.copy_span.Statement.{statement}
 use Rattle.cleaning.proofs.put.copy_span.Tie as tie
 
@@ -30,7 +28,7 @@ returns : tie.Need-returns
 returns c =
     let a = c .before .before .before .before .before .before .before .args in
     let n = ap length (c .before .before .before .before .text-at .ensures) in
-    (n, c .before .before .copy-within .ensures ∙ ap (λ (k : ℕ). sets (a .text .now) (a .to) (partOf (a .text .now) (a .s .at) k)) n ∙ ap (sets (a .text .now) (a .to)) (span-length (a .text .now) (a .s)))
+    (n, span-put (a .text .now) (a .s) (a .to) n (c .before .before .copy-within .ensures))
 
 pub copy-span-spec : {M : Type 1} → statement M
 copy-span-spec = tie.close (tie.spec text-at-requires copy-within-requires same-length returns)

@@ -1,7 +1,6 @@
 -- `cleaning::put::copy_within` meets its contract. The loop's invariant: j bytes are copied, and what stands before `to` is
 -- untouched.
 use borrow.Author.Needs.{needs}
-use native.Mathlib.Omega.{arith}
 use Prim.Native.Nat.{_-_}
 use Rattle.cleaning.proofs.Placed.{Copying, copying-start, copying-turn, copying-end}
 use Rattle.cleaning.proofs.put.copy_within.Statement.{statement}

@@ -1,10 +1,9 @@
 -- `cleaning::put::put_joined` meets its contract.
 use borrow.Author.Needs.{needs}
-use Prim.Native.Nat.{_≤_}
-use mathlib.Core.Path.{_≡_, ap}
+use mathlib.Core.Path.{ap}
 use native.Mathlib.Omega.{arith}
 use lib.ListN.{length}
-use Rattle.tables.specs.Span.{endOf, textAt}
+use Rattle.tables.specs.Span.{textAt}
 use Rattle.cleaning.proofs.Placed.{lead-fits, leaf-fits, put-join}
 use Rattle.cleaning.proofs.put.put_joined.Statement.{statement}
 use Rattle.cleaning.proofs.put.put_joined.Tie as tie

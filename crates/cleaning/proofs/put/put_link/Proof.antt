@@ -1,9 +1,9 @@
 -- `cleaning::put::put_link` meets its contract.
 use borrow.Author.Needs.{needs}
-use mathlib.Core.Path.{_≡_, ap, _∙_}
+use mathlib.Core.Path.{ap, _∙_}
 use Rattle.tables.specs.declared.span.Span.{Span}
 use Rattle.tables.specs.declared.rows.Row.{Row}
-use Rattle.tables.specs.Rows.{rowAt, putRow}
+use Rattle.tables.specs.Rows.{putRow}
 use Rattle.cleaning.specs.Cleaning.{rowWith}
 use Rattle.cleaning.proofs.put.put_link.Statement.{statement}
 use Rattle.cleaning.proofs.put.put_link.Tie as tie

@@ -1,9 +1,6 @@
 -- `cleaning::put::stage_text` meets its contract.
 use borrow.Author.Needs.{needs}
-use mathlib.Core.Path.{_≡_, ap, _∙_}
-use mathlib.Core.List.{List}
-use Prim.Native.Nat.{ℕ}
-use Rattle.path.specs.Join.{appended, joinedIf, fits}
+use mathlib.Core.Path.{ap, _∙_}
 use Rattle.tables.specs.Span.{textAt}
 use Rattle.cleaning.proofs.put.stage_text.Statement.{statement}
 use Rattle.cleaning.proofs.put.stage_text.Tie as tie

@@ -2,15 +2,12 @@
 use borrow.Author.Needs.{needs}
 use Prim.Native.Nat.{ℕ, _+_, _-_, _^_, _<_, _≤_}
 use mathlib.Core.Path.{_≡_, sym, ap, _∙_}
-use mathlib.Core.Bool.{Bool, true, false}
+use mathlib.Core.Bool.{true}
 use mathlib.Core.List.{List}
 use native.Mathlib.Omega.{arith}
 use lib.Dec.{leb}
 use lib.ListN.{length}
 use lib.Seq.{sets}
-use Rattle.lists.specs.Lists.{partOf}
-use Rattle.lists.proofs.Runs.{part-sets}
-use borrow.Author.Tests.{leb-true}
 use Rattle.types.specs.declared.refusal.UsizeResult.{UsizeResult}
 use Rattle.types.specs.declared.refusal.UsizeResult.the-variants.{Ok}
 use Rattle.types.specs.Refusals.{usizeSays}

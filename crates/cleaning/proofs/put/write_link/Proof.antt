@@ -1,8 +1,8 @@
 -- `cleaning::put::write_link` meets its contract.
 use borrow.Author.Needs.{needs}
-use mathlib.Core.Path.{_≡_, _∙_}
+use mathlib.Core.Path.{_∙_}
 use lib.ListN.{length}
-use borrow.Author.Tests.{eq-eqb, ne-eqb}
+use borrow.Author.Tests.{eq-eqb}
 use Rattle.links.specs.Judging.{lent}
 use Rattle.cleaning.proofs.OneLink.{other-fate}
 use Rattle.cleaning.proofs.put.write_link.Statement.{statement}
