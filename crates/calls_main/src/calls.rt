@@ -3,6 +3,7 @@
 use crate::changes;
 use crate::changes::Made;
 use crate::compat;
+use crate::importing;
 use crate::kinds;
 use crate::kinds::Call;
 use crate::long_questions;
@@ -36,6 +37,7 @@ pub(crate) fn answer_line(
     match call {
         Call::Compat => compat::answer(content, rows, dirs, text, cards, out, used),
         Call::Rename => renaming::rename(content, entries, area, cards, out, used),
+        Call::Import => importing::import(content, entries, area, cards, out, used),
         Call::AskRenamed(question) => renamed_questions::ask(
             question,
             content,

@@ -125,6 +125,7 @@ pub(crate) enum Call {
     AskLong(LongQuestion),
     Compat,
     Rename,
+    Import,
     AskRenamed(RenamedQuestion),
 }
 
@@ -322,15 +323,16 @@ fn find_path_question(name: &[u8]) -> Call {
 // The call of a name, among those on renames.
 fn find_rename(name: &[u8]) -> Call {
     let n = place(
-        b"rename export renamed_path renamed_name renamed_absolute ",
+        b"rename import export renamed_path renamed_name renamed_absolute ",
         name,
     );
     match n {
         0 => Call::Rename,
-        1 => Call::AskRenamed(RenamedQuestion::Export),
-        2 => Call::AskRenamed(RenamedQuestion::RenamedPath),
-        3 => Call::AskRenamed(RenamedQuestion::RenamedName),
-        4 => Call::AskRenamed(RenamedQuestion::RenamedAbsolute),
+        1 => Call::Import,
+        2 => Call::AskRenamed(RenamedQuestion::Export),
+        3 => Call::AskRenamed(RenamedQuestion::RenamedPath),
+        4 => Call::AskRenamed(RenamedQuestion::RenamedName),
+        5 => Call::AskRenamed(RenamedQuestion::RenamedAbsolute),
         _ => Call::Unknown,
     }
 }

@@ -8,6 +8,7 @@ mod changes;
 mod cleanings;
 mod compat;
 mod file_questions;
+mod importing;
 mod input;
 mod kinds;
 mod layout_questions;

@@ -92,7 +92,7 @@ fn renamed(
 }
 
 // Notes the renames, or writes the refusal.
-fn put(result: RenamesResult, cards: &mut [u64], out: &mut [u8], used: usize) -> usize {
+pub(crate) fn put(result: RenamesResult, cards: &mut [u64], out: &mut [u8], used: usize) -> usize {
     match result {
         RenamesResult::Ok(made) => {
             state::put_renamed(cards, made.num_renames, made.text_len);

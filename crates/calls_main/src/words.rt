@@ -9,6 +9,12 @@ pub(crate) fn word(line: &[u8], number: usize) -> &[u8] {
     lists::part(rest, 0, scan::before_first(rest, b' '))
 }
 
+// What stands behind the word of a number.
+pub(crate) fn behind(line: &[u8], number: usize) -> &[u8] {
+    let rest = lists::part(line, start_of(line, number), line.len());
+    lists::part(rest, scan::before_first(rest, b' '), rest.len())
+}
+
 // Whether a line has a word of that number.
 pub(crate) fn has(line: &[u8], number: usize) -> bool {
     start_of(line, number) < line.len()

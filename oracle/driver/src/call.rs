@@ -37,6 +37,7 @@ pub fn answer(call: &Call, sets: &mut Sets) -> Option<Answer> {
         Call::Trim => sets.current()?.trim(),
         Call::Clean => sets.current()?.clean(),
         Call::Rename(file, name) => sets.current()?.rename(*file, name),
+        Call::Import(names) => sets.current()?.import(names),
         Call::AskSet(question) => questions::on_set(sets.current()?, question),
         Call::AskFile(question, file) => questions::on_file(sets.current()?, question, *file),
         Call::AskPath(question, file, save) => questions::on_path(sets.current()?, question, *file, save),

@@ -27,6 +27,8 @@ pub enum Call {
     Trim,
     Clean,
     Rename(FileIndex, Vec<u8>),
+    /// Files and their names, in the line's order.
+    Import(Vec<(FileIndex, Vec<u8>)>),
     AskSet(SetQuestion),
     AskFile(FileQuestion, FileIndex),
     /// A question on a file's path behind a save path.
@@ -62,6 +64,7 @@ pub fn call(line: &[u8]) -> Option<Call> {
         b"trim" => Call::Trim,
         b"clean" => Call::Clean,
         b"rename" => Call::Rename(FileIndex(words.number()?), words.string()?),
+        b"import" => Call::Import(namings(&mut words)?),
         b"compat" => Call::Compatible(place(&mut words)?, place(&mut words)?),
         name => question(name, &mut words)?,
     };
@@ -195,6 +198,15 @@ fn room(words: &mut Words) -> Option<Room> {
         directories: directories.unwrap_or(USUAL_ROOM.directories),
         text: text.unwrap_or(USUAL_ROOM.text),
     })
+}
+
+/// The rest of a line `import`: pairs of a file and a name, or none.
+fn namings(words: &mut Words) -> Option<Vec<(FileIndex, Vec<u8>)>> {
+    let mut pairs = Vec::new();
+    while let Some(word) = words.next() {
+        pairs.push((FileIndex(number(word)?), words.string()?));
+    }
+    Some(pairs)
 }
 
 /// The words behind `add`: NAME PATH SIZE FLAGS MTIME LINK ROOT.

@@ -117,6 +117,22 @@ impl Set {
         test_file(&self.files, file)?;
         let mut renames = self.renames.clone();
         renames.rename_file(&self.files, file, name);
+        self.keep_renames(renames)
+    }
+
+    /// Records other paths for many files: 11 if a number is below 0, which the Rust would keep; 10 as above. The Rust
+    /// takes a map, to which a later name of a file comes in place of an earlier one.
+    pub fn import(&mut self, names: &[(FileIndex, Vec<u8>)]) -> Answer {
+        if names.iter().any(|(file, _)| file.0 < 0) {
+            return Err(Refusal::NoSuchFile);
+        }
+        let mut renames = self.renames.clone();
+        renames.import_filenames(&self.files, &names.iter().cloned().collect());
+        self.keep_renames(renames)
+    }
+
+    /// Takes the renames, unless their tables have no room: 10.
+    fn keep_renames(&mut self, renames: RenamedFiles) -> Answer {
         let texts = renames.export_filenames(&self.files);
         if texts.len() > MOST_RENAMES || texts.values().map(Vec::len).sum::<usize>() > MOST_RENAME_BYTES {
             return Err(Refusal::NoRoom);

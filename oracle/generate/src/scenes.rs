@@ -74,6 +74,25 @@ pub const SCENES: &[&[&str]] = &[
     &["open 10", "add - :s/a 7 0 0 : *01", "rename 1 :gone", "rename 0 :/a", "trim", "rename 1 :n", "rename 0 :"],
     &["open 10", "add - :s/a 7 0 0 : *01", "rename 1 :kept", "trim", "add - :s/b 7 0 0 : *01"],
     &["open 10", "add - : 7 0 0 : *01", "rename 0 :.", "rename 1 :n//"],
+    // Imports: no name, one, one instead of another, absolute ones, repeats, past the end, below 0, and through a trim.
+    &[
+        "open 10",
+        "import",
+        "import 0 :n",
+        "add - :s/a 7 0 0 : *01",
+        "add - :s/x/b 7 0 0 : *01",
+        "import",
+        "import 0 :n/m",
+        "rename 0 :/N",
+        "rename 2 :/M",
+        "import 3 :c 0 :/a/b 4 :past 3 :/d 2147483647 :past",
+        "import 1 :n -1 :m",
+        "import -2147483648 :",
+        "import 2 :n 2 :m 2 :",
+        "trim",
+        "import 3 :gone 1 :e",
+        "rename 1 :/f",
+    ],
     // Cleanings: document 01's three cases, a link through another that is cleaned away, of links with one path the last
     // that leads on, texts that loop, a text from the link's own directory, one that becomes empty, and `.pad` after a trim.
     &[

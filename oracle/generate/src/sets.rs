@@ -123,6 +123,18 @@ impl Plan {
         let taste = Taste::new(random);
         match random.below(200) {
             3 | 4 => Self::by(random, most, 24, renames::long),
+            5 => Self::by(random, most, 270, renames::many),
+            6..40 => {
+                let additions = 1 + random.below(6);
+                let count = additions + 1 + random.below(20);
+                Self::by(random, most, count, |random, set, i| match random.below(12) {
+                    _ if i < additions => addition(random, &taste, set),
+                    0 => addition(random, &taste, set),
+                    1 => b"trim".to_vec(),
+                    2 | 3 => renames::rename(random, set),
+                    _ => renames::import(random, set),
+                })
+            }
             0 => Self::by(random, most, 300, |random, set, _| addition(random, &taste, set)),
             1 => Self::by(random, most, 600, many_directories),
             2 => Self::by(random, most, 300, much_text),
@@ -137,7 +149,8 @@ impl Plan {
                     } else if random.once_in(cleanings) {
                         b"clean".to_vec()
                     } else if random.once_in(renames) {
-                        renames::rename(random, set)
+                        let change = random.one_of(&[renames::rename, renames::import]);
+                        change(random, set)
                     } else {
                         addition(random, &taste, set)
                     }
