@@ -3,7 +3,6 @@
 use crate::changes;
 use crate::changes::Made;
 use crate::words;
-use storage::StorageResult;
 use tables::FileStorage;
 
 // `clean`.
@@ -20,18 +19,9 @@ pub(crate) fn clean(
     let mut marks = [0u8; 256];
     let mut stage = [0u8; 2048];
     let mut path = [0u8; 4096];
-    let cleaned = cleaning::sanitize_symlinks(
-        fs,
-        rows,
-        dirs,
-        text,
-        &mut marks,
-        &mut stage,
-        &mut path,
-    );
-    match cleaned {
-        StorageResult::Ok(changed) => Made::Changed(changed),
-        StorageResult::Err(_) => clean_in_large(fs, rows, dirs, text),
+    match clean_with(fs, rows, dirs, text, &mut marks, &mut stage, &mut path) {
+        Made::Changed(changed) => Made::Changed(changed),
+        _ => clean_in_large(fs, rows, dirs, text),
     }
 }
 
@@ -40,15 +30,20 @@ fn clean_in_large(fs: FileStorage, rows: &mut [u64], dirs: &mut [u64], text: &mu
     let mut marks = [0u8; 256];
     let mut stage = large_stage();
     let mut path = large_path();
-    changes::outcome(cleaning::sanitize_symlinks(
-        fs,
-        rows,
-        dirs,
-        text,
-        &mut marks,
-        &mut stage,
-        &mut path,
-    ))
+    clean_with(fs, rows, dirs, text, &mut marks, &mut stage, &mut path)
+}
+
+// A cleaning with the work space that is lent.
+fn clean_with(
+    fs: FileStorage,
+    rows: &mut [u64],
+    dirs: &mut [u64],
+    text: &mut [u8],
+    marks: &mut [u8],
+    stage: &mut [u8],
+    path: &mut [u8],
+) -> Made {
+    changes::outcome(cleaning::sanitize_symlinks(fs, rows, dirs, text, marks, stage, path))
 }
 
 // A stage for links whose directories and texts have half a million bytes together.
