@@ -54,11 +54,11 @@ pub record Agrees (n : ℕ) (made : List Made) (s : Store) : Type 0 where
 -- ---- what holds after a call
 
 -- the answer of a call that leaves the store t, and of one that is refused on the store s
-abbrev leaving : Store → Changed
+abbrev pub leaving : Store → Changed
 leaving t =
     record { says = value (t .fs); rows = t .rows; roots = t .roots; times = t .times; dirs = t .dirs; text = t .text }
 
-abbrev refusing : ℕ → Store → Changed
+abbrev pub refusing : ℕ → Store → Changed
 refusing k s =
     record { says = refused k; rows = s .rows; roots = s .roots; times = s .times; dirs = s .dirs; text = s .text }
 

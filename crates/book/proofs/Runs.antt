@@ -1,38 +1,41 @@
 -- The relation of calls is not empty: on every store each call that it knows has exactly one outcome and store after it,
--- from every newly opened set, whatever its tables hold, every list of calls has a run, and a refused call can be made again
--- on longer tables. Relies on the definitions, on Agree.antt and on Lent.antt.
-use mathlib.Core.Path.{_≡_, refl, sym, ap, subst, _∙_}
-use mathlib.Core.Bool.{false}
-use mathlib.Core.List.{List, [], _∷_, map}
-use Prim.Native.Nat.{ℕ, _*_, _≤_, _<_}
+-- from every newly opened set, whatever its tables hold, every list of calls has a run, a refused call can be made again on
+-- longer tables, and after every list of calls an addition is refused as document 01's table says. Relies on the
+-- definitions, on Agree.antt and on Lent.antt, and on `model` for what an addition and a cleaning answer.
+use mathlib.Core.Path.{_≡_, refl, sym, ap, ap₂, subst, _∙_}
+use mathlib.Core.Bool.{Bool, true, false, cond}
+use mathlib.Core.List.{List, [], _∷_, _++_, map}
+use Prim.Native.Nat.{ℕ, _*_, _≤_, _<_, max}
 use native.Mathlib.Omega.{arith}
+use lib.Dec.{eqb, ltb}
 use lib.IntN.{pos}
-use lib.ListN.{length}
+use lib.ListN.{length, take, drop}
 use borrow.Author.Tests.{ne-eqb, le-ltb}
 use Rattle.types.specs.Refusals.{value}
+use Rattle.types.specs.Refusals as outcomes
 use Rattle.tables.specs.Model.{Store, viewOf}
-use Rattle.storage.specs.Addition.{Addition, badLength, textOf}
+use Rattle.storage.specs.Rules.{Rule, when, firstOf}
+use Rattle.storage.specs.Addition.{Addition, added, addingRules, badLength, lacks, textOf}
 use Rattle.storage.specs.Trim.{tailPad}
 use Rattle.storage.specs.Opening.{empty, opened}
 use Rattle.storage.specs.Write.{storeAdded}
-use Rattle.storage.specs.Outcomes.{Changed, changedIf, addingNumber, addStored, trimStored, trimmedBy}
+use Rattle.storage.specs.Outcomes.{Changed, changedIf, roomsOf, addingNumber, addStored, trimStored, trimmedBy}
 use Rattle.links.specs.Clean.{cleanedOf, space, linkCount}
-use Rattle.links.specs.Judging.{lent, entriesOf}
-use Rattle.cleaning.specs.Cleaning.{Cleaned, cleanStored}
+use Rattle.links.specs.Judging.{lent, entriesOf, lacksSpace, cleared}
+use Rattle.cleaning.specs.Cleaning.{cleanedStore, Cleaned, cleanedTo, cleanStored}
 use Rattle.renames.specs.declared.rename.RenamedFiles.{RenamedFiles}
 use Rattle.renames.specs.Renames.{renameFile}
 use Rattle.renames.specs.Renames as renames
 use Rattle.renames.specs.Imports.{Naming, importFilenames}
-use Rattle.model.proofs.Adding.{sound-holds}
-use Rattle.model.proofs.Cleaning as cleanings
-use Rattle.model.proofs.Cleaning.{space-enough}
+use Rattle.model.proofs.Adding.{sound-holds, adding-number}
+use Rattle.model.proofs.Cleaning.{judging-is, space-enough}
 use Rattle.model.proofs.Cleaned.{needed-is}
 use Rattle.model.proofs.CleanedLent.{clean-lent}
 use Rattle.book.specs.Book.{Call, add, trim, clean, rename, «import», Came, done, refused, Made}
 use Rattle.book.specs.Calls.{cameOf, storeAfter, cleanedBy, SameSet, Leads}
 use Rattle.book.specs.Calls as calls
 use Rattle.book.proofs.Lent.{same-self, same-through, Longer, longer}
-use Rattle.book.proofs.Agree.{agrees, after-call, after-clean, trimNumber}
+use Rattle.book.proofs.Agree.{agrees, leaving, refusing, after-call, after-clean, trimNumber}
 
 -- ---- one call
 
@@ -246,19 +249,109 @@ pub again : {n : ℕ} {made : List Made} {s t u : Store} {o : Came} (k j : Known
 again {s = s} {t = t} k j i p r l q =
     stepped j (calls.lending (stepped k p (refused-step s k i r)) (longer s t (agrees p .sound) l)) q
 
--- ---- what is not refused
+-- ---- what is refused, and what is not
+
+-- document 01's rows for adding, in its order, on the set that the tables hold; room is lacking where the set after the
+-- addition does not fit. The first of `addingRules` is the row for opening, which a set that was opened has passed
+abbrev pub addRefusals : Store → Addition → List Rule
+addRefusals s a =
+    drop 1 (addingRules (viewOf s) a (lacks (roomsOf s) (added (viewOf s) a) (textOf (added (viewOf s) a))))
+
+-- a cleaning lacks room where its work space is below document 01's, or the texts that the set has afterwards do not fit
+abbrev pub cleanRefusals : Store → (marks stage path : List ℕ) → List Rule
+cleanRefusals s marks stage path =
+    when (lacksSpace (entriesOf s) (length marks) (length stage) (length path)) 10 ∷
+    when (ltb (length (s .text)) (textOf (cleanedOf (viewOf s)))) 10 ∷
+    []
+
+-- refused by a number, or done where that is 0
+abbrev pub cameBy : ℕ → Came
+cameBy k = cond (eqb k 0) done (refused k)
+
+abbrev pub NoneHolds : List Rule → Type 0
+NoneHolds [] = Unit {0}
+NoneHolds (r ∷ rs) = (r .test ≡ false) × NoneHolds rs
+
+none-first : (rs : List Rule) → NoneHolds rs → firstOf rs ≡ 0
+none-first [] h = refl
+none-first (r ∷ rs) h = rw (h .0) (none-first rs (h .1))
+
+-- behind rows with lower numbers, a number comes from the last row alone
+abbrev highest : List Rule → ℕ
+highest [] = 0
+highest (r ∷ rs) = max (r .number) (highest rs)
+
+from-last : (k : ℕ) (rs : List Rule) (t : Bool) → highest rs < k → firstOf (rs ++ (when t k ∷ [])) ≡ k → t ≡ true
+from-last k [] true h e = refl
+from-last k [] false h e = absurd (omega arith)
+from-last k (r ∷ rs) t h e = from-last k rs t (omega arith) (at (r .test) e)
+  where
+    at : (b : Bool) → cond b (r .number) (firstOf (rs ++ (when t k ∷ []))) ≡ k → firstOf (rs ++ (when t k ∷ [])) ≡ k
+    at true q = absurd (omega arith)
+    at false q = q
+
+refused-is : (k i : ℕ) → cameBy k ≡ refused i → k ≡ i
+refused-is k i e = at (eqb k 0) e
+  where
+    at : (b : Bool) → cond b done (refused k) ≡ refused i → k ≡ i
+    at true q = let z : _≡_ {A = ℕ} 0 1 = cc in absurd (omega arith)
+    at false q = cc
+
+came-if : (k : ℕ) (s t : Store) → cameOf (changedIf k s t .says) ≡ cameBy k
+came-if k s t = at (eqb k 0)
+  where
+    at : (b : Bool) → cameOf (cond b (leaving t) (refusing k s) .says) ≡ cond b done (refused k)
+    at true = refl
+    at false = refl
 
 module _ {n : ℕ} {made : List Made} {s : Store} (p : Leads n made s) where
   good : badLength (s .fs .«piece_length») ≡ false
   good = let g = agrees p in rw (g .lengths, le-ltb n 1 (g .some)) (le-ltb 2147483647 n (g .short))
 
+  -- an addition is refused by the first row that holds, with its number, and done where none does
+  pub add-answer : (a : Addition) → answerOf s (adding a) .came ≡ cameBy (firstOf (addRefusals s a))
+  add-answer a =
+      came-if (addingNumber s (viewOf s) a) s (storeAdded s (viewOf s) a)
+      ∙ ap cameBy (adding-number s (agrees p .sound) a ∙ ap (λ (b : Bool). cond b 1 (firstOf (addRefusals s a))) good)
+
+  -- so no set refuses every file: where no row holds, the addition is done
+  pub add-done : (a : Addition) → NoneHolds (addRefusals s a) → answerOf s (adding a) .came ≡ done
+  add-done a h = add-answer a ∙ ap cameBy (none-first (addRefusals s a) h)
+
+  -- nor is it refused by 10 with space to spare: only where the set after it does not fit
+  pub add-ten : (a : Addition) → answerOf s (adding a) .came ≡ refused 10 → lacks (roomsOf s) (added (viewOf s) a) (textOf (added (viewOf s) a)) ≡ true
+  add-ten a e =
+      from-last 10 (take 9 (addRefusals s a)) (lacks (roomsOf s) (added (viewOf s) a) (textOf (added (viewOf s) a))) (omega arith)
+      (refused-is (firstOf (addRefusals s a)) 10 (sym (add-answer a) ∙ e))
+
   -- no trim
   pub trim-done : trimStored s .says ≡ value (trimmedBy (tailPad (viewOf s .files)) s .fs)
   trim-done = rw (good, sound-holds s (agrees p .sound))
 
-  -- no cleaning with document 01's work space, and room for the texts that the set then has
+  -- a cleaning likewise
+  pub clean-answer : (marks stage path : List ℕ) → answerOf s (cleaning marks stage path) .came ≡ cameBy (firstOf (cleanRefusals s marks stage path))
+  clean-answer marks stage path =
+      ap (λ (x : Cleaned). cameOf (x .says)) (clean-lent s marks stage path)
+      ∙ ap₂ (λ (k t : ℕ). cameOf (said k (ltb (length (s .text)) t) .says)) (judging-is s (length marks) (length stage) (length path) (agrees p .sound) good) (needed-is s (agrees p .sound))
+      ∙ at (lacksSpace (entriesOf s) (length marks) (length stage) (length path)) (ltb (length (s .text)) (textOf (cleanedOf (viewOf s))))
+    where
+      -- by the number of the judging, and whether the texts have no room
+      said : ℕ → Bool → Cleaned
+      said k short =
+          cond (eqb k 0)
+          (cond short
+          (cleanedTo (outcomes.refused 10) s (cleared marks) (cleared stage) (cleared path))
+          (cleanedTo (value (cleanedStore (length stage) s .fs)) (cleanedStore (length stage) s) (cleared marks) (cleared stage) (cleared path)))
+          (cleanedTo (outcomes.refused k) s marks stage path)
+
+      at : (lacks short : Bool) → cameOf (said (cond lacks 10 0) short .says) ≡ cameBy (cond lacks 10 (cond short 10 0))
+      at true short = refl
+      at false true = refl
+      at false false = refl
+
+  -- done with document 01's work space, and room for the texts that the set then has
   pub clean-done : (marks stage path : List ℕ) → linkCount (entriesOf s) ≤ length marks → space (entriesOf s) ≤ length stage → 2 * space (entriesOf s) ≤ length path
       → textOf (cleanedOf (viewOf s)) ≤ length (s .text) → answerOf s (cleaning marks stage path) .came ≡ done
   clean-done marks stage path a b c room =
-      ap (λ (x : Cleaned). cameOf (x .says)) (clean-lent s marks stage path
-      ∙ cleanings.clean-done s marks stage path (agrees p .sound) good (space-enough s (length marks) (length stage) (length path) a b c) (rw (needed-is s (agrees p .sound)) room))
+      clean-answer marks stage path
+      ∙ ap cameBy (none-first (cleanRefusals s marks stage path) (space-enough s (length marks) (length stage) (length path) a b c, (le-ltb (length (s .text)) (textOf (cleanedOf (viewOf s))) room, tt)))
