@@ -1,16 +1,19 @@
--- One list of calls in which each kind of call occurs, done and refused (a trim is never refused): what comes of each is
--- computed, call by call, and so is the book. It relies on Runs.antt.
+-- One list of calls in which each kind of call occurs, done and refused (a trim is never refused): a file of v2 leaves a pad,
+-- a link is cleaned and the trim takes the pad. What comes of each call is computed, and so are the book's rows before and
+-- after the trim. It relies on Runs.antt.
 use mathlib.Core.Path.{_≡_, refl, ap}
-use mathlib.Core.Bool.{false}
-use mathlib.Core.List.{List, [], _∷_}
-use Prim.Native.Nat.{ℕ}
+use mathlib.Core.Bool.{Bool, true, false}
+use mathlib.Core.List.{List, [], _∷_, _++_}
+use Prim.Native.Nat.{ℕ, _+_}
 use native.Mathlib.Omega.{arith}
 use lib.IntN.{ℤ, pos, negsuc}
 use lib.ListN.{replicate}
+use Rattle.lists.specs.Decimal.{digitsWithin}
 use Rattle.tables.specs.declared.storage.FileStorage.{FileStorage}
 use Rattle.tables.specs.Rows.{filled}
-use Rattle.tables.specs.Model.{absent, Store, tabled}
+use Rattle.tables.specs.Model.{absent, present, Store, tabled}
 use Rattle.storage.specs.Addition.{Addition}
+use Rattle.storage.specs.Opening.{empty}
 use Rattle.storage.specs.Write.{placeFrom}
 use Rattle.links.specs.Clean.{step, walk}
 use Rattle.renames.specs.declared.rename.RenamedFiles.{RenamedFiles}
@@ -21,55 +24,95 @@ use Rattle.book.specs.Calls.{Leads}
 use Rattle.book.specs.Calls as calls
 use Rattle.book.proofs.Runs.{Known, adding, trimming, cleaning, renaming, importing, Answer, answerOf, entered, stepped, opens}
 
--- ---- the tables, with places for 2 files, a directory and 8 bytes of text
+-- ---- the tables, with places for 3 files, 2 directories and 15 bytes of text
 
-abbrev storage : ℕ → ℕ → ℕ → ℕ → ℕ → ℕ → FileStorage
-storage files paths links named used total =
+-- the record of a v2 set with the file s/f of 10000 bytes, the name s and the directories of f and of pads
+abbrev storage : ℕ → ℕ → ℕ → ℕ → Bool → FileStorage
+storage files links used total trimmed =
     record {
       «piece_length» = 16384;
-      v2 = false;
+      v2 = true;
       «num_files» = files;
-      «num_paths» = paths;
+      «num_paths» = 2;
       «num_symlinks» = links;
       «num_mtimes» = 0;
-      name = record { at = 0; len = named };
+      name = record { at = 0; len = 1 };
       «text_len» = used;
       «total_size» = total;
-      «size_on_disk» = total;
-      trimmed = false;
+      «size_on_disk» = 10000;
+      trimmed = trimmed;
     }
 
-abbrev tables : FileStorage → List ℕ → List ℕ → List ℕ → Store
-tables fs rows dirs text =
-    record { fs = fs; rows = rows; roots = replicate 64 0; times = []; dirs = dirs; text = text }
+-- the file's root; the places of other roots are empty
+abbrev root : List ℕ
+root = replicate 32 1
+
+abbrev tables : FileStorage → List ℕ → List ℕ → Store
+tables fs rows text =
+    record { fs = fs; rows = rows; roots = root ++ replicate 64 0; times = []; dirs = 1 ∷ 0 ∷ 2 ∷ 4 ∷ []; text = text }
 
 -- newly opened
 abbrev start : Store
-start = tables (storage 0 0 0 0 0 0) (replicate 16 0) (replicate 2 0) (replicate 8 0)
+start =
+    record {
+      fs = empty 16384;
+      rows = replicate 24 0;
+      roots = replicate 96 0;
+      times = [];
+      dirs = replicate 4 0;
+      text = replicate 15 0;
+    }
 
--- with the file s/f of 5 bytes
+-- the rows of the file, of its pad, and of a link whose name begins at a place, its text behind it
+abbrev fileRow : List ℕ
+fileRow = 0 ∷ 10000 ∷ 1 ∷ 1 ∷ 2 ∷ 0 ∷ 0 ∷ 128 ∷ []
+
+abbrev padRow : List ℕ
+padRow = 10000 ∷ 6384 ∷ 6 ∷ 4 ∷ 10 ∷ 0 ∷ 1 ∷ 65 ∷ []
+
+abbrev linkRow : ℕ → ℕ → ℕ → List ℕ
+linkRow offset at len = offset ∷ 0 ∷ at ∷ 1 ∷ (at + 1) ∷ len ∷ 0 ∷ 24 ∷ []
+
+-- texts behind sf.pad
+abbrev behind : List ℕ → List ℕ
+behind text = 115 ∷ 102 ∷ 46 ∷ 112 ∷ 97 ∷ 100 ∷ text
+
+-- with the file and the pad behind it: sf.pad6384
 abbrev one : Store
 one =
-    tables (storage 1 1 0 1 2 5) (0 ∷ 5 ∷ 1 ∷ 1 ∷ 2 ∷ 0 ∷ 0 ∷ 0 ∷ 0 ∷ 0 ∷ 0 ∷ 0 ∷ 0 ∷ 0 ∷ 0 ∷ 0 ∷ []) (1 ∷ 0 ∷ [])
-    (115 ∷ 102 ∷ 0 ∷ 0 ∷ 0 ∷ 0 ∷ 0 ∷ 0 ∷ [])
+    tables (storage 2 0 10 16384 false) (fileRow ++ (padRow ++ replicate 8 0)) (behind (54 ∷ 51 ∷ 56 ∷ 52 ∷ replicate 5 0))
 
--- with the link s/n to /etc behind it
+-- with the link s/n to /etc: sf.pad6384n/etc
 abbrev two : Store
 two =
-    tables (storage 2 1 1 1 7 5) (0 ∷ 5 ∷ 1 ∷ 1 ∷ 2 ∷ 0 ∷ 0 ∷ 0 ∷ 5 ∷ 0 ∷ 2 ∷ 1 ∷ 3 ∷ 4 ∷ 0 ∷ 24 ∷ []) (1 ∷ 0 ∷ [])
-    (115 ∷ 102 ∷ 110 ∷ 47 ∷ 101 ∷ 116 ∷ 99 ∷ 0 ∷ [])
+    tables (storage 3 1 15 16384 false) (fileRow ++ (padRow ++ linkRow 16384 10 4))
+    (behind (54 ∷ 51 ∷ 56 ∷ 52 ∷ 110 ∷ 47 ∷ 101 ∷ 116 ∷ 99 ∷ []))
 
--- and cleaned: the link holds its own path
+-- and cleaned, so that the link holds its own path: sf.pad6384nn
 abbrev three : Store
 three =
-    tables (storage 2 1 1 1 4 5) (0 ∷ 5 ∷ 1 ∷ 1 ∷ 2 ∷ 0 ∷ 0 ∷ 0 ∷ 5 ∷ 0 ∷ 2 ∷ 1 ∷ 3 ∷ 1 ∷ 0 ∷ 24 ∷ []) (1 ∷ 0 ∷ [])
-    (115 ∷ 102 ∷ 110 ∷ 110 ∷ 101 ∷ 116 ∷ 99 ∷ 0 ∷ [])
+    tables (storage 3 1 12 16384 false) (fileRow ++ (padRow ++ linkRow 16384 10 1))
+    (behind (54 ∷ 51 ∷ 56 ∷ 52 ∷ 110 ∷ 110 ∷ 101 ∷ 116 ∷ 99 ∷ []))
+
+-- and trimmed, so that the pad is gone: sf.padnn; what stands behind the used part is left over
+abbrev four : Store
+four =
+    tables (storage 2 1 8 10000 true) (fileRow ++ (linkRow 10000 6 1 ++ linkRow 16384 10 1))
+    (behind (110 ∷ 110 ∷ 56 ∷ 52 ∷ 110 ∷ 110 ∷ 101 ∷ 116 ∷ 99 ∷ []))
 
 -- ---- the calls
 
 abbrev file : ℤ → Addition
 file size =
-    record { given = absent; path = 115 ∷ 47 ∷ 102 ∷ []; size = size; flags = 0; time = pos 0; link = []; root = absent }
+    record {
+      given = absent;
+      path = 115 ∷ 47 ∷ 102 ∷ [];
+      size = size;
+      flags = 0;
+      time = pos 0;
+      link = [];
+      root = present root;
+    }
 
 abbrev link : Addition
 link =
@@ -105,8 +148,8 @@ cleans = cleaning (replicate 1 0) (replicate 6 0) (replicate 12 0)
 abbrev Comes : Store → Known → Came → Store → Type 0
 Comes s k o t = answerOf s k ≡ record { came = o; store = t }
 
-file-added : Comes start (adding (file (pos 5))) done one
-unfolding tabled filled placeFrom
+file-added : Comes start (adding (file (pos 10000))) done one
+unfolding tabled filled placeFrom digitsWithin
 file-added = refl
 
 file-refused : Comes one (adding (file (negsuc 0))) (refused 2) one
@@ -141,15 +184,14 @@ import-refused : Comes three (imports (to (negsuc 0) ∷ [])) (refused 11) three
 unfolding renamesFrom orderedFrom
 import-refused = refl
 
-trim-done : Comes three trimming done three
+trim-done : Comes three trimming done four
 unfolding tabled filled
 trim-done = refl
 
 -- ---- all of them, the latest first
 
-abbrev made : List Made
-made =
-    entered trimming done ∷
+abbrev before : List Made
+before =
     entered (imports (to (negsuc 0) ∷ [])) (refused 11) ∷
     entered (imports (to (pos 0) ∷ to (pos 9) ∷ [])) done ∷
     entered (renames (pos 9)) (refused 11) ∷
@@ -158,14 +200,17 @@ made =
     entered (cleaning [] [] []) (refused 10) ∷
     entered (adding link) done ∷
     entered (adding (file (negsuc 0))) (refused 2) ∷
-    entered (adding (file (pos 5))) done ∷
+    entered (adding (file (pos 10000))) done ∷
     []
+
+abbrev made : List Made
+made = entered trimming done ∷ before
 
 then : {n : ℕ} {made : List Made} {s t : Store} {o : Came} (k : Known) → Comes s k o t → Leads n made s → Leads n (entered k o ∷ made) t
 then k e p =
     stepped k p (record { came = ap (λ (a : Answer). a .came) e; store = ap (λ (a : Answer). a .store) e })
 
-pub each-kind : Leads 16384 made three
+pub each-kind : Leads 16384 made four
 each-kind =
     then trimming trim-done
     (then (imports (to (negsuc 0) ∷ [])) import-refused
@@ -176,8 +221,11 @@ each-kind =
     (then (cleaning [] [] []) clean-refused
     (then (adding link) link-added
     (then (adding (file (negsuc 0))) file-refused
-    (then (adding (file (pos 5))) file-added (calls.opening {s = start} (omega arith) (opens 16384 (omega arith))))))))))))
+    (then (adding (file (pos 10000))) file-added (calls.opening {s = start} (omega arith) (opens 16384 (omega arith))))))))))))
 
--- the book has the two files
-pub each-row : book 16384 made .rows ≡ record { size = 5; marked = false } ∷ record { size = 0; marked = false } ∷ []
-each-row = refl
+-- the book has the file, the row that fills up the piece and the link, and the trim takes the filling
+pub rows-before : book 16384 before .rows ≡ record { size = 10000; marked = false } ∷ record { size = 6384; marked = true } ∷ record { size = 0; marked = false } ∷ []
+rows-before = refl
+
+pub rows-after : book 16384 made .rows ≡ record { size = 10000; marked = false } ∷ record { size = 0; marked = false } ∷ []
+rows-after = refl
