@@ -8,11 +8,10 @@ use Prim.Native.Nat.{ℕ, _≤_, _<_}
 use lib.IntN.{ℤ, pos}
 use lib.ListN.{length}
 use Rattle.lists.specs.Lists.{ceiling}
-use Rattle.types.specs.Refusals.{Outcome, refused}
+use Rattle.types.specs.Refusals.{refused}
 use Rattle.types.specs.declared.index.FileSlice.{FileSlice}
 use Rattle.tables.specs.Model.{Store}
-use Rattle.layout.specs.Results.{Asked}
-use Rattle.layout.specs.Table.{Filled, blockMapped}
+use Rattle.layout.specs.Table.{blockMapped}
 use Rattle.layout.specs.Request.{fileMapped}
 use Rattle.book.specs.Book.{Made, sizesOf, bytesOf, book}
 use Rattle.book.specs.Calls.{Leads}

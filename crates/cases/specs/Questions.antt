@@ -1,7 +1,7 @@
 -- A set built by additions, and a question to it, after a cleaning or not: each answer is what the contract of the function of that name promises.
 use Prim.Native.Nat.{ℕ}
-use mathlib.Core.Bool.{Bool, true, false, cond, _&&_}
-use mathlib.Core.List.{List, [], _∷_, _++_, map}
+use mathlib.Core.Bool.{Bool, true, false, _&&_}
+use mathlib.Core.List.{List, [], _∷_, map}
 use lib.Dec.{eqb}
 use lib.IntN.{ℤ, pos, negsuc}
 use lib.ListN.{length, replicate, take}
@@ -12,14 +12,13 @@ use Rattle.tables.specs.Span.{textAt}
 use Rattle.tables.specs.Rows.{rowAt, has}
 use Rattle.tables.specs.Model.{Store}
 use Rattle.storage.specs.Addition.{Addition}
-use Rattle.storage.specs.Opening.{opened, empty}
+use Rattle.storage.specs.Opening.{empty}
 use Rattle.storage.specs.Outcomes.{Changed, addStored}
 use Rattle.storage.specs.Rules.{both}
 use Rattle.answers.specs.Answers.{askedFile, askedLink, rowsHeld, textHeld}
 use Rattle.links.specs.Judging.{lent}
 use Rattle.cleaning.specs.Cleaning.{Cleaned, cleanStored}
 use Rattle.layout.specs.Results.{Range, Asked}
-use Rattle.layout.specs.Mapping.{Slice}
 use Rattle.layout.specs.Request.{fileMapped}
 use Rattle.layout.specs.Table.{Filled, recordOf, blockMapped}
 use Rattle.layout.specs.Given.{numPiecesGiven, pieceSize2Given, fileAtOffsetGiven, exclusiveGiven, inclusiveGiven}

@@ -1,2 +1,3 @@
 // The starred cases of document 01's 'Struck on the bench', in a single table. Definitions and one computed
-// test, no code; relies on the definitions that the contracts of `storage`, `answers` and `layout` cite.
+// test, no code; relies on the definitions that the contracts of `storage`, `links`, `cleaning`, `answers`
+// and `layout` cite.
