@@ -1,7 +1,7 @@
 -- What the book keeps of a set is, after an addition and after a trim, what the book enters for it, and after a cleaning what
 -- it was. All on the model; it relies on what the search for a tail pad finds, and on what a cleaning keeps of each file.
 use mathlib.Core.Path.{_≡_, refl, sym, ap, ap₂, _∙_}
-use mathlib.Core.Bool.{Bool, true, false, cond, not, _&&_, _||_}
+use mathlib.Core.Bool.{Bool, true, false, cond, not}
 use mathlib.Core.List.{List, [], _∷_, _++_, map, map-append, map-map}
 use Prim.Native.Nat.{ℕ, zero, suc, _+_, _-_, _%_, _≤_, _<_}
 use native.Mathlib.Nat.{mod-lt}
@@ -14,7 +14,7 @@ use Rattle.lists.specs.Lists.{sum}
 use Rattle.path.specs.Join.{isEmpty}
 use Rattle.tables.specs.Model.{Optional, absent, present, File, Model}
 use Rattle.storage.specs.Rules.{both, either}
-use Rattle.storage.specs.Addition.{Addition, added, fileAdded, padAdded, padTo, padAfter, padOf, sizeAdded, flagsKept, keeps, isPresent, isV2, decides, isOpen, filesOf}
+use Rattle.storage.specs.Addition.{Addition, added, fileAdded, padAdded, padTo, padAfter, padOf, sizeAdded, flagsKept, keeps, isPresent, isV2}
 use Rattle.storage.specs.Trim.{tailPad, sizeAt, beginningAt, trimmedIf, trimmedOf}
 use Rattle.storage.proofs.Rules.{pad-none, pad-some}
 use Rattle.links.specs.Clean.{cleanedOf}
@@ -57,14 +57,6 @@ held-link : (l : List ℕ) → not (isEmpty l) ≡ ltb 0 (length l)
 held-link [] = refl
 held-link (c ∷ l) = rw (lt-ltb 0 (suc (length l)) (omega arith))
 
-both-and : (a b : Bool) → both a b ≡ (a && b)
-both-and true b = refl
-both-and false b = refl
-
-either-or : (a b : Bool) → either a b ≡ (a || b)
-either-or true b = refl
-either-or false b = refl
-
 -- the flag of a pad is kept
 marked-kept : (flags : ℕ) (keeps : Bool) → flagsKept flags keeps % 2 ≡ flags % 2
 marked-kept flags true = omega arith
@@ -82,33 +74,24 @@ pad-rows n true o t h = at (eqb (t % n) 0) refl
         let k : eqb (n - t % n) 0 ≡ false = ne-eqb (n - t % n) 0 (λ q. omega arith) in
         rw (← pad-some n t h (eqb-false (t % n) 0 e), k)
 
-link-counted : (a b : Bool) (n : ℕ) → n + cond (both a b) 1 0 ≡ cond (a && b) (n + 1) n
-link-counted true true n = refl
-link-counted true false n = omega arith
-link-counted false b n = omega arith
+link-counted : (b : Bool) (n : ℕ) → n + cond b 1 0 ≡ cond b (n + 1) n
+link-counted true n = refl
+link-counted false n = omega arith
 
 module _ (m : Model) (a : Addition) (total : m .total ≡ sum (sizes m)) where
   bytes-is : m .total ≡ bytesOf (rowsOf (m .files))
   bytes-is = total ∙ ap sum (sym (sizes-rows (m .files)))
 
   version-is : isV2 m a ≡ versionAfter (bookOf m) a
-  version-is = ap (λ (b : Bool). cond b (isPresent (a .root)) (m .v2)) fixed
-    where
-      first : decides (sizeAdded a) (a .link) ≡ (ltb 0 (sizeAdded a) && not (hasLink a))
-      first = both-and (ltb 0 (sizeAdded a)) (isEmpty (a .link)) ∙ ap (λ (b : Bool). ltb 0 (sizeAdded a) && b) (empty-link (a .link))
-
-      second : isOpen (m .total) (m .links) (filesOf m) ≡ (eqb (bytesOf (rowsOf (m .files))) 0 || eqb (m .links) (length (rowsOf (m .files))))
-      second =
-          either-or (eqb (m .total) 0) (eqb (m .links) (filesOf m))
-          ∙ ap₂ (λ (t k : ℕ). eqb t 0 || eqb (m .links) k) bytes-is (sym (length-rows (m .files)))
-
-      fixed : both (decides (sizeAdded a) (a .link)) (isOpen (m .total) (m .links) (filesOf m)) ≡ ((ltb 0 (sizeAdded a) && not (hasLink a)) && (eqb (bytesOf (rowsOf (m .files))) 0 || eqb (m .links) (length (rowsOf (m .files)))))
-      fixed = both-and (decides (sizeAdded a) (a .link)) (isOpen (m .total) (m .links) (filesOf m)) ∙ ap₂ _&&_ first second
+  version-is =
+      ap₂ (λ (d o : Bool). cond (both d o) (isPresent (a .root)) (m .v2))
+      (ap (both (ltb 0 (sizeAdded a))) (empty-link (a .link)))
+      (ap₂ (λ (t k : ℕ). either (eqb t 0) (eqb (m .links) k)) bytes-is (sym (length-rows (m .files))))
 
   links-is : added m a .links ≡ linksAfter (bookOf m) a
   links-is =
       ap (λ (b : Bool). m .links + cond (both b (ltb (m .links) 32766)) 1 0) (held-link (a .link))
-      ∙ link-counted (hasLink a) (ltb (m .links) 32766) (m .links)
+      ∙ link-counted (both (hasLink a) (ltb (m .links) 32766)) (m .links)
 
   module _ (some : 0 < m .pieceLength) where
     rows-is : rowsOf (added m a .files) ≡ afterAddition (bookOf m) a .rows

@@ -1,11 +1,12 @@
 -- Document 01, 'The book of demand 3'. The book 'is fed the calls' arguments, no table of the set among them, and which
 -- calls were refused'. Nothing here speaks of the port's tables or of its model.
 use Prim.Native.Nat.{ℕ, _+_, _-_, _%_}
-use mathlib.Core.Bool.{Bool, true, false, cond, not, _&&_, _||_}
+use mathlib.Core.Bool.{Bool, true, false, cond, not}
 use mathlib.Core.List.{List, [], _∷_, _++_, map}
 use lib.Dec.{eqb, ltb}
 use lib.ListN.{length}
 use Rattle.lists.specs.Lists.{sum}
+use Rattle.storage.specs.Rules.{both, either}
 use Rattle.storage.specs.Addition.{Addition, sizeOf, isPresent}
 use Rattle.renames.specs.Imports.{Naming}
 
@@ -53,7 +54,7 @@ hasLink a = ltb 0 (length (a .link))
 -- 'a nonempty file without link text, while the sizes sum to 0 or there are as many link texts as rows'
 abbrev pub fixes : Book → Addition → Bool
 fixes b a =
-    (ltb 0 (sizeOf (a .size)) && not (hasLink a)) && (eqb (bytesOf (b .rows)) 0 || eqb (b .links) (length (b .rows)))
+    both (both (ltb 0 (sizeOf (a .size))) (not (hasLink a))) (either (eqb (bytesOf (b .rows)) 0) (eqb (b .links) (length (b .rows))))
 
 -- 'sets v2 if it has a root, else v1'
 abbrev pub versionAfter : Book → Addition → Bool
@@ -65,11 +66,11 @@ rowFor a = record { size = sizeOf (a .size); marked = eqb (a .flags % 2) 1 }
 
 -- 'In v2, if the sum is then no multiple of the piece length, a marked row fills it up to the next'
 abbrev pub filling : ℕ → Bool → ℕ → List Row
-filling n v2 bytes = cond (v2 && not (eqb (bytes % n) 0)) (record { size = n - bytes % n; marked = true } ∷ []) []
+filling n v2 bytes = cond (both v2 (not (eqb (bytes % n) 0))) (record { size = n - bytes % n; marked = true } ∷ []) []
 
 -- 'a link text is counted, up to 32766'
 abbrev pub linksAfter : Book → Addition → ℕ
-linksAfter b a = cond (hasLink a && ltb (b .links) 32766) (b .links + 1) (b .links)
+linksAfter b a = cond (both (hasLink a) (ltb (b .links) 32766)) (b .links + 1) (b .links)
 
 abbrev pub afterAddition : Book → Addition → Book
 afterAddition b a =
@@ -84,7 +85,7 @@ afterAddition b a =
 abbrev pub trimmedRows : List Row → List Row
 trimmedRows [] = []
 trimmedRows (r ∷ rs) =
-    cond (eqb (bytesOf rs) 0) (cond (ltb 0 (r .size) && r .marked) rs (r ∷ rs)) (r ∷ trimmedRows rs)
+    cond (eqb (bytesOf rs) 0) (cond (both (ltb 0 (r .size)) (r .marked)) rs (r ∷ rs)) (r ∷ trimmedRows rs)
 
 abbrev pub afterTrim : Book → Book
 afterTrim b = record { pieceLength = b .pieceLength; v2 = b .v2; rows = trimmedRows (b .rows); links = b .links }
