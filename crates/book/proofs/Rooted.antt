@@ -13,7 +13,7 @@ use Rattle.lists.proofs.Orders.{le-or-lt}
 use Rattle.lists.proofs.Runs.{getD-sets-below}
 use Rattle.tables.specs.declared.rows.Row.{Row}
 use Rattle.tables.specs.Rows.{rowAt, rootAt, putRoot, putRow, has}
-use Rattle.tables.specs.Model.{Optional, absent, present, presentIf, File, Model, Store, fileOf, viewOf}
+use Rattle.tables.specs.Model.{Optional, absent, present, presentIf, Model, Store, fileOf, viewOf}
 use Rattle.tables.proofs.Tabled.{tabled-same, length-tabled}
 use Rattle.tables.proofs.Words.{row-back, length-root, root-ext, root-back, length-put-root, length-put-row}
 use Rattle.storage.specs.Rules.{firstOf, either}
@@ -66,32 +66,7 @@ rootIn s roots k = presentIf (has (rowAt (s .rows) k .flags) 128) (rootAt roots 
 
 view-roots : (s : Store) (roots : List ℕ) → ((k : ℕ) → k < s .fs .«num_files» → rootIn s roots k ≡ rootIn s (s .roots) k) → viewOf (withRoots s roots) ≡ viewOf s
 view-roots s roots e =
-    ap (λ (l : List File). record {
-      pieceLength = viewOf s .pieceLength;
-      v2 = viewOf s .v2;
-      name = viewOf s .name;
-      files = l;
-      directories = viewOf s .directories;
-      times = viewOf s .times;
-      links = viewOf s .links;
-      total = viewOf s .total;
-      onDisk = viewOf s .onDisk;
-      trimmed = viewOf s .trimmed;
-    })
-    (tabled-same (s .fs .«num_files») (fileOf (withRoots s roots)) (fileOf s) (λ k h. ap (file k) (e k h)))
-  where
-    file : ℕ → Optional (List ℕ) → File
-    file k root =
-        record {
-          offset = fileOf s k .offset;
-          size = fileOf s k .size;
-          name = fileOf s k .name;
-          directory = fileOf s k .directory;
-          flags = fileOf s k .flags;
-          link = fileOf s k .link;
-          root = root;
-          made = fileOf s k .made;
-        }
+    rw (tabled-same (s .fs .«num_files») (fileOf (withRoots s roots)) (fileOf s) (λ k h. rw (e k h)))
 
 -- a root stored at place n, of any length, leaves those before it
 root-below : (roots : List ℕ) (n : ℕ) (root : List ℕ) (k : ℕ) → k < n → rootAt (putRoot roots n root) k ≡ rootAt roots k

@@ -1,5 +1,5 @@
 -- Slices of files that lie end to end (BEP 3): what it is to join them, what each file once and whole is, and which bytes
--- they stand for. The files are given by their sizes.
+-- they stand for. The files are given by their sizes. It relies on the record of a slice in `layout`.
 use Prim.Native.Nat.{ℕ, zero, suc, _+_, _-_, _≤_, min, max}
 use mathlib.Core.Bool.{cond, _&&_}
 use mathlib.Core.List.{List, [], _∷_, _++_}

@@ -1,4 +1,4 @@
--- Document 01, 'Struck on the bench': the starred cases, in its order.
+-- Document 01, 'Struck on the bench': the starred cases, in its order. It relies on Questions.antt.
 use Prim.Native.Nat.{ℕ}
 use mathlib.Core.Bool.{Bool, true, _&&_}
 use mathlib.Core.List.{List, [], _∷_}

@@ -1,4 +1,5 @@
--- A set built by additions, and a question to it, after a cleaning or not: each answer is what the contract of the function of that name promises.
+-- A set built by additions, and a question to it, after a cleaning or not: each answer is what the contract of the function
+-- of that name promises. It relies on the definitions that those contracts cite.
 use Prim.Native.Nat.{ℕ}
 use mathlib.Core.Bool.{Bool, true, false, _&&_}
 use mathlib.Core.List.{List, [], _∷_, map}
