@@ -1,6 +1,6 @@
 -- Document 01, 'The book of demand 3'. The book 'is fed the calls' arguments, no table of the set among them, and which
--- calls were refused'. Nothing here speaks of the port's tables or of its model: it relies on the arguments' records in
--- `storage` and `renames` alone.
+-- calls were refused'. Nothing here speaks of the port's tables or of its model; it relies on the records of the calls'
+-- arguments in `storage` and `renames`.
 use Prim.Native.Nat.{ℕ, _+_, _-_, _%_}
 use mathlib.Core.Bool.{Bool, true, false, cond, not}
 use mathlib.Core.List.{List, [], _∷_, _++_, map}
