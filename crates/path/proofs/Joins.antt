@@ -11,7 +11,7 @@ use lib.Seq.{sets}
 use borrow.Author.Tests.{not-true, not-false}
 use Rattle.lists.proofs.Runs.{sets-append}
 use Rattle.types.specs.Refusals.{value, refused}
-use Rattle.path.specs.Join.{isEmpty, isClosed, glued, Joined, joinedIf, fits}
+use Rattle.path.specs.Join.{isAlone, isEmpty, isClosed, glued, appended, Joined, joinedIf, fits}
 
 -- a leaf of no bytes, and one of some
 pub no-bytes : (l : List ℕ) → length l ≡ 0 → isEmpty l ≡ true
@@ -21,6 +21,14 @@ no-bytes (c ∷ t) e = absurd (omega arith)
 pub some-bytes : (l : List ℕ) → (length l ≡ 0 → ⊥) → isEmpty l ≡ false
 some-bytes [] h = absurd (h refl)
 some-bytes (c ∷ t) h = refl
+
+-- a join's length where the branch or the leaf stands alone
+module _ (branch leaf : List ℕ) where
+  pub length-alone : isAlone branch ≡ true → length leaf ≡ length (appended branch leaf)
+  length-alone e = rw e
+
+  pub length-bare : isAlone branch ≡ false → length leaf ≡ 0 → length branch ≡ length (appended branch leaf)
+  length-bare e h = rw (e, no-bytes leaf h)
 
 -- the text where it fits, or 10 and the buffer as it was
 module _ (fit : Bool) (text buf : List ℕ) where
@@ -39,6 +47,10 @@ module _ (branch leaf : List ℕ) (n : ℕ) (closed : Bool) (e : n ≡ length br
 
   length-glued : n + cond closed (length leaf) (length leaf + 1) ≡ length (glued branch leaf)
   length-glued = rw (e, h, length-append, length-tail (isClosed branch))
+
+  -- the same of a branch and a leaf that are both there
+  pub length-joined : isAlone branch ≡ false → (length leaf ≡ 0 → ⊥) → n + cond closed (length leaf) (length leaf + 1) ≡ length (appended branch leaf)
+  length-joined a s = rw (a, some-bytes leaf s) length-glued
 
   sets-glued : (buf : List ℕ) → sets (sets buf 0 branch) n (cond closed leaf (47 ∷ leaf)) ≡ sets buf 0 (glued branch leaf)
   sets-glued buf =

@@ -14,13 +14,30 @@ use types::Refusal;
 use types::UsizeResult;
 
 // Whether a path is empty or `.`, which leaves the other part of a join alone.
-fn is_alone(path: &[u8]) -> bool
+pub fn is_alone(path: &[u8]) -> bool
     ensures { λ r. ⌜ r ≡ isAlone (now (path .entry)) ⌝ }
 {
     if path.len() == 0 {
         return true;
     }
     lists::same(path, b".")
+}
+
+// How long a branch and a leaf are, joined as by `append_path`. Slices of bytes are shorter than 2 ^ 63, so
+// the sum fits.
+pub fn joined_length(branch: &[u8], leaf: &[u8]) -> usize
+    ensures { λ r. ⌜ r ≡ length (appended (now (branch .entry)) (now (leaf .entry))) ⌝ }
+{
+    if is_alone(branch) {
+        return leaf.len();
+    }
+    if leaf.len() == 0 {
+        return branch.len();
+    }
+    if is_closed(branch) {
+        return branch.len() + leaf.len();
+    }
+    branch.len() + (leaf.len() + 1)
 }
 
 // Whether a branch of `used` bytes, a separator where it lacks one, and `more` bytes fit in `room` bytes.

@@ -6,9 +6,12 @@ mod split;
 
 pub use join::append_path;
 pub use join::combine_path;
+pub use join::is_alone;
 pub use join::join_path;
+pub use join::joined_length;
 pub use split::filename;
 pub use split::has_parent_path;
+pub use split::is_closed;
 pub use split::is_complete;
 pub use split::lsplit_path_at_first;
 pub use split::lsplit_path_at_rest;

@@ -20,7 +20,7 @@ pub fn is_complete(path: &[u8]) -> bool
 }
 
 // Whether a path ends in a separator.
-pub(crate) fn is_closed(path: &[u8]) -> bool
+pub fn is_closed(path: &[u8]) -> bool
     ensures { λ r. ⌜ r ≡ isClosed (now (path .entry)) ⌝ }
 {
     lists::byte(path, lists::minus(path.len(), 1)) == b'/'
