@@ -6,7 +6,7 @@ use mathlib.Core.List.{List, [], _∷_, _++_}
 use Prim.Native.Nat.{ℕ, zero, suc, _+_, _*_, _^_, _≤_, _<_}
 use native.Mathlib.Nat.{mul-le-mul-right, mod-eq-of-lt}
 use native.Mathlib.Omega.{arith}
-use lib.ListN.{length, getD, drop, replicate, length-append, length-take, List·getD-eq-default}
+use lib.ListN.{length, getD, set, drop, replicate, length-append, length-take, List·getD-eq-default}
 use lib.Seq.{sets, length-sets, ext-getD, getD-take, getD-drop}
 use Rattle.lists.proofs.Orders.{le-or-lt}
 use Rattle.lists.proofs.Runs.{getD-sets, getD-sets-below, getD-sets-above}
@@ -14,6 +14,14 @@ use Rattle.tables.specs.declared.span.Span.{Span}
 use Rattle.tables.specs.declared.rows.Row.{Row}
 use Rattle.tables.specs.Rows.{rowAt, words, putRow, dirAt, dirWords, putDir, rootAt, putRoot}
 use Rattle.tables.proofs.Agree.{getD-above}
+
+-- four words stored side by side are one run
+pub four : (l : List ℕ) (b w0 w1 w2 w3 : ℕ) → set (set (set (set l b w0) (b + 1) w1) (b + 2) w2) (b + 3) w3 ≡ sets l b (w0 ∷ w1 ∷ w2 ∷ w3 ∷ [])
+four l b w0 w1 w2 w3 =
+    let e1 : b + 1 ≡ suc b = omega arith in
+    let e2 : b + 2 ≡ suc (suc b) = omega arith in
+    let e3 : b + 3 ≡ suc (suc (suc b)) = omega arith in
+    rw (e1, e2, e3)
 
 -- two places that are not the same
 sides : (i k : ℕ) → (k ≡ i → ⊥) → (k < i) ⊎ (i < k)

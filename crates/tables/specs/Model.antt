@@ -9,7 +9,7 @@ use lib.ListN.{take}
 use Rattle.tables.specs.declared.rows.Row.{Row}
 use Rattle.tables.specs.declared.storage.FileStorage.{FileStorage}
 use Rattle.tables.specs.Span.{textAt}
-use Rattle.tables.specs.Rows.{rowAt, dirAt, rootAt, has}
+use Rattle.tables.specs.Rows.{rowAt, dirAt, noPath, isAbsolute, rootAt, has}
 
 pub data Optional (A : Type 0) : Type 0 where
   absent : Optional A
@@ -67,11 +67,11 @@ tabled (suc n) g = g 0 ∷ tabled n (λ k. g (suc k))
 abbrev pub directoryText : Store → ℕ → List ℕ
 directoryText s i = textAt (s .text) (dirAt (s .dirs) i)
 
--- the Rust's path index: 1073741823 for a single name, 1073741822 for an absolute path, else a directory row
+-- a file's directory, by its path index
 abbrev pub directoryOf : Store → Row → Directory
 directoryOf s r =
-    cond (eqb (r .«path_index») 1073741823) single
-    (cond (eqb (r .«path_index») 1073741822) absolute (stored (directoryText s (r .«path_index»)) (has (r .flags) 32)))
+    cond (eqb (r .«path_index») noPath) single
+    (cond (isAbsolute r) absolute (stored (directoryText s (r .«path_index»)) (has (r .flags) 32)))
 
 -- bits of a row's flags: 16 a link text is held, 32 the directory stands outside the set's name, 64 a pad made by an
 -- addition, 128 a root is there

@@ -1,7 +1,7 @@
 -- Records in flat lists of words: 8 words a file row, 2 a directory row, 32 bytes a root. Reading past a list's end gives
 -- zeros and storing there does nothing, so a row is what it is for every list and every place.
 use Prim.Native.Nat.{ℕ, zero, suc, _+_, _-_, _*_, _/_, _%_, _^_, min}
-use mathlib.Core.Bool.{Bool, cond}
+use mathlib.Core.Bool.{Bool, false, cond, not}
 use mathlib.Core.List.{List, [], _∷_, _++_}
 use lib.Dec.{eqb, ltb}
 use lib.ListN.{length, getD, take, drop, replicate}
@@ -46,6 +46,28 @@ dirWords s = s .at ∷ s .len ∷ []
 
 abbrev pub putDir : List ℕ → ℕ → Span → List ℕ
 putDir dirs i s = sets dirs (i * 2) (dirWords s)
+
+-- the Rust's path indices of a single name and of an absolute path, which have no directory; any other is the place of a
+-- directory row
+abbrev pub noPath : ℕ
+noPath = 1073741823
+
+abbrev pub pathIsAbsolute : ℕ
+pathIsAbsolute = 1073741822
+
+abbrev pub isStored : ℕ → Bool
+isStored index = cond (not (eqb index noPath)) (not (eqb index pathIsAbsolute)) false
+
+-- whether a file was added by an absolute path, and whether it lies in a stored directory
+abbrev pub isAbsolute : Row → Bool
+isAbsolute r = eqb (r .«path_index») pathIsAbsolute
+
+abbrev pub isInside : Row → Bool
+isInside r = isStored (r .«path_index»)
+
+-- where the text of a file's directory lies: nowhere, a span of no bytes, for a single name and an absolute path
+abbrev pub directorySpan : List ℕ → Row → Span
+directorySpan dirs r = cond (isInside r) (dirAt dirs (r .«path_index»)) (record { at = 0; len = 0 })
 
 -- the root of row i, filled up with zeros past the end
 abbrev pub rootAt : List ℕ → ℕ → List ℕ

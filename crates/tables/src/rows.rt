@@ -6,9 +6,15 @@ ghost use Prim.Native.Nat.{_+_, _<_, _^_};
 ghost use lib.ListN.{getD, set};
 ghost use lib.Seq.{sets};
 ghost use lib.IntN.{pos};
-ghost use Rattle.tables.specs.Rows.{rowAt, putRow, dirAt, putDir, rootAt, putRoot, has};
+ghost use Rattle.tables.specs.Rows.{rowAt, putRow, dirAt, putDir, isStored, directorySpan, rootAt, putRoot, has};
 ghost use Rattle.tables.specs.Entry.{entryAt};
 use crate::span::Span;
+
+// The path index of a single name, which has no directory.
+pub const NO_PATH: u64 = 1073741823;
+
+// The path index of a file that was added by an absolute path.
+pub const PATH_IS_ABSOLUTE: u64 = 1073741822;
 
 // A root's 32 bytes.
 pub type Sha256Hash = [u8; 32];
@@ -169,6 +175,26 @@ pub fn put_dir(dirs: &mut [u64], i: usize, s: Span)
     }
     lists::put_word(dirs, i * 2, s.at as u64);
     lists::put_word(dirs, i * 2 + 1, s.len as u64);
+}
+
+// Whether a path index is that of a stored directory.
+pub fn is_inside(path_index: u64) -> bool
+    ensures { λ r. ⌜ r ≡ isStored «path_index» ⌝ }
+{
+    if path_index == NO_PATH {
+        return false;
+    }
+    path_index != PATH_IS_ABSOLUTE
+}
+
+// Where the text of a file's directory lies; nowhere for a single name and an absolute path.
+pub fn directory_span(dirs: &[u64], row: Row) -> Span
+    ensures { λ r. ⌜ r ≡ directorySpan (now (dirs .entry)) row ⌝ }
+{
+    if is_inside(row.path_index) {
+        return dir_at(dirs, row.path_index as usize);
+    }
+    Span { at: 0, len: 0 }
 }
 
 // The root of row i, zeros past the end.

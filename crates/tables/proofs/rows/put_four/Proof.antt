@@ -1,21 +1,11 @@
 -- `tables::rows::put_four` meets its contract.
 use borrow.Author.Needs.{needs}
-use mathlib.Core.Path.{_≡_, _∙_}
-use mathlib.Core.List.{List, [], _∷_}
-use Prim.Native.Nat.{ℕ, suc, _+_}
+use mathlib.Core.Path.{_∙_}
 use native.Mathlib.Omega.{arith}
-use lib.ListN.{set, length-set}
-use lib.Seq.{sets}
-use Rattle.tables.specs.Rows.{words}
+use lib.ListN.{length-set}
+use Rattle.tables.proofs.Words.{four}
 use Rattle.tables.proofs.rows.put_four.Statement.{statement}
 use Rattle.tables.proofs.rows.put_four.Tie as tie
-
-four : (l : List ℕ) (b w0 w1 w2 w3 : ℕ) → set (set (set (set l b w0) (b + 1) w1) (b + 2) w2) (b + 3) w3 ≡ sets l b (w0 ∷ w1 ∷ w2 ∷ w3 ∷ [])
-four l b w0 w1 w2 w3 =
-    let e1 : b + 1 ≡ suc b = omega arith in
-    let e2 : b + 2 ≡ suc (suc b) = omega arith in
-    let e3 : b + 3 ≡ suc (suc (suc b)) = omega arith in
-    rw (e1, e2, e3)
 
 add-if1 : tie.Need-add-if1
 add-if1 c = search needs
