@@ -14,7 +14,7 @@ use Rattle.tables.specs.declared.span.Span.{Span}
 use Rattle.tables.specs.declared.rows.Row.{Row}
 use Rattle.tables.specs.declared.storage.FileStorage.{FileStorage}
 use Rattle.tables.specs.Span.{clip, slid, low}
-use Rattle.tables.specs.Rows.{rowAt, putRow, putDir, putRoot, has, dirsLowered, rowsWithout}
+use Rattle.tables.specs.Rows.{rowAt, putRow, putDir, noPath, pathIsAbsolute, putRoot, dirsLowered, rowsWithout}
 use Rattle.tables.specs.Model.{Optional, absent, present, Directory, single, absolute, stored, Model, Store, viewOf}
 use Rattle.storage.specs.Rules.{both, either, firstOf, outcomeOf}
 use Rattle.storage.specs.Addition.{Addition, Rooms, filesOf, sizeAdded, keeps, isV2, padOf, newName, placeFor, storedName, setNameOf, flagsKept, padDirectory, isAmong, withPlace, withTime, added, lacks, isPresent, isZero, addingRules}
@@ -31,8 +31,8 @@ placeOf d ds = placeFrom (length ds) 0 d ds
 
 -- the Rust's path index of a directory among those stored
 abbrev pub indexOf : Directory → List (List ℕ) → ℕ
-indexOf single ds = 1073741823
-indexOf absolute ds = 1073741822
+indexOf single ds = noPath
+indexOf absolute ds = pathIsAbsolute
 indexOf (stored d outside) ds = placeOf d ds
 
 -- the text of a directory that is not stored yet

@@ -40,7 +40,7 @@ pub(crate) enum SizesResult {
 }
 
 // Whether a piece length is out of range.
-pub(crate) fn is_bad_length(piece_length: u64) -> bool
+pub fn is_bad_length(piece_length: u64) -> bool
     ensures { λ r. ⌜ r ≡ badLength «piece_length» ⌝ }
 {
     if piece_length < 1 {

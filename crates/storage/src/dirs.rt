@@ -63,13 +63,13 @@ pub(crate) fn plan_dir(lying: Lying, dirs: &[u64], text: &[u8], n: usize, dir: &
 {
     match lying {
         Lying::Single => DirPlan {
-            index: 1073741823,
+            index: tables::NO_PATH,
             new: false,
             len: 0,
             count: n,
         },
         Lying::Absolute => DirPlan {
-            index: 1073741822,
+            index: tables::PATH_IS_ABSOLUTE,
             new: false,
             len: 0,
             count: n,
