@@ -64,18 +64,18 @@ module _ {A : Type 0} (n i : ℕ) (a : ℕ → A) (d : UsizeResult) (p : usizeSa
   found-refused x e = also-refused n i a (numberOf x) (ap usizeSays (sym e) ∙ p)
 
 -- the number of the first refusal of a question about the set, a directory, a file or its link text, 0 for none
-abbrev setNumber : FileStorage → Bool → ℕ
+abbrev pub setNumber : FileStorage → Bool → ℕ
 setNumber fs held = firstOf (when (badLength (fs .«piece_length»)) 1 ∷ when (not held) 10 ∷ [])
 
-abbrev directoryNumber : FileStorage → ℕ → Bool → ℕ
+abbrev pub directoryNumber : FileStorage → ℕ → Bool → ℕ
 directoryNumber fs i held =
     firstOf (when (badLength (fs .«piece_length»)) 1 ∷ when (leb (fs .«num_paths») i) 11 ∷ when (not held) 10 ∷ [])
 
-abbrev fileNumber : FileStorage → ℤ → Bool → ℕ
+abbrev pub fileNumber : FileStorage → ℤ → Bool → ℕ
 fileNumber fs z held =
     firstOf (when (badLength (fs .«piece_length»)) 1 ∷ when (not (isBelow (fs .«num_files») z)) 11 ∷ when (not held) 10 ∷ [])
 
-abbrev linkNumber : FileStorage → ℤ → (ℕ → Bool) → Bool → ℕ
+abbrev pub linkNumber : FileStorage → ℤ → (ℕ → Bool) → Bool → ℕ
 linkNumber fs z linked held =
     firstOf
     (when (badLength (fs .«piece_length»)) 1 ∷

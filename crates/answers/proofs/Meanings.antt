@@ -1,6 +1,6 @@
 -- What the answers mean: the set that the tables mean (specs/Model.antt of `tables`) has as many files and directories as the
--- answers say, and its file k has the size, offset, name, flags, time, link text, root and paths that they say. These laws
--- rely on those of `tables` about places.
+-- answers say, and its file k has the size, offset, name, flags, time, link text, root and paths that they say. Where an
+-- answer is a place, the set's text stands there. These laws rely on those of `tables` about places.
 use Prim.Native.Nat.{ℕ, _%_, _/_, _<_}
 use mathlib.Core.Path.{_≡_, refl, ap}
 use mathlib.Core.Bool.{Bool, true, false, cond, not}
@@ -10,16 +10,18 @@ use lib.Dec.{eqb}
 use lib.IntN.{ℤ, pos}
 use lib.ListN.{length, getD, replicate}
 use borrow.Author.Tests.{lt-ltb, eqb-true}
-use Rattle.types.specs.Refusals.{value}
+use Rattle.types.specs.Refusals.{Outcome, value, refused}
 use Rattle.path.specs.Join.{appended}
 use Rattle.tables.specs.declared.storage.FileStorage.{FileStorage}
+use Rattle.tables.specs.declared.span.Span.{Span}
 use Rattle.tables.specs.Span.{textAt}
-use Rattle.tables.specs.Rows.{rowAt, dirAt, rootAt, has}
+use Rattle.tables.specs.Rows.{rowAt, dirAt, noPath, rootAt, has}
 use Rattle.tables.specs.Model.{Optional, absent, present, presentIf, Directory, single, absolute, stored, File, Store, directoryText, fileOf, viewOf}
 use Rattle.tables.proofs.Tabled.{length-tabled, getD-tabled}
-use Rattle.storage.specs.Rules.{both}
+use Rattle.storage.specs.Rules.{both, outcomeOf}
 use Rattle.storage.specs.Addition.{badLength}
-use Rattle.answers.specs.Answers.{indexOf, askedFile, timeOf, rootOf, isAbsolute, internalPath, symlinkPath}
+use Rattle.answers.specs.Answers.{indexOf, askedHeld, askedDirectory, askedFile, askedLink, timeOf, rootOf, isAbsolute, internalPath, symlinkPath}
+use Rattle.answers.proofs.Deciding.{setNumber, directoryNumber, fileNumber, linkNumber}
 
 -- something that may be missing, or what stands for it
 abbrev pub orElse : {A : Type 0} → Optional A → A → A
@@ -47,9 +49,32 @@ pub asked-value : {A : Type 0} (fs : FileStorage) (k : ℕ) (held : Bool) (a : �
     → k < fs .«num_files» → held ≡ true → askedFile fs (pos k) held a ≡ value (a k)
 asked-value fs k held a e h q = rw (e, lt-ltb k (fs .«num_files») h, q)
 
--- two answers that agree at the file
-pub asked-same : {A : Type 0} (fs : FileStorage) (z : ℤ) (held : Bool) (a b : ℕ → A) → ((k : ℕ) → a k ≡ b k) → askedFile fs z held a ≡ askedFile fs z held b
-asked-same {A} fs z held a b e = ap (λ (x : A). askedFile fs z held (λ _. x)) (e (indexOf z))
+-- an answer that is a place, as the text that stands there
+abbrev pub textSaid : List ℕ → Outcome Span → Outcome (List ℕ)
+textSaid text (value s) = value (textAt text s)
+textSaid text (refused n) = refused n
+
+text-if : (b : Bool) (n : ℕ) (text : List ℕ) (s : Span) → textSaid text (cond b (value s) (refused n)) ≡ cond b (value (textAt text s)) (refused n)
+text-if true n text s = refl
+text-if false n text s = refl
+
+said : (n : ℕ) (text : List ℕ) (s : Span) → textSaid text (outcomeOf n s) ≡ outcomeOf n (textAt text s)
+said n text s = text-if (eqb n 0) n text s
+
+-- a question whose answer is a place is the same question for the text there: of the set, a directory, a file, a link
+module _ (fs : FileStorage) (held : Bool) (text : List ℕ) where
+  pub set-text : (s : Span) → textSaid text (askedHeld fs held s) ≡ askedHeld fs held (textAt text s)
+  set-text s = said (setNumber fs held) text s
+
+  pub directory-text : (i : ℕ) (s : Span) → textSaid text (askedDirectory fs i held s) ≡ askedDirectory fs i held (textAt text s)
+  directory-text i s = said (directoryNumber fs i held) text s
+
+  pub file-text : (z : ℤ) (a : ℕ → Span) → textSaid text (askedFile fs z held a) ≡ askedFile fs z held (λ k. textAt text (a k))
+  file-text z a = said (fileNumber fs z held) text (a (indexOf z))
+
+  pub link-text : (z : ℤ) (linked : ℕ → Bool) (a : ℕ → Span)
+      → textSaid text (askedLink fs z linked held a) ≡ askedLink fs z linked held (λ k. textAt text (a k))
+  link-text z linked a = said (linkNumber fs z linked held) text (a (indexOf z))
 
 -- by whether a bit of the flags is set, and by what the path index says
 root-if : (b : Bool) (x d : List ℕ) → cond b x d ≡ orElse (presentIf b x) d
@@ -122,9 +147,9 @@ module _ (s : Store) where
     pub absolute-is : isAbsolute (rowAt (s .rows) k) ≡ isAbsoluteIn (fileOf s k .directory)
     absolute-is =
         let r = rowAt (s .rows) k in
-        absolute-if (eqb (r .«path_index») 1073741823) (isAbsolute r) (has (r .flags) 32) (directoryText s (r .«path_index»)) (λ e. rw (eqb-true (r .«path_index») 1073741823 e))
+        absolute-if (eqb (r .«path_index») noPath) (isAbsolute r) (has (r .flags) 32) (directoryText s (r .«path_index»)) (λ e. rw (eqb-true (r .«path_index») noPath e))
 
     pub path-is : internalPath (s .dirs) (s .text) (rowAt (s .rows) k) ≡ pathIn (fileOf s k .directory) (fileOf s k .name)
     path-is =
         let r = rowAt (s .rows) k in
-        path-if (eqb (r .«path_index») 1073741823) (isAbsolute r) (has (r .flags) 32) (directoryText s (r .«path_index»)) (fileOf s k .name)
+        path-if (eqb (r .«path_index») noPath) (isAbsolute r) (has (r .flags) 32) (directoryText s (r .«path_index»)) (fileOf s k .name)

@@ -5,7 +5,7 @@ use mathlib.Core.List.{List}
 use lib.IntN.{ℤ}
 use lib.ListN.{replicate}
 use Rattle.types.specs.Refusals.{numberOf, Outcome, value, refused}
-use Rattle.tables.specs.Span.{textAt}
+use Rattle.tables.specs.declared.span.Span.{Span}
 use Rattle.answers.specs.declared.result.I32Result.{I32Result}
 use Rattle.answers.specs.declared.result.I32Result.the-variants as i32
 use Rattle.answers.specs.declared.result.I64Result.{I64Result}
@@ -36,10 +36,10 @@ abbrev pub u8Says : U8Result → Outcome ℕ
 u8Says (u8.Ok n) = value n
 u8Says (u8.Err e) = refused (numberOf e)
 
--- the text itself, read in the text area
-abbrev pub spanSays : List ℕ → SpanResult → Outcome (List ℕ)
-spanSays text (span.Ok s) = value (textAt text s)
-spanSays text (span.Err e) = refused (numberOf e)
+-- the place of a text in the text area
+abbrev pub spanSays : SpanResult → Outcome Span
+spanSays (span.Ok s) = value s
+spanSays (span.Err e) = refused (numberOf e)
 
 abbrev pub unitSays : UnitResult → List ℕ → Outcome (List ℕ)
 unitSays unit.Ok root = value root

@@ -4,7 +4,6 @@ ghost use Prim.Native.Nat.{_%_, _^_};
 ghost use lib.IntN.{pos};
 ghost use Rattle.storage.specs.Rules.{both};
 ghost use Rattle.tables.specs.Rows.{dirAt};
-ghost use Rattle.tables.specs.Span.{textAt};
 ghost use Rattle.answers.specs.Results.{i32Says, i64Says, boolSays, spanSays};
 ghost use Rattle.answers.specs.Answers.{askedSet, askedHeld, askedDirectory, dirsHeld, textHeld};
 use crate::decide::are_both;
@@ -70,7 +69,7 @@ pub fn v2(fs: FileStorage) -> BoolResult
 
 // Where the set's name lies in the text area.
 pub fn name(fs: FileStorage, text: &[u8]) -> SpanResult
-    ensures { λ r. ⌜ spanSays (now (text .entry)) r ≡ askedHeld fs (textHeld fs (now (text .entry))) (textAt (now (text .entry)) (fs .name)) ⌝ }
+    ensures { λ r. ⌜ spanSays r ≡ askedHeld fs (textHeld fs (now (text .entry))) (fs .name) ⌝ }
 {
     let place = fs.name;
     match set_in(fs, is_held(fs.text_len, text.len())) {
@@ -91,7 +90,7 @@ pub fn num_paths(fs: FileStorage) -> I32Result
 
 // Where the text of directory i lies in the text area.
 pub fn path_at(fs: FileStorage, dirs: &[u64], text: &[u8], i: usize) -> SpanResult
-    ensures { λ r. ⌜ spanSays (now (text .entry)) r ≡ askedDirectory fs i (both (dirsHeld fs (now (dirs .entry))) (textHeld fs (now (text .entry)))) (textAt (now (text .entry)) (dirAt (now (dirs .entry)) i)) ⌝ }
+    ensures { λ r. ⌜ spanSays r ≡ askedDirectory fs i (both (dirsHeld fs (now (dirs .entry))) (textHeld fs (now (text .entry)))) (dirAt (now (dirs .entry)) i) ⌝ }
 {
     let held = are_both(
         is_held(fs.num_paths, dirs.len() / 2),

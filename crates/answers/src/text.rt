@@ -1,12 +1,9 @@
 // Answers about one file that are texts: a place in the text area, or a path composed into a lent buffer.
 // They rely on decide.rt, on the total accessors of `tables` and on the joins of `path`.
 ghost use mathlib.Core.Path.{_≡_};
-ghost use mathlib.Core.Bool.{cond, not};
-ghost use lib.Dec.{eqb};
 ghost use Rattle.types.specs.Refusals.{usizeSays};
 ghost use Rattle.storage.specs.Rules.{both};
-ghost use Rattle.tables.specs.Rows.{rowAt, dirAt, has};
-ghost use Rattle.tables.specs.Span.{textAt};
+ghost use Rattle.tables.specs.Rows.{rowAt, has};
 ghost use Rattle.path.specs.Join.{Joined};
 ghost use Rattle.answers.specs.Results.{spanSays};
 ghost use Rattle.answers.specs.Answers.{askedFile, askedLink, rowsHeld, dirsHeld, textHeld, composedIf, composedFile, internalPath, symlinkPath};
@@ -14,12 +11,9 @@ use crate::decide::are_both;
 use crate::decide::are_held;
 use crate::decide::file_in;
 use crate::decide::is_held;
-use crate::file::NO_PATH;
-use crate::file::PATH_IS_ABSOLUTE;
 use crate::result::SpanResult;
 use tables::FileStorage;
 use tables::Row;
-use tables::Span;
 use types::FileIndex;
 use types::Refusal;
 use types::UsizeResult;
@@ -43,24 +37,11 @@ fn link_in(fs: FileStorage, rows: &[u64], index: FileIndex, held: bool) -> Usize
     }
 }
 
-// Where the text of a file's directory lies; nowhere for a single name and an absolute path.
-fn directory_of(dirs: &[u64], path_index: u64) -> Span
-    ensures { λ r. ⌜ r ≡ cond (both (not (eqb «path_index» 1073741823)) (not (eqb «path_index» 1073741822))) (dirAt (now (dirs .entry)) «path_index») (record { at = 0; len = 0 }) ⌝ }
-{
-    if path_index == NO_PATH {
-        return Span { at: 0, len: 0 };
-    }
-    if path_index == PATH_IS_ABSOLUTE {
-        return Span { at: 0, len: 0 };
-    }
-    tables::dir_at(dirs, path_index as usize)
-}
-
 // Writes the path within the set of the file with that row.
 fn put_internal(dirs: &[u64], text: &[u8], row: Row, buf: &mut [u8]) -> UsizeResult
     ensures { λ r. ⌜ _≡_ {A = Joined} (record { says = usizeSays r; buf = now (buf .exit) }) (composedIf 0 (internalPath (now (dirs .entry)) (now (text .entry)) row) (now (buf .entry))) ⌝ }
 {
-    let branch = tables::text_at(text, directory_of(dirs, row.path_index));
+    let branch = tables::text_at(text, tables::directory_span(dirs, row));
     let leaf = tables::text_at(text, row.name);
     path::join_path(branch, leaf, buf)
 }
@@ -79,7 +60,7 @@ fn put_link(fs: FileStorage, text: &[u8], row: Row, buf: &mut [u8]) -> UsizeResu
 
 // Where a file's name lies in the text area.
 pub fn file_name(fs: FileStorage, rows: &[u64], text: &[u8], index: FileIndex) -> SpanResult
-    ensures { λ r. ⌜ spanSays (now (text .entry)) r ≡ askedFile fs (index .0) (both (rowsHeld fs (now (rows .entry))) (textHeld fs (now (text .entry)))) (λ k. textAt (now (text .entry)) (rowAt (now (rows .entry)) k .name)) ⌝ }
+    ensures { λ r. ⌜ spanSays r ≡ askedFile fs (index .0) (both (rowsHeld fs (now (rows .entry))) (textHeld fs (now (text .entry)))) (λ k. rowAt (now (rows .entry)) k .name) ⌝ }
 {
     let held = are_held(fs, rows.len(), text.len());
     match file_in(fs, index, held) {
@@ -94,7 +75,7 @@ pub fn file_name(fs: FileStorage, rows: &[u64], text: &[u8], index: FileIndex) -
 
 // Where a file's link text lies in the text area; 15 where it holds none.
 pub fn internal_symlink(fs: FileStorage, rows: &[u64], text: &[u8], index: FileIndex) -> SpanResult
-    ensures { λ r. ⌜ spanSays (now (text .entry)) r ≡ askedLink fs (index .0) (λ k. has (rowAt (now (rows .entry)) k .flags) 16) (both (rowsHeld fs (now (rows .entry))) (textHeld fs (now (text .entry)))) (λ k. textAt (now (text .entry)) (rowAt (now (rows .entry)) k .link)) ⌝ }
+    ensures { λ r. ⌜ spanSays r ≡ askedLink fs (index .0) (λ k. has (rowAt (now (rows .entry)) k .flags) 16) (both (rowsHeld fs (now (rows .entry))) (textHeld fs (now (text .entry)))) (λ k. rowAt (now (rows .entry)) k .link) ⌝ }
 {
     let held = are_held(fs, rows.len(), text.len());
     match link_in(fs, rows, index, held) {

@@ -1,7 +1,6 @@
 -- `answers::set::name` meets its contract.
 use mathlib.Core.Path.{refl}
 use borrow.Author.Needs.{needs}
-use Rattle.tables.specs.Span.{textAt}
 use Rattle.answers.specs.Answers.{textHeld}
 use Rattle.answers.proofs.Deciding.{set-value, set-refused}
 use Rattle.answers.proofs.set.name.Statement.{statement}
@@ -24,14 +23,14 @@ returns c =
     let a = c .before .before .before .before .before .before .args in
     let h = c .before .before .before .is-held in
     let d = c .before .before .set-in in
-    set-value (a .fs) (textAt (a .text .now) (a .fs .name)) (h .result) (textHeld (a .fs) (a .text .now)) (d .result) (d .ensures) (h .ensures) (c .enum-told .given .1) _ refl
+    set-value (a .fs) (a .fs .name) (h .result) (textHeld (a .fs) (a .text .now)) (d .result) (d .ensures) (h .ensures) (c .enum-told .given .1) _ refl
 
 returns-2 : tie.Need-returns-2
 returns-2 c =
     let a = c .before .before .before .before .before .before .before .args in
     let h = c .before .before .before .before .is-held in
     let d = c .before .before .before .set-in in
-    set-refused (a .fs) (textAt (a .text .now) (a .fs .name)) (h .result) (textHeld (a .fs) (a .text .now)) (d .result) (d .ensures) (h .ensures) _ (c .before .e .given .1)
+    set-refused (a .fs) (a .fs .name) (h .result) (textHeld (a .fs) (a .text .now)) (d .result) (d .ensures) (h .ensures) _ (c .before .e .given .1)
 
 pub name-spec : {M : Type 1} → statement M
 name-spec =

@@ -1,8 +1,7 @@
 -- `answers::set::path_at` meets its contract.
-use mathlib.Core.Path.{_≡_, ap}
+use mathlib.Core.Path.{_≡_}
 use borrow.Author.Needs.{needs}
 use Rattle.tables.specs.Rows.{dirAt}
-use Rattle.tables.specs.Span.{textAt}
 use Rattle.storage.specs.Rules.{both}
 use Rattle.answers.specs.Answers.{dirsHeld, textHeld}
 use Rattle.answers.proofs.Deciding.{both-is, directory-value, directory-refused}
@@ -38,15 +37,15 @@ returns c =
     let a = c .before .before .before .before .before .before .before .before .before .args in
     let h = c .before .before .before .before in
     let d = c .before .before .before .directory-in in
-    directory-value (a .fs) (a .i) (textAt (a .text .now) (dirAt (a .dirs .now) (a .i))) (h .are-both .result) _ (d .result) (d .ensures) (held-is h) (c .before .enum-told .given .1)
-    _ (ap (textAt (a .text .now)) (c .dir-at .ensures))
+    directory-value (a .fs) (a .i) (dirAt (a .dirs .now) (a .i)) (h .are-both .result) _ (d .result) (d .ensures) (held-is h) (c .before .enum-told .given .1)
+    _ (c .dir-at .ensures)
 
 returns-2 : tie.Need-returns-2
 returns-2 c =
     let a = c .before .before .before .before .before .before .before .before .before .args in
     let h = c .before .before .before .before in
     let d = c .before .before .before .directory-in in
-    directory-refused (a .fs) (a .i) (textAt (a .text .now) (dirAt (a .dirs .now) (a .i))) (h .are-both .result) _ (d .result) (d .ensures) (held-is h) _ (c .before .e .given .1)
+    directory-refused (a .fs) (a .i) (dirAt (a .dirs .now) (a .i)) (h .are-both .result) _ (d .result) (d .ensures) (held-is h) _ (c .before .e .given .1)
 
 pub path-at-spec : {M : Type 1} → statement M
 path-at-spec =

@@ -1,7 +1,6 @@
 -- `answers::text::file_name` meets its contract.
 use borrow.Author.Needs.{needs}
 use Rattle.tables.specs.Rows.{rowAt}
-use Rattle.tables.specs.Span.{textAt}
 use Rattle.storage.specs.Rules.{both}
 use Rattle.answers.specs.Answers.{rowsHeld, textHeld}
 use Rattle.answers.proofs.Deciding.{file-value, file-refused}
@@ -29,7 +28,7 @@ returns c =
     let h = c .before .before .before .before .before .before .are-held in
     let d = c .before .before .before .before .before .file-in in
     let k = c .before .before .before .k .given in
-    file-value (a .fs) (a .index .0) (λ k. textAt (a .text .now) (rowAt (a .rows .now) k .name)) (h .result) (both (rowsHeld (a .fs) (a .rows .now)) (textHeld (a .fs) (a .text .now))) (d .result) (d .ensures) (h .ensures) (k .0 .0) (k .1)
+    file-value (a .fs) (a .index .0) (λ k. rowAt (a .rows .now) k .name) (h .result) (both (rowsHeld (a .fs) (a .rows .now)) (textHeld (a .fs) (a .text .now))) (d .result) (d .ensures) (h .ensures) (k .0 .0) (k .1)
     _ (rw (c .before .row-at .ensures))
 
 returns-2 : tie.Need-returns-2
@@ -37,7 +36,7 @@ returns-2 c =
     let a = c .before .before .before .before .before .before .before .args in
     let h = c .before .before .before .before .are-held in
     let d = c .before .before .before .file-in in
-    file-refused (a .fs) (a .index .0) (λ k. textAt (a .text .now) (rowAt (a .rows .now) k .name)) (h .result) (both (rowsHeld (a .fs) (a .rows .now)) (textHeld (a .fs) (a .text .now))) (d .result) (d .ensures) (h .ensures) _ (c .before .e .given .1)
+    file-refused (a .fs) (a .index .0) (λ k. rowAt (a .rows .now) k .name) (h .result) (both (rowsHeld (a .fs) (a .rows .now)) (textHeld (a .fs) (a .text .now))) (d .result) (d .ensures) (h .ensures) _ (c .before .e .given .1)
 
 pub file-name-spec : {M : Type 1} → statement M
 file-name-spec =

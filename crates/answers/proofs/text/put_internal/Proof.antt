@@ -19,8 +19,8 @@ branch-is : (b : Bool) (text : List ℕ) (dir : Span) (leaf : List ℕ)
 branch-is true text dir leaf = refl
 branch-is false text dir leaf = refl
 
-directory-of-requires : tie.Need-directory-of-requires
-directory-of-requires c κs = search needs
+directory-span-requires : tie.Need-directory-span-requires
+directory-span-requires c κs = search needs
 
 text-at-requires : tie.Need-text-at-requires
 text-at-requires c κs = search needs
@@ -38,14 +38,14 @@ returns : tie.Need-returns
 returns c =
     let a = c .before .before .before .before .before .before .before .before .before .before .args in
     joined-is _ (c .before .before .before .before .before .text-at .result .now) (c .before .before .before .before .text-at2 .result .now) (internalPath (a .dirs .now) (a .text .now) (a .row)) (a .buf .now) (c .before .before .join-path .ensures)
-    (rw (c .before .before .before .before .before .text-at .ensures, c .before .before .before .before .before .before .directory-of .ensures, c .before .before .before .before .text-at2 .ensures)
+    (rw (c .before .before .before .before .before .text-at .ensures, c .before .before .before .before .before .before .directory-span .ensures, c .before .before .before .before .text-at2 .ensures)
     (branch-is (isInside (a .row)) (a .text .now) (dirAt (a .dirs .now) (a .row .«path_index»)) (textAt (a .text .now) (a .row .name))))
 
 pub put-internal-spec : {M : Type 1} → statement M
 put-internal-spec =
     tie.close
     (tie.spec
-    directory-of-requires
+    directory-span-requires
     text-at-requires
     text-at-requires-2
     join-path-requires
