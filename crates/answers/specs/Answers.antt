@@ -1,5 +1,6 @@
 -- Document 01, 'The set' and the table's rows for questions: what each plain answer is. A question's order is 1, 11, 15,
--- 10; the tables are those that the call brings.
+-- 10; the tables are those that the call brings. It relies on what the tables hold (tables, specs/Rows.antt, from which
+-- `isAbsolute` and `isInside` are passed on) and on the rules in order of `storage`.
 use Prim.Native.Nat.{ℕ, _/_}
 use mathlib.Core.Bool.{Bool, false, cond, not}
 use mathlib.Core.List.{List, [], _∷_}
@@ -10,6 +11,7 @@ use Rattle.types.specs.Refusals.{Outcome, refused}
 use Rattle.tables.specs.declared.storage.FileStorage.{FileStorage}
 use Rattle.tables.specs.declared.rows.Row.{Row}
 use Rattle.tables.specs.Span.{textAt}
+pub use Rattle.tables.specs.Rows.{isAbsolute, isInside}
 use Rattle.tables.specs.Rows.{rowAt, dirAt, rootAt, has}
 use Rattle.path.specs.Join.{Joined, appended, joinedIf, fits}
 use Rattle.storage.specs.Rules.{when, firstOf, outcomeOf, both}
@@ -77,13 +79,6 @@ timeOf fs times k = getD (take (fs .«num_mtimes») times) k (pos 0)
 -- a root, 32 zero bytes where there is none
 abbrev pub rootOf : List ℕ → List ℕ → ℕ → List ℕ
 rootOf rows roots k = cond (has (rowAt rows k .flags) 128) (rootAt roots k) (replicate 32 0)
-
-abbrev pub isAbsolute : Row → Bool
-isAbsolute r = eqb (r .«path_index») 1073741822
-
--- whether the file lies in a stored directory
-abbrev pub isInside : Row → Bool
-isInside r = both (not (eqb (r .«path_index») 1073741823)) (not (isAbsolute r))
 
 -- `internal_file_path`: directory and name joined; the name alone where there is no directory
 abbrev pub internalPath : List ℕ → List ℕ → Row → List ℕ

@@ -1,12 +1,11 @@
 // What every answer decides first: the piece length, the file's number, and whether the lent tables hold
-// what the set counts. It relies on `types` for file numbers and on the laws of proofs/Deciding.antt.
+// what the set counts. It relies on `types` for file numbers, on `storage` for the piece length and on the laws of proofs/Deciding.antt.
 ghost use mathlib.Core.Path.{_≡_};
 ghost use mathlib.Core.List.{[]};
 ghost use Prim.Native.Nat.{_/_};
 ghost use lib.Dec.{leb};
 ghost use Rattle.types.specs.Refusals.{usizeSays};
 ghost use Rattle.storage.specs.Rules.{both};
-ghost use Rattle.storage.specs.Addition.{badLength};
 ghost use Rattle.answers.specs.Results.{unitSays};
 ghost use Rattle.answers.specs.Answers.{askedHeld, askedDirectory, askedFile};
 use crate::result::UnitResult;
@@ -15,25 +14,15 @@ use types::FileIndex;
 use types::Refusal;
 use types::UsizeResult;
 
-// Whether a piece length is out of range.
-pub(crate) fn is_bad_length(piece_length: u64) -> bool
-    ensures { λ r. ⌜ r ≡ badLength «piece_length» ⌝ }
-{
-    if piece_length < 1 {
-        return true;
-    }
-    2147483647 < piece_length
-}
-
 // Whether a table with `room` places holds `count`.
-pub(crate) fn is_held(count: usize, room: usize) -> bool
+pub fn is_held(count: usize, room: usize) -> bool
     ensures { λ r. ⌜ r ≡ leb count room ⌝ }
 {
     count <= room
 }
 
 // Whether both of two tests hold.
-pub(crate) fn are_both(a: bool, b: bool) -> bool
+pub fn are_both(a: bool, b: bool) -> bool
     ensures { λ r. ⌜ r ≡ both a b ⌝ }
 {
     if a {
@@ -56,7 +45,7 @@ pub(crate) fn are_held(fs: FileStorage, words: usize, bytes: usize) -> bool
 pub(crate) fn set_in(fs: FileStorage, held: bool) -> UnitResult
     ensures { λ r. ⌜ unitSays r [] ≡ askedHeld fs held [] ⌝ }
 {
-    if is_bad_length(fs.piece_length) {
+    if storage::is_bad_length(fs.piece_length) {
         return UnitResult::Err(Refusal::InvalidPieceLength);
     }
     if held {
@@ -69,7 +58,7 @@ pub(crate) fn set_in(fs: FileStorage, held: bool) -> UnitResult
 pub(crate) fn directory_in(fs: FileStorage, i: usize, held: bool) -> UnitResult
     ensures { λ r. ⌜ unitSays r [] ≡ askedDirectory fs i held [] ⌝ }
 {
-    if is_bad_length(fs.piece_length) {
+    if storage::is_bad_length(fs.piece_length) {
         return UnitResult::Err(Refusal::InvalidPieceLength);
     }
     if fs.num_paths <= i {
@@ -85,7 +74,7 @@ pub(crate) fn directory_in(fs: FileStorage, i: usize, held: bool) -> UnitResult
 pub(crate) fn file_in(fs: FileStorage, index: FileIndex, held: bool) -> UsizeResult
     ensures { λ r. ⌜ usizeSays r ≡ askedFile fs (index .0) held (λ k. k) ⌝ }
 {
-    if is_bad_length(fs.piece_length) {
+    if storage::is_bad_length(fs.piece_length) {
         return UsizeResult::Err(Refusal::InvalidPieceLength);
     }
     match index.within(fs.num_files) {

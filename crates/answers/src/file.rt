@@ -16,15 +16,10 @@ use crate::result::RootResult;
 use crate::result::U8Result;
 use crate::result::UnitResult;
 use tables::FileStorage;
+use tables::Presence;
 use tables::Sha256Hash;
 use types::FileIndex;
 use types::UsizeResult;
-
-// The path index of a single name, which has no directory.
-pub(crate) const NO_PATH: u64 = 1073741823;
-
-// The path index of a file that was added by an absolute path.
-pub(crate) const PATH_IS_ABSOLUTE: u64 = 1073741822;
 
 // The time of file k: 0 behind those held.
 fn time_of(fs: FileStorage, times: &[i64], k: usize) -> i64
@@ -37,13 +32,16 @@ fn time_of(fs: FileStorage, times: &[i64], k: usize) -> i64
 }
 
 // The root of file k, zeros where it has none.
-fn root_of(rows: &[u64], roots: &[u8], k: usize) -> Sha256Hash
+pub fn root_of(rows: &[u64], roots: &[u8], k: usize) -> Sha256Hash
     ensures { λ r. ⌜ r ≡ rootOf (now (rows .entry)) (now (roots .entry)) k ⌝ }
 {
-    if tables::has_root(tables::flags_at(rows, k)) {
-        return tables::root_at(roots, k);
+    let file = tables::entry_at(rows, roots, k);
+    let presence = file.presence;
+    let root = file.root;
+    match presence {
+        Presence::Present => root,
+        Presence::Absent => [0u8; 32],
     }
-    [0u8; 32]
 }
 
 // The size of a file.
@@ -92,7 +90,7 @@ pub fn file_absolute_path(fs: FileStorage, rows: &[u64], index: FileIndex) -> Bo
 {
     match file_in(fs, index, is_held(fs.num_files, rows.len() / 8)) {
         UsizeResult::Ok(k) => BoolResult::Ok(
-            tables::row_at(rows, k).path_index == PATH_IS_ABSOLUTE,
+            tables::row_at(rows, k).path_index == tables::PATH_IS_ABSOLUTE,
         ),
         UsizeResult::Err(e) => BoolResult::Err(e),
     }

@@ -6,6 +6,8 @@ mod result;
 mod set;
 mod text;
 
+pub use decide::are_both;
+pub use decide::is_held;
 pub use file::file_absolute_path;
 pub use file::file_flags;
 pub use file::file_offset;
@@ -13,6 +15,7 @@ pub use file::file_size;
 pub use file::mtime;
 pub use file::pad_file_at;
 pub use file::root;
+pub use file::root_of;
 pub use result::BoolResult;
 pub use result::I32Result;
 pub use result::I64Result;
