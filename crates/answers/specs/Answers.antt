@@ -14,13 +14,12 @@ use Rattle.tables.specs.Span.{textAt}
 pub use Rattle.tables.specs.Rows.{isAbsolute, isInside}
 use Rattle.tables.specs.Rows.{rowAt, dirAt, rootAt, has}
 use Rattle.path.specs.Join.{Joined, appended, joinedIf, fits}
-use Rattle.storage.specs.Rules.{when, firstOf, outcomeOf, both}
-use Rattle.storage.specs.Addition.{badLength}
+use Rattle.storage.specs.Rules.{when, firstOf, outcomeOf}
+use Rattle.storage.specs.Addition.{sizeOf, badLength}
 
 -- the number of an index, 0 where it is negative; and whether it is one of so many
 abbrev pub indexOf : ℤ → ℕ
-indexOf (pos n) = n
-indexOf (negsuc n) = 0
+indexOf z = sizeOf z
 
 abbrev pub isBelow : ℕ → ℤ → Bool
 isBelow count (pos n) = ltb n count

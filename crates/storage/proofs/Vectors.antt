@@ -1,29 +1,14 @@
--- Worked examples of document 01 on the model, by computing.
+-- Worked examples of document 01 on the model, by computing. They rely on the definitions of specs/Addition.antt.
 use Prim.Native.Nat.{ℕ, _+_}
 use mathlib.Core.Path.{_≡_, refl}
-use mathlib.Core.Bool.{Bool, true, false}
 use mathlib.Core.List.{List, [], _∷_, map}
-use lib.IntN.{ℤ, pos, negsuc}
+use lib.IntN.{pos}
 use lib.ListN.{replicate}
-use Rattle.types.specs.Refusals.{Outcome, value, refused}
+use Rattle.types.specs.Refusals.{value, refused}
 use Rattle.lists.specs.Decimal.{digitsWithin}
-use Rattle.tables.specs.Model.{Optional, absent, present, Directory, single, absolute, stored, File, Model}
+use Rattle.tables.specs.Model.{Optional, absent, present, File, Model}
 use Rattle.storage.specs.Addition.{Addition, Rooms, added, addedTo, textOf}
-
-abbrev fresh : ℕ → Model
-fresh n =
-    record {
-      pieceLength = n;
-      v2 = false;
-      name = [];
-      files = [];
-      directories = [];
-      times = [];
-      links = 0;
-      total = 0;
-      onDisk = 0;
-      trimmed = false;
-    }
+use Rattle.storage.specs.Opening.{fresh}
 
 abbrev file : List ℕ → ℕ → Optional (List ℕ) → Addition
 file path size root =

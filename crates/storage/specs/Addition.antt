@@ -1,5 +1,5 @@
 -- Document 01, 'The set': what an addition is, what it decides, and what the set is after it. All on the model: nothing
--- here speaks of tables.
+-- here speaks of tables. It relies on the model of `tables`, the splits of `path` and the rules in order of Rules.antt.
 use Prim.Native.Nat.{ℕ, _+_, _-_, _*_, _/_, _%_, min}
 use mathlib.Core.Bool.{Bool, true, false, cond, not}
 use mathlib.Core.List.{List, [], _∷_, _++_, map}
@@ -36,6 +36,7 @@ abbrev pub isZero : ℤ → Bool
 isZero (pos n) = eqb n 0
 isZero (negsuc n) = false
 
+-- the number itself, 0 where it is negative
 abbrev pub sizeOf : ℤ → ℕ
 sizeOf (pos n) = n
 sizeOf (negsuc n) = 0
@@ -62,14 +63,16 @@ abbrev pub under : List ℕ → List ℕ → Directory
 under name branch =
     cond (equal (lsplitFirst branch) name) (stored (unled (lsplitRest branch)) false) (stored branch true)
 
+-- where a path's file lies: an absolute path and a single name have no directory; else it is the path's branch
 abbrev pub directoryFor : List ℕ → List ℕ → Directory
 directoryFor name path =
     cond (isComplete path) absolute (cond (isEmpty (rsplitBranch path)) single (under name (rsplitBranch path)))
 
--- 'A given name of no bytes counts as none'; an absolute path is its own name
+-- the name that a path gives: its last part; an absolute path is its own name
 abbrev pub pathName : List ℕ → List ℕ
 pathName path = cond (isComplete path) path (rsplitLeaf path)
 
+-- the name that is stored: 'A given name of no bytes counts as none'
 abbrev pub storedName : Optional (List ℕ) → List ℕ → List ℕ
 storedName absent path = pathName path
 storedName (present given) path = cond (isEmpty given) (pathName path) given
@@ -92,18 +95,28 @@ decides size link = both (ltb 0 size) (isEmpty link)
 abbrev pub isOpen : ℕ → ℕ → ℕ → Bool
 isOpen total links files = either (eqb total 0) (eqb links files)
 
-abbrev pub v2After : Bool → ℕ → ℕ → ℕ → ℕ → List ℕ → Bool → Bool
-v2After v2 total links files size link root = cond (both (decides size link) (isOpen total links files)) root v2
+-- whether the set is v2 after a file with a root or none: one that decides ('plain') 'fixes v2 or v1 (root or none)' in a
+-- set that is open ('free')
+abbrev pub kindAfter : Bool → Bool → Bool → Bool → Bool
+kindAfter v2 plain free root = cond (both plain free) root v2
 
 -- 'later ones must agree'
+abbrev pub disagreesIn : Bool → Bool → Bool → Bool → Bool
+disagreesIn v2 plain free root = both plain (both (not free) (cond v2 (not root) root))
+
+-- the same of a set's numbers and a file's size and link text: 'A file of size above 0 without link text fixes v2 or v1
+-- (root or none) while the total is 0 or there are as many link texts as files; later ones must agree'
+abbrev pub v2After : Bool → ℕ → ℕ → ℕ → ℕ → List ℕ → Bool → Bool
+v2After v2 total links files size link root = kindAfter v2 (decides size link) (isOpen total links files) root
+
 abbrev pub disagrees : Bool → ℕ → ℕ → ℕ → ℕ → List ℕ → Bool → Bool
-disagrees v2 total links files size link root =
-    both (decides size link) (both (not (isOpen total links files)) (cond v2 (not root) root))
+disagrees v2 total links files size link root = disagreesIn v2 (decides size link) (isOpen total links files) root
 
 -- 'when the total is no multiple of the piece length, a pad follows': what is missing to the next multiple
 abbrev pub padTo : ℕ → ℕ → ℕ
 padTo pieceLength total = (pieceLength - total % pieceLength) % pieceLength
 
+-- 'In v2 … a pad follows': the size of the pad behind a file, 0 where there is none
 abbrev pub padAfter : Bool → ℕ → ℕ → ℕ
 padAfter v2 pieceLength total = cond v2 (padTo pieceLength total) 0
 
@@ -191,6 +204,8 @@ directoriesAfter m a =
     cond (eqb (padOf m a) 0) (withPlace (placeFor m a) (m .directories))
     (withDirectory padDirectory (withPlace (placeFor m a) (m .directories)))
 
+-- the set after an addition: the file follows those held, its offset 'the sum of the sizes before it', and its pad follows
+-- it where there is one
 abbrev pub added : Model → Addition → Model
 added m a =
     record {

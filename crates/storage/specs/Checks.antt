@@ -1,7 +1,7 @@
 -- The tests of an addition on numbers, group by group in document 01's order, and what they settle. Private: the public
 -- rules are those of Addition.antt, and proofs/Rules.antt ties these to them.
 use Prim.Native.Nat.{ℕ, _+_, _/_, min}
-use mathlib.Core.Bool.{Bool, cond, not}
+use mathlib.Core.Bool.{Bool, not}
 use mathlib.Core.List.{List, [], _∷_, _++_}
 use lib.Dec.{leb, ltb}
 use lib.IntN.{ℤ}
@@ -18,7 +18,7 @@ use Rattle.storage.specs.declared.checks.Sizes.{Sizes}
 use Rattle.storage.specs.declared.checks.SizesResult.{SizesResult}
 use Rattle.storage.specs.declared.checks.SizesResult.the-variants.{Ok, Err}
 use Rattle.storage.specs.Rules.{Rule, when, both}
-use Rattle.storage.specs.Addition.{limit, isNegative, sizeOf, limitedName, badName, decides, isOpen, padAfter, badLength}
+use Rattle.storage.specs.Addition.{limit, isNegative, sizeOf, limitedName, badName, decides, isOpen, kindAfter, disagreesIn, padAfter, badLength}
 
 -- the number of the rule that stops a call, 0 where none does
 abbrev pub checkSays : Check → ℕ
@@ -51,19 +51,12 @@ nameRules files given path =
     when (both (not (hasParent path)) (ltb 0 files)) 7 ∷
     []
 
--- whether a file with or without a root disagrees with a set that is no longer open
-abbrev pub disagreesIn : Bool → Bool → Bool → Bool → Bool
-disagreesIn v2 plain free root = both plain (both (not free) (cond v2 (not root) root))
-
 -- refusals 8, 9
 abbrev pub kindRules : Bool → Bool → Bool → Bool → List Rule
 kindRules v2 plain free root =
     when (both (disagreesIn v2 plain free root) v2) 8 ∷
     when (disagreesIn v2 plain free root) 9 ∷
     []
-
-abbrev pub kindAfter : Bool → Bool → Bool → Bool → Bool
-kindAfter v2 plain free root = cond (both plain free) root v2
 
 -- refusal 4, for the pad
 abbrev pub padRules : ℕ → ℕ → List Rule

@@ -1,11 +1,15 @@
--- Document 01: opening, refusal 1 for a piece length below 1; a newly opened set has no files.
+-- Document 01, opening: refusal 1 for a piece length below 1, else a set without files, as its record and as a model. It
+-- relies on the record and the model of `tables`.
 use Prim.Native.Nat.{ℕ}
 use mathlib.Core.Bool.{false, cond}
+use mathlib.Core.List.{[]}
 use lib.Dec.{eqb}
 use lib.IntN.{ℤ, pos, negsuc}
 use Rattle.types.specs.Refusals.{Outcome, value, refused}
 use Rattle.tables.specs.declared.storage.FileStorage.{FileStorage}
+use Rattle.tables.specs.Model.{Model}
 
+-- the record of a newly opened set
 abbrev pub empty : ℕ → FileStorage
 empty n =
     record {
@@ -19,6 +23,22 @@ empty n =
       «text_len» = 0;
       «total_size» = 0;
       «size_on_disk» = 0;
+      trimmed = false;
+    }
+
+-- the model of a newly opened set
+abbrev pub fresh : ℕ → Model
+fresh n =
+    record {
+      pieceLength = n;
+      v2 = false;
+      name = [];
+      files = [];
+      directories = [];
+      times = [];
+      links = 0;
+      total = 0;
+      onDisk = 0;
       trimmed = false;
     }
 

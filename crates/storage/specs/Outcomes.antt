@@ -1,6 +1,7 @@
--- What a change answers and what every lent table holds after it, for tables of any content and length.
+-- What a change answers and what every lent table holds after it, for tables of any content and length. It relies on the
+-- rules of Addition.antt, the search of Trim.antt and the tables after a change of Write.antt.
 use Prim.Native.Nat.{ℕ, _/_, min}
-use mathlib.Core.Bool.{Bool, true, false, cond, not}
+use mathlib.Core.Bool.{Bool, cond, not}
 use mathlib.Core.List.{List, [], _∷_}
 use lib.Dec.{leb, eqb}
 use lib.IntN.{ℤ}
@@ -12,7 +13,7 @@ use Rattle.tables.specs.declared.storage.FileStorage.{FileStorage}
 use Rattle.tables.specs.Model.{Optional, absent, present, Model, Store, viewOf}
 use Rattle.storage.specs.declared.answer.StorageResult.{StorageResult}
 use Rattle.storage.specs.declared.answer.StorageResult.the-variants.{Ok, Err}
-use Rattle.storage.specs.Rules.{Rule, when, firstOf, outcomeOf, both, either}
+use Rattle.storage.specs.Rules.{when, firstOf, both, either}
 use Rattle.storage.specs.Addition.{Addition, Rooms, added, lacks, badLength, addingRules}
 use Rattle.storage.specs.Trim.{tailPad}
 use Rattle.storage.specs.Write.{storeAdded, storeTrimmed, textAfter}
@@ -64,14 +65,16 @@ abbrev pub addingNumber : Store → Model → Addition → ℕ
 addingNumber s m a =
     firstOf (addingRules m a (either (not (holds s)) (lacks (roomsOf s) (added m a) (textAfter (s .fs) m a))))
 
+-- what `add_file` answers and writes
 abbrev pub addStored : Store → Addition → Changed
 addStored s a = changedIf (addingNumber s (viewOf s) a) s (storeAdded s (viewOf s) a)
 
--- `remove_tail_padding`
+-- the tables without the pad that was found; as they were where none was
 abbrev pub trimmedBy : Optional ℕ → Store → Store
 trimmedBy absent s = s
 trimmedBy (present f) s = storeTrimmed s f
 
+-- what `remove_tail_padding` answers and writes: it 'removes at most one pad'
 abbrev pub trimStored : Store → Changed
 trimStored s =
     changedIf (firstOf (when (badLength (s .fs .«piece_length»)) 1 ∷ when (not (holds s)) 10 ∷ []))

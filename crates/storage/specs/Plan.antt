@@ -8,7 +8,6 @@ use lib.Dec.{eqb, ltb}
 use lib.IntN.{ℤ}
 use lib.ListN.{length}
 use lib.Seq.{sets}
-use Rattle.lists.specs.Decimal.{decimal}
 use Rattle.types.specs.Refusals.{numberOf, Outcome, value, refused}
 use Rattle.tables.specs.declared.span.Span.{Span}
 use Rattle.tables.specs.declared.storage.FileStorage.{FileStorage}
@@ -29,7 +28,7 @@ use Rattle.storage.specs.declared.plan.PlanResult.{PlanResult}
 use Rattle.storage.specs.declared.plan.PlanResult.the-variants.{Ok, Err}
 use Rattle.storage.specs.Rules.{both, either, outcomeOf}
 use Rattle.storage.specs.Addition.{Addition, limit, flagsKept, padDirectory, withPlace, withDirectory, sizeAdded, padOf, placeFor}
-use Rattle.storage.specs.Write.{placeOf, indexOf, missing, missingOf, isNew, isNewPlace, isNewPad, setText, directoryNew, nameText, linkNew, padText, oldName, kept, directoryStart, padDirectoryStart, padNameStart, textAfter, storageAdded, rowAdded, putDirIf}
+use Rattle.storage.specs.Write.{placeOf, indexOf, missing, missingOf, isNew, isNewPlace, isNewPad, setText, directoryNew, nameText, linkNew, padDigits, padText, oldName, kept, directoryStart, padDirectoryStart, padNameStart, textAfter, storageAdded, rowAdded, putDirIf}
 use Rattle.storage.specs.Outcomes.{optionalOf}
 use Rattle.storage.specs.Parts.{directoryAt}
 
@@ -85,10 +84,6 @@ countsOf fs z keeps flags untimed =
       «total_size» = fs .«total_size» + z .size + z .pad;
       «size_on_disk» = fs .«size_on_disk» + cond (eqb (flags % 2) 1) 0 (z .size);
     }
-
--- the name of a pad
-abbrev pub padDigits : ℕ → List ℕ
-padDigits pad = cond (eqb pad 0) [] (decimal pad)
 
 abbrev pub shortOf : ℕ → ℕ → ℕ → ℕ → ℕ → ℕ → Bool
 shortOf files filesRoom dirs dirsRoom times timesRoom = either (ltb filesRoom files) (either (ltb dirsRoom dirs) (ltb timesRoom times))

@@ -1,6 +1,7 @@
 -- Document 01, `remove_tail_padding`: 'skips empty files, removes at most one pad, and moves no modified time'.
-use Prim.Native.Nat.{ℕ, _+_, _-_, _/_, _%_}
-use mathlib.Core.Bool.{Bool, true, false, cond}
+-- All on the model; it relies on that of `tables`.
+use Prim.Native.Nat.{ℕ, _+_, _-_, _%_}
+use mathlib.Core.Bool.{true, cond}
 use mathlib.Core.List.{List, [], _∷_, _++_, map}
 use lib.Dec.{eqb}
 use lib.ListN.{getD, take, drop}

@@ -1,23 +1,22 @@
 -- What an addition and a trim write: the tables after them, word by word, for tables of any content. The decisions are
 -- those of Addition.antt on what the tables mean (`viewOf`); here stands where each text and row goes.
-use Prim.Native.Nat.{ℕ, zero, suc, _+_, _-_, _*_, _/_, _%_, min, max}
+use Prim.Native.Nat.{ℕ, _+_, _-_, _*_, _%_, max}
 use mathlib.Core.Bool.{Bool, true, false, cond, not}
 use mathlib.Core.List.{List, [], _∷_, _++_}
-use lib.Dec.{eqb, ltb, leb}
+use lib.Dec.{eqb}
 use lib.IntN.{ℤ, pos}
 use lib.ListN.{length, set, replicate}
 use lib.Seq.{sets}
 use Rattle.lists.specs.Lists.{equal}
 use Rattle.lists.specs.Decimal.{decimal}
-use Rattle.types.specs.Refusals.{Outcome}
 use Rattle.tables.specs.declared.span.Span.{Span}
 use Rattle.tables.specs.declared.rows.Row.{Row}
 use Rattle.tables.specs.declared.storage.FileStorage.{FileStorage}
 use Rattle.tables.specs.Span.{clip, slid, low}
 use Rattle.tables.specs.Rows.{rowAt, putRow, putDir, noPath, pathIsAbsolute, putRoot, dirsLowered, rowsWithout}
-use Rattle.tables.specs.Model.{Optional, absent, present, Directory, single, absolute, stored, Model, Store, viewOf}
-use Rattle.storage.specs.Rules.{both, either, firstOf, outcomeOf}
-use Rattle.storage.specs.Addition.{Addition, Rooms, filesOf, sizeAdded, keeps, isV2, padOf, newName, placeFor, storedName, setNameOf, flagsKept, padDirectory, isAmong, withPlace, withTime, added, lacks, isPresent, isZero, addingRules}
+use Rattle.tables.specs.Model.{Optional, absent, present, Directory, single, absolute, stored, Model, Store}
+use Rattle.storage.specs.Rules.{both}
+use Rattle.storage.specs.Addition.{Addition, filesOf, sizeAdded, keeps, isV2, padOf, placeFor, storedName, setNameOf, flagsKept, padDirectory, isAmong, withPlace, added, isPresent, isZero}
 
 -- ---- where texts and rows go
 
@@ -65,8 +64,12 @@ linkNew m a = cond (keeps m a) (a .link) []
 abbrev pub padDirectoryNew : Model → Addition → List ℕ
 padDirectoryNew m a = cond (eqb (padOf m a) 0) [] (missing padDirectory (withPlace (placeFor m a) (m .directories)))
 
+-- the name of a pad, 'the pad's size in decimal digits'; nothing where there is none
+abbrev pub padDigits : ℕ → List ℕ
+padDigits pad = cond (eqb pad 0) [] (decimal pad)
+
 abbrev pub padText : Model → Addition → List ℕ
-padText m a = cond (eqb (padOf m a) 0) [] (decimal (padOf m a))
+padText m a = padDigits (padOf m a)
 
 abbrev pub newTexts : Model → Addition → List ℕ
 newTexts m a =

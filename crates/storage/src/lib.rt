@@ -1,5 +1,4 @@
-// The set: opening, additions, trims, and the plain answers about a set and its files, from
-// file_storage.rs. A change is decided first, on numbers and parts of what was lent, and written after;
+// The set: opening, additions and trims, from file_storage.rs. A change is decided first, on numbers and parts of what was lent, and written after;
 // a refusal leaves every table untouched. Relies on `tables`, `path`, `lists` and `types`.
 mod add;
 mod answer;

@@ -5,7 +5,7 @@ use mathlib.Core.List.{List, []}
 use Prim.Native.Nat.{ℕ}
 use lib.Seq.{sets}
 use Rattle.storage.specs.Addition.{padDirectory}
-use Rattle.storage.specs.Plan.{padDigits}
+use Rattle.storage.specs.Write.{padDigits}
 use borrow.Author.Needs.{needs}
 use Rattle.storage.proofs.write.write_text.Statement.{statement}
 use Rattle.storage.proofs.write.write_text.Tie as tie
