@@ -1,4 +1,4 @@
--- What each answer says: its value, or document 01's number.
+-- What each answer says: its value, or document 01's number. It relies on the numbers of refusals of `types`.
 use Prim.Native.Nat.{ℕ}
 use mathlib.Core.Bool.{Bool}
 use mathlib.Core.List.{List}

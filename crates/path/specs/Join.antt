@@ -1,4 +1,5 @@
--- Document 01, 'Path parts': joins of a branch and a leaf, and what a join does to a lent buffer. 46 is `.`.
+-- Document 01, 'Path parts': joins of a branch and a leaf, and what a join does to a lent buffer. 46 is `.`. It
+-- relies on the separator of Split.antt and the outcomes of `types`.
 use Prim.Native.Nat.{ℕ}
 use mathlib.Core.Bool.{Bool, true, false, cond}
 use mathlib.Core.List.{List, [], _∷_, _++_}

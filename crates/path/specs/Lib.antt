@@ -1,3 +1,3 @@
--- The definitions that the contracts of `path` cite.
+-- The definitions that the contracts of `path` cite. They rely on `lists` and `types`.
 pub mod Split
 pub mod Join

@@ -1,5 +1,5 @@
 -- Document 01, 'Path parts': paths as lists of bytes, and their splits. The separator is 47, `/`; 92 is `\`, which only
--- `has_parent_path` counts as one.
+-- `has_parent_path` counts as one. It relies on `any` of `lists`.
 use Prim.Native.Nat.{ℕ, _-_}
 use mathlib.Core.Bool.{Bool, true, false, cond}
 use mathlib.Core.List.{List, [], _∷_, _++_}

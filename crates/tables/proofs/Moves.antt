@@ -13,26 +13,18 @@ use Rattle.tables.specs.declared.span.Span.{Span}
 use Rattle.tables.specs.declared.rows.Row.{Row}
 use Rattle.tables.specs.Span.{low}
 use Rattle.tables.specs.Rows.{rowAt, words, dirAt, dirWords, filled, dirsLowered, skip, rowMoved, rowsWithout}
-use Rattle.tables.proofs.Words.{row-ext, row-words, dir-ext, dir-words}
-use Rattle.tables.proofs.Filled.{word-filled, word-behind}
+use Rattle.tables.proofs.Words.{row-words, dir-words}
+use Rattle.tables.proofs.Filled.{word-filled}
 
 module _ (rows : List ℕ) (g : ℕ → Row) (n k : ℕ) where
   pub row-filled : n * 8 ≤ length rows → k < n → g k .offset < 2 ^ 48 → g k .size < 2 ^ 48 → rowAt (sets rows 0 (filled (λ i. words (g i)) 0 n)) k ≡ g k
   row-filled f h o s =
       row-words (sets rows 0 (filled (λ i. words (g i)) 0 n)) k (g k) o s (λ j b. word-filled 8 (λ i. words (g i)) (λ i. refl) rows n k j b f h)
 
-  pub row-behind : n ≤ k → rowAt (sets rows 0 (filled (λ i. words (g i)) 0 n)) k ≡ rowAt rows k
-  row-behind h =
-      row-ext (sets rows 0 (filled (λ i. words (g i)) 0 n)) rows k k (λ j b. word-behind 8 (λ i. words (g i)) (λ i. refl) rows n k j b h)
-
 module _ (dirs : List ℕ) (g : ℕ → Span) (n k : ℕ) where
   pub dir-filled : n * 2 ≤ length dirs → k < n → dirAt (sets dirs 0 (filled (λ i. dirWords (g i)) 0 n)) k ≡ g k
   dir-filled f h =
       dir-words (sets dirs 0 (filled (λ i. dirWords (g i)) 0 n)) k (g k) (λ j b. word-filled 2 (λ i. dirWords (g i)) (λ i. refl) dirs n k j b f h)
-
-  pub dir-behind : n ≤ k → dirAt (sets dirs 0 (filled (λ i. dirWords (g i)) 0 n)) k ≡ dirAt dirs k
-  dir-behind h =
-      dir-ext (sets dirs 0 (filled (λ i. dirWords (g i)) 0 n)) dirs k k (λ j b. word-behind 2 (λ i. dirWords (g i)) (λ i. refl) dirs n k j b h)
 
 -- directory rows once span c is removed
 pub length-lowered : (dirs : List ℕ) (n : ℕ) (c : Span) → length (dirsLowered dirs n c) ≡ length dirs
@@ -41,9 +33,6 @@ length-lowered dirs n c = length-sets dirs 0 (filled (λ i. dirWords (low c (dir
 module _ (dirs : List ℕ) (n : ℕ) (c : Span) (k : ℕ) where
   pub dir-lowered : k < n → k * 2 + 2 ≤ length dirs → dirAt (dirsLowered dirs n c) k ≡ low c (dirAt dirs k)
   dir-lowered h f = dir-filled dirs (λ i. low c (dirAt dirs i)) (min n (length dirs / 2)) k (omega arith) (omega arith)
-
-  pub dir-not-lowered : n ≤ k → dirAt (dirsLowered dirs n c) k ≡ dirAt dirs k
-  dir-not-lowered h = dir-behind dirs (λ i. low c (dirAt dirs i)) (min n (length dirs / 2)) k (omega arith)
 
 -- rows once row f is removed
 pub length-without : (rows : List ℕ) (n f total : ℕ) (c d : Span) → length (rowsWithout rows n f total c d) ≡ length rows
@@ -61,7 +50,3 @@ module _ (rows : List ℕ) (n f total : ℕ) (c d : Span) (k : ℕ) where
       offset : (b : Bool) → cond b (rowAt rows (skip f k) .offset) total < 2 ^ 48
       offset true = mod-lt _ (omega arith)
       offset false = t
-
-  pub row-not-moved : n ≤ k → rowAt (rowsWithout rows n f total c d) k ≡ rowAt rows k
-  row-not-moved h =
-      row-behind rows (λ i. rowMoved f total c d i (rowAt rows (skip f i))) (min n (length rows / 8)) k (omega arith)

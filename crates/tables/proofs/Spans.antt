@@ -77,9 +77,6 @@ pub within-kept : (c s : Span) (u : ℕ) → endOf c ≤ u → endOf s ≤ u →
 within-kept c s u hc hs p = omega arith
 
 -- a span's part within the used part
-pub clip-in : (u : ℕ) (s : Span) → endOf (clip u s) ≤ u
-clip-in u s = omega arith
-
 pub clip-same : (u : ℕ) (s : Span) → endOf s ≤ u → clip u s ≡ s
 clip-same u s h =
     let a : min (s .at) u ≡ s .at = omega arith in
@@ -94,11 +91,6 @@ read-within u text s h =
 -- the bytes without those of span c
 abbrev pub cut : Span → List ℕ → List ℕ
 cut c text = take (c .at) text ++ drop (endOf c) text
-
-pub length-cut : (c : Span) (text : List ℕ) → endOf c ≤ length text → length (cut c text) ≡ length text - c .len
-length-cut c text h =
-    length-append (take (c .at) text) (drop (endOf c) text)
-    ∙ omega (arith, length-take-le (c .at) text (omega arith), length-drop (endOf c) text)
 
 read-cut : (c s : Span) (text : List ℕ) → Apart c s → endOf c ≤ length text → endOf s ≤ length text → textAt (cut c text) (low c s) ≡ textAt text s
 read-cut c s text p hc hs = at (side c s p)
@@ -142,26 +134,6 @@ module _ (c : Span) (u : ℕ) (text : List ℕ) where
       ∙ ap (λ (x : List ℕ). textAt x (low c s)) (used-slid hc l)
       ∙ read-cut c s (take u text) p (rw n hc) (rw n hs)
       ∙ read-within u text s hs
-
--- two texts removed, first c and then l where it lies by then
-module _ (c l : Span) (u : ℕ) (hc : endOf c ≤ u) (hl : endOf l ≤ u) (cl : Apart c l) where
-  pub within-kept-two : (s : Span) → endOf s ≤ u → Apart c s → Apart l s → endOf (low (low c l) (low c s)) ≤ u - c .len - l .len
-  within-kept-two s hs cs ls =
-      within-kept (low c l) (low c s) (u - c .len) (within-kept c l u hc hl cl) (within-kept c s u hc hs cs) (apart-kept c l s cl cs ls)
-
-  pub apart-kept-two : (s t : Span) → Apart c s → Apart l s → Apart c t → Apart l t → Apart s t → Apart (low (low c l) (low c s)) (low (low c l) (low c t))
-  apart-kept-two s t cs ls ct lt st =
-      apart-kept (low c l) (low c s) (low c t) (apart-kept c l s cl cs ls) (apart-kept c l t cl ct lt) (apart-kept c s t cs ct st)
-
-  pub read-kept-two : (text : List ℕ) (s : Span) → endOf s ≤ u → Apart c s → Apart l s → u ≤ length text
-      → textAt (slid (low c l) (u - c .len) (slid c u text)) (low (low c l) (low c s)) ≡ textAt text s
-  read-kept-two text s hs cs ls h =
-      let n : u - c .len ≤ length (slid c u text) = rw (length-slid c u text) (less u (c .len) (length text) h) in
-      read-kept (low c l) (u - c .len) (slid c u text) (low c s) (apart-kept c l s cl cs ls) (within-kept c l u hc hl cl) (within-kept c s u hc hs cs) n
-      ∙ read-kept c u text s cs hc hs h
-    where
-      less : (u k n : ℕ) → u ≤ n → u - k ≤ n
-      less u k n h = omega arith
 
 -- once a text is put behind the used part, each text within that reads what it read before, and the new one what was put
 pub read-before : (text t : List ℕ) (u : ℕ) (s : Span) → endOf s ≤ u → textAt (sets text u t) s ≡ textAt text s

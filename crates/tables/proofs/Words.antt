@@ -104,9 +104,6 @@ dir-words a i s e =
     rw (e0, e 1 (omega arith))
 
 module _ (dirs : List ℕ) (i : ℕ) (s : Span) where
-  pub length-put-dir : length (putDir dirs i s) ≡ length dirs
-  length-put-dir = length-sets dirs (i * 2) (dirWords s)
-
   pub dir-back : i * 2 + 2 ≤ length dirs → dirAt (putDir dirs i s) i ≡ s
   dir-back f = dir-words (putDir dirs i s) i s (λ j b. word-same 2 dirs (dirWords s) i refl j b f)
 
@@ -163,7 +160,3 @@ module _ (roots : List ℕ) (i : ℕ) (root : List ℕ) (n : length root ≡ 32)
 
   pub root-other : (k : ℕ) → (k ≡ i → ⊥) → rootAt (putRoot roots i root) k ≡ rootAt roots k
   root-other k d = root-ext (putRoot roots i root) roots k k (λ j b. word-other 32 roots root i n j b k d)
-
-pub root-past : (roots : List ℕ) (i : ℕ) → length roots ≤ i * 32 → rootAt roots i ≡ replicate 32 0
-root-past roots i h =
-    root-words roots i (replicate 32 0) refl (λ j b. List·getD-eq-default roots 0 (omega arith) ∙ sym (zeros 32 j))

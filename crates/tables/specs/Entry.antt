@@ -1,4 +1,4 @@
--- Document 01, 'The set': a file's record, its row beside its root and the root's presence.
+-- Document 01, 'The set': a file's record, its row beside its root and the root's presence. It relies on Rows.antt.
 use Prim.Native.Nat.{ℕ}
 use mathlib.Core.Bool.{Bool, true, false}
 use mathlib.Core.List.{List}

@@ -1,4 +1,5 @@
--- The definitions that the contracts of `tables` cite, and the model of a set that the tables mean.
+-- The definitions that the contracts of `tables` cite, and the model of a set that the tables mean. They
+-- rely on `lists`.
 pub mod Span
 pub mod Rows
 pub mod Entry

@@ -1,6 +1,7 @@
 -- What a set's tables mean: document 01, 'The set'. A set is its files in order, each with offset, size, name, directory,
--- flags, link text and root, its directories, its times, its name, v1 or v2, and its totals.
-use Prim.Native.Nat.{ℕ, zero, suc, _+_, _%_}
+-- flags, link text and root, its directories, its times, its name, v1 or v2, and its totals. It relies on the rows of
+-- Rows.antt and the texts of Span.antt.
+use Prim.Native.Nat.{ℕ, zero, suc, _%_}
 use mathlib.Core.Bool.{Bool, true, false, cond}
 use mathlib.Core.List.{List, [], _∷_}
 use lib.Dec.{eqb}

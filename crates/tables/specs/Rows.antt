@@ -1,5 +1,6 @@
 -- Records in flat lists of words: 8 words a file row, 2 a directory row, 32 bytes a root. Reading past a list's end gives
--- zeros and storing there does nothing, so a row is what it is for every list and every place.
+-- zeros and storing there does nothing, so a row is what it is for every list and every place. It relies on the spans of
+-- Span.antt.
 use Prim.Native.Nat.{ℕ, zero, suc, _+_, _-_, _*_, _/_, _%_, _^_, min}
 use mathlib.Core.Bool.{Bool, false, cond, not}
 use mathlib.Core.List.{List, [], _∷_, _++_}

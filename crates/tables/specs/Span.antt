@@ -1,8 +1,9 @@
 -- Texts side by side in the used part of a text area, which is a prefix without gaps. A span says where a text lies; a
 -- text is removed by sliding down what lies behind it. All is total: spans may lie anywhere, and empty ones are harmless.
+-- It relies on `partOf` of `lists`.
 use Prim.Native.Nat.{ℕ, _+_, _-_, _≤_, min, max}
 use mathlib.Core.List.{List}
-use lib.ListN.{length, take, drop}
+use lib.ListN.{take, drop}
 use lib.Seq.{sets}
 use Rattle.lists.specs.Lists.{partOf}
 use Rattle.tables.specs.declared.span.Span.{Span}
