@@ -6,7 +6,7 @@ ghost use Rattle.tables.specs.Rows.{rootAt};
 ghost use Rattle.storage.specs.Outcomes.{storageSays, optionalOf, addStored, trimStored};
 ghost use Rattle.exports.specs.State.{Exported, exported, storageOf, wordsOf, bit, presenceOf, numberSaid, stateSaid};
 
-mod mapping;
+mod questions;
 
 use storage::StorageResult;
 use tables::FileStorage;

@@ -1,10 +1,10 @@
--- `exports::mapping::wide` meets its contract.
+-- `exports::questions::wide` meets its contract.
 use mir.Syntax.{w32, w64}
 use mir.Val.{SFits}
 use mir.Facts.{toZ-ofZ, sfits-widen}
 use borrow.Author.Needs.{needs}
-use Rattle.exports.proofs.mapping.wide.Statement.{statement}
-use Rattle.exports.proofs.mapping.wide.Tie as tie
+use Rattle.exports.proofs.questions.wide.Statement.{statement}
+use Rattle.exports.proofs.questions.wide.Tie as tie
 
 cast-result : tie.Need-cast-result
 cast-result c =

@@ -1,4 +1,4 @@
--- `exports::mapping::niflathen_map_block` meets its contract: the mapping's own, at the record that was read.
+-- `exports::questions::niflathen_map_block` meets its contract: the mapping's own, at the record that was read.
 use mathlib.Core.Path.{_≡_, _∙_}
 use lib.IntN.{ℤ}
 use mir.Syntax.{w32, w64}
@@ -9,8 +9,8 @@ use Rattle.layout.specs.Block.{Mapped, mapBlock}
 use Rattle.exports.specs.State.{storageOf}
 use Rattle.exports.specs.Layout.{BlockSaid, blockSaid, countSaid}
 use borrow.Author.Needs.{needs}
-use Rattle.exports.proofs.mapping.niflathen_map_block.Statement.{statement}
-use Rattle.exports.proofs.mapping.niflathen_map_block.Tie as tie
+use Rattle.exports.proofs.questions.niflathen_map_block.Statement.{statement}
+use Rattle.exports.proofs.questions.niflathen_map_block.Tie as tie
 
 -- where the mapping's outcome is known, so is what is returned
 said : (z : ℤ) (made known : Mapped) → made ≡ known → z ≡ countSaid (made .says)

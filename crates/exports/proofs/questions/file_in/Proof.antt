@@ -1,11 +1,11 @@
--- `exports::mapping::file_in` meets its contract.
+-- `exports::questions::file_in` meets its contract.
 use mathlib.Core.Path.{_∙_}
 use mir.Syntax.{w32, w64}
 use mir.Val.{SFits}
 use mir.Facts.{toZ-ofZ}
 use borrow.Author.Needs.{needs}
-use Rattle.exports.proofs.mapping.file_in.Statement.{statement}
-use Rattle.exports.proofs.mapping.file_in.Tie as tie
+use Rattle.exports.proofs.questions.file_in.Statement.{statement}
+use Rattle.exports.proofs.questions.file_in.Tie as tie
 
 enum-known-answer : tie.Need-enum-known-answer
 enum-known-answer c = search needs

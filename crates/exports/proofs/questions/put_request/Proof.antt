@@ -1,4 +1,4 @@
--- `exports::mapping::put_request` meets its contract: at each arm the answer is the one that the arm names.
+-- `exports::questions::put_request` meets its contract: at each arm the answer is the one that the arm names.
 use mathlib.Core.Path.{_≡_, _∙_}
 use mir.Syntax.{w32, w64}
 use mir.Val.{SFits, toZ, ofZ}
@@ -6,8 +6,8 @@ use mir.Facts.{toZ-ofZ}
 use lib.ListN.{length}
 use borrow.Author.Tests.{lt-ltb, le-ltb}
 use borrow.Author.Needs.{needs}
-use Rattle.exports.proofs.mapping.put_request.Statement.{statement}
-use Rattle.exports.proofs.mapping.put_request.Tie as tie
+use Rattle.exports.proofs.questions.put_request.Statement.{statement}
+use Rattle.exports.proofs.questions.put_request.Tie as tie
 
 enum-known-answer : tie.Need-enum-known-answer
 enum-known-answer c = search needs

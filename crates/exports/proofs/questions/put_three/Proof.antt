@@ -1,11 +1,11 @@
--- `exports::mapping::put_three` meets its contract: three stores in a row.
+-- `exports::questions::put_three` meets its contract: three stores in a row.
 use mathlib.Core.Path.{_∙_}
 use mir.Syntax.{w64}
 use mir.Val.{SFits}
 use mir.Facts.{toZ-ofZ}
 use borrow.Author.Needs.{needs}
-use Rattle.exports.proofs.mapping.put_three.Statement.{statement}
-use Rattle.exports.proofs.mapping.put_three.Tie as tie
+use Rattle.exports.proofs.questions.put_three.Statement.{statement}
+use Rattle.exports.proofs.questions.put_three.Tie as tie
 
 put-time-requires : tie.Need-put-time-requires
 put-time-requires c κs = search needs

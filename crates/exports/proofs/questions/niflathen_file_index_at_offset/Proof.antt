@@ -1,11 +1,11 @@
--- `exports::mapping::niflathen_file_index_at_offset` meets its contract: the question's own, at the record that was read.
+-- `exports::questions::niflathen_file_index_at_offset` meets its contract: the question's own, at the record that was read.
 use mathlib.Core.Path.{_∙_}
 use mir.Syntax.{w64}
 use mir.Val.{SFits}
 use mir.Facts.{toZ-ofZ}
 use borrow.Author.Needs.{needs}
-use Rattle.exports.proofs.mapping.niflathen_file_index_at_offset.Statement.{statement}
-use Rattle.exports.proofs.mapping.niflathen_file_index_at_offset.Tie as tie
+use Rattle.exports.proofs.questions.niflathen_file_index_at_offset.Statement.{statement}
+use Rattle.exports.proofs.questions.niflathen_file_index_at_offset.Tie as tie
 
 storage-at-requires : tie.Need-storage-at-requires
 storage-at-requires c κs = search needs
