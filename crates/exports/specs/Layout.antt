@@ -7,8 +7,10 @@ use lib.IntN.{ℤ, pos, negℤ}
 use lib.ListN.{length}
 use lib.Seq.{sets}
 use Rattle.types.specs.Refusals.{Outcome, value, refused}
+use Rattle.types.specs.declared.index.FileSlice.{FileSlice}
 use Rattle.layout.specs.Results.{Asked}
 use Rattle.layout.specs.Block.{Mapped}
+use Rattle.layout.specs.Table.{Filled}
 
 -- a count, which is below 2^63 wherever a table holds so many
 abbrev pub countSaid : Outcome ℕ → ℤ
@@ -28,6 +30,14 @@ pub record BlockSaid : Type 0 where
 
 abbrev pub blockSaid : Mapped → BlockSaid
 blockSaid m = record { answer = countSaid (m .says); file = m .file; offset = m .offset; size = m .size }
+
+-- the answer, and what the table of records holds after it
+pub record SlicesSaid : Type 0 where
+  pub answer : ℤ
+  pub table : List FileSlice
+
+abbrev pub slicesSaid : Filled → SlicesSaid
+slicesSaid f = record { answer = countSaid (f .says); table = f .table }
 
 -- the number that is returned, 0 where the call was not refused, and what the table holds after it
 pub record RequestSaid : Type 0 where

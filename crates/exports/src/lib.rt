@@ -7,6 +7,7 @@ ghost use Rattle.storage.specs.Outcomes.{storageSays, optionalOf, addStored, tr
 ghost use Rattle.exports.specs.State.{Exported, exported, storageOf, wordsOf, bit, presenceOf, numberSaid, stateSaid};
 
 mod questions;
+mod slices;
 
 use storage::StorageResult;
 use tables::FileStorage;

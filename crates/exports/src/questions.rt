@@ -33,7 +33,7 @@ fn wide(x: i32) -> i64
 }
 
 // How many there are, or minus the number of the refusal.
-fn count_in(answer: UsizeResult) -> i64
+pub(crate) fn count_in(answer: UsizeResult) -> i64
     ensures { λ r. ⌜ r ≡ countSaid (usizeSays answer) ⌝ }
 {
     match answer {

@@ -4,7 +4,8 @@
 // The number of a piece.
 pub struct PieceIndex(pub i32);
 
-// The number of a file.
+// The number of a file. It lies as C lays it, since a `FileSlice` holds it.
+#[repr(C)]
 pub struct FileIndex(pub i32);
 
 // The pieces from `begin` up to, and without, `end`.
@@ -32,7 +33,8 @@ pub struct PeerRequest {
     pub length: i32,
 }
 
-// A window of a file.
+// A window of a file. It lies as C lays it: a slice of them is lent through the C interface.
+#[repr(C)]
 pub struct FileSlice {
     pub file_index: FileIndex,
     pub offset: i64,

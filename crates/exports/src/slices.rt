@@ -1,0 +1,32 @@
+// The mapping of a block into a lent slice of records, which lie as C lays them: the file's number, four
+// bytes that nothing reads, offset and size. Relies on `mapping`.
+ghost use mathlib.Core.Path.{_≡_};
+ghost use Rattle.layout.specs.Table.{blockMapped};
+ghost use Rattle.exports.specs.State.{storageOf};
+ghost use Rattle.exports.specs.Layout.{SlicesSaid, slicesSaid};
+use crate::questions::count_in;
+use crate::storage_at;
+use types::FileSlice;
+use types::PieceIndex;
+
+// `mapping::map_block`: the number of slices, or minus the number of the refusal.
+#[no_mangle]
+pub extern "C" fn niflathen_map_block_slices(
+    state: &[u64],
+    rows: &[u64],
+    piece: i32,
+    offset: i64,
+    size: i64,
+    out: &mut [FileSlice],
+) -> i64
+    ensures { λ r. ⌜ _≡_ {A = SlicesSaid} (record { answer = r; table = now (out .exit) }) (slicesSaid (blockMapped (storageOf (now (state .entry))) (now (rows .entry)) piece offset size (now (out .entry)))) ⌝ }
+{
+    count_in(mapping::map_block(
+        storage_at(state),
+        rows,
+        PieceIndex(piece),
+        offset,
+        size,
+        out,
+    ))
+}
