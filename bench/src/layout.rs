@@ -11,7 +11,7 @@ use crate::additions::{add_port, add_rust, rust_sets};
 use crate::best::{Best, STRETCH};
 use crate::compare;
 use crate::inputs::{Input, PIECE_LENGTH, Random, layout_inputs};
-use crate::port::{Columns, Set};
+use crate::port::{Columns, Set, Slice};
 
 /// How many files the sets have.
 const FILES: [usize; 3] = [10, 1_000, 65_000];
@@ -103,6 +103,19 @@ fn check(sets: &Sets, columns: &mut Columns) {
     }
 }
 
+/// Asks both sides for every block, the port's slices as records, and compares the answers.
+fn check_slices(sets: &Sets, slices: &mut [Slice]) {
+    for b in &sets.blocks {
+        let rust = sets.rust.map_block(PieceIndex(b.piece), b.offset, BLOCK);
+        let number = sets.port.map_block_slices(b.piece, b.offset, BLOCK, slices);
+        assert_eq!(number, rust.len() as i64, "number of records");
+        for (i, (slice, port)) in rust.iter().zip(&*slices).enumerate() {
+            let answer = (slice.file_index.0, slice.offset, slice.size);
+            assert_eq!((port.file, port.offset, port.size), answer, "record {i}");
+        }
+    }
+}
+
 /// The Rust behind one call, as the port is: what a caller in another crate has where the compiler does not take the
 /// function into its own loop.
 #[inline(never)]
@@ -170,6 +183,18 @@ fn measure<Q>(
     print(question, files, &times);
 }
 
+/// Measures `map_block` beside one of the port's two.
+fn measure_blocks(question: &str, sets: &Sets, port: impl FnMut(&Block)) {
+    measure(
+        question,
+        sets.port.num_files(),
+        &sets.blocks,
+        |b| drop(black_box(sets.rust.map_block(PieceIndex(b.piece), b.offset, BLOCK))),
+        |b| drop(black_box(map_block(&sets.rust, b.piece, b.offset, BLOCK))),
+        port,
+    );
+}
+
 /// Prints the table.
 pub fn table() {
     println!("| question | files | Rust | Rust, called | port | port / Rust | port / called |");
@@ -177,15 +202,17 @@ pub fn table() {
     let sets: Vec<Sets> = FILES.iter().map(|&files| sets(files)).collect();
     let mut columns = Columns::new(BLOCK as usize);
     sets.iter().for_each(|s| check(s, &mut columns));
+    let mut slices = vec![Slice::default(); BLOCK as usize];
+    sets.iter().for_each(|s| check_slices(s, &mut slices));
     for s in &sets {
-        measure(
-            "map_block",
-            s.port.num_files(),
-            &s.blocks,
-            |b| drop(black_box(s.rust.map_block(PieceIndex(b.piece), b.offset, BLOCK))),
-            |b| drop(black_box(map_block(&s.rust, b.piece, b.offset, BLOCK))),
-            |b| _ = black_box(s.port.map_block(b.piece, b.offset, BLOCK, &mut columns)),
-        );
+        measure_blocks("map_block", s, |b| {
+            _ = black_box(s.port.map_block(b.piece, b.offset, BLOCK, &mut columns));
+        });
+    }
+    for s in &sets {
+        measure_blocks("map_block, a slice of structs", s, |b| {
+            _ = black_box(s.port.map_block_slices(b.piece, b.offset, BLOCK, &mut slices));
+        });
     }
     for s in &sets {
         let mut out = [0; 3];

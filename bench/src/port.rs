@@ -63,6 +63,18 @@ unsafe extern "C" {
         out_size_len: usize,
     ) -> i64;
 
+    fn niflathen_map_block_slices(
+        state: *const u64,
+        state_len: usize,
+        rows: *const u64,
+        rows_len: usize,
+        piece: i32,
+        offset: i64,
+        size: i64,
+        out: *mut Slice,
+        out_len: usize,
+    ) -> i64;
+
     fn niflathen_file_index_at_offset(
         state: *const u64,
         state_len: usize,
@@ -90,6 +102,15 @@ pub struct Row {
     pub size: u64,
     pub name: (usize, usize),
     pub flags: u64,
+}
+
+/// A window of a file, as the port lays its `FileSlice`.
+#[repr(C)]
+#[derive(Clone, Copy, Default)]
+pub struct Slice {
+    pub file: i32,
+    pub offset: i64,
+    pub size: i64,
 }
 
 /// The columns that `map_block` puts its slices into.
@@ -223,6 +244,25 @@ impl Set {
                 out.offset.len(),
                 out.size.as_mut_ptr(),
                 out.size.len(),
+            )
+        }
+    }
+
+    /// Puts a block's slices into `out`, and gives their number, or minus the number of the refusal.
+    #[inline]
+    pub fn map_block_slices(&self, piece: i32, offset: i64, size: i64, out: &mut [Slice]) -> i64 {
+        // SAFETY: as above, and a `Slice` lies as the port's `FileSlice` does.
+        unsafe {
+            niflathen_map_block_slices(
+                self.state.as_ptr(),
+                self.state.len(),
+                self.rows.as_ptr(),
+                self.rows.len(),
+                piece,
+                offset,
+                size,
+                out.as_mut_ptr(),
+                out.len(),
             )
         }
     }
