@@ -1,6 +1,7 @@
 -- Deciding before an answer. A decision says the number of the first refusal, or 0; the answer that follows says its value,
 -- or that number. Stated once for every list of rules; they rely on the definitions of specs/Questions.antt.
---     unsigned-of, unsigned-negative      what a signed number is, by its unsigned reading
+--     unsigned-of, unsigned-negative, file-or-past, past-negative
+--                                         what a signed number is, by its unsigned reading
 --     below-yes, below-no                 what `within` says of a number
 --     below-not, below-as, index-low      what its sign says of it
 --     over-is                             whether there are more than k pieces, by a product
@@ -9,6 +10,8 @@
 --     pieces-known, piece-known           what that means for the set and a piece of it
 --     set-held, piece-held                what it means for the rows
 --     file-known, file-counted            what it means for a file and its set
+--     past-any                            a file past the end of any set, for a negative number
+--     asked-apart                         a question about bytes of a file is answered where the set and the question pass
 use Prim.Native.Nat.{ℕ, _+_, _-_, _*_, _%_, _^_, _≤_, _<_}
 use mathlib.Core.Path.{_≡_, refl, sym, ap, _∙_}
 use mathlib.Core.Bool.{Bool, true, false, cond, not, true≢false}
@@ -29,12 +32,12 @@ use Rattle.types.specs.declared.refusal.Refusal.{Refusal}
 use Rattle.types.proofs.Refusals.{numbered}
 use Rattle.types.specs.declared.signed.Unsigned.the-variants.{Of, Negative}
 use Rattle.tables.specs.declared.storage.FileStorage.{FileStorage}
-use Rattle.storage.specs.Rules.{Rule, when, firstOf, outcomeOf, either}
+use Rattle.storage.specs.Rules.{Rule, when, firstOf, outcomeOf, both, either}
 use Rattle.storage.specs.Addition.{badLength, isNegative, sizeOf, limit}
 use Rattle.answers.specs.Answers.{indexOf, isBelow}
 use Rattle.layout.specs.declared.decide.Check.{Check}
 use Rattle.layout.specs.declared.decide.Check.the-variants.{Go, Stop}
-use Rattle.layout.specs.Deciding.{checkNumber, Counted}
+use Rattle.layout.specs.Deciding.{checkNumber, Counted, fileOrPast}
 use Rattle.layout.specs.Questions.{numPieces, opened, noFile, manyPieces, noPiece, badRange, short}
 use Rattle.layout.specs.Pieces.{startOf, pieceSize}
 
@@ -46,6 +49,14 @@ unsigned-of (negsuc m) n e = absurd (let z : _≡_ {A = ℕ} 0 1 = cc in omega a
 pub unsigned-negative : (z : ℤ) → unsignedOf z ≡ Negative → (isNegative z ≡ true) × (sizeOf z ≡ 0)
 unsigned-negative (pos m) e = absurd (let z : _≡_ {A = ℕ} 0 1 = cc in omega arith)
 unsigned-negative (negsuc m) e = (refl, refl)
+
+pub file-or-past : (z : ℤ) (n : ℕ) → unsignedOf z ≡ Of n → fileOrPast z ≡ n
+file-or-past (pos m) n e = cc
+file-or-past (negsuc m) n e = absurd (let z : _≡_ {A = ℕ} 0 1 = cc in omega arith)
+
+pub past-negative : (z : ℤ) → unsignedOf z ≡ Negative → fileOrPast z ≡ 2 ^ 64 - 1
+past-negative (pos m) e = absurd (let z : _≡_ {A = ℕ} 0 1 = cc in omega arith)
+past-negative (negsuc m) e = refl
 
 -- one of so many
 module _ (r count : ℕ) where
@@ -246,3 +257,29 @@ first-append [] qs h = refl
 first-append (r ∷ rs) qs h =
     let q = each (ltb 0 (r .number)) (named rs) h in
     ap (cond (r .test) (r .number)) (first-append rs qs (q .1)) ∙ first-behind (r .test) (r .number) (firstOf rs) (firstOf qs) (ltb-true 0 (r .number) (q .0))
+
+-- the tests of the set and those of the question, apart and in their order
+pub asked-apart : (a b c d e : Bool)
+    → eqb (firstOf (when a 1 ∷ when b 11 ∷ when c 13 ∷ when d 14 ∷ when e 10 ∷ [])) 0
+    ≡ both (eqb (firstOf (when a 1 ∷ when c 13 ∷ when e 10 ∷ [])) 0) (eqb (firstOf (when b 11 ∷ when d 14 ∷ [])) 0)
+asked-apart true b c d e = refl
+asked-apart false true true d e = refl
+asked-apart false true false d true = refl
+asked-apart false true false d false = refl
+asked-apart false false true d e = refl
+asked-apart false false false true true = refl
+asked-apart false false false true false = refl
+asked-apart false false false false true = refl
+asked-apart false false false false false = refl
+
+-- a negative number is refused as that of a file past the end of any set
+pub past-any : {A : Type 0} (fs : FileStorage) (z : ℤ) (rules : List Rule) (a : ℕ → A) → fs .«num_files» < 2 ^ 64
+    → outcomeOf (firstOf (opened fs ∷ noFile fs (pos (fileOrPast z)) ∷ rules)) (a (fileOrPast z)) ≡ outcomeOf (firstOf (opened fs ∷ noFile fs z ∷ rules)) (a (indexOf z))
+past-any fs (pos n) rules a h = refl
+past-any fs (negsuc n) rules a h =
+    let e : ltb (2 ^ 64 - 1) (fs .«num_files») ≡ false = le-ltb (2 ^ 64 - 1) (fs .«num_files») (omega arith) in
+    rw e (by (badLength (fs .«piece_length»)))
+  where
+    by : (b : Bool) → outcomeOf (cond b 1 11) (a (2 ^ 64 - 1)) ≡ outcomeOf (cond b 1 11) (a 0)
+    by true = refl
+    by false = refl

@@ -9,7 +9,7 @@ use lib.ListN.{length}
 use lib.Seq.{sets}
 use Rattle.types.specs.Refusals.{Outcome, value, refused}
 use Rattle.tables.specs.declared.storage.FileStorage.{FileStorage}
-use Rattle.storage.specs.Rules.{firstOf}
+use Rattle.storage.specs.Rules.{Rule, firstOf}
 use Rattle.storage.specs.Addition.{sizeOf}
 use Rattle.answers.specs.Answers.{indexOf, rowsHeld}
 use Rattle.layout.specs.Questions.{opened, manyPieces, noPiece, badRange, short}
@@ -47,12 +47,15 @@ hasPlaces ss f o s = leb (length ss) (min (length f) (min (length o) (length s))
 abbrev pub blockOf : FileStorage → List ℕ → ℤ → ℤ → ℤ → List Slice
 blockOf fs rows z offset size = slicesOf fs rows (startOf fs (indexOf z) + sizeOf offset) (sizeOf size)
 
+-- `map_block`'s refusals, in order, in front of the last, which is for room
+abbrev pub blockRules : FileStorage → List ℕ → ℤ → ℤ → ℤ → List Rule → List Rule
+blockRules fs rows z offset size last =
+    opened fs ∷ manyPieces fs ∷ noPiece fs z ∷ badRange offset size ∷ short (rowsHeld fs rows) ∷ last
+
 abbrev pub mapBlock : FileStorage → List ℕ → ℤ → ℤ → ℤ → List ℕ → List ℕ → List ℕ → Mapped
 mapBlock fs rows z offset size f o s =
     mapped
-    (firstOf
-    (opened fs ∷ manyPieces fs ∷ noPiece fs z ∷ badRange offset size ∷ short (rowsHeld fs rows) ∷
-    short (hasPlaces (blockOf fs rows z offset size) f o s) ∷ []))
+    (firstOf (blockRules fs rows z offset size (short (hasPlaces (blockOf fs rows z offset size) f o s) ∷ [])))
     (blockOf fs rows z offset size)
     f
     o

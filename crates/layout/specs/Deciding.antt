@@ -1,13 +1,12 @@
 -- What the private parts of the code say: a decision before an answer, a set whose pieces can be counted, and a request
 -- before it is turned into signed numbers.
-use Prim.Native.Nat.{ℕ, _≤_, _<_}
-use mathlib.Core.Bool.{cond}
+use Prim.Native.Nat.{ℕ, _-_, _^_, _≤_, _<_}
 use mathlib.Core.List.{List, [], _∷_}
-use lib.Dec.{eqb, leb}
-use lib.IntN.{ℤ}
+use lib.Dec.{leb}
+use lib.IntN.{ℤ, pos, negsuc}
 use Rattle.types.specs.Refusals.{numberOf}
 use Rattle.tables.specs.declared.storage.FileStorage.{FileStorage}
-use Rattle.storage.specs.Rules.{Rule, firstOf}
+use Rattle.storage.specs.Rules.{Rule}
 use Rattle.layout.specs.declared.decide.Check.{Check}
 use Rattle.layout.specs.declared.decide.Check.the-variants.{Go, Stop}
 use Rattle.layout.specs.declared.file.Place.{Place}
@@ -28,11 +27,19 @@ pub record Counted (fs : FileStorage) : Type 0 where
 abbrev pub requestOf : Place → Request
 requestOf p = record { piece = p .piece; start = p .start; length = p .length }
 
--- the number of the first refusal, 10 where there is none
-abbrev pub refusedBy : List Rule → ℕ
-refusedBy rules = cond (eqb (firstOf rules) 0) 10 (firstOf rules)
-
 -- the refusals of a question about bytes of file z, of a set with room for so many rows
 abbrev pub bytesAsked : FileStorage → ℤ → ℤ → ℤ → ℕ → List Rule
 bytesAsked fs z offset size room =
     opened fs ∷ noFile fs z ∷ manyPieces fs ∷ badRange offset size ∷ short (leb (fs .«num_files») room) ∷ []
+
+-- those among them that ask the set alone, and those that ask the question
+abbrev pub setAsked : FileStorage → ℕ → List Rule
+setAsked fs room = opened fs ∷ manyPieces fs ∷ short (leb (fs .«num_files») room) ∷ []
+
+abbrev pub placeAsked : FileStorage → ℤ → ℤ → ℤ → List Rule
+placeAsked fs z offset size = noFile fs z ∷ badRange offset size ∷ []
+
+-- a file's number; a negative one is the number of a file that no set has
+abbrev pub fileOrPast : ℤ → ℕ
+fileOrPast (pos n) = n
+fileOrPast (negsuc n) = 2 ^ 64 - 1

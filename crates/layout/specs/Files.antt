@@ -1,8 +1,8 @@
 -- Document 01, 'Layout answers': answers about files' pieces, blocks and trees.
 use Prim.Native.Nat.{ℕ, zero, suc, _+_, _-_, _*_, _/_, _%_, _^_}
-use mathlib.Core.Bool.{Bool, true, false, cond}
-use mathlib.Core.List.{List, [], _∷_}
-use lib.Dec.{eqb, ltb, leb}
+use mathlib.Core.Bool.{cond}
+use mathlib.Core.List.{List}
+use lib.Dec.{eqb, ltb}
 use lib.IntN.{ℤ, pos, negsuc}
 use Rattle.lists.specs.Lists.{ceiling, equal}
 use Rattle.tables.specs.declared.storage.FileStorage.{FileStorage}
@@ -10,7 +10,8 @@ use Rattle.tables.specs.Rows.{rowAt}
 use Rattle.answers.specs.Answers.{rootOf}
 use Rattle.storage.specs.Rules.{either}
 use Rattle.layout.specs.Questions.{numPieces}
-use Rattle.layout.specs.Mapping.{Request, mapFile}
+use Rattle.layout.specs.Pieces.{blocksIn}
+use Rattle.layout.specs.Mapping.{Request}
 
 -- 'Quotients here go toward zero': (n − 1) / d, where n may be 0: then 0, or −1 at d 1
 abbrev pub lastQuotient : ℕ → ℕ → ℤ
@@ -21,7 +22,7 @@ abbrev pub low31 : ℤ → ℤ
 low31 (pos n) = pos (n % 2 ^ 31)
 low31 (negsuc n) = negsuc n
 
--- one more than that
+-- one more than `lastQuotient`
 abbrev pub afterQuotient : ℕ → ℕ → ℕ
 afterQuotient n d = cond (eqb n 0) (cond (eqb d 1) 0 1) ((n - 1) / d + 1)
 
@@ -64,4 +65,4 @@ abbrev pub piecesOf : FileStorage → List ℕ → ℕ → ℕ
 piecesOf fs rows k = ceiling (rowAt rows k .size) (fs .«piece_length»)
 
 abbrev pub blocksOf : List ℕ → ℕ → ℕ
-blocksOf rows k = ceiling (rowAt rows k .size) 16384
+blocksOf rows k = blocksIn (rowAt rows k .size)

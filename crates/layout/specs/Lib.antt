@@ -9,6 +9,7 @@ pub mod Mapping
 pub mod Deciding
 pub mod Block
 pub mod Request
+pub mod List
 pub mod Table
 pub mod Given
 pub mod Start

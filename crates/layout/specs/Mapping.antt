@@ -1,8 +1,8 @@
 -- Document 01, 'Layout answers': `map_block` and `map_file`.
-use Prim.Native.Nat.{ℕ, zero, suc, _+_, _-_, _*_, _/_, _%_, min}
-use mathlib.Core.Bool.{Bool, true, false, cond}
+use Prim.Native.Nat.{ℕ, zero, suc, _+_, _-_, _/_, _%_, min}
+use mathlib.Core.Bool.{cond}
 use mathlib.Core.List.{List, [], _∷_}
-use lib.Dec.{eqb, ltb, leb}
+use lib.Dec.{eqb, leb}
 use Rattle.tables.specs.declared.storage.FileStorage.{FileStorage}
 use Rattle.tables.specs.Rows.{rowAt}
 use Rattle.layout.specs.Questions.{numPieces}
@@ -33,7 +33,7 @@ abbrev pub slicesAt : FileStorage → List ℕ → ℕ → ℕ → ℕ → List 
 slicesAt fs rows k target size =
     walk (fs .«num_files» - k) rows k (target - rowAt rows k .offset) (cut (fs .«total_size») target size)
 
--- 'target is piece × length + offset'
+-- the slices of bytes from a target on, which begin in the file found there
 abbrev pub slicesOf : FileStorage → List ℕ → ℕ → ℕ → List Slice
 slicesOf fs rows target size = slicesAt fs rows (fileFound rows (fs .«num_files») target) target size
 

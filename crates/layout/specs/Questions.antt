@@ -1,10 +1,10 @@
 -- Document 01's refusals of a question, each a rule: 'any question' 11, 13, 12, 14, 16, and 10 last. 1 is asked of every
 -- set, first.
-use Prim.Native.Nat.{ℕ, _+_, _*_, _%_}
-use mathlib.Core.Bool.{Bool, true, false, cond, not}
-use mathlib.Core.List.{List, [], _∷_}
+use Prim.Native.Nat.{ℕ, _%_}
+use mathlib.Core.Bool.{Bool, not}
+use mathlib.Core.List.{List}
 use lib.Dec.{eqb, ltb, leb}
-use lib.IntN.{ℤ, pos, negsuc}
+use lib.IntN.{ℤ}
 use Rattle.lists.specs.Lists.{ceiling}
 use Rattle.types.specs.Refusals.{Outcome}
 use Rattle.tables.specs.declared.storage.FileStorage.{FileStorage}

@@ -2,7 +2,7 @@
 -- and the refusals are those of Block.antt.
 use Prim.Native.Nat.{ℕ, _+_, _-_}
 use mathlib.Core.Bool.{cond}
-use mathlib.Core.List.{List, [], _∷_}
+use mathlib.Core.List.{List, []}
 use lib.Dec.{eqb}
 use lib.IntN.{ℤ}
 use lib.ListN.{length}
@@ -11,13 +11,12 @@ use Rattle.tables.specs.declared.storage.FileStorage.{FileStorage}
 use Rattle.tables.specs.Rows.{rowAt}
 use Rattle.storage.specs.Rules.{firstOf}
 use Rattle.storage.specs.Addition.{sizeOf}
-use Rattle.answers.specs.Answers.{indexOf, rowsHeld}
+use Rattle.answers.specs.Answers.{indexOf}
 use Rattle.layout.specs.declared.start.Cursor.{Cursor}
-use Rattle.layout.specs.Questions.{opened, manyPieces, noPiece, badRange, short}
 use Rattle.layout.specs.Pieces.{startOf}
 use Rattle.layout.specs.Search.{fileFound}
 use Rattle.layout.specs.Mapping.{Slice, walk, cut}
-use Rattle.layout.specs.Block.{blockOf}
+use Rattle.layout.specs.Block.{blockOf, blockRules}
 
 -- the slices from a cursor on
 abbrev pub slicesFrom : List ℕ → Cursor → List Slice
@@ -52,6 +51,6 @@ started k ss c = cond (eqb k 0) (all ss c) (none k)
 abbrev pub blockStart : FileStorage → List ℕ → ℤ → ℤ → ℤ → Started
 blockStart fs rows z offset size =
     started
-    (firstOf (opened fs ∷ manyPieces fs ∷ noPiece fs z ∷ badRange offset size ∷ short (rowsHeld fs rows) ∷ []))
+    (firstOf (blockRules fs rows z offset size []))
     (blockOf fs rows z offset size)
     (cursorAt fs rows (startOf fs (indexOf z) + sizeOf offset) (sizeOf size))

@@ -11,10 +11,9 @@ use Rattle.types.specs.Refusals.{Outcome, value, refused}
 use Rattle.types.specs.declared.index.FileSlice.{FileSlice}
 use Rattle.tables.specs.declared.storage.FileStorage.{FileStorage}
 use Rattle.storage.specs.Rules.{firstOf}
-use Rattle.answers.specs.Answers.{rowsHeld}
-use Rattle.layout.specs.Questions.{opened, manyPieces, noPiece, badRange, short}
+use Rattle.layout.specs.Questions.{short}
 use Rattle.layout.specs.Mapping.{Slice}
-use Rattle.layout.specs.Block.{blockOf}
+use Rattle.layout.specs.Block.{blockOf, blockRules}
 
 -- a slice as the record of signed numbers that the Rust has
 abbrev pub recordOf : Slice → FileSlice
@@ -34,8 +33,6 @@ filled k ss out =
 abbrev pub blockMapped : FileStorage → List ℕ → ℤ → ℤ → ℤ → List FileSlice → Filled
 blockMapped fs rows z offset size out =
     filled
-    (firstOf
-    (opened fs ∷ manyPieces fs ∷ noPiece fs z ∷ badRange offset size ∷ short (rowsHeld fs rows) ∷
-    short (leb (length (blockOf fs rows z offset size)) (length out)) ∷ []))
+    (firstOf (blockRules fs rows z offset size (short (leb (length (blockOf fs rows z offset size)) (length out)) ∷ [])))
     (blockOf fs rows z offset size)
     out

@@ -17,6 +17,8 @@ use crate::number::is_negative64;
 use crate::number::piece_number;
 use crate::number::rest;
 use crate::number::size64;
+use answers::is_held;
+use storage::is_bad_length;
 use tables::FileStorage;
 use types::FileIndex;
 use types::PieceIndex;
@@ -27,16 +29,6 @@ use types::UsizeResult;
 pub(crate) enum Check {
     Go,
     Stop(Refusal),
-}
-
-// Whether a piece length is out of range.
-pub(crate) fn is_bad_length(piece_length: u64) -> bool
-    ensures { λ r. ⌜ r ≡ badLength «piece_length» ⌝ }
-{
-    if piece_length < 1 {
-        return true;
-    }
-    2147483647 < piece_length
 }
 
 // How many pieces the set has.
@@ -121,23 +113,6 @@ pub(crate) fn is_no_tree(fs: FileStorage, rows: &[u64], k: usize) -> bool
     rest(tables::offset_at(rows, k), fs.piece_length) != 0
 }
 
-// Whether a table with `room` places holds `count`.
-pub(crate) fn is_held(count: usize, room: usize) -> bool
-    ensures { λ r. ⌜ r ≡ leb count room ⌝ }
-{
-    count <= room
-}
-
-// Whether both of two tests hold.
-pub(crate) fn are_both(a: bool, b: bool) -> bool
-    ensures { λ r. ⌜ r ≡ both a b ⌝ }
-{
-    if a {
-        return b;
-    }
-    false
-}
-
 // Whether one of two tests holds.
 pub(crate) fn is_either(a: bool, b: bool) -> bool
     ensures { λ r. ⌜ r ≡ either a b ⌝ }
@@ -149,7 +124,7 @@ pub(crate) fn is_either(a: bool, b: bool) -> bool
 }
 
 // The first refusal whose test holds.
-fn decide(
+pub(crate) fn decide(
     bad_length: bool,
     no_file: bool,
     many: bool,

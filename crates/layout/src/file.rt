@@ -1,9 +1,9 @@
 // Answers about files' pieces, blocks and trees, and `map_file`. They rely on `merkle` for the nodes and
 // on `types` for signed numbers; each tests its refusals first (decide.rt).
 ghost use mathlib.Core.Path.{_≡_};
-ghost use mathlib.Core.Bool.{not};
+ghost use mathlib.Core.Bool.{false, not};
 ghost use mathlib.Core.List.{[], _∷_};
-ghost use Prim.Native.Nat.{_+_, _-_, _*_, _%_, _^_, _≤_, _<_};
+ghost use Prim.Native.Nat.{_+_, _-_, _*_, _/_, _%_, _^_, _≤_, _<_};
 ghost use lib.Dec.{eqb};
 ghost use lib.IntN.{pos};
 ghost use lib.ListN.{length};
@@ -20,26 +20,22 @@ ghost use Rattle.layout.specs.Questions.{asked, numPieces, opened, noFil
 ghost use Rattle.layout.specs.Mapping.{Request, requestAt, mapFile};
 ghost use Rattle.layout.specs.Request.{fileMapped};
 ghost use Rattle.layout.specs.Given.{exclusiveGiven, inclusiveGiven};
-ghost use Rattle.layout.specs.Deciding.{Counted, requestOf, refusedBy, bytesAsked};
+ghost use Rattle.layout.specs.Deciding.{Counted, requestOf, bytesAsked, setAsked, placeAsked};
 ghost use Rattle.layout.specs.Files.{lastQuotient, low31, afterQuotient, firstPiece, lastPiece, placeOf, exclusiveBegin, clamped, exclusiveEnd, inclusiveEnd, rootFrom, fileForRoot, piecesOf, blocksOf};
 use crate::decide::Check;
-use crate::decide::are_both;
 use crate::decide::ask_file;
 use crate::decide::ask_set;
 use crate::decide::count_pieces;
+use crate::decide::decide;
 use crate::decide::has_many;
-use crate::decide::is_bad_length;
 use crate::decide::is_bad_range;
 use crate::decide::is_either;
-use crate::decide::is_held;
-use crate::decide::is_no_file;
 use crate::decide::is_no_tree;
 use crate::number::ceil;
 use crate::number::file_number;
+use crate::number::file_or_past;
 use crate::number::is_negative32;
-use crate::number::less;
 use crate::number::over;
-use crate::number::rest;
 use crate::number::size32;
 use crate::number::size64;
 use crate::number::smaller;
@@ -50,6 +46,9 @@ use crate::result::PieceResult;
 use crate::result::RequestResult;
 use answers::I32Result;
 use answers::I64Result;
+use answers::are_both;
+use answers::is_held;
+use storage::is_bad_length;
 use tables::FileStorage;
 use tables::Sha256Hash;
 use types::FileIndex;
@@ -109,6 +108,7 @@ fn after_quotient(n: u64, d: u64) -> u64
 
 // Where place `at` of the set's bytes lies, and how many of `size` bytes are left from there on.
 fn request_at(fs: FileStorage, at: u64, size: u64) -> Place
+    requires { ⌜ 0 < fs .«piece_length» ⌝ }
     ensures { λ r. ⌜ requestOf r ≡ requestAt fs at size ⌝ }
 {
     if fs.total_size <= at {
@@ -119,9 +119,9 @@ fn request_at(fs: FileStorage, at: u64, size: u64) -> Place
         };
     }
     Place {
-        piece: over(at, fs.piece_length),
-        start: rest(at, fs.piece_length),
-        length: smaller(size, less(fs.total_size, at)),
+        piece: at / fs.piece_length,
+        start: at % fs.piece_length,
+        length: smaller(size, fs.total_size - at),
     }
 }
 
@@ -222,21 +222,11 @@ fn first_node(fs: FileStorage, rows: &[u64], index: FileIndex, leaves: u64) -> U
     }
 }
 
-// The root of file k, zeros where it has none.
-fn root_of(rows: &[u64], roots: &[u8], k: usize) -> Sha256Hash
-    ensures { λ r. ⌜ r ≡ rootOf (now (rows .entry)) (now (roots .entry)) k ⌝ }
-{
-    if tables::has_root(tables::flags_at(rows, k)) {
-        return tables::root_at(roots, k);
-    }
-    [0u8; 32]
-}
-
 // Whether the root of file k is that one.
 fn has_root_of(rows: &[u64], roots: &[u8], k: usize, root: Sha256Hash) -> bool
     ensures { λ r. ⌜ r ≡ equal (rootOf (now (rows .entry)) (now (roots .entry)) k) root ⌝ }
 {
-    let own = root_of(rows, roots, k);
+    let own = answers::root_of(rows, roots, k);
     lists::same(&own, &root)
 }
 
@@ -393,41 +383,69 @@ fn offset_of(rows: &[u64], k: usize) -> u64
     rows[k * 8] % 0x1_0000_0000_0000
 }
 
-// Whether a question about bytes of a file is answered. The tests stand one behind another, so that no
-// answer waits for the number of a refusal.
-fn is_answered(fs: FileStorage, index: FileIndex, offset: i64, size: i32, room: usize) -> bool
-    ensures { λ r. ⌜ r ≡ eqb (firstOf (bytesAsked fs (index .0) offset size room)) 0 ⌝ }
+// Whether a set's own tests let it answer questions about bytes of its files.
+pub(crate) fn is_fit(fs: FileStorage, room: usize) -> bool
+    ensures { λ r. ⌜ r ≡ eqb (firstOf (setAsked fs room)) 0 ⌝ }
 {
     if is_bad_length(fs.piece_length) {
-        return false;
-    }
-    if is_no_file(fs, index) {
         return false;
     }
     if has_many(fs) {
         return false;
     }
-    if is_bad_range(offset, is_negative32(size)) {
-        return false;
-    }
     is_held(fs.num_files, room)
 }
 
-// Why a question about bytes of a file that has no answer has none; 10 is given where it has one.
-fn refused_bytes(fs: FileStorage, index: FileIndex, offset: i64, size: i32, room: usize) -> Refusal
-    ensures { λ r. ⌜ numberOf r ≡ refusedBy (bytesAsked fs (index .0) offset size room) ⌝ }
+// Whether a question's own tests let it be answered.
+fn is_asked(fs: FileStorage, k: usize, offset: i64, size: i32) -> bool
+    ensures { λ r. ⌜ r ≡ eqb (firstOf (placeAsked fs (pos k) offset size)) 0 ⌝ }
 {
-    match ask_file(
-        fs,
-        index,
+    if k < fs.num_files {
+        return !is_bad_range(offset, is_negative32(size));
+    }
+    false
+}
+
+// Why a question about bytes of a file that is not answered is refused; it never gets to `Go`.
+fn refused_bytes(fs: FileStorage, k: usize, offset: i64, size: i32, room: usize) -> Refusal
+    requires { ⌜ eqb (firstOf (bytesAsked fs (pos k) offset size room)) 0 ≡ false ⌝ }
+    ensures { λ r. ⌜ numberOf r ≡ firstOf (bytesAsked fs (pos k) offset size room) ⌝ }
+{
+    match decide(
+        is_bad_length(fs.piece_length),
+        !(k < fs.num_files),
         has_many(fs),
+        false,
         is_bad_range(offset, is_negative32(size)),
         false,
-        room,
+        is_held(fs.num_files, room),
     ) {
         Check::Go => Refusal::NoRoom,
         Check::Stop(e) => e,
     }
+}
+
+// `map_file` of file k of a set of which it is known whether its own tests are passed. All tests stand before the
+// answer, so that no answer waits for the number of a refusal.
+pub(crate) fn map_file_of(
+    fs: FileStorage,
+    rows: &[u64],
+    fit: bool,
+    k: usize,
+    offset: i64,
+    size: i32,
+) -> RequestResult
+    requires { ⌜ fit ≡ eqb (firstOf (setAsked fs (length (now rows) / 8))) 0 ⌝ }
+    ensures { λ r. ⌜ requestSays r ≡ fileMapped fs (now (rows .entry)) (pos k) offset size ⌝ }
+{
+    if are_both(fit, is_asked(fs, k, offset, size)) {
+        return RequestResult::Ok(signed_request(request_at(
+            fs,
+            offset_of(rows, k) + size64(offset),
+            size32(size),
+        )));
+    }
+    RequestResult::Err(refused_bytes(fs, k, offset, size, rows.len() / 8))
 }
 
 // Where bytes of a file lie: the piece, the start in it, and how many are left in the set. It does not stop at the file's end.
@@ -440,14 +458,14 @@ pub fn map_file(
 ) -> RequestResult
     ensures { λ r. ⌜ requestSays r ≡ fileMapped fs (now (rows .entry)) (index .0) offset size ⌝ }
 {
-    if is_answered(fs, index, offset, size, rows.len() / 8) {
-        return RequestResult::Ok(signed_request(request_at(
-            fs,
-            offset_of(rows, file_number(index)) + size64(offset),
-            size32(size),
-        )));
-    }
-    RequestResult::Err(refused_bytes(fs, index, offset, size, rows.len() / 8))
+    map_file_of(
+        fs,
+        rows,
+        is_fit(fs, rows.len() / 8),
+        file_or_past(index),
+        offset,
+        size,
+    )
 }
 
 // The pieces that lie wholly in a file.

@@ -2,6 +2,7 @@
 // document 01's refusals first, in its order. Relies on `tables`, `types`, `lists` and `merkle`.
 mod decide;
 mod file;
+mod list;
 mod mapping;
 mod number;
 mod piece;
@@ -20,6 +21,7 @@ pub use file::file_piece_range_inclusive;
 pub use file::last_piece_index_at_file;
 pub use file::map_file;
 pub use file::piece_index_at_file;
+pub use list::map_files;
 pub use mapping::map_block_core;
 pub use piece::blocks_in_piece2;
 pub use piece::blocks_per_piece;

@@ -15,7 +15,6 @@ ghost use Rattle.layout.specs.Block.{filesOf, offsetsOf, sizesOf, Mapped
 use crate::decide::Check;
 use crate::decide::ask_piece;
 use crate::decide::is_bad_range;
-use crate::decide::is_held;
 use crate::number::is_negative64;
 use crate::number::less;
 use crate::number::piece_number;
@@ -23,6 +22,7 @@ use crate::number::size64;
 use crate::number::smaller;
 use crate::piece::start_of;
 use crate::search::find;
+use answers::is_held;
 use tables::FileStorage;
 use types::PieceIndex;
 use types::Refusal;

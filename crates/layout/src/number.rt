@@ -5,6 +5,7 @@ ghost use Prim.Native.Nat.{_-_, _/_, _%_, min};
 ghost use Rattle.lists.specs.Lists.{ceiling};
 ghost use Rattle.storage.specs.Addition.{isNegative, sizeOf};
 ghost use Rattle.answers.specs.Answers.{indexOf};
+ghost use Rattle.layout.specs.Deciding.{fileOrPast};
 use types::FileIndex;
 use types::PieceIndex;
 use types::Unsigned;
@@ -108,4 +109,14 @@ pub(crate) fn piece_number(piece: PieceIndex) -> u64
     ensures { λ r. ⌜ r ≡ indexOf (piece .0) ⌝ }
 {
     piece.get() as u64
+}
+
+// The number of a file; one that no set has where it is negative.
+pub(crate) fn file_or_past(index: FileIndex) -> usize
+    ensures { λ r. ⌜ r ≡ fileOrPast (index .0) ⌝ }
+{
+    match types::unsigned32(index.0) {
+        Unsigned::Of(n) => n as usize,
+        Unsigned::Negative => 0xffff_ffff_ffff_ffff,
+    }
 }

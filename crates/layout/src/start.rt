@@ -9,7 +9,6 @@ ghost use Rattle.layout.specs.Start.{cursorAt, Started, all, none, block
 use crate::decide::Check;
 use crate::decide::ask_piece;
 use crate::decide::is_bad_range;
-use crate::decide::is_held;
 use crate::mapping::count_slices;
 use crate::number::is_negative64;
 use crate::number::less;
@@ -18,6 +17,7 @@ use crate::number::size64;
 use crate::number::smaller;
 use crate::piece::start_of;
 use crate::search::find;
+use answers::is_held;
 use tables::FileStorage;
 use types::PieceIndex;
 use types::Refusal;

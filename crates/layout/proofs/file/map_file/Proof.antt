@@ -1,117 +1,35 @@
 -- `layout::file::map_file` meets its contract.
-use mathlib.Core.Path.{_≡_, refl, sym, ap, _∙_}
-use mathlib.Core.Bool.{true, false}
-use native.Mathlib.Omega.{arith}
-use Prim.Native.Nat.{_/_}
-use lib.Dec.{eqb, leb}
-use lib.ListN.{length}
+use mathlib.Core.Path.{_≡_, _∙_}
 use mir.Syntax.{w32, w64}
 use mir.Val.{SFits}
 use mir.Facts.{toZ-ofZ}
-use borrow.Author.Tests.{eqb-true, leb-true, not-false}
-use Rattle.types.specs.Refusals.{value, refused}
-use Rattle.tables.specs.Rows.{rowAt}
-use Rattle.storage.specs.Rules.{firstOf}
+use mathlib.Core.List.{[], _∷_}
 use Rattle.storage.specs.Addition.{sizeOf}
-use Rattle.answers.specs.Answers.{indexOf, isBelow}
-use Rattle.layout.specs.Mapping.{Request, mapFile}
-use Rattle.layout.specs.Deciding.{requestOf, bytesAsked}
-use Rattle.layout.proofs.Deciding.{Passed, none, below-is, offset-low, low-as}
+use Rattle.answers.specs.Answers.{rowsHeld}
+use Rattle.layout.specs.Questions.{manyPieces, badRange, short}
+use Rattle.layout.specs.Mapping.{mapFile}
+use Rattle.layout.specs.Request.{signedRequest}
+use Rattle.layout.proofs.Deciding.{past-any}
 use borrow.Author.Needs.{needs}
 use Rattle.layout.proofs.file.map_file.Statement.{statement}
 use Rattle.layout.proofs.file.map_file.Tie as tie
 
--- whether the question is answered, as the contract says it
-answered-is : (c : tie.After-is-answered) → c .is-answered .result ≡ eqb (firstOf (bytesAsked (c .before .before .args .fs) (c .before .before .args .index .0) (c .before .before .args .offset) (c .before .before .args .size) (length (c .before .before .args .rows .now) / 8))) 0
-answered-is c =
-    let a = c .before .before .args in
-    let o : SFits w64 (a .offset) = search needs in
-    let s : SFits w32 (a .size) = search needs in
-    rw (toZ-ofZ o, toZ-ofZ s) at (c .is-answered .ensures)
+is-fit-requires : tie.Need-is-fit-requires
+is-fit-requires c κs = search needs
 
--- where it is, no refusal's test holds
-answered : (c : tie.Then1) → eqb (firstOf (bytesAsked (c .before .before .before .args .fs) (c .before .before .before .args .index .0) (c .before .before .before .args .offset) (c .before .before .before .args .size) (length (c .before .before .before .args .rows .now) / 8))) 0 ≡ true
-answered c = sym (answered-is (c .before)) ∙ c .if1 .taken
+file-or-past-requires : tie.Need-file-or-past-requires
+file-or-past-requires c κs = search needs
 
-passes : (c : tie.Then1) → Passed (bytesAsked (c .before .before .before .args .fs) (c .before .before .before .args .index .0) (c .before .before .before .args .offset) (c .before .before .before .args .size) (length (c .before .before .before .args .rows .now) / 8))
-passes c = none (bytesAsked (c .before .before .before .args .fs) (c .before .before .before .args .index .0) (c .before .before .before .args .offset) (c .before .before .before .args .size) (length (c .before .before .before .args .rows .now) / 8)) refl (eqb-true _ 0 (answered c))
-
-is-answered-requires : tie.Need-is-answered-requires
-is-answered-requires c κs = search needs
-
-file-number-requires : tie.Need-file-number-requires
-file-number-requires c κs = search needs
-
-offset-of-requires : tie.Need-offset-of-requires
-offset-of-requires c κs =
-    let a = c .before .before .before .before .args in
-    let q = passes (c .before) in
-    let k = below-is (a .fs .«num_files») (a .index .0) (not-false (isBelow (a .fs .«num_files») (a .index .0)) (q .1 .0)) in
-    let r = length (a .rows .now) / 8 in
-    let h = leb-true (a .fs .«num_files») r (not-false (leb (a .fs .«num_files») r) (q .1 .1 .1 .1 .0)) in
-    omega (arith, k, h, c .file-number .ensures)
-
-size64-requires : tie.Need-size64-requires
-size64-requires c κs = search needs
-
-add-request-at : tie.Need-add-request-at
-add-request-at c =
-    let a = c .before .before .before .before .before .before .args in
-    let f : SFits w64 (a .offset) = search needs in
-    let s : c .size64 .result ≡ sizeOf (a .offset) = rw (toZ-ofZ f) at (c .size64 .ensures) in
-    let l = offset-low (a .offset) (a .size) (passes (c .before .before .before) .1 .1 .1 .0) in
-    omega (arith, c .before .offset-of .ensures)
-
-size32-requires : tie.Need-size32-requires
-size32-requires c κs = search needs
-
-request-at-requires : tie.Need-request-at-requires
-request-at-requires c κs = search needs
-
-signed-request-requires : tie.Need-signed-request-requires
-signed-request-requires c κs = search needs
+map-file-of-requires : tie.Need-map-file-of-requires
+map-file-of-requires c κs = search needs
 
 returns : tie.Need-returns
 returns c =
-    let a = c .before .before .before .before .before .before .before .before .before .args in
-    let offset-fits : SFits w64 (a .offset) = search needs in
-    let size-fits : SFits w32 (a .size) = search needs in
-    let s : c .before .before .before .size64 .result ≡ sizeOf (a .offset) = rw (toZ-ofZ offset-fits) at (c .before .before .before .size64 .ensures) in
-    let n : c .before .before .size32 .result ≡ sizeOf (a .size) = rw (toZ-ofZ size-fits) at (c .before .before .size32 .ensures) in
-    let o : c .before .before .before .before .offset-of .result ≡ rowAt (a .rows .now) (indexOf (a .index .0)) .offset = rw (c .before .before .before .before .before .file-number .ensures) at (c .before .before .before .before .offset-of .ensures) in
-    let e : requestOf (c .before .request-at .result) ≡ mapFile (a .fs) (a .rows .now) (indexOf (a .index .0)) (sizeOf (a .offset)) (sizeOf (a .size)) = rw (o, s, n) at (c .before .request-at .ensures) in
-    let h = c .signed-request .ensures in
-    rw (answered (c .before .before .before .before .before .before))
-    (ap value
-    (cc (
-      low-as (h .0) (ap (λ (r : Request). r .piece) e),
-      low-as (h .1) (ap (λ (r : Request). r .start) e),
-      low-as (h .2) (ap (λ (r : Request). r .length) e),
-    )))
-
-refused-bytes-requires : tie.Need-refused-bytes-requires
-refused-bytes-requires c κs = search needs
-
-returns-2 : tie.Need-returns-2
-returns-2 c =
     let a = c .before .before .before .before .args in
     let o : SFits w64 (a .offset) = search needs in
     let s : SFits w32 (a .size) = search needs in
-    let e = sym (answered-is (c .before .before)) ∙ c .before .if1 .left in
-    rw e (ap refused (rw (toZ-ofZ o, toZ-ofZ s, e) at (c .refused-bytes .ensures)))
+    (rw (toZ-ofZ o, toZ-ofZ s, c .before .file-or-past .ensures) at (c .map-file-of .ensures))
+    ∙ past-any (a .fs) (a .index .0) (manyPieces (a .fs) ∷ badRange (a .offset) (a .size) ∷ short (rowsHeld (a .fs) (a .rows .now)) ∷ []) (λ k. signedRequest (mapFile (a .fs) (a .rows .now) k (sizeOf (a .offset)) (sizeOf (a .size)))) (search needs)
 
 pub map-file-spec : {M : Type 1} → statement M
-map-file-spec =
-    tie.close
-    (tie.spec
-    is-answered-requires
-    file-number-requires
-    offset-of-requires
-    size64-requires
-    add-request-at
-    size32-requires
-    request-at-requires
-    signed-request-requires
-    returns
-    refused-bytes-requires
-    returns-2)
+map-file-spec = tie.close (tie.spec is-fit-requires file-or-past-requires map-file-of-requires returns)

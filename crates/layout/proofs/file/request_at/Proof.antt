@@ -10,29 +10,22 @@ count-pieces-requires c κs = search needs
 returns : tie.Need-returns
 returns c = rw (le-leb _ _ (c .before .if1 .taken), c .count-pieces .ensures)
 
-over-requires : tie.Need-over-requires
-over-requires c κs = search needs
+div-t6 : tie.Need-div-t6
+div-t6 c = search needs
 
-rest-requires : tie.Need-rest-requires
-rest-requires c κs = search needs
+rem-t7 : tie.Need-rem-t7
+rem-t7 c = search needs
 
-less-requires : tie.Need-less-requires
-less-requires c κs = search needs
+sub-smaller : tie.Need-sub-smaller
+sub-smaller c = search needs
 
 smaller-requires : tie.Need-smaller-requires
 smaller-requires c κs = search needs
 
 returns-2 : tie.Need-returns-2
-returns-2 c = rw (lt-leb _ _ (c .before .before .before .before .if1 .left), c .before .before .before .over .ensures, c .before .before .rest .ensures, c .smaller .ensures, c .before .less .ensures)
+returns-2 c = rw (lt-leb _ _ (c .before .before .before .before .if1 .left), c .smaller .ensures)
 
 pub request-at-spec : {M : Type 1} → statement M
 request-at-spec =
     tie.close
-    (tie.spec
-    count-pieces-requires
-    returns
-    over-requires
-    rest-requires
-    less-requires
-    smaller-requires
-    returns-2)
+    (tie.spec count-pieces-requires returns div-t6 rem-t7 sub-smaller smaller-requires returns-2)
