@@ -10,12 +10,12 @@ use Rattle.types.specs.Refusals.{Outcome, value, refused}
 use Rattle.tables.specs.declared.storage.FileStorage.{FileStorage}
 use Rattle.storage.specs.Rules.{firstOf}
 use Rattle.storage.specs.Addition.{sizeOf}
-use Rattle.answers.specs.Answers.{indexOf, rowsHeld}
+use Rattle.answers.specs.Answers.{indexOf}
 use Rattle.layout.specs.declared.start.Cursor.{Cursor}
-use Rattle.layout.specs.Questions.{opened, manyPieces, noPiece, badRange, short}
+use Rattle.layout.specs.Questions.{short}
 use Rattle.layout.specs.Pieces.{startOf}
 use Rattle.layout.specs.Mapping.{Slice}
-use Rattle.layout.specs.Block.{blockOf}
+use Rattle.layout.specs.Block.{blockOf, blockRules}
 use Rattle.layout.specs.Start.{cursorAt}
 
 pub record Planned : Type 0 where
@@ -39,8 +39,6 @@ planned k ss c = cond (eqb k 0) (whole ss c) (stayed k)
 abbrev pub blockPlan : FileStorage → List ℕ → ℤ → ℤ → ℤ → ℕ → Planned
 blockPlan fs rows z offset size room =
     planned
-    (firstOf
-    (opened fs ∷ manyPieces fs ∷ noPiece fs z ∷ badRange offset size ∷ short (rowsHeld fs rows) ∷
-    short (leb (length (blockOf fs rows z offset size)) room) ∷ []))
+    (firstOf (blockRules fs rows z offset size (short (leb (length (blockOf fs rows z offset size)) room) ∷ [])))
     (blockOf fs rows z offset size)
     (cursorAt fs rows (startOf fs (indexOf z) + sizeOf offset) (sizeOf size))
