@@ -11,6 +11,7 @@ use Rattle.types.specs.declared.index.FileSlice.{FileSlice}
 use Rattle.layout.specs.Results.{Asked}
 use Rattle.layout.specs.Block.{Mapped}
 use Rattle.layout.specs.Table.{Filled}
+use Rattle.layout.specs.List.{Listed}
 
 -- a count, which is below 2^63 wherever a table holds so many
 abbrev pub countSaid : Outcome ℕ → ℤ
@@ -50,3 +51,11 @@ requestSaid (value r) out =
     cond (ltb (length out) 3) (record { number = 10; out = out })
     (record { number = 0; out = sets out 0 (r .piece ∷ r .start ∷ r .length ∷ []) })
 requestSaid (refused k) out = record { number = k; out = out }
+
+-- the answer, and what the table of answers holds after it
+pub record ListSaid : Type 0 where
+  pub answer : ℤ
+  pub answers : List ℕ
+
+abbrev pub listSaid : Listed → ListSaid
+listSaid l = record { answer = countSaid (l .says); answers = l .answers }

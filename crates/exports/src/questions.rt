@@ -1,4 +1,4 @@
-// The layout answers of the C interface: both mappings and the file at an offset. Relies on `layout`
+// The layout answers of the C interface: both mappings, `map_file` for a list, and the file at an offset. Relies on `layout`
 // and on the record that a set's words hold.
 ghost use mathlib.Core.Path.{_≡_};
 ghost use mathlib.Core.List.{[], _∷_};
@@ -8,9 +8,10 @@ ghost use Rattle.types.specs.Refusals.{usizeSays};
 ghost use Rattle.layout.specs.Results.{fileSays, requestSays};
 ghost use Rattle.layout.specs.Block.{mapBlock};
 ghost use Rattle.layout.specs.Request.{fileMapped};
+ghost use Rattle.layout.specs.List.{filesMapped};
 ghost use Rattle.layout.specs.Given.{fileAtOffsetGiven};
 ghost use Rattle.exports.specs.State.{storageOf};
-ghost use Rattle.exports.specs.Layout.{countSaid, placeSaid, BlockSaid, blockSaid, RequestSaid, requestSaid};
+ghost use Rattle.exports.specs.Layout.{countSaid, placeSaid, BlockSaid, blockSaid, RequestSaid, requestSaid, ListSaid, listSaid};
 use crate::storage_at;
 use layout::FileResult;
 use layout::RequestResult;
@@ -128,4 +129,19 @@ pub extern "C" fn niflathen_map_file(
         out,
         layout::map_file(storage_at(state), rows, FileIndex(index), offset, size),
     )
+}
+
+// `layout::map_files`: the number of questions, or minus the number of the refusal.
+#[no_mangle]
+pub extern "C" fn niflathen_map_files(
+    state: &[u64],
+    rows: &[u64],
+    files: &[u32],
+    offsets: &[i64],
+    sizes: &[i32],
+    answers: &mut [u64],
+) -> i64
+    ensures { λ r. ⌜ _≡_ {A = ListSaid} (record { answer = r; answers = now (answers .exit) }) (listSaid (filesMapped (storageOf (now (state .entry))) (now (rows .entry)) (now (files .entry)) (now (offsets .entry)) (now (sizes .entry)) (now (answers .entry)))) ⌝ }
+{
+    count_in(layout::map_files(storage_at(state), rows, files, offsets, sizes, answers))
 }
