@@ -3,14 +3,15 @@
 use Prim.Native.Nat.{ℕ}
 use mathlib.Core.Bool.{Bool, true, false, cond, not}
 use mathlib.Core.List.{List, [], _∷_}
-use lib.Dec.{eqb}
+use lib.Dec.{eqb, ltb}
 use lib.IntN.{ℤ}
-use lib.ListN.{getD}
+use lib.ListN.{length, getD}
 use lib.Seq.{sets}
 use Rattle.types.specs.Refusals.{Outcome, value, refused}
 use Rattle.tables.specs.declared.storage.FileStorage.{FileStorage}
 use Rattle.tables.specs.declared.rows.Presence.{Presence}
 use Rattle.tables.specs.declared.rows.Presence.the-variants.{Absent, Present}
+use Rattle.tables.specs.Model.{Store}
 use Rattle.storage.specs.Outcomes.{Changed}
 
 abbrev pub storageOf : List ℕ → FileStorage
@@ -49,7 +50,7 @@ wordsOf fs =
     bit (fs .trimmed) ∷
     []
 
--- 0 and 1 for absent and present
+-- 0 is absent, any other number present
 abbrev pub presenceOf : ℕ → Presence
 presenceOf n = cond (eqb n 0) Absent Present
 
@@ -82,3 +83,10 @@ exported state c =
       dirs = c .dirs;
       text = c .text;
     }
+
+-- a call on words that are not all there is refused by 10, and nothing is touched
+abbrev pub ifWhole : List ℕ → Store → Exported → Exported
+ifWhole state s e =
+    cond (ltb (length state) 12)
+    (record { number = 10; state = state; rows = s .rows; roots = s .roots; times = s .times; dirs = s .dirs; text = s .text })
+    e

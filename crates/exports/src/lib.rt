@@ -4,7 +4,7 @@ ghost use mathlib.Core.Path.{_≡_};
 ghost use lib.Seq.{sets};
 ghost use Rattle.tables.specs.Rows.{rootAt};
 ghost use Rattle.storage.specs.Outcomes.{storageSays, optionalOf, addStored, trimStored};
-ghost use Rattle.exports.specs.State.{Exported, exported, storageOf, wordsOf, bit, presenceOf, numberSaid, stateSaid};
+ghost use Rattle.exports.specs.State.{Exported, exported, ifWhole, storageOf, wordsOf, bit, presenceOf, numberSaid, stateSaid};
 
 mod questions;
 mod slices;
@@ -87,9 +87,8 @@ fn put_answer(state: &mut [u64], answer: StorageResult) -> u32
     }
 }
 
-// `storage::add_file`; `given` and `rooted` are 0 for none, and the root is the first 32 bytes of `root`.
-#[no_mangle]
-pub extern "C" fn niflathen_add_file(
+// `storage::add_file` on the set that the words hold.
+fn add_to(
     state: &mut [u64],
     rows: &mut [u64],
     roots: &mut [u8],
@@ -128,9 +127,8 @@ pub extern "C" fn niflathen_add_file(
     put_answer(state, answer)
 }
 
-// `storage::remove_tail_padding`.
-#[no_mangle]
-pub extern "C" fn niflathen_remove_tail_padding(
+// `storage::remove_tail_padding` on the set that the words hold.
+fn trim_in(
     state: &mut [u64],
     rows: &mut [u64],
     roots: &mut [u8],
@@ -142,4 +140,66 @@ pub extern "C" fn niflathen_remove_tail_padding(
 {
     let answer = storage::remove_tail_padding(storage_at(state), rows, roots, times, dirs, text);
     put_answer(state, answer)
+}
+
+// `storage::add_file`; `given` and `rooted` are 0 for none, and the root is the first 32 bytes of `root`;
+// 10 for words that are not all there.
+#[no_mangle]
+pub extern "C" fn niflathen_add_file(
+    state: &mut [u64],
+    rows: &mut [u64],
+    roots: &mut [u8],
+    times: &mut [i64],
+    dirs: &mut [u64],
+    text: &mut [u8],
+    given: u8,
+    filename: &[u8],
+    path: &[u8],
+    file_size: i64,
+    file_flags: u8,
+    mtime: i64,
+    symlink_path: &[u8],
+    rooted: u8,
+    root: &[u8],
+) -> u32
+    ensures { λ r. ⌜ _≡_ {A = Exported} (record { number = r; state = now (state .exit); rows = now (rows .exit); roots = now (roots .exit); times = now (times .exit); dirs = now (dirs .exit); text = now (text .exit) }) (ifWhole (now (state .entry)) (record { fs = storageOf (now (state .entry)); rows = now (rows .entry); roots = now (roots .entry); times = now (times .entry); dirs = now (dirs .entry); text = now (text .entry) }) (exported (now (state .entry)) (addStored (record { fs = storageOf (now (state .entry)); rows = now (rows .entry); roots = now (roots .entry); times = now (times .entry); dirs = now (dirs .entry); text = now (text .entry) }) (record { given = optionalOf (presenceOf given) (now (filename .entry)); path = now (path .entry); size = «file_size»; flags = «file_flags»; time = mtime; link = now («symlink_path» .entry); root = optionalOf (presenceOf rooted) (rootAt (now (root .entry)) 0) })))) ⌝ }
+{
+    if state.len() < 12 {
+        return 10;
+    }
+    add_to(
+        state,
+        rows,
+        roots,
+        times,
+        dirs,
+        text,
+        given,
+        filename,
+        path,
+        file_size,
+        file_flags,
+        mtime,
+        symlink_path,
+        rooted,
+        root,
+    )
+}
+
+// `storage::remove_tail_padding`; 10 for words that are not all there.
+#[no_mangle]
+pub extern "C" fn niflathen_remove_tail_padding(
+    state: &mut [u64],
+    rows: &mut [u64],
+    roots: &mut [u8],
+    times: &mut [i64],
+    dirs: &mut [u64],
+    text: &mut [u8],
+) -> u32
+    ensures { λ r. ⌜ _≡_ {A = Exported} (record { number = r; state = now (state .exit); rows = now (rows .exit); roots = now (roots .exit); times = now (times .exit); dirs = now (dirs .exit); text = now (text .exit) }) (ifWhole (now (state .entry)) (record { fs = storageOf (now (state .entry)); rows = now (rows .entry); roots = now (roots .entry); times = now (times .entry); dirs = now (dirs .entry); text = now (text .entry) }) (exported (now (state .entry)) (trimStored (record { fs = storageOf (now (state .entry)); rows = now (rows .entry); roots = now (roots .entry); times = now (times .entry); dirs = now (dirs .entry); text = now (text .entry) })))) ⌝ }
+{
+    if state.len() < 12 {
+        return 10;
+    }
+    trim_in(state, rows, roots, times, dirs, text)
 }
