@@ -37,6 +37,31 @@ struct Place {
     offset: i64,
 }
 
+/// The places again, in the columns that `map_files` takes, a stretch at a time; and a table for a stretch's answers.
+struct Lists {
+    files: Vec<u32>,
+    offsets: Vec<i64>,
+    sizes: Vec<i32>,
+    answers: Vec<u64>,
+}
+
+impl Lists {
+    fn new(places: &[Place]) -> Self {
+        Self {
+            files: places.iter().map(|p| p.file as u32).collect(),
+            offsets: places.iter().map(|p| p.offset).collect(),
+            sizes: vec![BLOCK as i32; places.len()],
+            answers: vec![0; STRETCH * 4],
+        }
+    }
+
+    /// Asks the port the k-th stretch of questions in one call, and gives how many there were.
+    fn ask(&mut self, set: &Set, k: usize) -> i64 {
+        let (from, to) = (k * STRETCH, ((k + 1) * STRETCH).min(self.files.len()));
+        set.map_files(&self.files[from..to], &self.offsets[from..to], &self.sizes[from..to], &mut self.answers)
+    }
+}
+
 /// The same files on both sides, and the questions.
 struct Sets {
     rust: FileStorage,
@@ -97,6 +122,14 @@ fn check(sets: &Sets, columns: &mut Columns) {
         assert_eq!(sets.port.map_file(p.file, p.offset, BLOCK as i32, &mut out), 0, "`map_file` is refused");
         assert_eq!(out, [rust.piece.0, rust.start, rust.length].map(i64::from), "request");
     }
+    let mut lists = Lists::new(&sets.places);
+    for (k, places) in sets.places.chunks(STRETCH).enumerate() {
+        assert_eq!(lists.ask(&sets.port, k), places.len() as i64, "`map_files` is refused");
+        for (p, answer) in places.iter().zip(lists.answers.chunks(4)) {
+            let rust = sets.rust.map_file(FileIndex(p.file), p.offset, BLOCK as i32);
+            assert_eq!(answer, [0, rust.piece.0 as u64, rust.start as u64, rust.length as u64], "request of a list");
+        }
+    }
     for &offset in &sets.offsets {
         let rust = sets.rust.file_index_at_offset(offset);
         assert_eq!(sets.port.file_index_at_offset(offset), i64::from(rust.0), "file at an offset");
@@ -133,14 +166,12 @@ fn file_index_at_offset(set: &FileStorage, offset: i64) -> FileIndex {
     set.file_index_at_offset(offset)
 }
 
-/// Asks each question, and gives the time of each stretch.
-fn stretches<Q>(questions: &[Q], mut ask: impl FnMut(&Q)) -> Vec<Duration> {
+/// Asks the questions a stretch at a time, and gives the time of each stretch.
+fn stretches<Q>(questions: &[Q], mut ask: impl FnMut(usize, &[Q])) -> Vec<Duration> {
     let mut times = Vec::new();
-    for stretch in questions.chunks(STRETCH) {
+    for (k, stretch) in questions.chunks(STRETCH).enumerate() {
         let start = Instant::now();
-        for question in stretch {
-            ask(question);
-        }
+        ask(k, stretch);
         times.push(start.elapsed());
     }
     times
@@ -159,28 +190,41 @@ fn print(question: &str, files: usize, times: &Times) {
     let (rust, called) = (times.rust.each(QUESTIONS), times.called.each(QUESTIONS));
     let port = times.port.each(QUESTIONS);
     println!(
-        "| `{question}` | {files} | {rust:.1} | {called:.1} | {port:.1} | {:.2} | {:.2} |",
+        "| {question} | {files} | {rust:.1} | {called:.1} | {port:.1} | {:.2} | {:.2} |",
         port / rust,
         port / called,
     );
 }
 
-/// Asks all three the same questions in turn, keeps the best times and prints their row.
-fn measure<Q>(
+/// Asks all three the same questions in turn, keeps the best times and prints their row. `port` asks the port the
+/// questions of a stretch, which has a number.
+fn measure_stretches<Q>(
     question: &str,
     files: usize,
     questions: &[Q],
     mut rust: impl FnMut(&Q),
     mut called: impl FnMut(&Q),
-    mut port: impl FnMut(&Q),
+    mut port: impl FnMut(usize, &[Q]),
 ) {
     let mut times = Times::default();
     for _ in 0..REPETITIONS {
-        times.rust.keep(stretches(questions, &mut rust));
-        times.called.keep(stretches(questions, &mut called));
+        times.rust.keep(stretches(questions, |_, stretch| stretch.iter().for_each(&mut rust)));
+        times.called.keep(stretches(questions, |_, stretch| stretch.iter().for_each(&mut called)));
         times.port.keep(stretches(questions, &mut port));
     }
     print(question, files, &times);
+}
+
+/// The same, with the port asked one question after another.
+fn measure<Q>(
+    question: &str,
+    files: usize,
+    questions: &[Q],
+    rust: impl FnMut(&Q),
+    called: impl FnMut(&Q),
+    mut port: impl FnMut(&Q),
+) {
+    measure_stretches(question, files, questions, rust, called, |_, stretch| stretch.iter().for_each(&mut port));
 }
 
 /// Measures `map_block` beside one of the port's two.
@@ -205,19 +249,19 @@ pub fn table() {
     let mut slices = vec![Slice::default(); BLOCK as usize];
     sets.iter().for_each(|s| check_slices(s, &mut slices));
     for s in &sets {
-        measure_blocks("map_block", s, |b| {
-            _ = black_box(s.port.map_block(b.piece, b.offset, BLOCK, &mut columns));
+        measure_blocks("`map_block`", s, |b| {
+            _ = black_box(s.port.map_block_slices(b.piece, b.offset, BLOCK, &mut slices));
         });
     }
     for s in &sets {
-        measure_blocks("map_block, a slice of structs", s, |b| {
-            _ = black_box(s.port.map_block_slices(b.piece, b.offset, BLOCK, &mut slices));
+        measure_blocks("`map_block`, columns", s, |b| {
+            _ = black_box(s.port.map_block(b.piece, b.offset, BLOCK, &mut columns));
         });
     }
     for s in &sets {
         let mut out = [0; 3];
         measure(
-            "map_file",
+            "`map_file`",
             s.port.num_files(),
             &s.places,
             |p| _ = black_box(s.rust.map_file(FileIndex(p.file), p.offset, BLOCK as i32)),
@@ -226,8 +270,19 @@ pub fn table() {
         );
     }
     for s in &sets {
+        let mut lists = Lists::new(&s.places);
+        measure_stretches(
+            "`map_file`, a list",
+            s.port.num_files(),
+            &s.places,
+            |p| _ = black_box(s.rust.map_file(FileIndex(p.file), p.offset, BLOCK as i32)),
+            |p| _ = black_box(map_file(&s.rust, p.file, p.offset, BLOCK as i32)),
+            |k, _| _ = black_box(lists.ask(&s.port, k)),
+        );
+    }
+    for s in &sets {
         measure(
-            "file_index_at_offset",
+            "`file_index_at_offset`",
             s.port.num_files(),
             &s.offsets,
             |&offset| _ = black_box(s.rust.file_index_at_offset(offset)),

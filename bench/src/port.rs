@@ -94,6 +94,21 @@ unsafe extern "C" {
         out: *mut i64,
         out_len: usize,
     ) -> u32;
+
+    fn niflathen_map_files(
+        state: *const u64,
+        state_len: usize,
+        rows: *const u64,
+        rows_len: usize,
+        files: *const u32,
+        files_len: usize,
+        offsets: *const i64,
+        offsets_len: usize,
+        sizes: *const i32,
+        sizes_len: usize,
+        answers: *mut u64,
+        answers_len: usize,
+    ) -> i64;
 }
 
 /// A file as its row says it.
@@ -297,6 +312,29 @@ impl Set {
                 size,
                 out.as_mut_ptr(),
                 out.len(),
+            )
+        }
+    }
+
+    /// Puts four words for each question into `answers`, and gives the number of questions, or minus the number of the
+    /// refusal.
+    #[inline]
+    pub fn map_files(&self, files: &[u32], offsets: &[i64], sizes: &[i32], answers: &mut [u64]) -> i64 {
+        // SAFETY: as above.
+        unsafe {
+            niflathen_map_files(
+                self.state.as_ptr(),
+                self.state.len(),
+                self.rows.as_ptr(),
+                self.rows.len(),
+                files.as_ptr(),
+                files.len(),
+                offsets.as_ptr(),
+                offsets.len(),
+                sizes.as_ptr(),
+                sizes.len(),
+                answers.as_mut_ptr(),
+                answers.len(),
             )
         }
     }
