@@ -1,4 +1,4 @@
-//! A call's answer from the unchanged Rust. Calls on paths, hashes and widths are answered here, calls on sets in
+//! A call's answer from the Rust. Calls on paths, hashes and widths are answered here, calls on sets in
 //! sets.rs, set.rs, questions.rs and layout.rs. Where document 01 has a refusal the Rust isn't asked if a debug assertion
 //! would fire there.
 

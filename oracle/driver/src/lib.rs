@@ -1,5 +1,6 @@
-//! Answers calls in a script's form from the unchanged Rust. Reading a line is in parse.rs and words.rs, calling the
-//! Rust in call.rs and the files that it names, writing an answer in print.rs.
+//! Answers calls in a script's form from the Rust, unchanged but for the line that ends a walk (oracle/README.md).
+//! Reading a line is in parse.rs and words.rs, calling the Rust in call.rs and the files that it names, writing an answer
+//! in print.rs.
 
 mod answer;
 mod call;

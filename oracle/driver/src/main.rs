@@ -1,5 +1,5 @@
-//! Answers a script of calls on standard input from the unchanged Rust, a line for each call, in the form that
-//! `calls_main` speaks too.
+//! Answers a script of calls on standard input from the Rust, a line for each call, in the form that `calls_main` speaks
+//! too.
 
 use std::io::{self, BufRead, BufReader, BufWriter, Write};
 

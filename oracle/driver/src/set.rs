@@ -1,4 +1,4 @@
-//! One set: a `FileStorage` and a `RenamedFiles` of the unchanged Rust, the room lent, and which files hold a link text.
+//! One set: a `FileStorage` and a `RenamedFiles` of the Rust, the room lent, and which files hold a link text.
 //! The Rust can't take back what a refused call has changed, so the set is then built again from the changes that
 //! were made.
 

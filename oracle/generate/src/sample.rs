@@ -21,8 +21,8 @@ const JOINED: [&[u8]; 12] = [b"", b".", b"/", b"a", b"\\", b"..", b"a/", b"/a", 
 
 const SETS_HEAD: &[&str] = &[
     "# A sample of calls on sets, printed by `generate sample sets` of the folder oracle; the answers beside it are those of",
-    "# the unchanged Rust. `oracle/store` writes both files. First come the lines out of form, then sets that show one rule",
-    "# each, then random ones.",
+    "# the Rust, unchanged but for the line that ends a walk (oracle/README.md). `oracle/store` writes both files. First come",
+    "# the lines out of form, then sets that show one rule each, then random ones.",
 ];
 
 pub fn write_sets(script: &mut Script) -> io::Result<()> {
@@ -38,8 +38,8 @@ pub fn write_sets(script: &mut Script) -> io::Result<()> {
 
 const LAYOUT_HEAD: &[&str] = &[
     "# A sample of calls on layouts, printed by `generate sample layout` of the folder oracle; the answers beside it are those",
-    "# of the unchanged Rust. `oracle/store` writes both files. First come the lines out of form, then all sets of at most two",
-    "# files of at most one byte, then sets that show one corner each, then random ones.",
+    "# of the same Rust. `oracle/store` writes both files. First come the lines out of form, then all sets of at most two files",
+    "# of at most one byte, then sets that show one corner each, then random ones.",
 ];
 
 pub fn write_layout(script: &mut Script) -> io::Result<()> {

@@ -1,4 +1,4 @@
-//! The listing of document 01, made from a set of the unchanged Rust. Its form is read here from the document's words; the
+//! The listing of document 01, made from a set of the Rust. Its form is read here from the document's words; the
 //! set, its refusals and its answers are the driver's.
 
 use driver::{Addition, Room, Set};

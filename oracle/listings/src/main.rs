@@ -1,4 +1,4 @@
-//! Compares the program `setlist` with a listing made from the unchanged Rust: `listings PROGRAM SEED COUNT` runs PROGRAM
+//! Compares the program `setlist` with a listing made from the Rust: `listings PROGRAM SEED COUNT` runs PROGRAM
 //! on COUNT random inputs, malformed ones among them, and prints how many outputs were compared and how many differ.
 
 mod inputs;
