@@ -7,9 +7,9 @@ use driver::Sets;
 
 use crate::additions::plain;
 use crate::asking;
+use crate::playing::{ask, current};
 use crate::random::Random;
 use crate::script::{Script, Word, call};
-use crate::sets::ask;
 
 /// Parts of paths and of texts, with few that differ, so that texts meet what is there.
 const PARTS: [&[u8]; 12] = [b"a", b"b", b"k", b"l", b"m", b"x", b"y", b"..", b".", b"", b"a.b", b".pad"];
@@ -74,9 +74,9 @@ pub fn random(script: &mut Script, random: &mut Random, count: usize) -> io::Res
             ask(script, &mut sets, b"clean")?;
             left -= 1;
             if random.once_in(20) {
-                asking::all(script, random, sets.current().expect("a set was opened"))?;
+                asking::all(script, random, current(&mut sets))?;
             } else {
-                texts(script, sets.current().expect("a set was opened").files.num_files())?;
+                texts(script, current(&mut sets).files.num_files())?;
             }
             if random.once_in(3) {
                 ask(script, &mut sets, &addition(random, &taste))?;

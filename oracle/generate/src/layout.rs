@@ -1,6 +1,5 @@
 //! Scripts on layouts: all small sets with all small questions, sets that show one corner each, and random sets with
-//! random questions and those at the boundaries. Changes are tried out on sets of the driver, which say what there is
-//! to ask about.
+//! random questions and those at the boundaries.
 
 use std::io;
 
@@ -8,9 +7,9 @@ use driver::{Set, Sets};
 
 use crate::layout_questions as questions;
 use crate::layout_scenes::SCENES;
+use crate::playing::{self, ask, current};
 use crate::random::Random;
 use crate::script::{Script, Word, call};
-use crate::sets::ask;
 
 /// Piece lengths: the smallest, usual ones, and those around which a size can no longer be rounded up to blocks in an
 /// i32.
@@ -54,15 +53,10 @@ pub fn small(script: &mut Script, most: u32, sizes: i64, lengths: i32) -> io::Re
 
 /// The sets of SCENES, each with the questions at its boundaries and a few random ones.
 pub fn scenes(script: &mut Script, random: &mut Random) -> io::Result<()> {
-    let mut sets = Sets::default();
-    for lines in SCENES {
-        for line in *lines {
-            ask(script, &mut sets, line.as_bytes())?;
-        }
-        questions::boundary(script, random, current(&mut sets))?;
-        questions::random(script, random, current(&mut sets), ASKED / 6)?;
-    }
-    Ok(())
+    playing::scenes(script, &mut Sets::default(), SCENES, |script, set| {
+        questions::boundary(script, random, set)?;
+        questions::random(script, random, set, ASKED / 6)
+    })
 }
 
 /// As many random sets as wanted, each with its questions; a set that grows is asked now and then.
@@ -105,10 +99,6 @@ fn is_small(set: &Set) -> bool {
 fn open(script: &mut Script, sets: &mut Sets, length: i32) -> io::Result<()> {
     ask(script, sets, &call("open", &[Word::Number(length.into())]))?;
     Ok(())
-}
-
-fn current(sets: &mut Sets) -> &Set {
-    sets.current().expect("a set was opened")
 }
 
 /// Which sizes files have.

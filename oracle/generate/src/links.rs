@@ -7,9 +7,9 @@ use driver::Sets;
 
 use crate::additions::plain;
 use crate::asking;
+use crate::playing::{ask, current};
 use crate::random::Random;
 use crate::script::Script;
-use crate::sets::ask;
 
 /// How many additions with link text the script has; document 01's limit is 32766.
 const COUNT: usize = 32770;
@@ -25,8 +25,7 @@ pub fn write(script: &mut Script) -> io::Result<()> {
     for i in 0..COUNT {
         ask(script, &mut sets, &plain(b"s/p", 5, 9, b"t"))?;
         if i >= NEAR {
-            let set = sets.current().expect("a set was opened");
-            asking::all(script, &mut random, set)?;
+            asking::all(script, &mut random, current(&mut sets))?;
         }
         if i < NEAR || i % 2 == 0 {
             ask(script, &mut sets, b"trim")?;

@@ -15,6 +15,7 @@ mod layout_questions;
 mod layout_scenes;
 mod links;
 mod malformed;
+mod playing;
 mod random;
 mod renames;
 mod sample;

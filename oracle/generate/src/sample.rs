@@ -26,11 +26,7 @@ const SETS_HEAD: &[&str] = &[
 ];
 
 pub fn write_sets(script: &mut Script) -> io::Result<()> {
-    let mut random = Random::new(1);
-    script.keep_to_text();
-    for line in SETS_HEAD {
-        script.line(line.as_bytes())?;
-    }
+    let mut random = start(script, SETS_HEAD)?;
     malformed::fixed_sets(script)?;
     sets::scenes(script, &mut random)?;
     sets::random(script, &mut random, 50)
@@ -43,11 +39,7 @@ const LAYOUT_HEAD: &[&str] = &[
 ];
 
 pub fn write_layout(script: &mut Script) -> io::Result<()> {
-    let mut random = Random::new(1);
-    script.keep_to_text();
-    for line in LAYOUT_HEAD {
-        script.line(line.as_bytes())?;
-    }
+    let mut random = start(script, LAYOUT_HEAD)?;
     malformed::fixed_layout(script)?;
     layout::small(script, 2, 2, 3)?;
     layout::scenes(script, &mut random)?;
@@ -55,11 +47,7 @@ pub fn write_layout(script: &mut Script) -> io::Result<()> {
 }
 
 pub fn write(script: &mut Script) -> io::Result<()> {
-    let mut random = Random::new(1);
-    script.keep_to_text();
-    for line in HEAD {
-        script.line(line.as_bytes())?;
-    }
+    let mut random = start(script, HEAD)?;
     calls::vectors(script)?;
     calls::paths_up_to(script, 3, 3)?;
     calls::pairs(script, &JOINED)?;
@@ -68,4 +56,11 @@ pub fn write(script: &mut Script) -> io::Result<()> {
     calls::random(script, &mut random, 50)?;
     widths::random(script, &mut random, 20)?;
     malformed::random(script, &mut random, 50)
+}
+
+/// Begins a plain text with its head, and gives the source of its random numbers.
+fn start(script: &mut Script, head: &[&str]) -> io::Result<Random> {
+    script.keep_to_text();
+    head.iter().try_for_each(|line| script.line(line.as_bytes()))?;
+    Ok(Random::new(1))
 }

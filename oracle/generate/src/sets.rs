@@ -1,5 +1,5 @@
-//! Scripts on sets: random changes, and questions after each. Changes are tried out on sets of the driver, which
-//! say how many files there are to ask about, and how much room a set needs at each step.
+//! Scripts on sets: random changes, and questions after each. Changes are tried out beforehand, which says how much room
+//! a set needs at each step.
 
 use std::io;
 
@@ -7,6 +7,7 @@ use driver::{Room, SETS, Set, Sets, USUAL_ROOM};
 
 use crate::additions::{Taste, addition, plain};
 use crate::asking;
+use crate::playing::{self, ask, current, play, turn_to};
 use crate::random::Random;
 use crate::renames;
 use crate::scenes::SCENES;
@@ -56,30 +57,8 @@ pub fn random(script: &mut Script, random: &mut Random, count: usize) -> io::Res
 /// The sets of SCENES, each with every question at the end, and those of FAMILIES. The first set is spoken of.
 pub fn scenes(script: &mut Script, random: &mut Random) -> io::Result<()> {
     let mut sets = Sets::default();
-    for lines in SCENES {
-        for line in *lines {
-            ask(script, &mut sets, line.as_bytes())?;
-        }
-        asking::all(script, random, current(&mut sets))?;
-    }
+    playing::scenes(script, &mut sets, SCENES, |script, set| asking::all(script, random, set))?;
     twins::scenes(script, &mut sets)
-}
-
-/// Writes a line that changes something, and changes the sets that stand for the script's.
-pub fn ask(script: &mut Script, sets: &mut Sets, line: &[u8]) -> io::Result<bool> {
-    script.line(line)?;
-    Ok(play(sets, line))
-}
-
-/// Changes sets by a line, and says whether it was taken.
-fn play(sets: &mut Sets, line: &[u8]) -> bool {
-    let mut answer = Vec::new();
-    driver::answer(line, sets, &mut answer);
-    answer.starts_with(b"ok")
-}
-
-fn current(sets: &mut Sets) -> &mut Set {
-    sets.current().expect("a set was opened")
 }
 
 /// Opens a set for each plan, and makes the changes of all plans, mixed.
@@ -110,11 +89,6 @@ fn build(script: &mut Script, random: &mut Random, sets: &mut Sets, plans: &[Pla
         let asked = if is_made { asking::all } else { asking::some };
         asked(script, random, current(sets))?;
     }
-}
-
-pub fn turn_to(script: &mut Script, sets: &mut Sets, place: usize) -> io::Result<()> {
-    ask(script, sets, &call("use", &[Word::Number(place as i128)]))?;
-    Ok(())
 }
 
 impl Plan {

@@ -5,9 +5,9 @@ use std::io;
 use driver::{SETS, Sets};
 
 use crate::asking;
+use crate::playing::{ask, turn_to};
 use crate::random::Random;
 use crate::script::{Script, Word, call};
-use crate::sets::{ask, turn_to};
 
 /// Sets each: the first is compared with each behind it. Those that differ in what doesn't count come first, then those
 /// that differ in what counts; a link counts only where the first set is flagged.
