@@ -78,9 +78,15 @@ pub fn addition(random: &mut Random, taste: &Taste, set: &Set) -> Vec<u8> {
 
 /// The line of an addition without a given name, a time and a root.
 pub fn plain(path: &[u8], size: i64, flags: u8, link: &[u8]) -> Vec<u8> {
-    let none = || Word::Plain(b"-");
+    unnamed(path, size, flags, link, b"-")
+}
+
+/// The line of an addition without a given name and a time.
+pub fn unnamed(path: &[u8], size: i64, flags: u8, link: &[u8], root: &[u8]) -> Vec<u8> {
     let (size, flags) = (Word::Number(size.into()), Word::Number(flags.into()));
-    call("add", &[none(), Word::Bytes(path), size, flags, Word::Number(0), Word::Bytes(link), none()])
+    let words =
+        [Word::Plain(b"-"), Word::Bytes(path), size, flags, Word::Number(0), Word::Bytes(link), Word::Plain(root)];
+    call("add", &words)
 }
 
 /// A string of one byte many times, of a length around the limit of names.

@@ -1,14 +1,17 @@
 //! Scripts on cleanings: small sets of files, directories and links whose texts loop, repeat, climb, are absolute or
-//! run through one another, each cleaned and then asked for every link text.
+//! run through one another, each cleaned and then asked for every link text and about its layout. Some stand beside a
+//! set that was built by the same changes, with which they are compared.
 
 use std::io;
 
 use driver::Sets;
 
-use crate::additions::plain;
+use crate::additions::unnamed;
 use crate::asking;
-use crate::playing::{ask, current};
+use crate::layout_questions;
+use crate::playing::{ask, current, play, turn_to};
 use crate::random::Random;
+use crate::renames;
 use crate::script::{Script, Word, call};
 
 /// Parts of paths and of texts, with few that differ, so that texts meet what is there.
@@ -21,11 +24,24 @@ const SEPARATORS: [&[u8]; 6] = [b"/", b"/", b"/", b"/", b"//", b"///"];
 const TEXTS: [&[u8]; 14] =
     [b"/etc", b"/", b"//", b"///b", b".", b"./", b"k///b", b"k/", b"/a", b"a/b/k", b"../a", b"k/k/k", b"l/m/k", b"x/"];
 
-/// How many of the parts, of the separators and of the first parts below a set's paths are made of.
+/// How many of the parts, of the separators and of the first parts below a set's paths are made of, and the root of its
+/// files.
 struct Taste {
     parts: usize,
     separators: usize,
     firsts: usize,
+    root: &'static [u8],
+}
+
+impl Taste {
+    fn new(random: &mut Random) -> Self {
+        Self {
+            parts: random.one_of(&[3, 4, 5, 7, PARTS.len()]),
+            separators: random.one_of(&[1, 1, SEPARATORS.len()]),
+            firsts: random.one_of(&[1, 1, 6]),
+            root: random.one_of::<&[u8]>(&[b"-", b"-", b"-", b"*01"]),
+        }
+    }
 }
 
 /// Parts and separators, at least one part and mostly few.
@@ -49,7 +65,7 @@ fn addition(random: &mut Random, taste: &Taste) -> Vec<u8> {
         _ => parts(random, taste, 4),
     };
     let flags = if is_link { random.one_of(&[8, 8, 8, 8, 8, 0, 9]) } else { random.one_of(&[0, 0, 0, 1, 8]) };
-    plain(&path, random.one_of(&[0, 0, 3]), flags, &text)
+    unnamed(&path, random.one_of(&[0, 0, 3]), flags, &text, taste.root)
 }
 
 /// As many cleanings as wanted, most of them the first of their set.
@@ -57,31 +73,80 @@ pub fn random(script: &mut Script, random: &mut Random, count: usize) -> io::Res
     let mut sets = Sets::default();
     let mut left = count;
     while left > 0 {
-        let text = if random.once_in(4) { format!(" text={}", 8 + random.below(60)) } else { String::new() };
-        ask(script, &mut sets, format!("open 10{text}").as_bytes())?;
-        let taste = Taste {
-            parts: random.one_of(&[3, 4, 5, 7, PARTS.len()]),
-            separators: random.one_of(&[1, 1, SEPARATORS.len()]),
-            firsts: random.one_of(&[1, 1, 6]),
-        };
-        for _ in 0..=random.below(9) {
-            ask(script, &mut sets, &addition(random, &taste))?;
-            if random.once_in(12) {
-                ask(script, &mut sets, b"trim")?;
-            }
+        let taste = Taste::new(random);
+        let lines = lines(random, &taste);
+        let places = random.one_of::<&[usize]>(&[&[0], &[0], &[1], &[0, 1]]);
+        for &place in places {
+            turn_to(script, &mut sets, place)?;
+            lines.iter().try_for_each(|line| ask(script, &mut sets, line).map(drop))?;
         }
         for _ in 0..random.one_of(&[1, 1, 1, 2, 3]).min(left) {
+            if places.len() > 1 {
+                turn_to(script, &mut sets, random.one_of(places))?;
+            }
             ask(script, &mut sets, b"clean")?;
             left -= 1;
-            if random.once_in(20) {
-                asking::all(script, random, current(&mut sets))?;
-            } else {
-                texts(script, current(&mut sets).files.num_files())?;
-            }
+            cleaned(script, random, &mut sets, places)?;
             if random.once_in(3) {
                 ask(script, &mut sets, &addition(random, &taste))?;
             }
+            if random.once_in(6) {
+                let change = random.one_of(&[renames::rename, renames::import]);
+                let line = change(random, current(&mut sets));
+                ask(script, &mut sets, &line)?;
+                layout_questions::some(script, random, current(&mut sets), 2, 20)?;
+            }
         }
+    }
+    Ok(())
+}
+
+/// The lines that open and build a set.
+fn lines(random: &mut Random, taste: &Taste) -> Vec<Vec<u8>> {
+    let mut changes = Vec::new();
+    for _ in 0..=random.below(9) {
+        changes.push(addition(random, taste));
+        if random.once_in(12) {
+            changes.push(b"trim".to_vec());
+        }
+    }
+    let mut opening = format!("open {}", random.one_of(&[10, 10, 10, 1, 2, 3, 16384])).into_bytes();
+    let text = match random.below(8) {
+        0 | 1 => Some(8 + random.below(60)),
+        2 => Some((need(&changes) + random.below(3)).saturating_sub(1)),
+        _ => None,
+    };
+    opening.extend(text.map(|text| format!(" text={text}")).unwrap_or_default().into_bytes());
+    changes.insert(0, opening);
+    changes
+}
+
+/// The bytes of text that a set of piece length 10 needs for those changes and a cleaning.
+fn need(changes: &[Vec<u8>]) -> usize {
+    let mut sets = Sets::default();
+    let mut most = 0;
+    play(&mut sets, b"open 10");
+    for line in changes.iter().map(Vec::as_slice).chain([b"clean".as_slice()]) {
+        play(&mut sets, line);
+        most = most.max(current(&mut sets).need().text);
+    }
+    most
+}
+
+/// The questions after a cleaning; of sets at several places also whether they are compatible.
+fn cleaned(script: &mut Script, random: &mut Random, sets: &mut Sets, places: &[usize]) -> io::Result<()> {
+    let set = current(sets);
+    if random.once_in(20) {
+        asking::all(script, random, set)?;
+    } else {
+        texts(script, set.files.num_files())?;
+    }
+    layout_questions::some(script, random, set, 3, 60)?;
+    for &first in places {
+        places
+            .iter()
+            .filter(|&&second| first != second)
+            .try_for_each(|&second| asking::compatible(script, first, second))?;
     }
     Ok(())
 }

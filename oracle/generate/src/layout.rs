@@ -1,5 +1,5 @@
-//! Scripts on layouts: all small sets with all small questions, sets that show one corner each, and random sets with
-//! random questions and those at the boundaries.
+//! Scripts on layouts: all small sets with all small questions, sets that show one corner each, and random sets, cleaned
+//! and renamed ones among them, with random questions and those at the boundaries.
 
 use std::io;
 
@@ -9,6 +9,7 @@ use crate::layout_questions as questions;
 use crate::layout_scenes::SCENES;
 use crate::playing::{self, ask, current};
 use crate::random::Random;
+use crate::renames;
 use crate::script::{Script, Word, call};
 
 /// Piece lengths: the smallest, usual ones, and those around which a size can no longer be rounded up to blocks in an
@@ -22,6 +23,9 @@ const LIMIT: i64 = 281_474_976_710_655;
 const FEW_BYTES: i64 = 40;
 const FEW_FILES: i32 = 12;
 const LONG: i32 = 12;
+
+/// Link texts: those that a cleaning keeps, joins to the link's directory, or gives way to the link's own path.
+const LINKS: [&str; 8] = ["t", "0", "1", "x", "x/1", "../0", "/etc", "."];
 
 /// How many random questions a set is asked.
 const ASKED: usize = 60;
@@ -70,12 +74,14 @@ pub fn random(script: &mut Script, random: &mut Random, count: usize) -> io::Res
         for i in 0..changes {
             let line = taste.change(random, current(&mut sets), i);
             ask(script, &mut sets, &line)?;
-            if random.once_in(8) {
+            if random.once_in(if line.starts_with(b"add ") { 8 } else { 3 }) {
                 questions::random(script, random, current(&mut sets), ASKED / 6)?;
             }
         }
-        if random.once_in(4) {
-            ask(script, &mut sets, b"trim")?;
+        for last in [b"trim".as_slice(), b"clean"] {
+            if random.once_in(4) {
+                ask(script, &mut sets, last)?;
+            }
         }
         answered(script, random, current(&mut sets))?;
     }
@@ -119,6 +125,8 @@ struct Taste {
     pads: usize,
     links: usize,
     trims: usize,
+    cleanings: usize,
+    renames: usize,
 }
 
 impl Taste {
@@ -138,13 +146,22 @@ impl Taste {
             pads: random.one_of(&[3, 8, 40]),
             links: random.one_of(&[3, 8, 40]),
             trims: random.one_of(&[4, 12, 40]),
+            cleanings: random.one_of(&[4, 12, 40]),
+            renames: random.one_of(&[4, 12, 40]),
         }
     }
 
-    /// The line of an addition or a trim.
+    /// The line of an addition, a trim, a cleaning, a rename or an import.
     fn change(&self, random: &mut Random, set: &Set, i: usize) -> Vec<u8> {
         if random.once_in(self.trims) {
             return b"trim".to_vec();
+        }
+        if random.once_in(self.cleanings) {
+            return b"clean".to_vec();
+        }
+        if random.once_in(self.renames) {
+            let change = random.one_of(&[renames::rename, renames::import]);
+            return change(random, set);
         }
         let is_link = random.once_in(self.links);
         let is_pad = random.once_in(self.pads);
@@ -152,8 +169,10 @@ impl Taste {
         let size = if is_empty { 0 } else { self.size(random, set) };
         let has_root = if random.once_in(20) { random.once_in(2) } else { self.is_v2 && !is_pad };
         let root = if has_root { random.one_of(&["*00", "*01", "*02", "*FF"]) } else { "-" };
-        let (flags, link) = (u8::from(is_pad) + 8 * u8::from(is_link), if is_link { "t" } else { "" });
-        format!("add - :s/{i} {size} {flags} 0 :{link} {root}").into_bytes()
+        let (flags, link) =
+            (u8::from(is_pad) + 8 * u8::from(is_link), if is_link { random.one_of(&LINKS) } else { "" });
+        let directory = random.one_of(&["", "", "x/", "x/y/"]);
+        format!("add - :s/{directory}{i} {size} {flags} 0 :{link} {root}").into_bytes()
     }
 
     fn size(&self, random: &mut Random, set: &Set) -> i64 {

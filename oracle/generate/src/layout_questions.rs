@@ -1,4 +1,4 @@
-//! Questions on the layout of a set: every small one, those at its boundaries, and random ones.
+//! Questions on the layout of a set: every small one, those at its boundaries, random ones, and some after a change.
 
 use std::io;
 
@@ -102,10 +102,18 @@ pub fn boundary(script: &mut Script, random: &mut Random, set: &Set) -> io::Resu
     for_root(script, random.one_of(&ROOTS))
 }
 
+/// Random questions after a change, as many as wanted, and once in `rarely` times those at the boundaries.
+pub fn some(script: &mut Script, random: &mut Random, set: &Set, count: usize, rarely: usize) -> io::Result<()> {
+    if random.once_in(rarely) {
+        boundary(script, random, set)?;
+    }
+    self::random(script, random, set, count)
+}
+
 /// As many random questions as wanted.
 pub fn random(script: &mut Script, random: &mut Random, set: &Set, count: usize) -> io::Result<()> {
     for _ in 0..count {
-        match random.below(20) {
+        match random.below(21) {
             0..=6 => {
                 let piece = piece(random, set);
                 numbers(script, "map_block", &[piece, place(random, set), size(random, set, i64::MAX)])?;
@@ -117,7 +125,8 @@ pub fn random(script: &mut Script, random: &mut Random, set: &Set, count: usize)
             10..=12 => numbers(script, random.one_of(&ON_PIECE), &[piece(random, set)])?,
             13..=15 => numbers(script, random.one_of(&ON_FILE), &[file(random, set)])?,
             16..=18 => numbers(script, "file_index_at_offset", &[place(random, set)])?,
-            _ => for_root(script, random.one_of(&ROOTS))?,
+            19 => for_root(script, random.one_of(&ROOTS))?,
+            _ => script.call(random.one_of(&PLAIN), &[])?,
         }
     }
     Ok(())

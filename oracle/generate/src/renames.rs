@@ -5,7 +5,7 @@ use driver::{FileIndex, Set};
 use crate::additions::plain;
 use crate::bytes;
 use crate::random::Random;
-use crate::script::{Word, call};
+use crate::script::{Word, call, is_short};
 
 /// Other paths: of one part and of more, with separators at the ends, absolute, of no bytes, and those that vanish in joins.
 const NAMES: [&[u8]; 18] = [
@@ -43,6 +43,9 @@ pub fn import(random: &mut Random, set: &Set) -> Vec<u8> {
     if random.once_in(12) {
         let at = random.below(pairs.len() + 1);
         pairs.insert(at, (random.one_of(&[-1, -2, i32::MIN]), name(random)));
+    }
+    while !is_short(&imports(&pairs)) {
+        pairs.pop();
     }
     imports(&pairs)
 }

@@ -3,6 +3,7 @@
 use std::io;
 
 use crate::calls;
+use crate::cleanings;
 use crate::layout;
 use crate::malformed;
 use crate::random::Random;
@@ -22,14 +23,15 @@ const JOINED: [&[u8]; 12] = [b"", b".", b"/", b"a", b"\\", b"..", b"a/", b"/a", 
 const SETS_HEAD: &[&str] = &[
     "# A sample of calls on sets, printed by `generate sample sets` of the folder oracle; the answers beside it are those of",
     "# the Rust, unchanged but for the line that ends a walk (oracle/README.md). `oracle/store` writes both files. First come",
-    "# the lines out of form, then sets that show one rule each, then random ones.",
+    "# the lines out of form, then sets that show one rule each, then random ones, then cleanings.",
 ];
 
 pub fn write_sets(script: &mut Script) -> io::Result<()> {
     let mut random = start(script, SETS_HEAD)?;
     malformed::fixed_sets(script)?;
     sets::scenes(script, &mut random)?;
-    sets::random(script, &mut random, 50)
+    sets::random(script, &mut random, 50)?;
+    cleanings::random(script, &mut random, 50)
 }
 
 const LAYOUT_HEAD: &[&str] = &[

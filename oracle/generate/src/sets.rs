@@ -1,4 +1,4 @@
-//! Scripts on sets: random changes, and questions after each. Changes are tried out beforehand, which says how much room
+//! Scripts on sets: random changes, and questions after each, on layouts and on two sets too. Changes are tried out beforehand, which says how much room
 //! a set needs at each step.
 
 use std::io;
@@ -7,6 +7,7 @@ use driver::{Room, SETS, Set, Sets, USUAL_ROOM};
 
 use crate::additions::{Taste, addition, plain};
 use crate::asking;
+use crate::layout_questions;
 use crate::playing::{self, ask, current, play, turn_to};
 use crate::random::Random;
 use crate::renames;
@@ -84,10 +85,16 @@ fn build(script: &mut Script, random: &mut Random, sets: &mut Sets, plans: &[Pla
         if plans.len() > 1 {
             turn_to(script, sets, i)?;
         }
-        let is_made = ask(script, sets, &plans[i].changes[made[i]])?;
+        let line = &plans[i].changes[made[i]];
+        let is_made = ask(script, sets, line)?;
         made[i] += 1;
         let asked = if is_made { asking::all } else { asking::some };
         asked(script, random, current(sets))?;
+        let rarely = if line.starts_with(b"add ") { 30 } else { 5 };
+        layout_questions::some(script, random, current(sets), 5, rarely)?;
+        if random.once_in(6) {
+            asking::compatible(script, random.below(SETS), random.below(SETS))?;
+        }
     }
 }
 
@@ -105,7 +112,8 @@ impl Plan {
                     _ if i < additions => addition(random, &taste, set),
                     0 => addition(random, &taste, set),
                     1 => b"trim".to_vec(),
-                    2 | 3 => renames::rename(random, set),
+                    2 => b"clean".to_vec(),
+                    3 | 4 => renames::rename(random, set),
                     _ => renames::import(random, set),
                 })
             }
@@ -133,11 +141,14 @@ impl Plan {
         }
     }
 
-    /// A plan of a few additions.
+    /// A plan of a few changes, most of them additions.
     fn few(random: &mut Random, most: usize) -> Self {
         let taste = Taste::new(random);
-        let count = 1 + random.below(4);
-        Self::by(random, most, count, |random, set, _| addition(random, &taste, set))
+        let count = 1 + random.below(5);
+        Self::by(random, most, count, |random, set, i| match random.below(4) {
+            0 if i > 0 => other(random, set),
+            _ => addition(random, &taste, set),
+        })
     }
 
     /// A plan of at most `most` and at most `count` changes; each is chosen by the set before it and its place.
@@ -178,6 +189,16 @@ impl Plan {
             }
         }
         line
+    }
+}
+
+/// The line of a change that is no addition.
+pub fn other(random: &mut Random, set: &Set) -> Vec<u8> {
+    match random.below(8) {
+        0 => b"trim".to_vec(),
+        1 | 2 => renames::rename(random, set),
+        3 | 4 => renames::import(random, set),
+        _ => b"clean".to_vec(),
     }
 }
 

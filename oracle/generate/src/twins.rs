@@ -1,13 +1,15 @@
-//! Sets side by side that are alike but for one thing, and `compat` of each two.
+//! Sets side by side that are alike but for one thing, and `compat` of each two, also after changes of some of them.
 
 use std::io;
 
 use driver::{SETS, Sets};
 
 use crate::asking;
-use crate::playing::{ask, turn_to};
+use crate::layout_questions;
+use crate::playing::{ask, current, turn_to};
 use crate::random::Random;
 use crate::script::{Script, Word, call};
+use crate::sets::other;
 
 /// Sets each: the first is compared with each behind it. Those that differ in what doesn't count come first, then those
 /// that differ in what counts; a link counts only where the first set is flagged.
@@ -68,7 +70,8 @@ pub fn scenes(script: &mut Script, sets: &mut Sets) -> io::Result<()> {
     turn_to(script, sets, 0)
 }
 
-/// The set of those changes in the first place, and in each other the same with one thing changed; every two compared.
+/// The set of those changes in the first place, and in each other the same with one thing changed; every two compared,
+/// and again after cleanings and other changes of some of them.
 pub fn random(
     script: &mut Script,
     random: &mut Random,
@@ -87,7 +90,15 @@ pub fn random(
             ask(script, sets, &line)?;
         }
     }
-    compare(script)
+    compare(script)?;
+    for _ in 0..random.below(4) {
+        turn_to(script, sets, random.below(SETS))?;
+        let line = other(random, current(sets));
+        ask(script, sets, &line)?;
+        layout_questions::some(script, random, current(sets), 5, 5)?;
+        compare(script)?;
+    }
+    Ok(())
 }
 
 /// Every two sets compared, also each with itself.
@@ -110,7 +121,7 @@ const OTHERS: [&[&[u8]]; 7] = [
 fn varied(random: &mut Random, line: &[u8]) -> Vec<u8> {
     let mut words: Vec<&[u8]> = line.split(|&c| c == b' ').collect();
     if words.len() <= OTHERS.len() || random.once_in(16) {
-        return random.one_of::<&[u8]>(&[b"trim", b"add - :s/a 5 0 0 : -", b"add - :s/p 5 1 0 : -"]).to_vec();
+        return random.one_of::<&[u8]>(&[b"trim", b"clean", b"add - :s/a 5 0 0 : -", b"add - :s/p 5 1 0 : -"]).to_vec();
     }
     let i = random.below(OTHERS.len());
     words[i + 1] = random.one_of(OTHERS[i]);
