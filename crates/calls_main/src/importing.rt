@@ -1,7 +1,5 @@
 // `import I :N I :N …`: the pairs of the line are read into columns, and the set's tables of renames are lent to
 // the library. Relies on `renames`, and on the modules for sets, words and output.
-ghost use mathlib.Core.Path.{_≡_};
-ghost use lib.ListN.{length};
 use crate::numbers;
 use crate::numbers::Short;
 use crate::output;
