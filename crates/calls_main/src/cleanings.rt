@@ -46,12 +46,12 @@ fn clean_with(
     changes::outcome(cleaning::sanitize_symlinks(fs, rows, dirs, text, marks, stage, path))
 }
 
-// A stage for links whose directories and texts have half a million bytes together.
-fn large_stage() -> [u8; 524288] {
-    [0u8; 524288]
+// A stage for 256 links in directories of 4096 bytes, and as many bytes of texts as a set can hold.
+fn large_stage() -> [u8; 1311232] {
+    [0u8; 1311232]
 }
 
 // The path that goes with it.
-fn large_path() -> [u8; 1048576] {
-    [0u8; 1048576]
+fn large_path() -> [u8; 2622464] {
+    [0u8; 2622464]
 }
