@@ -6,7 +6,7 @@ use std::io;
 
 use driver::Sets;
 
-use crate::additions::unnamed;
+use crate::additions::{plain, unnamed};
 use crate::asking;
 use crate::layout_questions;
 use crate::playing::{ask, current, play, turn_to};
@@ -66,6 +66,27 @@ fn addition(random: &mut Random, taste: &Taste) -> Vec<u8> {
     };
     let flags = if is_link { random.one_of(&[8, 8, 8, 8, 8, 0, 9]) } else { random.one_of(&[0, 0, 0, 1, 8]) };
     unnamed(&path, random.one_of(&[0, 0, 3]), flags, &text, taste.root)
+}
+
+/// Links in one long directory: as many as a set has places for, and a few whose directory is longer.
+const LONG: [(usize, usize); 2] = [(255, 4096), (99, 5300)];
+
+/// Sets whose links need much work space, with texts that are kept and that give way to the link's own path. The text area
+/// has room for a few own paths only, so more of them are 10.
+pub fn scenes(script: &mut Script, random: &mut Random, sets: &mut Sets) -> io::Result<()> {
+    for (links, length) in LONG {
+        for own in [0, 40, links] {
+            ask(script, sets, b"open 10")?;
+            ask(script, sets, &plain(b"s/f", 3, 0, b""))?;
+            for i in 0..links {
+                let path = [b"s/", vec![b'd'; length].as_slice(), format!("/{i}").as_bytes()].concat();
+                ask(script, sets, &plain(&path, 0, 8, if i < own { b"/etc" } else { b"f" }))?;
+            }
+            ask(script, sets, b"clean")?;
+            asking::all(script, random, current(sets))?;
+        }
+    }
+    Ok(())
 }
 
 /// As many cleanings as wanted, most of them the first of their set.

@@ -76,6 +76,7 @@ fn sets(script: &mut Script, seed: u64, count: usize) -> io::Result<()> {
     let mut random = Random::new(seed);
     malformed::fixed_sets(script)?;
     sets::scenes(script, &mut random)?;
+    sets::long_scenes(script, &mut random)?;
     sets::random(script, &mut random, count)
 }
 

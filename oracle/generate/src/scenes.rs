@@ -94,7 +94,8 @@ pub const SCENES: &[&[&str]] = &[
         "rename 1 :/f",
     ],
     // Cleanings: document 01's three cases, a link through another that is cleaned away, of links with one path the last
-    // that leads on, texts that loop, a text from the link's own directory, one that becomes empty, and `.pad` after a trim.
+    // that leads on, of a link and a file with one path the last, texts that loop, a text from the link's own directory,
+    // one that becomes empty, and `.pad` after a trim.
     &[
         "open 10",
         "add - :s/x/f 1 0 0 : -",
@@ -113,12 +114,40 @@ pub const SCENES: &[&[&str]] = &[
         "add - :s/m 0 8 0 :l/f -",
         "clean",
     ],
+    &[
+        "open 10",
+        "add - :s/x/f 1 0 0 : -",
+        "add - :s/k 0 8 0 :x -",
+        "add - :s/k 0 0 0 : -",
+        "add - :s/l 0 8 0 :k -",
+        "add - :s/m 0 8 0 :l/f -",
+        "clean",
+        "add - :s/k 0 8 0 :x -",
+        "add - :s/n 0 8 0 :l/f -",
+        "clean",
+    ],
     &["open 10", "add - :s/k 0 8 0 :l -", "add - :s/l 0 8 0 :k -", "add - :s/m 0 8 0 :k/l/k/a -", "clean"],
     &["open 10", "add - :s/x/a 1 0 0 : -", "add - :s/x/l 0 8 0 :a -", "add - :s/x/y/m 0 8 0 :../a -", "clean"],
     &["open 10", "add - :s// 0 8 0 :/etc -", "add - :s/a 0 8 0 : -", "add - :s/b 0 0 0 :/etc -", "clean"],
     &["open 10", "add - :s/a 5 0 0 : *01", "trim", "add - :s/l 0 8 0 :.pad -", "add - :s/m 0 8 0 :l/5 -", "clean"],
+    // Room for the texts after a cleaning: exact and one short, where one text grows, where one shrinks for another, and
+    // where two are joined to their directory; what a cleaning frees is used, to the last byte.
+    &["open 10 files=1 dirs=1 text=13", "add - :s/abcdef 0 8 0 :/ -", "clean"],
+    &["open 10 files=1 dirs=1 text=12", "add - :s/abcdef 0 8 0 :/ -", "clean"],
     &["open 10 text=9", "add - :s/abc 0 8 0 :/ -", "add - :s/m 0 8 0 :/et -", "clean"],
     &["open 10 text=11", "add - :s/abc 0 8 0 :/ -", "add - :s/m 0 8 0 :/etc -", "clean"],
+    &["open 10 text=17", "add - :s/x/y/a 1 0 0 : -", "add - :s/x/y/l 0 8 0 :a -", "add - :s/x/y/m 0 8 0 :/ -", "clean"],
+    &["open 10 text=16", "add - :s/x/y/a 1 0 0 : -", "add - :s/x/y/l 0 8 0 :a -", "add - :s/x/y/m 0 8 0 :/ -", "clean"],
+    &[
+        "open 10 text=10",
+        "add - :s/m 0 8 0 :/etcetc -",
+        "add - :s/b 0 0 0 : -",
+        "add - :s/c 0 0 0 : -",
+        "clean",
+        "add - :s/abcdefg 0 0 0 : -",
+        "add - :s/abcdef 0 0 0 : -",
+        "clean",
+    ],
     // Several refusals at once, the first in the order counts.
     &[
         "open 10 files=1 dirs=1 text=3",

@@ -7,6 +7,7 @@ use driver::{Room, SETS, Set, Sets, USUAL_ROOM};
 
 use crate::additions::{Taste, addition, plain};
 use crate::asking;
+use crate::cleanings;
 use crate::layout_questions;
 use crate::playing::{self, ask, current, play, turn_to};
 use crate::random::Random;
@@ -60,6 +61,13 @@ pub fn scenes(script: &mut Script, random: &mut Random) -> io::Result<()> {
     let mut sets = Sets::default();
     playing::scenes(script, &mut sets, SCENES, |script, set| asking::all(script, random, set))?;
     twins::scenes(script, &mut sets)
+}
+
+/// Sets with so much text that no sample has them.
+pub fn long_scenes(script: &mut Script, random: &mut Random) -> io::Result<()> {
+    let mut sets = Sets::default();
+    renames::scenes(script, random, &mut sets)?;
+    cleanings::scenes(script, random, &mut sets)
 }
 
 /// Opens a set for each plan, and makes the changes of all plans, mixed.
