@@ -131,22 +131,21 @@ fn lines(random: &mut Random, taste: &Taste) -> Vec<Vec<u8>> {
             changes.push(b"trim".to_vec());
         }
     }
-    let mut opening = format!("open {}", random.one_of(&[10, 10, 10, 1, 2, 3, 16384])).into_bytes();
-    let text = match random.below(8) {
-        0 | 1 => Some(8 + random.below(60)),
-        2 => Some((need(&changes) + random.below(3)).saturating_sub(1)),
-        _ => None,
-    };
-    opening.extend(text.map(|text| format!(" text={text}")).unwrap_or_default().into_bytes());
-    changes.insert(0, opening);
+    let mut opening = format!("open {}", random.one_of(&[10, 10, 10, 1, 2, 3, 16384]));
+    match random.below(8) {
+        0 | 1 => opening += &format!(" text={}", 8 + random.below(60)),
+        2 => opening += &format!(" text={}", (need(&opening, &changes) + random.below(3)).saturating_sub(1)),
+        _ => {}
+    }
+    changes.insert(0, opening.into_bytes());
     changes
 }
 
-/// The bytes of text that a set of piece length 10 needs for those changes and a cleaning.
-fn need(changes: &[Vec<u8>]) -> usize {
+/// The bytes of text that a set needs for those changes and a cleaning.
+fn need(opening: &str, changes: &[Vec<u8>]) -> usize {
     let mut sets = Sets::default();
     let mut most = 0;
-    play(&mut sets, b"open 10");
+    play(&mut sets, opening.as_bytes());
     for line in changes.iter().map(Vec::as_slice).chain([b"clean".as_slice()]) {
         play(&mut sets, line);
         most = most.max(current(&mut sets).need().text);
