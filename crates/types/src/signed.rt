@@ -95,13 +95,6 @@ impl PieceIndex {
     {
         clamped(self.0)
     }
-
-    // The number of one of `count` pieces, or refusal 12.
-    pub fn within(self, count: usize) -> UsizeResult
-        ensures { λ r. ⌜ usizeSays r ≡ belowOr 12 count (self .0) ⌝ }
-    {
-        below(self.0, count, Refusal::NoSuchPiece)
-    }
 }
 
 impl FileIndex {
