@@ -14,7 +14,7 @@ use lib.ListN.{length, getD, take, drop, length-drop, drop-of-length-le}
 use lib.Seq.{drop-cons, drop-drop, take-suc, take-add}
 use Rattle.path.specs.Split.{isSeparator, beforeFirst}
 use Rattle.crc32c.specs.Crc.{crcFrom, lower}
-use Rattle.crc32c.proofs.Parts.{crc-lower, crc-none}
+use Rattle.crc32c.proofs.Parts.{crc-lower}
 use Rattle.tables.specs.declared.storage.FileStorage.{FileStorage}
 use Rattle.tables.specs.Span.{textAt}
 use Rattle.tables.specs.Rows.{dirAt}

@@ -66,7 +66,7 @@ module _ (hs out : List ℕ) (held t : Bool) (q : t ≡ leb (length (ascending h
       let w = all-stored hs out after n h (sym q ∙ f) in
       rw (e, ← q, f, w .0, w .1)
 
-module _ (fs : FileStorage) (dirs text out : List ℕ) (d : SpanResult) (p : spanSays text d ≡ askedHeld fs (textHeld fs text) (textAt text (fs .name))) where
+module _ (fs : FileStorage) (dirs text out : List ℕ) (d : SpanResult) (p : spanSays d ≡ askedHeld fs (textHeld fs text) (fs .name)) where
   abbrev room : Bool
   room = leb (length (ascending (hashesOf fs dirs text))) (length out)
 
@@ -81,14 +81,14 @@ module _ (fs : FileStorage) (dirs text out : List ℕ) (d : SpanResult) (p : spa
       → o ≡ allPathHashes fs dirs text out
   listed-value s e state h o q =
       let k = nameNumber (badLength (fs .«piece_length»)) (textHeld fs text) in
-      let v = allowed k (textAt text (fs .name)) (eqb k 0) (textAt text s) (ap (spanSays text) (sym e) ∙ p) in
+      let v = allowed k (fs .name) (eqb k 0) s (ap spanSays (sym e) ∙ p) in
       let a : hashesWithin state dirs text (fs .«num_paths») ≡ hashesOf fs dirs text = rw (h, v .1) (all-within fs dirs text) in
       (rw a at q) ∙ ap (λ (n : ℕ). listed n (ascending (hashesOf fs dirs text)) out) (named (badLength (fs .«piece_length»)) (dirsHeld fs dirs) (textHeld fs text) room (v .0))
 
   pub listed-refused : (x : Refusal) → d ≡ Err x → _≡_ {A = Listed} (record { says = refused (numberOf x); table = out }) (allPathHashes fs dirs text out)
   listed-refused x e =
       let k = nameNumber (badLength (fs .«piece_length»)) (textHeld fs text) in
-      let v = denied k (textAt text (fs .name)) (eqb k 0) (numberOf x) (ap (spanSays text) (sym e) ∙ p) in
+      let v = denied k (fs .name) (eqb k 0) (numberOf x) (ap spanSays (sym e) ∙ p) in
       let u = unnamed (badLength (fs .«piece_length»)) (dirsHeld fs dirs) (textHeld fs text) room (v .0) in
       refused-is (allNumber (badLength (fs .«piece_length»)) (dirsHeld fs dirs) (textHeld fs text) room) (numberOf x) (ascending (hashesOf fs dirs text)) out (v .1 ∙ u)
       (rw u at (v .0))

@@ -13,8 +13,8 @@ use Rattle.tables.specs.declared.storage.FileStorage.{FileStorage}
 use Rattle.tables.specs.declared.span.Span.{Span}
 use Rattle.tables.specs.declared.rows.Row.{Row}
 use Rattle.tables.specs.Span.{textAt}
-use Rattle.tables.specs.Rows.{dirAt, has}
-use Rattle.answers.specs.Answers.{isAbsolute, isInside, symlinkPath}
+use Rattle.tables.specs.Rows.{dirAt, isAbsolute, isInside, directorySpan, has}
+use Rattle.answers.specs.Answers.{symlinkPath}
 use Rattle.names.specs.Paths.{isSingle, nameOf, filePath, led, hashedPath, hashOf}
 use Rattle.names.proofs.Composed.{append-none}
 
@@ -54,7 +54,7 @@ module _ (fs : FileStorage) (dirs text : List ℕ) (r : Row) where
   setSpan = cond (both (isInside r) (not (has (r .flags) 32))) (fs .name) nowhere
 
   abbrev pub dirSpan : Span
-  dirSpan = cond (isInside r) (dirAt dirs (r .«path_index»)) nowhere
+  dirSpan = directorySpan dirs r
 
   path-is : (save : List ℕ) → appended (appended (appended (cond (isAbsolute r) [] save) (textAt text setSpan)) (textAt text dirSpan)) (nameOf text r) ≡ filePath fs dirs text save r
   path-is save = path-if text save (nameOf text r) (fs .name) (dirAt dirs (r .«path_index»)) (isAbsolute r) (isSingle r) (has (r .flags) 32)

@@ -1,7 +1,7 @@
 -- Document 01: '`files_compatible` as in the Rust': whether two sets have the same layout and names, pads and empty files
 -- aside. It is not symmetric: a link is compared only where the first set flags it as one.
 use Prim.Native.Nat.{ℕ, zero, suc, _+_}
-use mathlib.Core.Bool.{Bool, true, false, cond, not}
+use mathlib.Core.Bool.{Bool, true, cond, not}
 use mathlib.Core.List.{List, [], _∷_}
 use lib.Dec.{eqb, ltb}
 use Rattle.lists.specs.Lists.{equal}

@@ -6,18 +6,18 @@ use mathlib.Core.List.{List, [], _∷_, _++_, map}
 use lib.Dec.{eqb}
 use lib.IntN.{ℤ}
 use Rattle.types.specs.Refusals.{Outcome}
-use Rattle.path.specs.Join.{Joined, isEmpty, appended}
+use Rattle.path.specs.Join.{Joined, appended}
 use Rattle.crc32c.specs.Crc.{crcOf, lower}
 use Rattle.tables.specs.declared.storage.FileStorage.{FileStorage}
 use Rattle.tables.specs.declared.rows.Row.{Row}
 use Rattle.tables.specs.Span.{textAt}
-use Rattle.tables.specs.Rows.{rowAt, dirAt, has}
+use Rattle.tables.specs.Rows.{rowAt, dirAt, noPath, isAbsolute, has}
 use Rattle.storage.specs.Rules.{both}
-use Rattle.answers.specs.Answers.{isAbsolute, askedFile, composedFile, rowsHeld, dirsHeld, textHeld}
+use Rattle.answers.specs.Answers.{askedFile, composedFile, rowsHeld, dirsHeld, textHeld}
 
 -- a single name has no directory
 abbrev pub isSingle : Row → Bool
-isSingle r = eqb (r .«path_index») 1073741823
+isSingle r = eqb (r .«path_index») noPath
 
 abbrev pub nameOf : List ℕ → Row → List ℕ
 nameOf text r = textAt text (r .name)

@@ -4,31 +4,21 @@ ghost use mathlib.Core.Path.{_≡_};
 ghost use mathlib.Core.Bool.{cond};
 ghost use mathlib.Core.List.{[]};
 ghost use Rattle.lists.specs.Lists.{equal};
-ghost use Rattle.storage.specs.Addition.{badLength};
 ghost use Rattle.tables.specs.Rows.{has};
 ghost use Rattle.answers.specs.Results.{boolSays};
 ghost use Rattle.answers.specs.Answers.{symlinkPath};
 ghost use Rattle.names.specs.Paths.{filePath, namesHeld};
 ghost use Rattle.names.specs.Compatible.{isRelevant, sameNamed, sameFile, sameFrom, compatible, filesCompatible};
 use crate::decide::are_held;
-use crate::decide::directory_span;
 use crate::decide::set_span;
 use crate::walk::same_composed;
 use answers::BoolResult;
+use storage::is_bad_length;
 use tables::FileStorage;
 use tables::Row;
 use tables::Span;
+use tables::directory_span;
 use types::Refusal;
-
-// Whether a piece length is out of range.
-fn is_bad_length(piece_length: u64) -> bool
-    ensures { λ r. ⌜ r ≡ badLength «piece_length» ⌝ }
-{
-    if piece_length < 1 {
-        return true;
-    }
-    2147483647 < piece_length
-}
 
 // Whether the lent tables have as many places as the set counts.
 fn is_held(fs: FileStorage, rows: &[u64], dirs: &[u64], text: &[u8]) -> bool

@@ -8,8 +8,8 @@ ghost use lib.ListN.{length, take};
 ghost use lib.Seq.{sets};
 ghost use Rattle.types.specs.Refusals.{usizeSays};
 ghost use Rattle.path.specs.Join.{Joined, isAlone, isEmpty, isClosed, appended, joinedIf, fits};
-use crate::part::is_alone;
-use crate::part::is_closed;
+use path::is_alone;
+use path::is_closed;
 use types::Refusal;
 use types::UsizeResult;
 

@@ -3,11 +3,11 @@
 ghost use mathlib.Core.Path.{_≡_};
 ghost use mathlib.Core.Bool.{cond, not};
 ghost use Prim.Native.Nat.{_/_};
-ghost use lib.Dec.{eqb, leb};
+ghost use lib.Dec.{leb};
 ghost use Rattle.types.specs.Refusals.{usizeSays};
 ghost use Rattle.storage.specs.Rules.{both};
-ghost use Rattle.tables.specs.Rows.{dirAt, has};
-ghost use Rattle.answers.specs.Answers.{askedFile, rowsHeld, isInside};
+ghost use Rattle.tables.specs.Rows.{has, isInside};
+ghost use Rattle.answers.specs.Answers.{askedFile, rowsHeld};
 use answers::BoolResult;
 use tables::FileStorage;
 use tables::Row;
@@ -15,12 +15,6 @@ use tables::Span;
 use types::FileIndex;
 use types::Refusal;
 use types::UsizeResult;
-
-// The path index of a single name, which has no directory.
-const NO_PATH: u64 = 1073741823;
-
-// The path index of a file that was added by an absolute path.
-pub(crate) const PATH_IS_ABSOLUTE: u64 = 1073741822;
 
 // Whether so many words of directories and so many bytes of text hold the set's directories and texts.
 pub(crate) fn are_held(fs: FileStorage, words: usize, bytes: usize) -> bool
@@ -49,21 +43,11 @@ pub(crate) fn file_in(fs: FileStorage, rows: &[u64], index: FileIndex, held: boo
     }
 }
 
-// Whether a path index is that of a stored directory.
-fn is_inside(path_index: u64) -> bool
-    ensures { λ r. ⌜ r ≡ both (not (eqb «path_index» 1073741823)) (not (eqb «path_index» 1073741822)) ⌝ }
-{
-    if path_index == NO_PATH {
-        return false;
-    }
-    path_index != PATH_IS_ABSOLUTE
-}
-
 // Whether the set's name leads a file's path.
 pub(crate) fn is_led(row: Row) -> bool
     ensures { λ r. ⌜ r ≡ both (isInside row) (not (has (row .flags) 32)) ⌝ }
 {
-    if is_inside(row.path_index) {
+    if tables::is_inside(row.path_index) {
         return !tables::is_outside(row.flags);
     }
     false
@@ -76,16 +60,6 @@ pub(crate) fn set_span(fs: FileStorage, row: Row) -> Span
     let name = fs.name;
     if is_led(row) {
         return name;
-    }
-    Span { at: 0, len: 0 }
-}
-
-// Where the text of a file's directory lies; nowhere for a single name and an absolute path.
-pub(crate) fn directory_span(dirs: &[u64], row: Row) -> Span
-    ensures { λ r. ⌜ r ≡ cond (isInside row) (dirAt (now (dirs .entry)) (row .«path_index»)) (record { at = 0; len = 0 }) ⌝ }
-{
-    if is_inside(row.path_index) {
-        return tables::dir_at(dirs, row.path_index as usize);
     }
     Span { at: 0, len: 0 }
 }

@@ -8,29 +8,28 @@ ghost use Rattle.types.specs.Refusals.{usizeSays};
 ghost use Rattle.storage.specs.Rules.{both};
 ghost use Rattle.path.specs.Join.{Joined};
 ghost use Rattle.crc32c.specs.Crc.{crcFrom, lower};
-ghost use Rattle.tables.specs.Rows.{has};
+ghost use Rattle.tables.specs.Rows.{has, pathIsAbsolute, isInside};
 ghost use Rattle.tables.specs.Span.{textAt};
-ghost use Rattle.answers.specs.Answers.{isInside, composedIf};
+ghost use Rattle.answers.specs.Answers.{composedIf};
 ghost use Rattle.names.specs.Results.{u32Says};
 ghost use Rattle.names.specs.Paths.{filePath, led, hashedPath, hashOf, filePathInto, filePathHash};
 use crate::compose::compose_path;
-use crate::decide::PATH_IS_ABSOLUTE;
 use crate::decide::are_held;
-use crate::decide::directory_span;
 use crate::decide::file_in;
 use crate::decide::is_led;
 use crate::decide::set_span;
 use crate::result::U32Result;
 use tables::FileStorage;
 use tables::Row;
+use tables::directory_span;
 use types::FileIndex;
 use types::UsizeResult;
 
 // The save path, or nothing for a file that was added by an absolute path.
 fn save_of(save_path: &[u8], path_index: u64) -> &[u8]
-    ensures { λ r. ⌜ now r ≡ cond (eqb «path_index» 1073741822) [] (now («save_path» .entry)) ⌝ }
+    ensures { λ r. ⌜ now r ≡ cond (eqb «path_index» pathIsAbsolute) [] (now («save_path» .entry)) ⌝ }
 {
-    if path_index == PATH_IS_ABSOLUTE {
+    if path_index == tables::PATH_IS_ABSOLUTE {
         return lists::part(save_path, 0, 0);
     }
     save_path

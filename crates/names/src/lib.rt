@@ -5,7 +5,6 @@ mod compose;
 mod decide;
 mod file;
 mod hashes;
-mod part;
 mod result;
 mod walk;
 

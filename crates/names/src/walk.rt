@@ -5,8 +5,8 @@ ghost use lib.ListN.{length, getD};
 ghost use Rattle.lists.specs.Lists.{equal};
 ghost use Rattle.path.specs.Join.{appended};
 ghost use Rattle.names.specs.Walk.{ended, cutFirst, cutSecond, startOf, restFrom, stepLast, stepSecond, stepFrom, meetingOf};
-use crate::part::is_alone;
-use crate::part::is_closed;
+use path::is_alone;
+use path::is_closed;
 
 // A place in a composed path: one of its parts, 0 to 2, and a place in that.
 pub(crate) struct Place {
