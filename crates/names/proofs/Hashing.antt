@@ -1,7 +1,8 @@
 -- Laws of a directory's beginnings and of their hashes. A running hash goes on from one separator to the next, and starts anew
 -- with each directory. They rely on the laws of `crc32c` about parts.
 --     scan-turn, scan-stop, scan-end, scan-within   the scan for the next separator
---     hashes-first, hashes-next, hashes-end         a directory's hashes, one after the other; hash-next gives the next one
+--     hashes-first, hashes-next, hashes-end         a directory's hashes, one after the other; hash-next gives the next one,
+--                                                   hash-all the directory's own
 --     dirs-turn, dirs-end                           the directories, one after the other
 --     all-within                                    the hashes of what stands behind the set's name
 use Prim.Native.Nat.{ℕ, suc, _+_, _-_, _≤_, _<_}
@@ -11,7 +12,7 @@ use mathlib.Core.List.{List, [], _∷_, _++_, map, append-nil, append-assoc}
 use native.Mathlib.Numerals.{add-one}
 use native.Mathlib.Omega.{arith}
 use lib.ListN.{length, getD, take, drop, length-drop, drop-of-length-le}
-use lib.Seq.{drop-cons, drop-drop, take-suc, take-add}
+use lib.Seq.{drop-cons, drop-drop, take-suc, take-add, take-all}
 use Rattle.path.specs.Split.{isSeparator, beforeFirst}
 use Rattle.crc32c.specs.Crc.{crcFrom, lower}
 use Rattle.crc32c.proofs.Parts.{crc-lower}
@@ -103,6 +104,10 @@ hash-next state d j k h =
     let e : k ≡ j + (k - j) = omega arith in
     let p : take k d ≡ take j d ++ take (k - j) (drop j d) = ap (λ (n : ℕ). take n d) e ∙ take-add j (k - j) d in
     crc-lower state (take j d) (take (k - j) (drop j d)) ∙ ap (λ (l : List ℕ). crcFrom state (map lower l)) (sym p)
+
+-- and that of all of them
+pub hash-all : (state : ℕ) (d : List ℕ) (k : ℕ) → length d ≤ k → crcFrom state (map lower (take k d)) ≡ crcFrom state (map lower d)
+hash-all state d k h = ap (λ (l : List ℕ). crcFrom state (map lower l)) (take-all k d h)
 
 -- the hashes of the beginnings behind the one that ends at place k
 abbrev pub hashesFrom : ℕ → List ℕ → ℕ → List ℕ

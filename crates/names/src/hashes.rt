@@ -3,7 +3,7 @@
 // at or above a bound into a table, each in its place. It relies on `crc32c` for the running hash, on
 // `answers` for the refusals, and on the laws of proofs/Inserting.antt and proofs/Hashing.antt.
 ghost use mathlib.Core.Path.{_≡_};
-ghost use mathlib.Core.List.{[], _∷_};
+ghost use mathlib.Core.List.{[], _∷_, map};
 ghost use mathlib.Core.Bool.{not};
 ghost use Prim.Native.Nat.{_+_, _-_, _/_, _≤_, _<_};
 ghost use lib.Dec.{eqb, ltb, leb};
@@ -11,6 +11,7 @@ ghost use lib.ListN.{length, getD, take, drop};
 ghost use lib.Seq.{sets};
 ghost use Rattle.lists.specs.Lists.{partOf};
 ghost use Rattle.path.specs.Split.{beforeFirst};
+ghost use Rattle.crc32c.specs.Crc.{crcFrom, lower};
 ghost use Rattle.types.specs.Refusals.{usizeSays};
 ghost use Rattle.storage.specs.Rules.{both, when, firstOf};
 ghost use Rattle.names.specs.Paths.{led, hashOf};
@@ -112,14 +113,20 @@ fn next_separator(path: &[u8], from: usize) -> usize
     i
 }
 
+// How many places of a table hold hashes once a directory is kept, and the hash of the whole directory.
+struct Kept {
+    held: usize,
+    state: u32,
+}
+
 // Keeps the hashes of a directory's beginnings; `state` is the hash of what stands before the directory, and
 // each directory starts from it.
-fn keep_dir(table: &mut [u32], n: usize, bound: u64, state: u32, d: &[u8]) -> usize
+fn keep_dir(table: &mut [u32], n: usize, bound: u64, state: u32, d: &[u8]) -> Kept
     requires { ⌜ Begun n (now table) ⌝ }
-    ensures { λ r. ⌜ Holds (now (table .entry)) (gathered bound (hashesBehind state (now (d .entry))) (take n (now (table .entry)))) (now (table .exit)) r ⌝ }
+    ensures { λ r. ⌜ Holds (now (table .entry)) (gathered bound (hashesBehind state (now (d .entry))) (take n (now (table .entry)))) (now (table .exit)) (r .held) × (r .state ≡ crcFrom state (map lower (now (d .entry)))) ⌝ }
 {
     if d.len() == 0 {
-        return n;
+        return Kept { held: n, state };
     }
     let mut end = next_separator(d, 0);
     let mut x = crc32c::crc32c_append_lowercase(state, &d[..end]);
@@ -130,7 +137,7 @@ fn keep_dir(table: &mut [u32], n: usize, bound: u64, state: u32, d: &[u8]) -> us
         m = keep(table, m, bound, x);
         end = next;
     }
-    m
+    Kept { held: m, state: x }
 }
 
 // Puts the least hashes at or above the bound into the table, in order and each once, as many as there is
@@ -145,15 +152,15 @@ fn gather(
 ) -> usize
     ensures { λ r. ⌜ Holds (now (table .entry)) (ascending (above bound (hashesWithin state (now (dirs .entry)) (now (text .entry)) count))) (now (table .exit)) r ⌝ }
 {
-    let mut n = 0;
+    let mut kept = Kept { held: 0, state };
     let mut i = 0;
     while i < count {
         let place = tables::dir_at(dirs, i);
         let d = tables::text_at(text, place);
-        n = keep_dir(table, n, bound, state, d);
+        kept = keep_dir(table, kept.held, bound, state, d);
         i += 1;
     }
-    n
+    kept.held
 }
 
 // The hash of the set's name and a separator, of nothing where the name is empty.

@@ -19,13 +19,13 @@ use Rattle.names.proofs.hashes.gather.Statement.{statement}
 use Rattle.names.proofs.hashes.gather.Tie as tie
 
 abbrev Inv-loop : tie.InvT-loop
-Inv-loop table₀ bound state dirs text count n₀ i₀ table n i =
+Inv-loop table₀ bound state dirs text count kept₀ i₀ table kept i =
     (i ≤ count) × (length table ≡ length table₀)
-    × Going bound (joinedLists (map (hashesBehind state) (drop i (tabled count (λ i. textAt text (dirAt dirs i)))))) n table
+    × Going bound (joinedLists (map (hashesBehind state) (drop i (tabled count (λ i. textAt text (dirAt dirs i)))))) (kept .held) table
     (sets table₀ 0 (gathered bound (hashesWithin state dirs text count) [])) (min (length table₀) (length (gathered bound (hashesWithin state dirs text count) [])))
 
 abbrev μ-loop : tie.MeasureT-loop
-μ-loop table₀ bound state dirs text count n₀ i₀ table n i = count - i
+μ-loop table₀ bound state dirs text count kept₀ i₀ table kept i = count - i
 
 loop-holds : tie.Need-loop-holds Inv-loop μ-loop
 loop-holds c =
@@ -58,7 +58,7 @@ loop-again c =
       omega arith,
       c .before .before .keep-dir .kept .0 ∙ l .inv .1,
       gone-on (a .bound) hs (joinedLists (map (hashesBehind (a .state)) (drop (l .i + 1) (tabled (a .count) g)))) (l .inv .2)
-          (dirs-turn (hashesBehind (a .state)) (a .count) g (l .i) hs (c .before .before .before .before .before .before .loop-test .taken) (ap (hashesBehind (a .state)) e)) (c .before .before .keep-dir .ensures),
+          (dirs-turn (hashesBehind (a .state)) (a .count) g (l .i) hs (c .before .before .before .before .before .before .loop-test .taken) (ap (hashesBehind (a .state)) e)) (c .before .before .keep-dir .ensures .0),
     )
 
 same-length : tie.Need-same-length Inv-loop μ-loop
@@ -70,7 +70,7 @@ returns c =
     let a = c .before .before .before .before .before .args in
     let hs = hashesWithin (a .state) (a .dirs .now) (a .text .now) (a .count) in
     let g = rw (dirs-end (hashesBehind (a .state)) (a .count) (λ i. textAt (a .text .now) (dirAt (a .dirs .now) i)) (l .i) (c .loop-test .left)) at (l .inv .2) in
-    let r = arrived (a .bound) (l .n) g in
+    let r = arrived (a .bound) (l .kept .held) g in
     record {
       stored = r .0 ∙ ap (sets (a .table .now) 0) (gathered-is (a .bound) hs);
       count = r .1 ∙ ap (λ (xs : List ℕ). min (length (a .table .now)) (length xs)) (gathered-is (a .bound) hs);

@@ -1,9 +1,10 @@
 -- `names::hashes::keep_dir` meets its contract. The loop's invariant: x is the hash of the directory's first `end` bytes behind the
 -- state, and the hashes of the beginnings behind, kept in the table as it is, come to what is due.
-use Rattle.names.proofs.Hashing.{hashesFrom, hashes-first, hashes-next, hashes-end, hash-next, scan-within, empty-list}
+use Rattle.names.proofs.Hashing.{hashesFrom, hashes-first, hashes-next, hashes-end, hash-next, hash-all, scan-within, empty-list}
 use Rattle.names.proofs.Inserting.{Going, going, gone-on, arrived, kept}
 use Rattle.names.specs.Gathering.{gathered, hashesBehind}
 use Rattle.crc32c.specs.Crc.{crcFrom, lower}
+use Rattle.crc32c.proofs.Parts.{crc-none}
 use borrow.Author.Needs.{needs}
 use lib.Seq.{sets, length-take-le}
 use lib.ListN.{length, take, drop}
@@ -47,7 +48,7 @@ returns : tie.Need-returns Inv-loop μ-loop
 returns c =
     let a = c .before .before .before .args in
     let e = empty-list (a .d .now) (c .if1 .taken) in
-    rw e (kept (a .n) (a .table .now) (c .before .before .before .pre .within))
+    (rw e (kept (a .n) (a .table .now) (c .before .before .before .pre .within)), rw e (sym (crc-none (a .state))))
 
 next-separator-requires : tie.Need-next-separator-requires Inv-loop μ-loop
 next-separator-requires c κs = search needs
@@ -116,7 +117,7 @@ returns-2 c =
     let s = started (c .before .before) in
     let g = rw (hashes-end (a .state) (a .d .now) (l .end) (c .loop-test .left)) at (l .inv .3) in
     let r = arrived (a .bound) (l .m) g in
-    record { stored = r .0 ∙ s .stored; count = r .1 ∙ s .counted }
+    (record { stored = r .0 ∙ s .stored; count = r .1 ∙ s .counted }, l .inv .2 ∙ hash-all (a .state) (a .d .now) (l .end) (c .loop-test .left))
 
 pub keep-dir-spec : {M : Type 1} → statement M
 keep-dir-spec =
