@@ -1,4 +1,5 @@
--- Laws of the comparison of two sets: of two files, by what they have in common, and of all files in turn.
+-- Laws of the comparison of two sets: of two files, by what they have in common, and of all files in turn. They rely on the
+-- definitions of specs/Compatible.antt.
 use Prim.Native.Nat.{ℕ, suc, _+_, _-_, _≤_, _<_}
 use mathlib.Core.Path.{_≡_, sym, ap₂, _∙_}
 use mathlib.Core.Bool.{Bool, true, false, not}

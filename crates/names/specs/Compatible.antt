@@ -1,5 +1,6 @@
 -- Document 01: '`files_compatible` as in the Rust': whether two sets have the same layout and names, pads and empty files
--- aside. It is not symmetric: a link is compared only where the first set flags it as one.
+-- aside. It is not symmetric: a link is compared only where the first set flags it as one. It relies on the paths of
+-- Paths.antt and on the rows of `tables`.
 use Prim.Native.Nat.{ℕ, zero, suc, _+_}
 use mathlib.Core.Bool.{Bool, true, cond, not}
 use mathlib.Core.List.{List, [], _∷_}

@@ -1,5 +1,6 @@
 -- How `all_path_hashes` finds its hashes in order without work space of its own: hashes at or above a bound are put into a
--- table, each in its place, and what there is no room for falls off behind. All of it is about lists of numbers.
+-- table, each in its place, and what there is no room for falls off behind. All of it is about lists of numbers; it relies on
+-- Hashes.antt for what is due.
 use Prim.Native.Nat.{ℕ, suc, _+_, _≤_, min}
 use mathlib.Core.Path.{_≡_}
 use mathlib.Core.Bool.{cond}

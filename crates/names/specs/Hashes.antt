@@ -1,5 +1,6 @@
 -- Document 01, 'Names': `all_path_hashes`: the hash of each directory and of each part of it that stands before a
--- separator, behind the set's name. 'unordered sets and maps come out ascending', each hash once.
+-- separator, behind the set's name. 'unordered sets and maps come out ascending', each hash once. It relies on the hash of a
+-- path in Paths.antt.
 use Prim.Native.Nat.{ℕ}
 use mathlib.Core.Bool.{cond, not}
 use mathlib.Core.List.{List, [], _∷_, _++_, map}

@@ -1,4 +1,4 @@
--- What an answer that is a hash says: its value, or document 01's number.
+-- What an answer that is a hash says: its value, or document 01's number. It relies on the numbers of refusals of `types`.
 use Prim.Native.Nat.{ℕ}
 use Rattle.types.specs.Refusals.{numberOf, Outcome, value, refused}
 use Rattle.names.specs.declared.result.U32Result.{U32Result}

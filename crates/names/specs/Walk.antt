@@ -1,4 +1,5 @@
--- A composed path read byte by byte from its three parts: places in it, what is left from a place on, and one step.
+-- A composed path read byte by byte from its three parts: places in it, what is left from a place on, and one step. It relies on
+-- the tests of a join of `path`.
 use Prim.Native.Nat.{ℕ, _+_}
 use mathlib.Core.Bool.{Bool, false, cond, not}
 use mathlib.Core.List.{List, [], _∷_, _++_}

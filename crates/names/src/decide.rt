@@ -1,5 +1,6 @@
 // What a question about a file's names decides first, and the parts that lead a file's name: the set's name
-// and the file's directory. Relies on `answers` for the refusals, and on the laws of proofs/Deciding.antt.
+// and the file's directory. Relies on `answers` for the refusals, on `tables` for the places, and on the laws of
+// proofs/Deciding.antt.
 ghost use mathlib.Core.Path.{_≡_};
 ghost use mathlib.Core.Bool.{cond, not};
 ghost use Prim.Native.Nat.{_/_};

@@ -1,5 +1,5 @@
 // Two composed paths compared byte by byte, each read from its parts: no buffer is needed, and no length is
-// summed. Relies on part.rt and on the laws of proofs/Walks.antt.
+// summed. Relies on the tests of a join of `path` and on the laws of proofs/Walks.antt.
 ghost use mathlib.Core.Path.{_≡_};
 ghost use lib.ListN.{length, getD};
 ghost use Rattle.lists.specs.Lists.{equal};

@@ -1,10 +1,9 @@
 -- `names::decide::file_in` meets its contract.
 use mathlib.Core.Path.{sym, ap, _∙_}
 use Rattle.tables.specs.Rows.{rowAt, has}
-use Rattle.types.specs.Refusals.{value}
 use Rattle.answers.specs.Answers.{rowsHeld}
 use Rattle.answers.specs.Results.{boolSays}
-use Rattle.names.proofs.Deciding.{index-is, more-goes, more-stops}
+use Rattle.names.proofs.Deciding.{index-is, asked-refused, asked-disorder, asked-value}
 use borrow.Author.Needs.{needs}
 use Rattle.names.proofs.decide.file_in.Statement.{statement}
 use Rattle.names.proofs.decide.file_in.Tie as tie
@@ -25,21 +24,19 @@ returns : tie.Need-returns
 returns c =
     let a = c .before .before .before .before .before .before .args in
     let g = c .before .before .enum-told .given in
-    let e = more-goes (a .fs) (a .index .0) (rowsHeld (a .fs) (a .rows .now)) (a .held) (λ k. has (rowAt (a .rows .now) k .flags) 1) _ (ap boolSays (sym (g .1)) ∙ c .before .before .before .before .pad-file-at .ensures) in
-    ap value (c .get .ensures ∙ index-is (a .index .0)) ∙ (rw (c .before .if1 .taken) at e ∙ rw (c .before .if1 .taken))
+    asked-value (a .fs) (a .index .0) (rowsHeld (a .fs) (a .rows .now)) (a .held) (λ k. has (rowAt (a .rows .now) k .flags) 1) (λ k. k) _ (ap boolSays (sym (g .1)) ∙ c .before .before .before .before .pad-file-at .ensures) (c .before .if1 .taken) _ (c .get .ensures ∙ index-is (a .index .0))
 
 returns-2 : tie.Need-returns-2
 returns-2 c =
     let a = c .before .before .before .before .before .args in
     let g = c .before .enum-told .given in
-    let e = more-goes (a .fs) (a .index .0) (rowsHeld (a .fs) (a .rows .now)) (a .held) (λ k. has (rowAt (a .rows .now) k .flags) 1) _ (ap boolSays (sym (g .1)) ∙ c .before .before .before .pad-file-at .ensures) in
-    rw (c .if1 .left) at e ∙ rw (c .if1 .left)
+    asked-disorder (a .fs) (a .index .0) (rowsHeld (a .fs) (a .rows .now)) (a .held) (λ k. has (rowAt (a .rows .now) k .flags) 1) (λ k. k) _ (ap boolSays (sym (g .1)) ∙ c .before .before .before .pad-file-at .ensures) (c .if1 .left)
 
 returns-3 : tie.Need-returns-3
 returns-3 c =
     let a = c .before .before .before .before .before .args in
     let g = c .before .e .given in
-    more-stops (a .fs) (a .index .0) (rowsHeld (a .fs) (a .rows .now)) (a .held) (λ k. has (rowAt (a .rows .now) k .flags) 1) _ (ap boolSays (sym (g .1)) ∙ c .before .before .before .pad-file-at .ensures)
+    asked-refused (a .fs) (a .index .0) (rowsHeld (a .fs) (a .rows .now)) (a .held) (λ k. has (rowAt (a .rows .now) k .flags) 1) (λ k. k) _ (ap boolSays (sym (g .1)) ∙ c .before .before .before .pad-file-at .ensures)
 
 pub file-in-spec : {M : Type 1} → statement M
 file-in-spec =
