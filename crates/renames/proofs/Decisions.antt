@@ -4,9 +4,9 @@ use Prim.Native.Nat.{ℕ, _+_, _-_, _*_, _/_, _≤_, _<_}
 use mathlib.Core.Path.{_≡_, refl, _∙_}
 use mathlib.Core.Bool.{Bool, true, false, cond, not}
 use mathlib.Core.Logic.{_⊎_, inl, inr}
-use mathlib.Core.List.{List}
+use mathlib.Core.List.{List, [], _∷_}
 use native.Mathlib.Omega.{arith}
-use borrow.Author.Tests.{leb-true, ltb-false, lt-ltb, le-ltb}
+use borrow.Author.Tests.{leb-true, ltb-false, lt-ltb, le-ltb, not-false}
 use lib.Dec.{eqb, ltb, leb}
 use lib.IntN.{ℤ, pos, negsuc}
 use lib.ListN.{length}
@@ -15,10 +15,12 @@ use Rattle.lists.proofs.Orders.{le-or-lt}
 use Rattle.types.specs.Refusals.{Outcome, value, refused}
 use Rattle.types.specs.Signed.{belowOr}
 use Rattle.tables.specs.declared.storage.FileStorage.{FileStorage}
-use Rattle.storage.specs.Rules.{outcomeOf, both}
+use Rattle.storage.specs.Rules.{when, firstOf, outcomeOf, both}
 use Rattle.storage.specs.Addition.{badLength}
 use Rattle.storage.proofs.Rules.{either-false}
 use Rattle.answers.specs.Answers.{indexOf, isBelow, askedSet, askedFile}
+use Rattle.answers.proofs.Deciding.{allowed, denied}
+use Rattle.names.proofs.Deciding.{passes, asked-good, asked-there, asked-own}
 use Rattle.renames.specs.declared.rename.RenamedFiles.{RenamedFiles}
 use Rattle.renames.specs.declared.place.Place.{Place}
 use Rattle.renames.specs.Renames.{Renamed, Changed, orderedFrom, renamesOf, renamedTo, lacksRoom, inOrder, stateOf, wordsOf, textsOf, renameFile}
@@ -55,11 +57,6 @@ module _ {A : Type 0} (fs : FileStorage) (z : ℤ) (a : A) where
 
 -- ---- what follows the set's refusals
 
-goes : (a b : Bool) (k i : ℕ) → value k ≡ outcomeOf (cond a 1 (cond b 11 0)) i → (a ≡ false) × (b ≡ false) × (k ≡ i)
-goes true b k i e = absurd (let z : _≡_ {A = ℕ} 0 1 = cc in omega arith)
-goes false true k i e = absurd (let z : _≡_ {A = ℕ} 0 1 = cc in omega arith)
-goes false false k i e = (refl, refl, cc)
-
 stops : {A : Type 0} (a b : Bool) (m i r : ℕ) (x : A) → refused m ≡ outcomeOf (cond a 1 (cond b 11 0)) i → refused m ≡ outcomeOf (cond a 1 (cond b 11 r)) x
 stops true b m i r x e = cc
 stops false true m i r x e = cc
@@ -73,13 +70,11 @@ module _ (fs : FileStorage) (rf : RenamedFiles) (e : List ℕ) (room : ℕ) (z :
   tests o s = cond (not o) 10 (cond s 10 0)
 
   pub place-number : (k : ℕ) → value k ≡ askedFile fs z true (λ k. k) → k ≡ indexOf z
-  place-number k h = goes (badLength (fs .«piece_length»)) (not (isBelow (fs .«num_files») z)) k (indexOf z) h .2
+  place-number k h = asked-own fs z true (λ k. k) k h
 
   pub place-goes : (k : ℕ) → value k ≡ askedFile fs z true (λ k. k) → (o s : Bool) → inOrderIn rf e room ≡ o → isShort rf own (length e) room len ≡ s
       → outcomeOf (tests o s) own ≡ placeAsked fs rf e room z len
-  place-goes k h o s p q =
-      let g = goes (badLength (fs .«piece_length»)) (not (isBelow (fs .«num_files») z)) k (indexOf z) h in
-      rw (g .0, g .1, p, q)
+  place-goes k h o s p q = rw (asked-good fs z true (λ k. k) k h, asked-there fs z true (λ k. k) k h, p, q)
 
   pub place-disorder : (k : ℕ) → value k ≡ askedFile fs z true (λ k. k) → inOrderIn rf e room ≡ false → refused 10 ≡ placeAsked fs rf e room z len
   place-disorder k h p = place-goes k h false (isShort rf own (length e) room len) p refl
@@ -99,21 +94,12 @@ order-in rf e room h =
 -- ---- four refusals in a row
 
 -- none of them: what is known
-pub passes : {A : Type 0} (a b o s : Bool) (p q : A) → value p ≡ outcomeOf (cond a 1 (cond b 11 (cond (not o) 10 (cond s 10 0)))) q
-    → (eqb (cond a 1 (cond b 11 (cond (not o) 10 (cond s 10 0)))) 0 ≡ true) × (o ≡ true) × (s ≡ false) × (p ≡ q)
-passes true b o s p q h = absurd (let z : _≡_ {A = ℕ} 0 1 = cc in omega arith)
-passes false true o s p q h = absurd (let z : _≡_ {A = ℕ} 0 1 = cc in omega arith)
-passes false false false s p q h = absurd (let z : _≡_ {A = ℕ} 0 1 = cc in omega arith)
-passes false false true true p q h = absurd (let z : _≡_ {A = ℕ} 0 1 = cc in omega arith)
-passes false false true false p q h = (refl, refl, refl, cc)
-
--- one of them
-pub refuses : {A : Type 0} (n m : ℕ) (q : A) → refused m ≡ outcomeOf n q → (eqb n 0 ≡ false) × (m ≡ n)
-refuses {A} n m q h = at (eqb n 0) h
-  where
-    at : (b : Bool) → refused m ≡ cond b (value q) (refused n) → (b ≡ false) × (m ≡ n)
-    at true h = absurd (let z : _≡_ {A = ℕ} 0 1 = cc in omega arith)
-    at false h = (refl, cc)
+pub four-passed : {A : Type 0} (a b o s : Bool) (p q : A) → value p ≡ outcomeOf (firstOf (when a 1 ∷ when b 11 ∷ when (not o) 10 ∷ when s 10 ∷ [])) q
+    → (eqb (firstOf (when a 1 ∷ when b 11 ∷ when (not o) 10 ∷ when s 10 ∷ [])) 0 ≡ true) × (o ≡ true) × (s ≡ false) × (p ≡ q)
+four-passed a b o s p q h =
+    let n = firstOf (when a 1 ∷ when b 11 ∷ when (not o) 10 ∷ when s 10 ∷ []) in
+    let t = passes (when a 1 ∷ when b 11 ∷ when (not o) 10 ∷ when s 10 ∷ []) (refl, (refl, (refl, (refl, tt)))) p q h in
+    (allowed n q (eqb n 0) p h .0, not-false o (t .0 .1 .1 .0), t .0 .1 .1 .1 .0, t .1)
 
 -- the last two, where the last is known only in order
 pub same-test : (o x y : Bool) → (o ≡ true → x ≡ y) → _≡_ {A = ℕ} (cond (not o) 10 (cond x 10 0)) (cond (not o) 10 (cond y 10 0))
@@ -158,7 +144,7 @@ module _ (fs : FileStorage) (rf : RenamedFiles) (e t : List ℕ) (z : ℤ) (name
   module _ (p : Place) (h : value p ≡ placeAsked fs rf e (length t) z (length name)) where
     abbrev known : (eqb (placeNumber fs rf e (length t) z (length name)) 0 ≡ true) × (inOrderIn rf e (length t) ≡ true) × (isShort rf there (length e) (length t) (length name) ≡ false) × (p ≡ there)
     known =
-        passes (badLength (fs .«piece_length»)) (not (isBelow (fs .«num_files») z)) (inOrderIn rf e (length t)) (isShort rf there (length e) (length t) (length name)) p there h
+        four-passed (badLength (fs .«piece_length»)) (not (isBelow (fs .«num_files») z)) (inOrderIn rf e (length t)) (isShort rf there (length e) (length t) (length name)) p there h
 
     pub place-known : (orderedFrom (rf .«num_renames») 0 0 (rf .«text_len») e ≡ true) × (p ≡ there)
         × (rf .«num_renames» ≤ length e / 3) × (rf .«text_len» ≤ length t)
@@ -176,5 +162,6 @@ module _ (fs : FileStorage) (rf : RenamedFiles) (e t : List ℕ) (z : ℤ) (name
   pub place-refused : (m : ℕ) → refused m ≡ placeAsked fs rf e (length t) z (length name)
       → _≡_ {A = Changed} (record { says = refused m; entries = e; text = t }) (renameFile fs rf e t z name)
   place-refused m h =
-      let r = refuses (placeNumber fs rf e (length t) z (length name)) m there h in
+      let n = placeNumber fs rf e (length t) z (length name) in
+      let r = denied n there (eqb n 0) m h in
       rw (number-is, r .0, r .1)

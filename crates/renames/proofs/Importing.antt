@@ -19,6 +19,7 @@ use Rattle.storage.specs.Rules.{outcomeOf}
 use Rattle.storage.specs.Addition.{badLength, isNegative}
 use Rattle.storage.proofs.Rules.{either-false}
 use Rattle.answers.specs.Answers.{askedSet}
+use Rattle.answers.proofs.Deciding.{denied}
 use Rattle.renames.specs.declared.rename.RenamedFiles.{RenamedFiles}
 use Rattle.renames.specs.Renames.{Renamed, Changed, renamesOf, orderedFrom, inOrder, lacksRoom, stateOf, wordsOf, textsOf}
 use Rattle.renames.specs.Places.{bytesFrom}
@@ -26,7 +27,7 @@ use Rattle.renames.specs.Changing.{inOrderIn}
 use Rattle.renames.specs.Imports.{namings, imported, hasNegative, importFilenames}
 use Rattle.renames.specs.Importing.{kept, given, withAll, Fresh, keptWords, keptState, isFull, importNumber, importAsked}
 use Rattle.renames.proofs.Ordered.{order-mode, order-bytes}
-use Rattle.renames.proofs.Decisions.{good, ill, passes, refuses, same-test, order-in}
+use Rattle.renames.proofs.Decisions.{good, ill, four-passed, same-test, order-in}
 use Rattle.renames.proofs.Rising.{rises-read, small-read}
 use Rattle.renames.proofs.Kept.{length-words, kept-order, kept-list}
 use Rattle.renames.proofs.Imported.{rises-kept, small-kept, imported-is, fresh-kept, with-given}
@@ -128,7 +129,8 @@ module _ (fs : FileStorage) (rf : RenamedFiles) (e t : List ℕ) (zs : List ℤ)
   pub import-refused : (m : ℕ) → refused m ≡ importAsked fs rf e (length t) zs (stateOf comes)
       → _≡_ {A = Changed} (record { says = refused m; entries = e; text = t }) (importFilenames fs rf e t (namings zs lengths names))
   import-refused m h =
-      let r = refuses (importNumber fs rf e (length t) zs (stateOf comes)) m (keptState files zs rf e) h in
+      let n = importNumber fs rf e (length t) zs (stateOf comes) in
+      let r = denied n (keptState files zs rf e) (eqb n 0) m h in
       rw (number-is, r .0, r .1)
 
   -- none does: what stays is known, and the names that come have room
@@ -136,7 +138,7 @@ module _ (fs : FileStorage) (rf : RenamedFiles) (e t : List ℕ) (zs : List ℤ)
     known : (eqb (importNumber fs rf e (length t) zs (stateOf comes)) 0 ≡ true) × (inOrderIn rf e (length t) ≡ true)
         × (isFull (length e) (length t) (keptState files zs rf e) (stateOf comes) ≡ false) × (st ≡ keptState files zs rf e)
     known =
-        passes (badLength (fs .«piece_length»)) (any isNegative zs) (inOrderIn rf e (length t)) (isFull (length e) (length t) (keptState files zs rf e) (stateOf comes)) st (keptState files zs rf e) h
+        four-passed (badLength (fs .«piece_length»)) (any isNegative zs) (inOrderIn rf e (length t)) (isFull (length e) (length t) (keptState files zs rf e) (stateOf comes)) st (keptState files zs rf e) h
 
     pub import-in : (rf .«num_renames» * 3 ≤ length e) × (bytesFrom (rf .«num_renames») 0 e ≤ length t)
     import-in = let s = stay-in files zs rf e (length t) (known .1) in (s .0, s .1)

@@ -11,18 +11,19 @@ use lib.Dec.{ltb, eqb}
 use lib.IntN.{ℤ}
 use lib.ListN.{length, getD, drop, length-append}
 use lib.Seq.{sets, sets-eq, length-sets, getD-drop, drop-drop, take-append-seam, drop-append-seam}
-use Rattle.types.specs.Refusals.{value}
+use Rattle.types.specs.Refusals.{value, refused}
 use Rattle.tables.specs.declared.storage.FileStorage.{FileStorage}
+use Rattle.storage.specs.Rules.{outcomeOf}
 use Rattle.storage.specs.Addition.{badLength}
 use Rattle.storage.proofs.Rules.{either-false}
 use Rattle.answers.specs.Answers.{indexOf, isBelow}
 use Rattle.renames.specs.declared.rename.RenameMode.{RenameMode}
 use Rattle.renames.specs.declared.rename.RenameMode.the-variants.{FullPath, NoRootPath, AbsolutePath}
 use Rattle.renames.specs.declared.rename.RenamedFiles.{RenamedFiles}
-use Rattle.renames.specs.Renames.{Renamed, modeWord, modeOf, renamesFrom, renamesOf, orderedFrom, inOrder, lacksRoom, stateOf, wordsOf, textsOf, renamedTo, changedIf, renameFile}
+use Rattle.renames.specs.Renames.{Renamed, modeWord, modeOf, renamesFrom, renamesOf, orderedFrom, inOrder, lacksRoom, stateOf, wordsOf, textsOf, renamedTo, Changed, changedIf, renameFile}
 use Rattle.renames.specs.Changing.{renameOf}
 use Rattle.renames.proofs.Rising.{Rises, Small, rises-read, small-read, rises-with, small-with}
-use Rattle.renames.proofs.Decisions.{order-in}
+use Rattle.renames.proofs.Decisions.{order-in, four-passed}
 
 -- ---- a list written is read back
 
@@ -120,14 +121,14 @@ module _ (rs : List Renamed) (e t : List ℕ) (up : Rises 0 rs) (small : Small r
 
 -- ---- `rename_file`
 
-passes : (a b o s : Bool) (rs : List Renamed) (e t : List ℕ) (rf : RenamedFiles)
-    → changedIf (cond a 1 (cond b 11 (cond (not o) 10 (cond s 10 0)))) rs e t .says ≡ value rf
-    → (eqb (cond a 1 (cond b 11 (cond (not o) 10 (cond s 10 0)))) 0 ≡ true) × (o ≡ true) × (s ≡ false) × (stateOf rs ≡ rf)
-passes true b o s rs e t rf h = absurd (let z : _≡_ {A = ℕ} 0 1 = cc in omega arith)
-passes false true o s rs e t rf h = absurd (let z : _≡_ {A = ℕ} 0 1 = cc in omega arith)
-passes false false false s rs e t rf h = absurd (let z : _≡_ {A = ℕ} 0 1 = cc in omega arith)
-passes false false true true rs e t rf h = absurd (let z : _≡_ {A = ℕ} 0 1 = cc in omega arith)
-passes false false true false rs e t rf h = (refl, refl, refl, cc)
+-- what a change says
+says-is : (n : ℕ) (rs : List Renamed) (e t : List ℕ) → outcomeOf n (stateOf rs) ≡ changedIf n rs e t .says
+says-is n rs e t = at (eqb n 0)
+  where
+    at : (b : Bool) → cond b (value (stateOf rs)) (refused n)
+        ≡ (cond {A = Changed} b (record { says = value (stateOf rs); entries = sets e 0 (wordsOf rs); text = sets t 0 (textsOf rs) }) (record { says = refused n; entries = e; text = t })) .says
+    at true = refl
+    at false = refl
 
 -- a rename that is not refused leaves tables in order, which read the list with the rename in it
 module _ (fs : FileStorage) (rf rf′ : RenamedFiles) (e t : List ℕ) (z : ℤ) (name : List ℕ) where
@@ -138,7 +139,11 @@ module _ (fs : FileStorage) (rf rf′ : RenamedFiles) (e t : List ℕ) (z : ℤ)
       → (inOrder rf′ (renameFile fs rf e t z name .entries) (renameFile fs rf e t z name .text) ≡ true)
       × (renamesOf rf′ (renameFile fs rf e t z name .entries) (renameFile fs rf e t z name .text) ≡ after)
   renamed-kept h small =
-      let k = passes (badLength (fs .«piece_length»)) (not (isBelow (fs .«num_files») z)) (inOrder rf e t) (lacksRoom after e t) after e t rf′ h in
+      let n : ℕ =
+      cond (badLength (fs .«piece_length»)) 1
+      (cond (not (isBelow (fs .«num_files») z)) 11 (cond (not (inOrder rf e t)) 10 (cond (lacksRoom after e t) 10 0)))
+      in
+      let k = four-passed (badLength (fs .«piece_length»)) (not (isBelow (fs .«num_files») z)) (inOrder rf e t) (lacksRoom after e t) rf′ (stateOf after) (sym (says-is n after e t ∙ h)) in
       let o = order-in rf e (length t) (k .1) in
       let s = either-false (ltb (length e / 3) (length after)) (ltb (length t) (length (textsOf after))) (k .2) in
       let r : Renamed = renameOf (indexOf z) name in
@@ -146,4 +151,4 @@ module _ (fs : FileStorage) (rf rf′ : RenamedFiles) (e t : List ℕ) (z : ℤ)
       let low = small-with r (renamesOf rf e t) small (small-read (rf .«num_renames») 0 0 (rf .«text_len») e t (o .2)) in
       let held = ltb-false _ _ (s .0) in
       let room = ltb-false _ _ (s .1) in
-      rw (k .0, ← k .3) (kept-order after e t up low held room, kept-list after e t up low held room)
+      rw (k .0, k .3) (kept-order after e t up low held room, kept-list after e t up low held room)

@@ -1,5 +1,5 @@
 -- Laws of a path through the renames: the tables that are asked for, and the text composed once nothing stops the question. They
--- rely on the definitions of `answers`.
+-- rely on what is known once no rule stops a question (proofs/Deciding.antt of `names`).
 use Prim.Native.Nat.{ℕ}
 use mathlib.Core.Path.{_≡_, refl, _∙_}
 use mathlib.Core.Bool.{Bool, true, false, cond, not}
@@ -14,6 +14,7 @@ use Rattle.storage.specs.Rules.{outcomeOf, both}
 use Rattle.storage.specs.Addition.{badLength}
 use Rattle.answers.specs.Answers.{indexOf, isBelow, askedFile, composedIf, composedFile}
 use Rattle.answers.proofs.Deciding.{denied}
+use Rattle.names.proofs.Deciding.{asked-good, asked-there, asked-held, asked-own}
 use Rattle.renames.proofs.Ordered.{both-true}
 
 -- rows and text are asked for first, then directories and the renames
@@ -23,13 +24,6 @@ held-is true true false order = refl
 held-is true false true order = refl
 held-is true false false order = refl
 held-is false dirs text order = refl
-
-passes : {A : Type 0} (a b h : Bool) (x y : A) → value x ≡ outcomeOf (cond a 1 (cond b 11 (cond (not h) 10 0))) y
-    → (a ≡ false) × (b ≡ false) × (h ≡ true) × (x ≡ y)
-passes true b h x y e = absurd (let z : _≡_ {A = ℕ} 0 1 = cc in omega arith)
-passes false true h x y e = absurd (let z : _≡_ {A = ℕ} 0 1 = cc in omega arith)
-passes false false false x y e = absurd (let z : _≡_ {A = ℕ} 0 1 = cc in omega arith)
-passes false false true x y e = (refl, refl, refl, cc)
 
 module _ {A : Type 0} (fs : FileStorage) (z : ℤ) (held order : Bool) (f : ℕ → A) (t : ℕ → List ℕ) (buf : List ℕ) where
   abbrev bad : Bool
@@ -46,16 +40,22 @@ module _ {A : Type 0} (fs : FileStorage) (z : ℤ) (held order : Bool) (f : ℕ 
       rw (d .0, d .1)
 
   module _ (x : A) (e : value x ≡ askedFile fs z (both held order) f) where
-    abbrev known : (bad ≡ false) × (missing ≡ false) × (both held order ≡ true) × (x ≡ f (indexOf z))
-    known = passes bad missing (both held order) x (f (indexOf z)) e
+    good : bad ≡ false
+    good = asked-good fs z (both held order) f x e
+
+    within : missing ≡ false
+    within = asked-there fs z (both held order) f x e
+
+    all-held : both held order ≡ true
+    all-held = asked-held fs z (both held order) f x e
 
     pub path-asked : (order ≡ true) × (x ≡ f (indexOf z))
-    path-asked = (both-true held order (known .2) .1, known .3)
+    path-asked = (both-true held order all-held .1, asked-own fs z (both held order) f x e)
 
     pub path-text : (j : Joined) (text : List ℕ) → j ≡ composedIf 0 text buf → text ≡ t (indexOf z) → j ≡ composedFile fs z (both held order) t buf
-    path-text j text h w = h ∙ rw (known .0, known .1, known .2, w)
+    path-text j text h w = h ∙ rw (good, within, all-held, w)
 
     pub path-own : (s : ℕ → List ℕ) (j : Joined) → j ≡ composedFile fs z held s buf → s (indexOf z) ≡ t (indexOf z) → j ≡ composedFile fs z (both held order) t buf
     path-own s j h w =
-        let b = both-true held order (known .2) in
-        h ∙ rw (known .0, known .1, b .0, b .1, w)
+        let b = both-true held order all-held in
+        h ∙ rw (good, within, b .0, b .1, w)

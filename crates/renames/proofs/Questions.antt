@@ -1,36 +1,43 @@
--- Laws of the questions: the rename of a file, where the search stops; a leaf's place; and the refusals of a question through the
--- renames, which follow the set's own. They rely on the laws of proofs/Ordered.antt and proofs/Readings.antt.
+-- Laws of the questions: the rename of a file, where the search stops; a leaf's place; and what the answers read as in the list
+-- of renames. They rely on the laws of proofs/Ordered.antt, proofs/Readings.antt and proofs/Decisions.antt.
 use Prim.Native.Nat.{ℕ, zero, suc, _+_, _-_, _*_, _%_, _^_, _≤_, _<_}
 use mathlib.Core.Path.{_≡_, refl, sym, ap, _∙_}
 use mathlib.Core.Bool.{Bool, true, false, cond, not, false≢true}
 use mathlib.Core.Logic.{_⊎_, inl, inr}
-use mathlib.Core.List.{List, _∷_, _++_}
+use mathlib.Core.List.{List, [], _∷_, _++_}
 use native.Mathlib.Nat.{zero-add, add-zero, mod-eq-of-lt}
 use native.Mathlib.Omega.{arith}
-use borrow.Author.Tests.{ltb-true, lt-ltb, le-ltb, eq-eqb, ne-eqb}
-use lib.Dec.{eqb, ltb}
+use borrow.Author.Tests.{ltb-true, lt-ltb, le-ltb, le-leb, eq-eqb, ne-eqb}
+use lib.Dec.{eqb, ltb, leb}
 use lib.IntN.{ℤ, pos}
 use lib.ListN.{length, getD, take, drop, length-append, length-drop}
-use lib.Seq.{drop-drop, drop-append-add, length-take-le}
+use lib.Seq.{drop-drop, drop-append-add, length-take-le, take-length}
 use Rattle.lists.specs.Lists.{partOf, any}
 use Rattle.lists.proofs.Orders.{le-or-lt}
 use Rattle.lists.proofs.Parts.{drop-take, part-part-within, part-length}
 use Rattle.path.specs.Split.{isSeparator, trimmed, beforeLast, behindLast, rsplitLeaf}
+use Rattle.path.proofs.Ends.{trim-yes, trim-no}
 use Rattle.path.proofs.Splits.{last-parts, leaf-all}
-use Rattle.types.specs.Refusals.{value, refused}
+use Rattle.types.specs.Refusals.{Outcome, value, refused}
 use Rattle.tables.specs.declared.storage.FileStorage.{FileStorage}
+use Rattle.tables.specs.declared.span.Span.{Span}
 use Rattle.tables.specs.Span.{textAt}
-use Rattle.tables.specs.Model.{absent, present}
-use Rattle.storage.specs.Rules.{outcomeOf, both}
+use Rattle.tables.specs.Rows.{rowAt}
+use Rattle.tables.specs.Model.{Optional, absent, present}
+use Rattle.storage.specs.Rules.{when, firstOf, outcomeOf, both}
 use Rattle.storage.specs.Addition.{badLength}
-use Rattle.answers.specs.Answers.{indexOf, isBelow, askedFile}
+use Rattle.answers.specs.Answers.{indexOf, isBelow, askedFile, rowsHeld, textHeld}
+use Rattle.renames.specs.declared.rename.RenameMode.{RenameMode}
+use Rattle.renames.specs.declared.rename.RenameMode.the-variants.{FullPath}
 use Rattle.renames.specs.declared.rename.Rename.{Rename}
+use Rattle.renames.specs.declared.rename.RenamedFiles.{RenamedFiles}
 use Rattle.renames.specs.declared.place.Place.{Place}
-use Rattle.renames.specs.Renames.{Renamed, modeOf, renamesFrom, orderedFrom}
-use Rattle.renames.specs.Questions.{renameFor, isByItself, nothing}
+use Rattle.renames.specs.Renames.{Renamed, modeOf, renamesFrom, renamesOf, orderedFrom, inOrder}
+use Rattle.renames.specs.Questions.{renameIn, renameFor, renamedName, NamePlace, inSet, inRenames, leafSpan, namePlace, nameGiven, exported}
 use Rattle.renames.specs.Places.{belowFrom, bytesFrom, isNamed, placeOf}
 use Rattle.renames.proofs.Ordered.{order-first, order-rest, order-entry}
 use Rattle.renames.proofs.Readings.{isNamedFrom, ltb-both}
+use Rattle.renames.proofs.Decisions.{order-in}
 
 -- ---- the rename of a file
 
@@ -119,7 +126,47 @@ module _ (l : List ℕ) (at n k : ℕ) (leaf : List ℕ) (b : k ≤ length (part
       let inner : partOf (partOf l at n) (k - length leaf) (length leaf) ≡ leaf = sym (leaf-end ∙ drop-take (k - length leaf) k (partOf l at n) ∙ rw w) in
       rw h (sym (part-part-within l at n (k - length leaf) (length leaf) (omega (arith, part-length l at n))) ∙ inner ∙ e)
 
+-- the place of the leaf, and what stands there
+trimmed-front : (x : List ℕ) → (length (trimmed isSeparator x) ≤ length x) × (take (length (trimmed isSeparator x)) x ≡ trimmed isSeparator x)
+trimmed-front x = at (isSeparator (getD x (length x - 1) 0)) refl
+  where
+    at : (b : Bool) → isSeparator (getD x (length x - 1) 0) ≡ b
+        → (length (trimmed isSeparator x) ≤ length x) × (take (length (trimmed isSeparator x)) x ≡ trimmed isSeparator x)
+    at true q =
+        let w = trim-yes isSeparator refl x (length x - 1) refl q in
+        let n : length (trimmed isSeparator x) ≡ length x - 1 = sym (ap length w) ∙ length-take-le (length x - 1) x (omega arith) in
+        (omega arith, ap (λ (k : ℕ). take k x) n ∙ w)
+    at false q =
+        let w = trim-no isSeparator refl x (length x - 1) refl q in
+        (omega (arith, ap length w), ap (λ (k : ℕ). take k x) (sym (ap length w)) ∙ take-length x ∙ w)
+
+pub leaf-text : (l : List ℕ) (s : Span) → textAt l (leafSpan l s) ≡ rsplitLeaf (textAt l s)
+leaf-text l s =
+    let f = trimmed-front (textAt l s) in
+    leaf-place l (s .at) (s .len) (length (trimmed isSeparator (textAt l s))) (rsplitLeaf (textAt l s)) (f .0) (f .1) refl
+    (length (trimmed isSeparator (textAt l s)) - length (rsplitLeaf (textAt l s))) refl
+
+pub leaf-is : (l : List ℕ) (s : Span) (k m : ℕ) (name leaf : List ℕ) → name ≡ textAt l s → leaf ≡ rsplitLeaf name
+    → (k ≤ length name) × (take k name ≡ trimmed isSeparator name) → m ≡ k - length leaf
+    → _≡_ {A = Span} (record { at = s .at + m; len = length leaf }) (leafSpan l s)
+leaf-is l s k m name leaf e h t d =
+    let q : k ≡ length (trimmed isSeparator name) = sym (length-take-le k name (t .0)) ∙ ap length (t .1) in
+    rw (d, q, h, e)
+
 -- ---- a file's rename by its place
+
+same-span : (s : Span) (a n : ℕ) → s .at ≡ a → s .len ≡ n → s ≡ record { at = a; len = n }
+same-span s a n f g = rw (← f, ← g)
+
+-- the text at a place of a name, in the text area of the set or in that of the renames
+abbrev pub readName : List ℕ → List ℕ → NamePlace → List ℕ
+readName text names (inSet s) = textAt text s
+readName text names (inRenames s) = textAt names s
+
+name-if : (text t : List ℕ) (b : Bool) (s own : Span) (r : Renamed) → textAt t s ≡ r .name
+    → readName text t (cond b (inRenames (leafSpan t s)) (inSet own)) ≡ renamedName (cond b (present r) absent) (textAt text own)
+name-if text t true s own r h = leaf-text t s ∙ ap rsplitLeaf h
+name-if text t false s own r h = refl
 
 there : (b : Bool) → _≡_ {A = ℕ} (cond b 1 0) 0 → b ≡ false
 there true h = absurd (omega arith)
@@ -142,18 +189,19 @@ module _ (n u k : ℕ) (e t : List ℕ) (ordered : orderedFrom n 0 0 u e ≡ tru
       record {
         file = getD e (p .entry * 3) 0;
         mode = modeOf (getD e (p .entry * 3 + 1) 0);
-        name = partOf t (p .at) (p .old);
+        name = partOf t (p .at) (getD e (p .entry * 3 + 2) 0);
       }
 
   found : renameFor k (renamesFrom n 0 e t) ≡ cond (isNamed n k j e) (present (renameAt j e (drop (bytesFrom j 0 e) t))) absent
   found = let w = rename-found n 0 0 u k e t ordered in rw (zero-add j) at w
 
-  pub place-absent : p .same ≡ 0 → renameFor k (renamesFrom n 0 e t) ≡ absent
-  place-absent h =
-      let b : isNamed n k j e ≡ false = there (isNamed n k j e) (sym (ap (λ (x : Place). x .same) is) ∙ h) in
-      found ∙ rw b
+  pub unnamed : p .same ≡ 0 → isNamed n k j e ≡ false
+  unnamed h = there (isNamed n k j e) (sym (ap (λ (x : Place). x .same) is) ∙ h)
 
-  named : (p .same ≡ 0 → ⊥) → isNamed n k j e ≡ true
+  pub place-absent : p .same ≡ 0 → renameFor k (renamesFrom n 0 e t) ≡ absent
+  place-absent h = found ∙ rw (unnamed h)
+
+  pub named : (p .same ≡ 0 → ⊥) → isNamed n k j e ≡ true
   named h = gone (isNamed n k j e) (λ q. h (ap (λ (x : Place). x .same) is ∙ q))
 
   pub place-below : (p .same ≡ 0 → ⊥) → p .entry < n
@@ -164,17 +212,24 @@ module _ (n u k : ℕ) (e t : List ℕ) (ordered : orderedFrom n 0 0 u e ≡ tru
       let b = named h in
       let x : p .entry ≡ j = ap (λ (x : Place). x .entry) is in
       let y : p .at ≡ bytesFrom j 0 e = ap (λ (x : Place). x .at) is in
-      let z : p .old ≡ getD e (j * 3 + 2) 0 = ap (λ (x : Place). x .old) is ∙ rw b in
-      found ∙ rw (b, x, y, z)
+      found ∙ rw (b, x, y)
 
--- a mode in order is the one that is read alone where its word is 2
-pub alone-is : (m : ℕ) → m ≤ 2 → eqb m 2 ≡ isByItself (modeOf m)
-alone-is zero h = refl
-alone-is (suc zero) h = refl
-alone-is (suc (suc zero)) h = refl
-alone-is (suc (suc (suc m))) h = absurd (omega arith)
+  -- where its text lies
+  pub span-is : (s : Span) → s .at ≡ p .at → s .len ≡ getD e (p .entry * 3 + 2) 0 → s ≡ renameIn e j .name
+  span-is s f g =
+      let x : p .entry ≡ j = ap (λ (x : Place). x .entry) is in
+      same-span s (bytesFrom j 0 e) (getD e (j * 3 + 2) 0) (f ∙ ap (λ (x : Place). x .at) is) (g ∙ ap (λ (x : ℕ). getD e (x * 3 + 2) 0) x)
+
+  -- the place of the name reads as the leaf of the rename, or as the set's own name
+  pub name-text : (text : List ℕ) (s : Span) → readName text t (namePlace n e t s k) ≡ renamedName (renameFor k (renamesFrom n 0 e t)) (textAt text s)
+  name-text text s =
+      name-if text t (isNamed n k j e) (renameIn e j .name) s (renameAt j e (drop (bytesFrom j 0 e) t)) refl
+      ∙ ap (λ (o : Optional Renamed). renamedName o (textAt text s)) (sym found)
 
 -- ---- rename i
+
+abbrev nothing : Renamed
+nothing = record { file = 0; mode = FullPath; name = [] }
 
 rename-get : (n i j : ℕ) (e t : List ℕ) → j < n → getD (renamesFrom n i e t) j nothing ≡ renameAt (i + j) e (drop (bytesFrom j i e) t)
 unfolding renamesFrom bytesFrom
@@ -185,52 +240,67 @@ rename-get (suc n) i (suc j) e t h =
     let w : i + suc j ≡ i + 1 + j = omega arith in
     rw (w, ← drop-drop (bytesFrom j (i + 1) e) l t) (rename-get n (i + 1) j e (drop l t) (omega arith))
 
-module _ (n u i : ℕ) (e t : List ℕ) (ordered : orderedFrom n 0 0 u e ≡ true) (b : i < n) (r : Rename) where
-  pub rename-is : r .«file_index» .0 ≡ pos (getD e (i * 3) 0 % 2 ^ 31) → r .mode ≡ modeOf (getD e (i * 3 + 1) 0)
-      → r .name .at ≡ bytesFrom i 0 e → r .name .len ≡ getD e (i * 3 + 2) 0
-      → _≡_ {A = Renamed} (record { file = indexOf (r .«file_index» .0); mode = r .mode; name = textAt t (r .name) }) (getD (renamesFrom n 0 e t) i nothing)
-  rename-is f m a l =
-      let o = order-entry n 0 0 u e ordered i (omega arith) (omega arith) in
-      let d : getD e (i * 3) 0 % 2 ^ 31 ≡ getD e (i * 3) 0 = mod-eq-of-lt (omega (arith, o .0)) in
-      rw (f, m, a, l, d, rename-get n 0 i e t b, zero-add i)
+same-rename : (r : Rename) (f : ℤ) (m : RenameMode) (a n : ℕ) → r .«file_index» .0 ≡ f → r .mode ≡ m → r .name .at ≡ a → r .name .len ≡ n
+    → r ≡ record { «file_index» = record { 0 = f }; mode = m; name = record { at = a; len = n } }
+same-rename r f m a n e g h i = rw (← e, ← g, ← h, ← i)
 
--- ---- refusals of a question through the renames
+pub rename-is : (n u i : ℕ) (e : List ℕ) → orderedFrom n 0 0 u e ≡ true → i < n → (r : Rename) → r .«file_index» .0 ≡ pos (getD e (i * 3) 0 % 2 ^ 31)
+    → r .mode ≡ modeOf (getD e (i * 3 + 1) 0) → r .name .at ≡ bytesFrom i 0 e → r .name .len ≡ getD e (i * 3 + 2) 0 → r ≡ renameIn e i
+rename-is n u i e ordered b r f m a l =
+    let o = order-entry n 0 0 u e ordered i (omega arith) (omega arith) in
+    let d : getD e (i * 3) 0 % 2 ^ 31 ≡ getD e (i * 3) 0 = mod-eq-of-lt (omega (arith, o .0)) in
+    same-rename r (pos (getD e (i * 3) 0)) (modeOf (getD e (i * 3 + 1) 0)) (bytesFrom i 0 e) (getD e (i * 3 + 2) 0) (f ∙ ap pos d) m a l
 
-module _ {A B : Type 0} where
-  through-refused : (a b held o : Bool) (m : ℕ) (x : A) (y : B) → refused m ≡ outcomeOf (cond a 1 (cond b 11 (cond (not held) 10 0))) x
-      → refused m ≡ outcomeOf (cond a 1 (cond b 11 (cond (not (both held o)) 10 0))) y
-  through-refused true b held o m x y h = cc
-  through-refused false true held o m x y h = cc
-  through-refused false false true o m x y h = absurd (let z : _≡_ {A = ℕ} 0 1 = cc in omega arith)
-  through-refused false false false o m x y h = cc
+-- ---- what the answers read as
 
-  through-value : (a b held o : Bool) (v x : A) (y : B) → value v ≡ outcomeOf (cond a 1 (cond b 11 (cond (not held) 10 0))) x
-      → (v ≡ x) × (outcomeOf (cond (not o) 10 0) y ≡ outcomeOf (cond a 1 (cond b 11 (cond (not (both held o)) 10 0))) y)
-  through-value true b held o v x y h = absurd (let z : _≡_ {A = ℕ} 0 1 = cc in omega arith)
-  through-value false true held o v x y h = absurd (let z : _≡_ {A = ℕ} 0 1 = cc in omega arith)
-  through-value false false true o v x y h = (cc, refl)
-  through-value false false false o v x y h = absurd (let z : _≡_ {A = ℕ} 0 1 = cc in omega arith)
+-- an answer read by a function
+abbrev pub readAs : {A B : Type 0} → (A → B) → Outcome A → Outcome B
+readAs f (value a) = value (f a)
+readAs f (refused n) = refused n
 
-module _ {A B : Type 0} (fs : FileStorage) (z : ℤ) (held o : Bool) (f : ℕ → A) (g : ℕ → B) where
-  abbrev bad : Bool
-  bad = badLength (fs .«piece_length»)
+read-if : {A B : Type 0} (f : A → B) (b : Bool) (n : ℕ) (a : A) → readAs f (cond b (value a) (refused n)) ≡ cond b (value (f a)) (refused n)
+read-if f true n a = refl
+read-if f false n a = refl
 
-  abbrev missing : Bool
-  missing = not (isBelow (fs .«num_files») z)
+-- a value that is known only in order
+in-order-only : {A : Type 0} (bad missing held o : Bool) (x y : A) → (o ≡ true → x ≡ y)
+    → outcomeOf (cond bad 1 (cond missing 11 (cond (not (both held o)) 10 0))) x ≡ outcomeOf (cond bad 1 (cond missing 11 (cond (not (both held o)) 10 0))) y
+in-order-only true missing held o x y h = refl
+in-order-only false true held o x y h = refl
+in-order-only false false true true x y h = ap value (h refl)
+in-order-only false false true false x y h = refl
+in-order-only false false false o x y h = refl
 
-  pub asked-refused : (m : ℕ) → refused m ≡ askedFile fs z held f → refused m ≡ askedFile fs z (both held o) g
-  asked-refused m h = through-refused bad missing held o m (f (indexOf z)) (g (indexOf z)) h
+-- the name of a file as a text: the leaf of its rename in the list of renames, or its own
+pub name-said : (fs : FileStorage) (rows text : List ℕ) (rf : RenamedFiles) (e names : List ℕ) (z : ℤ)
+    → readAs (readName text names) (nameGiven fs rows text rf e names z)
+    ≡ askedFile fs z (both (both (rowsHeld fs rows) (textHeld fs text)) (inOrder rf e names))
+    (λ k. renamedName (renameFor k (renamesOf rf e names)) (textAt text (rowAt rows k .name)))
+name-said fs rows text rf e names z =
+    let k = indexOf z in
+    let n = rf .«num_renames» in
+    let held = both (rowsHeld fs rows) (textHeld fs text) in
+    let o = inOrder rf e names in
+    let own = rowAt rows k .name in
+    let m : ℕ = cond (badLength (fs .«piece_length»)) 1 (cond (not (isBelow (fs .«num_files») z)) 11 (cond (not (both held o)) 10 0)) in
+    read-if (readName text names) (eqb m 0) m (namePlace n e names own k)
+    ∙ in-order-only (badLength (fs .«piece_length»)) (not (isBelow (fs .«num_files») z)) held o (readName text names (namePlace n e names own k)) (renamedName (renameFor k (renamesOf rf e names)) (textAt text own))
+    (λ q. name-text n (rf .«text_len») k e names (order-in rf e (length names) q .2) (placeOf n k e) refl text own)
 
-  module _ (v : A) (h : value v ≡ askedFile fs z held f) where
-    pub asked-own : v ≡ f (indexOf z)
-    asked-own = through-value bad missing held o v (f (indexOf z)) (g (indexOf z)) h .0
+-- rename i as one of the list of renames
+abbrev pub readRename : List ℕ → Rename → Renamed
+readRename names r = record { file = indexOf (r .«file_index» .0); mode = r .mode; name = textAt names (r .name) }
 
-    pub asked-disorder : o ≡ false → refused 10 ≡ askedFile fs z (both held o) g
-    asked-disorder q =
-        let w : refused 10 ≡ outcomeOf (cond (not o) 10 0) (g (indexOf z)) = rw q in
-        w ∙ through-value bad missing held o v (f (indexOf z)) (g (indexOf z)) h .1
-
-    pub asked-value : o ≡ true → (w : B) → w ≡ g (indexOf z) → value w ≡ askedFile fs z (both held o) g
-    asked-value q w r =
-        let s : value w ≡ outcomeOf (cond (not o) 10 0) (g (indexOf z)) = rw (q, r) in
-        s ∙ through-value bad missing held o v (f (indexOf z)) (g (indexOf z)) h .1
+pub export-said : (rf : RenamedFiles) (e names : List ℕ) (i : ℕ)
+    → readAs (readRename names) (exported rf e names i)
+    ≡ outcomeOf (firstOf (when (leb (rf .«num_renames») i) 11 ∷ when (not (inOrder rf e names)) 10 ∷ [])) (getD (renamesOf rf e names) i nothing)
+export-said rf e names i = at (le-or-lt (rf .«num_renames») i)
+  where
+    at : (rf .«num_renames» ≤ i) ⊎ (i < rf .«num_renames»)
+        → readAs (readRename names) (exported rf e names i)
+        ≡ outcomeOf (firstOf (when (leb (rf .«num_renames») i) 11 ∷ when (not (inOrder rf e names)) 10 ∷ [])) (getD (renamesOf rf e names) i nothing)
+    at (inl h) = rw (le-leb (rf .«num_renames») i h)
+    at (inr h) =
+        let m : ℕ = cond (leb (rf .«num_renames») i) 11 (cond (not (inOrder rf e names)) 10 0) in
+        read-if (readRename names) (eqb m 0) m (renameIn e i)
+        ∙ ap (outcomeOf m) (sym (rename-get (rf .«num_renames») 0 i e names h ∙ rw (zero-add i)))

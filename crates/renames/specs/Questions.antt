@@ -1,25 +1,38 @@
 -- Document 01, 'Names': what a set's names are through its renames. Refusals 1, 11, 10: 'a question on one past the end is 11,
--- but the export gives it'.
-use Prim.Native.Nat.{ℕ}
+-- but the export gives it'. It relies on the renames of Renames.antt, on the places of Places.antt and on the questions of
+-- `answers`.
+use Prim.Native.Nat.{ℕ, _+_, _-_, _*_}
 use mathlib.Core.Bool.{Bool, true, false, cond, not}
 use mathlib.Core.List.{List, [], _∷_}
 use lib.Dec.{eqb, leb}
-use lib.IntN.{ℤ}
-use lib.ListN.{getD}
+use lib.IntN.{ℤ, pos}
+use lib.ListN.{length, getD}
 use Rattle.types.specs.Refusals.{Outcome}
-use Rattle.path.specs.Split.{rsplitLeaf}
+use Rattle.path.specs.Split.{isSeparator, trimmed, rsplitLeaf}
 use Rattle.path.specs.Join.{Joined, appended}
 use Rattle.tables.specs.declared.storage.FileStorage.{FileStorage}
+use Rattle.tables.specs.declared.span.Span.{Span}
 use Rattle.tables.specs.Span.{textAt}
-use Rattle.tables.specs.Rows.{rowAt}
+use Rattle.tables.specs.Rows.{rowAt, isAbsolute}
 use Rattle.tables.specs.Model.{Optional, absent, present}
 use Rattle.storage.specs.Rules.{when, firstOf, outcomeOf, both}
-use Rattle.answers.specs.Answers.{askedFile, composedFile, isAbsolute, rowsHeld, textHeld}
+use Rattle.answers.specs.Answers.{askedFile, composedFile, rowsHeld, textHeld}
 use Rattle.names.specs.Paths.{filePath, namesHeld}
 use Rattle.renames.specs.declared.rename.RenameMode.{RenameMode}
 use Rattle.renames.specs.declared.rename.RenameMode.the-variants.{FullPath, NoRootPath, AbsolutePath}
+use Rattle.renames.specs.declared.rename.Rename.{Rename}
 use Rattle.renames.specs.declared.rename.RenamedFiles.{RenamedFiles}
-use Rattle.renames.specs.Renames.{Renamed, renamesOf, inOrder}
+use Rattle.renames.specs.Renames.{Renamed, modeOf, renamesOf, inOrder}
+use Rattle.renames.specs.Places.{belowFrom, bytesFrom, isNamed}
+
+-- entry i as a rename: its text stands behind those of the entries before it
+abbrev pub renameIn : List ℕ → ℕ → Rename
+renameIn entries i =
+    record {
+      «file_index» = record { 0 = pos (getD entries (i * 3) 0) };
+      mode = modeOf (getD entries (i * 3 + 1) 0);
+      name = record { at = bytesFrom i 0 entries; len = getD entries (i * 3 + 2) 0 };
+    }
 
 -- the rename of file k, where there is one
 abbrev pub renameFor : ℕ → List Renamed → Optional Renamed
@@ -36,10 +49,28 @@ abbrev pub renamedPath : Optional Renamed → List ℕ → List ℕ → List ℕ
 renamedPath absent own save setName = own
 renamedPath (present r) own save setName = pathBy (r .mode) save setName (r .name)
 
--- `file_name`: the leaf of the rename, or the set's own name
+-- `file_name` as a text: the leaf of the rename, or the set's own name
 abbrev pub renamedName : Optional Renamed → List ℕ → List ℕ
 renamedName absent own = own
 renamedName (present r) own = rsplitLeaf (r .name)
+
+-- where a file's name lies: in the set's text area, or in that of the renames
+pub data NamePlace : Type 0 where
+  inSet : Span → NamePlace
+  inRenames : Span → NamePlace
+
+-- the place of a text's leaf, which ends where the text does once a separator at its end is dropped
+abbrev pub leafSpan : List ℕ → Span → Span
+leafSpan names s =
+    record {
+      at = s .at + (length (trimmed isSeparator (textAt names s)) - length (rsplitLeaf (textAt names s)));
+      len = length (rsplitLeaf (textAt names s));
+    }
+
+-- `file_name` as a place: that of the leaf of the rename, or the set's own
+abbrev pub namePlace : ℕ → List ℕ → List ℕ → Span → ℕ → NamePlace
+namePlace n entries names own k =
+    cond (isNamed n k (belowFrom n 0 k entries) entries) (inRenames (leafSpan names (renameIn entries (belowFrom n 0 k entries) .name))) (inSet own)
 
 -- `file_absolute_path`
 abbrev pub isByItself : RenameMode → Bool
@@ -57,10 +88,10 @@ pathInto fs rows dirs text rf entries names z save buf =
     (λ k. renamedPath (renameFor k (renamesOf rf entries names)) (filePath fs dirs text save (rowAt rows k)) save (textAt text (fs .name)))
     buf
 
-abbrev pub nameGiven : FileStorage → List ℕ → List ℕ → RenamedFiles → List ℕ → List ℕ → ℤ → Outcome (List ℕ)
+abbrev pub nameGiven : FileStorage → List ℕ → List ℕ → RenamedFiles → List ℕ → List ℕ → ℤ → Outcome NamePlace
 nameGiven fs rows text rf entries names z =
     askedFile fs z (both (both (rowsHeld fs rows) (textHeld fs text)) (inOrder rf entries names))
-    (λ k. renamedName (renameFor k (renamesOf rf entries names)) (textAt text (rowAt rows k .name)))
+    (λ k. namePlace (rf .«num_renames») entries names (rowAt rows k .name) k)
 
 abbrev pub absoluteGiven : FileStorage → List ℕ → RenamedFiles → List ℕ → List ℕ → ℤ → Outcome Bool
 absoluteGiven fs rows rf entries names z =
@@ -68,10 +99,6 @@ absoluteGiven fs rows rf entries names z =
     (λ k. renamedAbsolute (renameFor k (renamesOf rf entries names)) (isAbsolute (rowAt rows k)))
 
 -- `export_filenames`, one rename at a time, ascending: rename i, 11 where there is none
-abbrev pub nothing : Renamed
-nothing = record { file = 0; mode = FullPath; name = [] }
-
-abbrev pub exported : RenamedFiles → List ℕ → List ℕ → ℕ → Outcome Renamed
+abbrev pub exported : RenamedFiles → List ℕ → List ℕ → ℕ → Outcome Rename
 exported rf entries names i =
-    outcomeOf (firstOf (when (leb (rf .«num_renames») i) 11 ∷ when (not (inOrder rf entries names)) 10 ∷ []))
-    (getD (renamesOf rf entries names) i nothing)
+    outcomeOf (firstOf (when (leb (rf .«num_renames») i) 11 ∷ when (not (inOrder rf entries names)) 10 ∷ [])) (renameIn entries i)

@@ -1,5 +1,5 @@
 // Whether the lent tables of renames are in order. Relies on the total accessors of `lists` and on the laws of
-// proofs/Orders.antt.
+// proofs/Ordered.antt.
 ghost use mathlib.Core.Path.{_≡_};
 ghost use Prim.Native.Nat.{_*_, _≤_};
 ghost use lib.Dec.{leb};

@@ -13,7 +13,7 @@ ghost use Rattle.renames.specs.Questions.{pathBy, pathInto};
 use crate::check::is_in_order;
 use crate::place::PlaceResult;
 use crate::place::place_of;
-use crate::question::mode_at;
+use crate::question::rename_at;
 use crate::rename::RenameMode;
 use crate::rename::RenamedFiles;
 use answers::SpanResult;
@@ -87,9 +87,10 @@ pub fn file_path(
             if p.same == 0 {
                 return names::file_path(fs, rows, dirs, text, index, save_path, buf);
             }
-            let mode = mode_at(entries, p.entry);
+            let rename = rename_at(entries, p.entry, p.at);
+            let mode = rename.mode;
             let set = tables::text_at(text, fs.name);
-            let name = lists::part(names, p.at, p.old);
+            let name = tables::text_at(names, rename.name);
             put_renamed(mode, save_path, set, name, buf)
         }
         PlaceResult::Err(e) => UsizeResult::Err(e),

@@ -4,13 +4,11 @@ ghost use mathlib.Core.Path.{_≡_};
 ghost use lib.ListN.{length, getD, take};
 ghost use Prim.Native.Nat.{_+_, _*_, _≤_, _%_, _^_};
 ghost use lib.IntN.{pos};
-ghost use Rattle.lists.specs.Lists.{partOf};
-ghost use Rattle.path.specs.Split.{isSeparator, trimmed, rsplitLeaf};
-ghost use Rattle.tables.specs.Span.{textAt};
+ghost use Rattle.path.specs.Split.{isSeparator, trimmed};
 ghost use Rattle.answers.specs.Results.{boolSays};
 ghost use Rattle.renames.specs.Renames.{modeOf};
 ghost use Rattle.renames.specs.Results.{renameSays, nameSays};
-ghost use Rattle.renames.specs.Questions.{nameGiven, absoluteGiven, exported};
+ghost use Rattle.renames.specs.Questions.{leafSpan, isByItself, nameGiven, absoluteGiven, exported};
 use crate::check::is_in_order;
 use crate::place::bytes_of;
 use crate::place::place_of;
@@ -40,11 +38,26 @@ fn mode_of(word: u64) -> RenameMode
 }
 
 // The mode of entry i, which is one of those held.
-pub(crate) fn mode_at(entries: &[u64], i: usize) -> RenameMode
+fn mode_at(entries: &[u64], i: usize) -> RenameMode
     requires { ⌜ i * 3 + 3 ≤ length (now entries) ⌝ }
     ensures { λ r. ⌜ r ≡ modeOf (getD (now (entries .entry)) (i * 3 + 1) 0) ⌝ }
 {
     mode_of(lists::word(entries, i * 3 + 1))
+}
+
+// Rename i, which is one of those in order, its text being at that place.
+pub(crate) fn rename_at(entries: &[u64], i: usize, at: usize) -> Rename
+    requires { ⌜ i * 3 + 3 ≤ length (now entries) ⌝ }
+    ensures { λ r. ⌜ (r .«file_index» .0 ≡ pos (getD (now (entries .entry)) (i * 3) 0 % 2 ^ 31)) × (r .mode ≡ modeOf (getD (now (entries .entry)) (i * 3 + 1) 0)) × (r .name .at ≡ at) × (r .name .len ≡ getD (now (entries .entry)) (i * 3 + 2) 0) ⌝ }
+{
+    Rename {
+        file_index: FileIndex::new(lists::word(entries, i * 3)),
+        mode: mode_at(entries, i),
+        name: Span {
+            at,
+            len: lists::word(entries, i * 3 + 2) as usize,
+        },
+    }
 }
 
 // How many bytes a name has without the separator at its end, if it has one.
@@ -59,14 +72,25 @@ fn trimmed_len(name: &[u8]) -> usize
 }
 
 // The place of a name's leaf.
-fn leaf_of(names: &[u8], at: usize, len: usize) -> Span
-    ensures { λ r. ⌜ textAt (now (names .entry)) r ≡ rsplitLeaf (partOf (now (names .entry)) at len) ⌝ }
+fn leaf_of(names: &[u8], place: Span) -> Span
+    ensures { λ r. ⌜ r ≡ leafSpan (now (names .entry)) place ⌝ }
 {
-    let name = lists::part(names, at, len);
+    let name = tables::text_at(names, place);
     let leaf = path::filename(name).len();
     Span {
-        at: at + lists::minus(trimmed_len(name), leaf),
+        at: place.at + lists::minus(trimmed_len(name), leaf),
         len: leaf,
+    }
+}
+
+// Whether a rename's text is read alone.
+fn is_by_itself(mode: RenameMode) -> bool
+    ensures { λ r. ⌜ r ≡ isByItself mode ⌝ }
+{
+    match mode {
+        RenameMode::FullPath => false,
+        RenameMode::NoRootPath => false,
+        RenameMode::AbsolutePath => true,
     }
 }
 
@@ -80,7 +104,7 @@ pub fn file_name(
     names: &[u8],
     index: FileIndex,
 ) -> FileNameResult
-    ensures { λ r. ⌜ nameSays (now (text .entry)) (now (names .entry)) r ≡ nameGiven fs (now (rows .entry)) (now (text .entry)) renames (now (entries .entry)) (now (names .entry)) (index .0) ⌝ }
+    ensures { λ r. ⌜ nameSays r ≡ nameGiven fs (now (rows .entry)) (now (text .entry)) renames (now (entries .entry)) (now (names .entry)) (index .0) ⌝ }
 {
     match answers::file_name(fs, rows, text, index) {
         SpanResult::Ok(own) => {
@@ -91,7 +115,8 @@ pub fn file_name(
             if p.same == 0 {
                 return FileNameResult::InSet(own);
             }
-            FileNameResult::InRenames(leaf_of(names, p.at, p.old))
+            let rename = rename_at(entries, p.entry, p.at);
+            FileNameResult::InRenames(leaf_of(names, rename.name))
         }
         SpanResult::Err(e) => FileNameResult::Err(e),
     }
@@ -117,24 +142,11 @@ pub fn file_absolute_path(
             if p.same == 0 {
                 return BoolResult::Ok(own);
             }
-            BoolResult::Ok(lists::word(entries, p.entry * 3 + 1) == 2)
+            let rename = rename_at(entries, p.entry, p.at);
+            let mode = rename.mode;
+            BoolResult::Ok(is_by_itself(mode))
         }
         BoolResult::Err(e) => BoolResult::Err(e),
-    }
-}
-
-// Rename i, which is one of those in order, its text being at that place.
-fn rename_at(entries: &[u64], i: usize, at: usize) -> Rename
-    requires { ⌜ i * 3 + 3 ≤ length (now entries) ⌝ }
-    ensures { λ r. ⌜ (r .«file_index» .0 ≡ pos (getD (now (entries .entry)) (i * 3) 0 % 2 ^ 31)) × (r .mode ≡ modeOf (getD (now (entries .entry)) (i * 3 + 1) 0)) × (r .name .at ≡ at) × (r .name .len ≡ getD (now (entries .entry)) (i * 3 + 2) 0) ⌝ }
-{
-    Rename {
-        file_index: FileIndex::new(lists::word(entries, i * 3)),
-        mode: mode_at(entries, i),
-        name: Span {
-            at,
-            len: lists::word(entries, i * 3 + 2) as usize,
-        },
     }
 }
 
@@ -145,7 +157,7 @@ pub fn export_filename(
     names: &[u8],
     i: usize,
 ) -> RenameResult
-    ensures { λ r. ⌜ renameSays (now (names .entry)) r ≡ exported renames (now (entries .entry)) (now (names .entry)) i ⌝ }
+    ensures { λ r. ⌜ renameSays r ≡ exported renames (now (entries .entry)) (now (names .entry)) i ⌝ }
 {
     if renames.num_renames <= i {
         return RenameResult::Err(Refusal::NoSuchFile);

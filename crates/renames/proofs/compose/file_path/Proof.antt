@@ -81,14 +81,14 @@ returns c =
     let none = place-absent (a .renames .«num_renames») (a .renames .«text_len») (indexOf (a .index .0)) (a .entries .now) (a .names .now) (o .2) (c .before .before .before .before .before .before .before .place .given .0 .0) (k .1) (c .before .before .before .before .if1 .taken) in
     path-own (a .fs) (a .index .0) (held s) (order s) (placeFor s) (newPath s) (a .buf .now) _ (place-is (c .before .before .before .before .before .before .before)) (ownPath s) _ (c .before .before .file-path .ensures) (rw none)
 
-mode-at-requires : tie.Need-mode-at-requires
-mode-at-requires c κs = below c
+rename-at-requires : tie.Need-rename-at-requires
+rename-at-requires c κs = below c
 
 text-at-requires : tie.Need-text-at-requires
 text-at-requires c κs = search needs
 
-part-requires : tie.Need-part-requires
-part-requires c κs = search needs
+text-at-requires-2 : tie.Need-text-at-requires-2
+text-at-requires-2 c κs = search needs
 
 put-renamed-requires : tie.Need-put-renamed-requires
 put-renamed-requires c κs = search needs
@@ -106,8 +106,9 @@ returns-2 c =
     let k = known (c .before .before .before .before .before .before .before .before .before .before) in
     let o = order-in (a .renames) (a .entries .now) (length (a .names .now)) (k .0) in
     let one = place-present (a .renames .«num_renames») (a .renames .«text_len») (indexOf (a .index .0)) (a .entries .now) (a .names .now) (o .2) (c .before .before .before .before .before .before .before .before .before .before .place .given .0 .0) (k .1) (c .before .before .before .before .before .before .before .if1 .left) in
-    path-text (a .fs) (a .index .0) (held s) (order s) (placeFor s) (newPath s) (a .buf .now) _ (place-is (c .before .before .before .before .before .before .before .before .before .before)) _ (pathBy (c .before .before .before .before .before .before .mode-at .result) (a .save-path .now) (c .before .before .before .before .before .text-at .result .now) (c .before .before .before .before .part .result .now)) (c .before .before .put-renamed .ensures)
-    (rw (one, c .before .before .before .before .before .before .mode-at .ensures, c .before .before .before .before .before .text-at .ensures, c .before .before .before .before .part .ensures))
+    let w = c .before .before .before .before .before .before .rename-at .ensures in
+    path-text (a .fs) (a .index .0) (held s) (order s) (placeFor s) (newPath s) (a .buf .now) _ (place-is (c .before .before .before .before .before .before .before .before .before .before)) _ (pathBy (c .before .before .before .before .before .before .rename-at .result .mode) (a .save-path .now) (c .before .before .before .before .before .text-at .result .now) (c .before .before .before .before .text-at2 .result .now)) (c .before .before .put-renamed .ensures)
+    (rw (one, w .1, c .before .before .before .before .before .text-at .ensures, c .before .before .before .before .text-at2 .ensures, w .2, w .3))
 
 returns-3 : tie.Need-returns-3
 returns-3 c =
@@ -124,9 +125,9 @@ file-path-spec =
     file-path-requires
     same-length
     returns
-    mode-at-requires
+    rename-at-requires
     text-at-requires
-    part-requires
+    text-at-requires-2
     put-renamed-requires
     enum-known-place-2
     same-length-2

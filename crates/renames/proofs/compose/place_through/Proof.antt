@@ -5,28 +5,26 @@ use mathlib.Core.Bool.{Bool, true, false}
 use native.Mathlib.Omega.{arith}
 use borrow.Author.Tests.{not-true, not-false, le-leb, lt-leb}
 use lib.ListN.{length}
-use mathlib.Core.List.{List}
 use Rattle.storage.specs.Rules.{both}
 use Rattle.types.specs.Refusals.{Outcome, numberOf, value}
 use Rattle.tables.specs.Rows.{rowAt}
-use Rattle.tables.specs.Span.{textAt}
+use Rattle.tables.specs.declared.span.Span.{Span}
 use Rattle.answers.specs.Answers.{askedFile, rowsHeld, dirsHeld, textHeld}
 use Rattle.answers.specs.Results.{spanSays}
-use Rattle.names.proofs.Deciding.{index-is}
+use Rattle.names.proofs.Deciding.{index-is, asked-refused, asked-disorder, asked-value}
 use Rattle.renames.specs.declared.place.Place.{Place}
 use Rattle.renames.specs.Renames.{inOrder}
 use Rattle.renames.specs.Places.{placeOf}
 use Rattle.renames.proofs.Ordered.{order-bytes}
 use Rattle.renames.proofs.Decisions.{order-in}
-use Rattle.renames.proofs.Questions.{asked-refused, asked-disorder, asked-value}
 use Rattle.renames.proofs.Paths.{held-is}
 use borrow.Author.Needs.{needs}
 use Rattle.renames.proofs.compose.place_through.Statement.{statement}
 use Rattle.renames.proofs.compose.place_through.Tie as tie
 
 -- the set's own answer, about rows and text
-abbrev ownName : tie.Start → ℕ → List ℕ
-ownName s k = textAt (s .args .text .now) (rowAt (s .args .rows .now) k .name)
+abbrev ownName : tie.Start → ℕ → Span
+ownName s k = rowAt (s .args .rows .now) k .name
 
 abbrev held : tie.Start → Bool
 held s = both (rowsHeld (s .args .fs) (s .args .rows .now)) (textHeld (s .args .fs) (s .args .text .now))
@@ -48,8 +46,8 @@ whole s o e =
     let a = s .args in
     e ∙ ap (λ (h : Bool). askedFile (a .fs) (a .index .0) h (place s)) (held-is (rowsHeld (a .fs) (a .rows .now)) (dirs s) (textHeld (a .fs) (a .text .now)) (order s))
 
-own-is : (c : tie.After-enum-told) → value (textAt (c .before .before .before .before .before .before .before .before .args .text .now) (c .enum-told .given .0 .0)) ≡ askedFile (c .before .before .before .before .before .before .before .before .args .fs) (c .before .before .before .before .before .before .before .before .args .index .0) (held (c .before .before .before .before .before .before .before .before)) (ownName (c .before .before .before .before .before .before .before .before))
-own-is c = ap (spanSays (c .before .before .before .before .before .before .before .before .args .text .now)) (sym (c .enum-told .given .1)) ∙ c .before .before .file-name .ensures
+own-is : (c : tie.After-enum-told) → value (c .enum-told .given .0 .0) ≡ askedFile (c .before .before .before .before .before .before .before .before .args .fs) (c .before .before .before .before .before .before .before .before .args .index .0) (held (c .before .before .before .before .before .before .before .before)) (ownName (c .before .before .before .before .before .before .before .before))
+own-is c = ap spanSays (sym (c .enum-told .given .1)) ∙ c .before .before .file-name .ensures
 
 file-name-requires : tie.Need-file-name-requires
 file-name-requires c κs = search needs
@@ -101,7 +99,7 @@ returns-4 : tie.Need-returns-4
 returns-4 c =
     let s = c .before .before .before .before .before .before .before .before .before in
     let a = s .args in
-    whole s _ (asked-refused (a .fs) (a .index .0) (held s) (both (dirs s) (order s)) (ownName s) (place s) (numberOf (c .before .e .given .0 .0)) (ap (spanSays (a .text .now)) (sym (c .before .e .given .1)) ∙ c .before .before .before .file-name .ensures))
+    whole s _ (asked-refused (a .fs) (a .index .0) (held s) (both (dirs s) (order s)) (ownName s) (place s) (numberOf (c .before .e .given .0 .0)) (ap spanSays (sym (c .before .e .given .1)) ∙ c .before .before .before .file-name .ensures))
 
 pub place-through-spec : {M : Type 1} → statement M
 place-through-spec =

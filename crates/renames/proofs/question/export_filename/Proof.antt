@@ -48,7 +48,7 @@ returns-3 c =
     let a = c .before .before .before .before .before .before .before .before .args in
     let o = order-in (a .renames) (a .entries .now) (length (a .names .now)) (ordered (c .before .before)) in
     let w = c .rename-at .ensures in
-    rw (lt-leb _ _ (c .before .before .before .before .if1 .left), ordered (c .before .before)) (ap value (rename-is (a .renames .«num_renames») (a .renames .«text_len») (a .i) (a .entries .now) (a .names .now) (o .2) (c .before .before .before .before .if1 .left) (c .rename-at .result) (w .0) (w .1) (w .2 ∙ c .before .bytes-of .ensures) (w .3)))
+    rw (lt-leb _ _ (c .before .before .before .before .if1 .left), ordered (c .before .before)) (ap value (rename-is (a .renames .«num_renames») (a .renames .«text_len») (a .i) (a .entries .now) (o .2) (c .before .before .before .before .if1 .left) (c .rename-at .result) (w .0) (w .1) (w .2 ∙ c .before .bytes-of .ensures) (w .3)))
 
 pub export-filename-spec : {M : Type 1} → statement M
 export-filename-spec =

@@ -1,21 +1,21 @@
 -- `renames::question::file_absolute_path` meets its contract.
-use Prim.Native.Nat.{ℕ, _+_, _*_, _≤_, _<_}
+use Prim.Native.Nat.{ℕ, _+_, _*_, _≤_}
 use mathlib.Core.Path.{_≡_, sym, ap, _∙_}
 use mathlib.Core.Bool.{Bool, true}
 use native.Mathlib.Omega.{arith}
 use borrow.Author.Tests.{not-true, not-false}
 use lib.ListN.{length}
 use Rattle.types.specs.Refusals.{numberOf, value}
-use Rattle.tables.specs.Rows.{rowAt}
-use Rattle.answers.specs.Answers.{indexOf, askedFile, rowsHeld, isAbsolute}
+use Rattle.tables.specs.Rows.{rowAt, isAbsolute}
+use Rattle.answers.specs.Answers.{indexOf, askedFile, rowsHeld}
 use Rattle.answers.specs.Results.{boolSays}
 use Rattle.renames.specs.Renames.{renamesOf, inOrder}
-use Rattle.renames.specs.Questions.{renameFor, renamedAbsolute}
+use Rattle.renames.specs.Questions.{renameFor, isByItself, renamedAbsolute}
 use Rattle.renames.specs.Places.{placeOf}
-use Rattle.renames.proofs.Ordered.{order-bytes, order-mode}
-use Rattle.names.proofs.Deciding.{index-is}
+use Rattle.renames.proofs.Ordered.{order-bytes}
+use Rattle.names.proofs.Deciding.{index-is, asked-refused, asked-own, asked-disorder, asked-value}
 use Rattle.renames.proofs.Decisions.{order-in}
-use Rattle.renames.proofs.Questions.{asked-refused, asked-own, asked-disorder, asked-value, place-absent, place-present, place-below, alone-is}
+use Rattle.renames.proofs.Questions.{place-absent, place-present, place-below}
 use borrow.Author.Needs.{needs}
 use Rattle.renames.proofs.question.file_absolute_path.Statement.{statement}
 use Rattle.renames.proofs.question.file_absolute_path.Tie as tie
@@ -47,12 +47,12 @@ place-is c =
     c .place-of .ensures ∙ ap (λ (i : ℕ). placeOf (a .renames .«num_renames») i (a .entries .now)) (c .before .get .ensures ∙ index-is (a .index .0))
 
 -- the entry is one of those held
-below : (c : tie.Else2) → (c .before .before .place-of .result .entry * 3 + 3 ≤ length (c .before .before .before .before .before .before .before .before .before .before .before .before .before .args .entries .now)) × (c .before .before .place-of .result .entry < c .before .before .before .before .before .before .before .before .before .before .before .before .before .args .renames .«num_renames»)
+below : (c : tie.Else2) → c .before .before .place-of .result .entry * 3 + 3 ≤ length (c .before .before .before .before .before .before .before .before .before .before .before .before .before .args .entries .now)
 below c =
     let a = c .before .before .before .before .before .before .before .before .before .before .before .before .before .args in
     let o = order-in (a .renames) (a .entries .now) (length (a .names .now)) (ordered (c .before .before .before .before)) in
     let b = place-below (a .renames .«num_renames») (a .renames .«text_len») (indexOf (a .index .0)) (a .entries .now) (a .names .now) (o .2) (c .before .before .place-of .result) (place-is (c .before .before)) (c .if2 .left) in
-    (omega (arith, o .0), b)
+    omega (arith, o .0)
 
 file-absolute-path-requires : tie.Need-file-absolute-path-requires
 file-absolute-path-requires c κs = search needs
@@ -85,16 +85,13 @@ returns-2 c =
     let o = order-in (a .renames) (a .entries .now) (length (a .names .now)) (ordered (c .before .before .before .before)) in
     let own = own-is (c .before .before .before .before .before .before .before) in
     let none = place-absent (a .renames .«num_renames») (a .renames .«text_len») (indexOf (a .index .0)) (a .entries .now) (a .names .now) (o .2) (c .before .before .place-of .result) (place-is (c .before .before)) (c .if2 .taken) in
-    asked-value (a .fs) (a .index .0) (held s) (order s) (ownPath s) (newPath s) _ own (ordered (c .before .before .before .before)) _ (rw none (asked-own (a .fs) (a .index .0) (held s) (order s) (ownPath s) (newPath s) _ own))
+    asked-value (a .fs) (a .index .0) (held s) (order s) (ownPath s) (newPath s) _ own (ordered (c .before .before .before .before)) _ (rw none (asked-own (a .fs) (a .index .0) (held s) (ownPath s) _ own))
 
-mul-word : tie.Need-mul-word
-mul-word c = record { fits = omega (arith, below (c .before) .0) }
+rename-at-requires : tie.Need-rename-at-requires
+rename-at-requires c κs = below c
 
-add-word : tie.Need-add-word
-add-word c = record { fits = omega (arith, below (c .before) .0) }
-
-word-requires : tie.Need-word-requires
-word-requires c κs = search needs
+is-by-itself-requires : tie.Need-is-by-itself-requires
+is-by-itself-requires c κs = search needs
 
 enum-known-e : tie.Need-enum-known-e
 enum-known-e c = search needs
@@ -105,8 +102,7 @@ returns-3 c =
     let a = s .args in
     let o = order-in (a .renames) (a .entries .now) (length (a .names .now)) (ordered (c .before .before .before .before .before .before)) in
     let one = place-present (a .renames .«num_renames») (a .renames .«text_len») (indexOf (a .index .0)) (a .entries .now) (a .names .now) (o .2) (c .before .before .before .before .place-of .result) (place-is (c .before .before .before .before)) (c .before .before .if2 .left) in
-    let mode = order-mode (a .renames .«num_renames») 0 0 (a .renames .«text_len») (a .entries .now) (o .2) (c .before .before .before .before .place-of .result .entry) (omega arith) (omega (arith, below (c .before .before) .1)) in
-    asked-value (a .fs) (a .index .0) (held s) (order s) (ownPath s) (newPath s) _ (own-is (c .before .before .before .before .before .before .before .before .before)) (ordered (c .before .before .before .before .before .before)) _ (rw (one, c .word .ensures) (alone-is _ mode))
+    asked-value (a .fs) (a .index .0) (held s) (order s) (ownPath s) (newPath s) _ (own-is (c .before .before .before .before .before .before .before .before .before)) (ordered (c .before .before .before .before .before .before)) _ (rw one (c .is-by-itself .ensures ∙ ap isByItself (c .before .rename-at .ensures .1)))
 
 returns-4 : tie.Need-returns-4
 returns-4 c =
@@ -125,9 +121,8 @@ file-absolute-path-spec =
     get-requires
     place-of-requires
     returns-2
-    mul-word
-    add-word
-    word-requires
+    rename-at-requires
+    is-by-itself-requires
     enum-known-e
     returns-3
     returns-4)
