@@ -1,4 +1,5 @@
--- Laws of renames.
+-- Laws of renames: tables in order, places, changes, imports and questions. They rely on the laws of `lists`, `path`,
+-- `storage`, `answers` and `names`.
 pub mod Ordered
 pub mod Places
 pub mod Splices

@@ -4,13 +4,12 @@ use Prim.Native.Nat.{ℕ}
 use mathlib.Core.Path.{_≡_, refl, _∙_}
 use mathlib.Core.Bool.{Bool, true, false, cond, not}
 use mathlib.Core.List.{List}
-use native.Mathlib.Omega.{arith}
 use lib.Dec.{eqb}
 use lib.IntN.{ℤ}
 use Rattle.types.specs.Refusals.{value, refused}
 use Rattle.path.specs.Join.{Joined}
 use Rattle.tables.specs.declared.storage.FileStorage.{FileStorage}
-use Rattle.storage.specs.Rules.{outcomeOf, both}
+use Rattle.storage.specs.Rules.{both}
 use Rattle.storage.specs.Addition.{badLength}
 use Rattle.answers.specs.Answers.{indexOf, isBelow, askedFile, composedIf, composedFile}
 use Rattle.answers.proofs.Deciding.{denied}

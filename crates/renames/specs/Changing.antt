@@ -1,4 +1,5 @@
--- The decision before a change, on numbers: the place of a rename, or the refusal.
+-- The decision before a change, on numbers: the place of a rename, or the refusal. It relies on the places of Places.antt and
+-- on the order of Renames.antt.
 use Prim.Native.Nat.{ℕ, _+_, _-_, _/_}
 use mathlib.Core.Bool.{Bool, not}
 use mathlib.Core.List.{List, [], _∷_}

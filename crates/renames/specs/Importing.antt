@@ -1,5 +1,6 @@
 -- How `import_filenames` goes: the renames that the list does not name stay, and of each number's names the last comes to them. So
--- the room is judged, and so both tables are written without a step that needs more room than the result.
+-- the room is judged, and so both tables are written without a step that needs more room than the result. It relies on
+-- Imports.antt for what is due.
 use Prim.Native.Nat.{ℕ, zero, suc, _+_, _*_, _/_}
 use mathlib.Core.Bool.{Bool, false, cond, not}
 use mathlib.Core.Path.{_≡_}

@@ -1,4 +1,4 @@
--- Document 01, `import_filenames`: names for many files at once.
+-- Document 01, `import_filenames`: names for many files at once. It relies on the changes of Renames.antt.
 use Prim.Native.Nat.{ℕ}
 use mathlib.Core.Bool.{Bool, cond, not}
 use mathlib.Core.List.{List, [], _∷_}

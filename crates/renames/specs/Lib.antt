@@ -1,4 +1,5 @@
--- The definitions that the contracts of `renames` cite.
+-- The definitions that the contracts of `renames` cite. They rely on those of `path`, `tables`, `storage`, `answers` and
+-- `names`.
 pub mod Renames
 pub mod Places
 pub mod Changing

@@ -1,4 +1,5 @@
 -- Where the rename of a file stands in the lent tables, or would stand, and what a table holds once a part of it is replaced.
+-- It relies on the entries' three words as Renames.antt reads them.
 use Prim.Native.Nat.{ℕ, zero, suc, _+_, _*_}
 use mathlib.Core.Bool.{Bool, cond}
 use mathlib.Core.List.{List, _++_}
