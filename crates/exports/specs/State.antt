@@ -1,5 +1,5 @@
 -- A set's record as twelve words, for programs in other languages: piece length, v2 (0 or 1), files, directories, link
--- texts, times, the name's place and length, text held, total, size on disk, trimmed (0 or 1). Words past the end read 0.
+-- texts, times, the name's place and length, text held, total, size on disk, trimmed (0 or 1).
 use Prim.Native.Nat.{ℕ}
 use mathlib.Core.Bool.{Bool, true, false, cond, not}
 use mathlib.Core.List.{List, [], _∷_}
@@ -11,12 +11,30 @@ use Rattle.types.specs.Refusals.{Outcome, value, refused}
 use Rattle.tables.specs.declared.storage.FileStorage.{FileStorage}
 use Rattle.tables.specs.declared.rows.Presence.{Presence}
 use Rattle.tables.specs.declared.rows.Presence.the-variants.{Absent, Present}
-use Rattle.tables.specs.Model.{Store}
 use Rattle.storage.specs.Outcomes.{Changed}
 
+-- no set: its piece length is 0, so every call refuses it by 1
+abbrev pub noStorage : FileStorage
+noStorage =
+    record {
+      «piece_length» = 0;
+      v2 = false;
+      «num_files» = 0;
+      «num_paths» = 0;
+      «num_symlinks» = 0;
+      «num_mtimes» = 0;
+      name = record { at = 0; len = 0 };
+      «text_len» = 0;
+      «total_size» = 0;
+      «size_on_disk» = 0;
+      trimmed = false;
+    }
+
+-- the set that the words hold, no set where they are not all there
 abbrev pub storageOf : List ℕ → FileStorage
 storageOf w =
-    record {
+    cond (ltb (length w) 12) noStorage
+    (record {
       «piece_length» = getD w 0 0;
       v2 = not (eqb (getD w 1 0) 0);
       «num_files» = getD w 2 0;
@@ -28,7 +46,7 @@ storageOf w =
       «total_size» = getD w 9 0;
       «size_on_disk» = getD w 10 0;
       trimmed = not (eqb (getD w 11 0) 0);
-    }
+    })
 
 abbrev pub bit : Bool → ℕ
 bit true = 1
@@ -83,10 +101,3 @@ exported state c =
       dirs = c .dirs;
       text = c .text;
     }
-
--- a call on words that are not all there is refused by 10, and nothing is touched
-abbrev pub ifWhole : List ℕ → Store → Exported → Exported
-ifWhole state s e =
-    cond (ltb (length state) 12)
-    (record { number = 10; state = state; rows = s .rows; roots = s .roots; times = s .times; dirs = s .dirs; text = s .text })
-    e

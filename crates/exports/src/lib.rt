@@ -4,7 +4,7 @@ ghost use mathlib.Core.Path.{_≡_};
 ghost use lib.Seq.{sets};
 ghost use Rattle.tables.specs.Rows.{rootAt};
 ghost use Rattle.storage.specs.Outcomes.{storageSays, optionalOf, addStored, trimStored};
-ghost use Rattle.exports.specs.State.{Exported, exported, ifWhole, storageOf, wordsOf, bit, presenceOf, numberSaid, stateSaid};
+ghost use Rattle.exports.specs.State.{Exported, exported, storageOf, wordsOf, bit, presenceOf, numberSaid, stateSaid};
 
 mod questions;
 mod slices;
@@ -14,27 +14,40 @@ use tables::FileStorage;
 use tables::Presence;
 use tables::Span;
 
-// The record that a set's words hold. The last word is read first: where it is there, the others need no
-// test of their own.
+// The record that a set's words hold; where they are not all there, a record of no set.
 pub(crate) fn storage_at(state: &[u64]) -> FileStorage
     ensures { λ r. ⌜ r ≡ storageOf (now (state .entry)) ⌝ }
 {
-    let trimmed = lists::word(state, 11) != 0;
+    if state.len() < 12 {
+        return FileStorage {
+            piece_length: 0,
+            v2: false,
+            num_files: 0,
+            num_paths: 0,
+            num_symlinks: 0,
+            num_mtimes: 0,
+            name: Span { at: 0, len: 0 },
+            text_len: 0,
+            total_size: 0,
+            size_on_disk: 0,
+            trimmed: false,
+        };
+    }
     FileStorage {
-        piece_length: lists::word(state, 0),
-        v2: lists::word(state, 1) != 0,
-        num_files: lists::word(state, 2) as usize,
-        num_paths: lists::word(state, 3) as usize,
-        num_symlinks: lists::word(state, 4) as usize,
-        num_mtimes: lists::word(state, 5) as usize,
+        piece_length: state[0],
+        v2: state[1] != 0,
+        num_files: state[2] as usize,
+        num_paths: state[3] as usize,
+        num_symlinks: state[4] as usize,
+        num_mtimes: state[5] as usize,
         name: Span {
-            at: lists::word(state, 6) as usize,
-            len: lists::word(state, 7) as usize,
+            at: state[6] as usize,
+            len: state[7] as usize,
         },
-        text_len: lists::word(state, 8) as usize,
-        total_size: lists::word(state, 9),
-        size_on_disk: lists::word(state, 10),
-        trimmed,
+        text_len: state[8] as usize,
+        total_size: state[9],
+        size_on_disk: state[10],
+        trimmed: state[11] != 0,
     }
 }
 
@@ -87,8 +100,9 @@ fn put_answer(state: &mut [u64], answer: StorageResult) -> u32
     }
 }
 
-// `storage::add_file` on the set that the words hold.
-fn add_to(
+// `storage::add_file`; `given` and `rooted` are 0 for none, and the root is the first 32 bytes of `root`.
+#[no_mangle]
+pub extern "C" fn niflathen_add_file(
     state: &mut [u64],
     rows: &mut [u64],
     roots: &mut [u8],
@@ -127,8 +141,9 @@ fn add_to(
     put_answer(state, answer)
 }
 
-// `storage::remove_tail_padding` on the set that the words hold.
-fn trim_in(
+// `storage::remove_tail_padding`.
+#[no_mangle]
+pub extern "C" fn niflathen_remove_tail_padding(
     state: &mut [u64],
     rows: &mut [u64],
     roots: &mut [u8],
@@ -140,66 +155,4 @@ fn trim_in(
 {
     let answer = storage::remove_tail_padding(storage_at(state), rows, roots, times, dirs, text);
     put_answer(state, answer)
-}
-
-// `storage::add_file`; `given` and `rooted` are 0 for none, and the root is the first 32 bytes of `root`;
-// 10 for words that are not all there.
-#[no_mangle]
-pub extern "C" fn niflathen_add_file(
-    state: &mut [u64],
-    rows: &mut [u64],
-    roots: &mut [u8],
-    times: &mut [i64],
-    dirs: &mut [u64],
-    text: &mut [u8],
-    given: u8,
-    filename: &[u8],
-    path: &[u8],
-    file_size: i64,
-    file_flags: u8,
-    mtime: i64,
-    symlink_path: &[u8],
-    rooted: u8,
-    root: &[u8],
-) -> u32
-    ensures { λ r. ⌜ _≡_ {A = Exported} (record { number = r; state = now (state .exit); rows = now (rows .exit); roots = now (roots .exit); times = now (times .exit); dirs = now (dirs .exit); text = now (text .exit) }) (ifWhole (now (state .entry)) (record { fs = storageOf (now (state .entry)); rows = now (rows .entry); roots = now (roots .entry); times = now (times .entry); dirs = now (dirs .entry); text = now (text .entry) }) (exported (now (state .entry)) (addStored (record { fs = storageOf (now (state .entry)); rows = now (rows .entry); roots = now (roots .entry); times = now (times .entry); dirs = now (dirs .entry); text = now (text .entry) }) (record { given = optionalOf (presenceOf given) (now (filename .entry)); path = now (path .entry); size = «file_size»; flags = «file_flags»; time = mtime; link = now («symlink_path» .entry); root = optionalOf (presenceOf rooted) (rootAt (now (root .entry)) 0) })))) ⌝ }
-{
-    if state.len() < 12 {
-        return 10;
-    }
-    add_to(
-        state,
-        rows,
-        roots,
-        times,
-        dirs,
-        text,
-        given,
-        filename,
-        path,
-        file_size,
-        file_flags,
-        mtime,
-        symlink_path,
-        rooted,
-        root,
-    )
-}
-
-// `storage::remove_tail_padding`; 10 for words that are not all there.
-#[no_mangle]
-pub extern "C" fn niflathen_remove_tail_padding(
-    state: &mut [u64],
-    rows: &mut [u64],
-    roots: &mut [u8],
-    times: &mut [i64],
-    dirs: &mut [u64],
-    text: &mut [u8],
-) -> u32
-    ensures { λ r. ⌜ _≡_ {A = Exported} (record { number = r; state = now (state .exit); rows = now (rows .exit); roots = now (roots .exit); times = now (times .exit); dirs = now (dirs .exit); text = now (text .exit) }) (ifWhole (now (state .entry)) (record { fs = storageOf (now (state .entry)); rows = now (rows .entry); roots = now (roots .entry); times = now (times .entry); dirs = now (dirs .entry); text = now (text .entry) }) (exported (now (state .entry)) (trimStored (record { fs = storageOf (now (state .entry)); rows = now (rows .entry); roots = now (roots .entry); times = now (times .entry); dirs = now (dirs .entry); text = now (text .entry) })))) ⌝ }
-{
-    if state.len() < 12 {
-        return 10;
-    }
-    trim_in(state, rows, roots, times, dirs, text)
 }

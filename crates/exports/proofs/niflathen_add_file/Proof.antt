@@ -1,23 +1,80 @@
--- `exports::niflathen_add_file` meets its contract: words that are not all there are refused, and else the call's own holds.
-use borrow.Author.Tests.{lt-ltb, le-ltb}
-use mathlib.Core.Path.{ap, _∙_}
+-- `exports::niflathen_add_file` meets its contract: the addition's own, at the record, the presences and the root that were read.
+use mathlib.Core.Path.{_≡_, ap, _∙_}
+use mathlib.Core.List.{List}
+use Prim.Native.Nat.{ℕ}
 use lib.IntN.{ℤ}
-use lib.ListN.{length}
 use mir.Syntax.{w64}
-use mir.Val.{SFits, toZ, ofZ}
+use mir.Val.{toZ, ofZ}
 use mir.Facts.{toZ-ofZ}
-use Rattle.tables.specs.Rows.{rootAt}
-use Rattle.storage.specs.Outcomes.{optionalOf, addStored}
-use Rattle.exports.specs.State.{Exported, exported, storageOf, presenceOf}
 use borrow.Author.Needs.{needs}
+use Rattle.tables.specs.Rows.{rootAt}
+use Rattle.tables.specs.declared.rows.Presence.{Presence}
+use Rattle.tables.specs.declared.storage.FileStorage.{FileStorage}
+use Rattle.storage.specs.Outcomes.{Changed, storageSays, optionalOf, addStored}
+use Rattle.exports.specs.State.{storageOf, presenceOf}
+use Rattle.exports.proofs.Answers.{answered}
 use Rattle.exports.proofs.niflathen_add_file.Statement.{statement}
 use Rattle.exports.proofs.niflathen_add_file.Tie as tie
 
-returns : tie.Need-returns
-returns c = rw (lt-ltb (length (c .before .before .before .before .before .before .before .before .before .before .args .state .now)) 12 (c .if1 .taken))
+-- what the addition makes of the tables that the call brings, of a set's record, both presences, a root, a size and a time
+abbrev added : tie.Start → FileStorage → Presence → Presence → List ℕ → ℤ → ℤ → Changed
+added c fs given rooted root size time =
+    addStored (record { fs = fs; rows = c .args .rows .now; roots = c .args .roots .now; times = c .args .times .now; dirs = c .args .dirs .now; text = c .args .text .now })
+    (record { given = optionalOf given (c .args .filename .now); path = c .args .path .now; size = size; flags = c .args .file-flags; time = time; link = c .args .symlink-path .now; root = optionalOf rooted root })
 
-add-to-requires : tie.Need-add-to-requires
-add-to-requires c κs = search needs
+-- what the addition left
+abbrev left : tie.After-add-file → Changed
+left c =
+    record {
+      says = storageSays (c .add-file .result);
+      rows = c .add-file .last .1 .0;
+      roots = c .add-file .last .1 .1 .0;
+      times = c .add-file .last .1 .1 .1 .0;
+      dirs = c .add-file .last .1 .1 .1 .1 .0;
+      text = c .add-file .last .1 .1 .1 .1 .1 .0;
+    }
+
+-- and what that is
+module _ (c : tie.After-add-file) where
+  abbrev start : tie.Start
+  start = c .before .before .before .before .before .before .before .before .before .before .before .before .before .before .before .before .before .before .before .before
+
+  abbrev fs : FileStorage
+  fs = storageOf (start .args .state .now)
+
+  abbrev known : Changed
+  known = added start fs (presenceOf (start .args .given)) (presenceOf (start .args .rooted)) (rootAt (start .args .root .now) 0) (start .args .file-size) (start .args .mtime)
+
+  is-known : left c ≡ known
+  is-known =
+      let size = toZ w64 (ofZ w64 (start .args .file-size)) in
+      let time = toZ w64 (ofZ w64 (start .args .mtime)) in
+      let root = rootAt (start .args .root .now) 0 in
+      c .add-file .ensures
+      ∙ ap (λ (x : FileStorage). added start x (c .before .before .before .presence-of .result) (c .before .before .presence-of2 .result) (c .before .root-at .result) size time) (c .before .before .before .before .before .before .before .before .before .storage-at .ensures)
+      ∙ ap (λ (x : Presence). added start fs x (c .before .before .presence-of2 .result) (c .before .root-at .result) size time) (c .before .before .before .presence-of .ensures)
+      ∙ ap (λ (x : Presence). added start fs (presenceOf (start .args .given)) x (c .before .root-at .result) size time) (c .before .before .presence-of2 .ensures)
+      ∙ ap (λ (x : List ℕ). added start fs (presenceOf (start .args .given)) (presenceOf (start .args .rooted)) x size time) (c .before .root-at .ensures)
+      ∙ ap (λ (x : ℤ). added start fs (presenceOf (start .args .given)) (presenceOf (start .args .rooted)) root x time) (toZ-ofZ (start .fits .file-size))
+      ∙ ap (λ (x : ℤ). added start fs (presenceOf (start .args .given)) (presenceOf (start .args .rooted)) root (start .args .file-size) x) (toZ-ofZ (start .fits .mtime))
+
+storage-at-requires : tie.Need-storage-at-requires
+storage-at-requires c κs = search needs
+
+presence-of-requires : tie.Need-presence-of-requires
+presence-of-requires c κs = search needs
+
+presence-of-requires-2 : tie.Need-presence-of-requires-2
+presence-of-requires-2 c κs = search needs
+
+root-at-requires : tie.Need-root-at-requires
+root-at-requires c κs = search needs
+
+add-file-requires : tie.Need-add-file-requires
+add-file-requires c κs = search needs
+
+put-answer-requires : tie.Need-put-answer-requires
+put-answer-requires c κs = search needs
 
 same-length : tie.Need-same-length
 same-length c = search needs
@@ -37,31 +94,23 @@ same-length-5 c = search needs
 same-length-6 : tie.Need-same-length-6
 same-length-6 c = search needs
 
--- the addition's outcome, of a size and a time
-abbrev made : tie.Start → ℤ → ℤ → Exported
-made c size time =
-    exported (c .args .state .now)
-    (addStored (record { fs = storageOf (c .args .state .now); rows = c .args .rows .now; roots = c .args .roots .now; times = c .args .times .now; dirs = c .args .dirs .now; text = c .args .text .now })
-    (record { given = optionalOf (presenceOf (c .args .given)) (c .args .filename .now); path = c .args .path .now; size = size; flags = c .args .file-flags; time = time; link = c .args .symlink-path .now; root = optionalOf (presenceOf (c .args .rooted)) (rootAt (c .args .root .now) 0) }))
-
-returns-2 : tie.Need-returns-2
-returns-2 c =
-    let k = c .before .before .before .before .before .before .before .before .before .before .before .before .before .before .before .before .before .before .before .before .before .before .before .before .before .before .before .before in
-    let size-fits : SFits w64 (k .args .file-size) = search needs in
-    let time-fits : SFits w64 (k .args .mtime) = search needs in
-    rw (le-ltb (length (k .args .state .now)) 12 (c .before .before .before .before .before .before .before .before .before .before .before .before .before .before .before .before .before .before .if1 .left))
-    (c .before .before .before .before .before .before .before .before .before .before .before .add-to .ensures ∙ ap (λ (z : ℤ). made k z (toZ w64 (ofZ w64 (k .args .mtime)))) (toZ-ofZ size-fits) ∙ ap (made k (k .args .file-size)) (toZ-ofZ time-fits))
+returns : tie.Need-returns
+returns c = answered (c .before .before .before .before .before .before .before .before .before .before .before .before .before .before .before .before .before .before .before .before .before .before .before .before .before .before .before .before .before .before .before .before .before .args .state .now) (c .before .before .put-answer .last .0) (c .before .before .put-answer .result) (left (c .before .before .before .before .before .before .before .before .before .before .before .before .before)) (known (c .before .before .before .before .before .before .before .before .before .before .before .before .before)) (is-known (c .before .before .before .before .before .before .before .before .before .before .before .before .before)) (c .before .before .put-answer .ensures .0) (c .before .before .put-answer .ensures .1)
 
 pub niflathen-add-file-spec : {M : Type 1} → statement M
 niflathen-add-file-spec =
     tie.close
     (tie.spec
-    returns
-    add-to-requires
+    storage-at-requires
+    presence-of-requires
+    presence-of-requires-2
+    root-at-requires
+    add-file-requires
+    put-answer-requires
     same-length
     same-length-2
     same-length-3
     same-length-4
     same-length-5
     same-length-6
-    returns-2)
+    returns)

@@ -1,15 +1,38 @@
--- `exports::niflathen_remove_tail_padding` meets its contract: words that are not all there are refused, and else the call's own holds.
-use borrow.Author.Tests.{lt-ltb, le-ltb}
-use lib.ListN.{length}
+-- `exports::niflathen_remove_tail_padding` meets its contract: the trim's own, at the record that was read.
+use mathlib.Core.Path.{ap, _∙_}
 use borrow.Author.Needs.{needs}
+use Rattle.tables.specs.declared.storage.FileStorage.{FileStorage}
+use Rattle.storage.specs.Outcomes.{Changed, storageSays, trimStored}
+use Rattle.exports.specs.State.{storageOf}
+use Rattle.exports.proofs.Answers.{answered}
 use Rattle.exports.proofs.niflathen_remove_tail_padding.Statement.{statement}
 use Rattle.exports.proofs.niflathen_remove_tail_padding.Tie as tie
 
-returns : tie.Need-returns
-returns c = rw (lt-ltb (length (c .before .before .before .before .before .before .args .state .now)) 12 (c .if1 .taken))
+-- what the trim makes of a set's record and the tables that the call brings
+abbrev trimmed : tie.Start → FileStorage → Changed
+trimmed c fs =
+    trimStored (record { fs = fs; rows = c .args .rows .now; roots = c .args .roots .now; times = c .args .times .now; dirs = c .args .dirs .now; text = c .args .text .now })
 
-trim-in-requires : tie.Need-trim-in-requires
-trim-in-requires c κs = search needs
+-- what the trim left
+abbrev left : tie.After-remove-tail-padding → Changed
+left c =
+    record {
+      says = storageSays (c .remove-tail-padding .result);
+      rows = c .remove-tail-padding .last .1 .0;
+      roots = c .remove-tail-padding .last .1 .1 .0;
+      times = c .remove-tail-padding .last .1 .1 .1 .0;
+      dirs = c .remove-tail-padding .last .1 .1 .1 .1 .0;
+      text = c .remove-tail-padding .last .1 .1 .1 .1 .1 .0;
+    }
+
+storage-at-requires : tie.Need-storage-at-requires
+storage-at-requires c κs = search needs
+
+remove-tail-padding-requires : tie.Need-remove-tail-padding-requires
+remove-tail-padding-requires c κs = search needs
+
+put-answer-requires : tie.Need-put-answer-requires
+put-answer-requires c κs = search needs
 
 same-length : tie.Need-same-length
 same-length c = search needs
@@ -29,19 +52,20 @@ same-length-5 c = search needs
 same-length-6 : tie.Need-same-length-6
 same-length-6 c = search needs
 
-returns-2 : tie.Need-returns-2
-returns-2 c = rw (le-ltb (length (c .before .before .before .before .before .before .before .before .before .before .before .before .before .before .before .before .before .before .before .before .before .before .before .before .args .state .now)) 12 (c .before .before .before .before .before .before .before .before .before .before .before .before .before .before .before .before .before .before .if1 .left)) (c .before .before .before .before .before .before .before .before .before .before .before .trim-in .ensures)
+returns : tie.Need-returns
+returns c = answered (c .before .before .before .before .before .before .before .before .before .before .before .before .before .before .before .before .before .before .before .before .before .before .before .before .before .before .args .state .now) (c .before .before .put-answer .last .0) (c .before .before .put-answer .result) (left (c .before .before .before .before .before .before .before .before .before .before .before .before .before)) (trimmed (c .before .before .before .before .before .before .before .before .before .before .before .before .before .before .before .before .before .before .before .before .before .before .before .before .before .before) (storageOf (c .before .before .before .before .before .before .before .before .before .before .before .before .before .before .before .before .before .before .before .before .before .before .before .before .before .before .args .state .now))) (c .before .before .before .before .before .before .before .before .before .before .before .before .before .remove-tail-padding .ensures ∙ ap (trimmed (c .before .before .before .before .before .before .before .before .before .before .before .before .before .before .before .before .before .before .before .before .before .before .before .before .before .before)) (c .before .before .before .before .before .before .before .before .before .before .before .before .before .before .before .before .before .before .before .storage-at .ensures)) (c .before .before .put-answer .ensures .0) (c .before .before .put-answer .ensures .1)
 
 pub niflathen-remove-tail-padding-spec : {M : Type 1} → statement M
 niflathen-remove-tail-padding-spec =
     tie.close
     (tie.spec
-    returns
-    trim-in-requires
+    storage-at-requires
+    remove-tail-padding-requires
+    put-answer-requires
     same-length
     same-length-2
     same-length-3
     same-length-4
     same-length-5
     same-length-6
-    returns-2)
+    returns)

@@ -1,61 +1,67 @@
--- `exports::storage_at` meets its contract: each field is the word that was read.
+-- `exports::storage_at` meets its contract.
+use lib.ListN.{length}
+use borrow.Author.Tests.{lt-ltb, le-ltb}
 use borrow.Author.Needs.{needs}
 use Rattle.exports.proofs.storage_at.Statement.{statement}
 use Rattle.exports.proofs.storage_at.Tie as tie
 
-word-requires : tie.Need-word-requires
-word-requires c κs = search needs
-
-word-requires-2 : tie.Need-word-requires-2
-word-requires-2 c κs = search needs
-
-word-requires-3 : tie.Need-word-requires-3
-word-requires-3 c κs = search needs
-
-word-requires-4 : tie.Need-word-requires-4
-word-requires-4 c κs = search needs
-
-word-requires-5 : tie.Need-word-requires-5
-word-requires-5 c κs = search needs
-
-word-requires-6 : tie.Need-word-requires-6
-word-requires-6 c κs = search needs
-
-word-requires-7 : tie.Need-word-requires-7
-word-requires-7 c κs = search needs
-
-word-requires-8 : tie.Need-word-requires-8
-word-requires-8 c κs = search needs
-
-word-requires-9 : tie.Need-word-requires-9
-word-requires-9 c κs = search needs
-
-word-requires-10 : tie.Need-word-requires-10
-word-requires-10 c κs = search needs
-
-word-requires-11 : tie.Need-word-requires-11
-word-requires-11 c κs = search needs
-
-word-requires-12 : tie.Need-word-requires-12
-word-requires-12 c κs = search needs
-
 returns : tie.Need-returns
-returns c = rw (c .word12 .ensures, c .before .word11 .ensures, c .before .before .word10 .ensures, c .before .before .before .word9 .ensures, c .before .before .before .before .word8 .ensures, c .before .before .before .before .before .word7 .ensures, c .before .before .before .before .before .before .word6 .ensures, c .before .before .before .before .before .before .before .word5 .ensures, c .before .before .before .before .before .before .before .before .word4 .ensures, c .before .before .before .before .before .before .before .before .before .word3 .ensures, c .before .before .before .before .before .before .before .before .before .before .word2 .ensures, c .before .before .before .before .before .before .before .before .before .before .before .word .ensures)
+returns c = rw (lt-ltb (length (c .before .args .state .now)) 12 (c .if1 .taken))
+
+shared-slice-read-t6 : tie.Need-shared-slice-read-t6
+shared-slice-read-t6 c = search needs
+
+shared-slice-read-t8 : tie.Need-shared-slice-read-t8
+shared-slice-read-t8 c = search needs
+
+shared-slice-read-t10 : tie.Need-shared-slice-read-t10
+shared-slice-read-t10 c = search needs
+
+shared-slice-read-t12 : tie.Need-shared-slice-read-t12
+shared-slice-read-t12 c = search needs
+
+shared-slice-read-t15 : tie.Need-shared-slice-read-t15
+shared-slice-read-t15 c = search needs
+
+shared-slice-read-t18 : tie.Need-shared-slice-read-t18
+shared-slice-read-t18 c = search needs
+
+shared-slice-read-t21 : tie.Need-shared-slice-read-t21
+shared-slice-read-t21 c = search needs
+
+shared-slice-read-t24 : tie.Need-shared-slice-read-t24
+shared-slice-read-t24 c = search needs
+
+shared-slice-read-t28 : tie.Need-shared-slice-read-t28
+shared-slice-read-t28 c = search needs
+
+shared-slice-read-t31 : tie.Need-shared-slice-read-t31
+shared-slice-read-t31 c = search needs
+
+shared-slice-read-t33 : tie.Need-shared-slice-read-t33
+shared-slice-read-t33 c = search needs
+
+shared-slice-read-t35 : tie.Need-shared-slice-read-t35
+shared-slice-read-t35 c = search needs
+
+returns-2 : tie.Need-returns-2
+returns-2 c = rw (le-ltb (length (c .before .before .before .before .before .before .before .before .before .before .before .before .before .args .state .now)) 12 (c .before .before .before .before .before .before .before .before .before .before .before .before .if1 .left))
 
 pub storage-at-spec : {M : Type 1} → statement M
 storage-at-spec =
     tie.close
     (tie.spec
-    word-requires
-    word-requires-2
-    word-requires-3
-    word-requires-4
-    word-requires-5
-    word-requires-6
-    word-requires-7
-    word-requires-8
-    word-requires-9
-    word-requires-10
-    word-requires-11
-    word-requires-12
-    returns)
+    returns
+    shared-slice-read-t6
+    shared-slice-read-t8
+    shared-slice-read-t10
+    shared-slice-read-t12
+    shared-slice-read-t15
+    shared-slice-read-t18
+    shared-slice-read-t21
+    shared-slice-read-t24
+    shared-slice-read-t28
+    shared-slice-read-t31
+    shared-slice-read-t33
+    shared-slice-read-t35
+    returns-2)
