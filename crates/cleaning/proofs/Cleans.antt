@@ -13,12 +13,12 @@ use Rattle.types.specs.Refusals.{numberOf, value, refused}
 use Rattle.types.specs.declared.refusal.Refusal.{Refusal}
 use Rattle.tables.specs.Model.{Store}
 use Rattle.links.specs.Clean.{Entry, linkCount}
-use Rattle.links.specs.Judging.{entriesOf, directoriesOf, verdictOf, verdictsFor, verdicts, judgingNumber, cleared, Judged, judged}
+use Rattle.links.specs.Judging.{isFlagged, entriesOf, directoriesOf, verdictOf, verdictsFor, verdicts, judgingNumber, cleared, Judged, judged}
 use Rattle.links.specs.Walking.{entryAt, entriesFrom}
 use Rattle.links.proofs.Rows.{flagged-at, entries-all}
 use Rattle.links.proofs.Judgements.{verdicts-set, roomy}
 use Rattle.cleaning.specs.Cleaning.{fatesFor, fates, emptied, rewritten, cleanedStore, textNeeded, Cleaned, cleanedTo, cleanStored}
-use Rattle.cleaning.specs.Writing.{isLink, flagsIn, fatesBy, allFates, neededBy, cleanedBy}
+use Rattle.cleaning.specs.Writing.{flagsIn, fatesBy, allFates, neededBy, cleanedBy}
 use Rattle.cleaning.proofs.OneLink.{cond-yes, cond-no}
 
 -- ---- fates
@@ -45,8 +45,8 @@ module _ (s : Store) (marks : List ℕ) (files : List Entry) (dirs : List (List 
       let v = verdictOf files dirs f in
       let vs = verdictsFor files dirs (entriesFrom s n (i + 1)) in
       let fs = fatesFor files dirs (entriesFrom s n (i + 1)) in
-      let flag : f .flagged ≡ isLink (flagsIn (s .rows) i) = sym (flagged-at s i) in
-      one-fate (isLink (flagsIn (s .rows) i)) v k n i vs fs rest (e ∙ ap (λ (b : Bool). cond b (v ∷ vs) vs ++ rest) flag) (λ j q. fates-from n (i + 1) j rest q)
+      let flag : f .flagged ≡ isFlagged (flagsIn (s .rows) i) = sym (flagged-at s i) in
+      one-fate (isFlagged (flagsIn (s .rows) i)) v k n i vs fs rest (e ∙ ap (λ (b : Bool). cond b (v ∷ vs) vs ++ rest) flag) (λ j q. fates-from n (i + 1) j rest q)
       ∙ ap (λ (b : Bool). cond b v 0 ∷ fs) (sym flag)
 
 -- the marks that a judgement leaves give all fates

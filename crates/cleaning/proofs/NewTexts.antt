@@ -11,11 +11,10 @@ use Rattle.path.specs.Join.{isAlone, isClosed, isEmpty, appended}
 use Rattle.tables.specs.declared.span.Span.{Span}
 use Rattle.tables.specs.declared.rows.Row.{Row}
 use Rattle.tables.specs.Span.{textAt}
-use Rattle.tables.specs.Rows.{rowAt, dirAt, has}
+use Rattle.tables.specs.Rows.{rowAt, dirAt, directorySpan, has}
 use Rattle.tables.specs.Model.{presentIf, single, absolute, stored, Store, fileOf}
 use Rattle.links.specs.Clean.{entryOf, heldText, pathIn, own}
 use Rattle.links.specs.Judging.{besideText, textBy}
-use Rattle.cleaning.specs.Cleaning.{branchSpan}
 use Rattle.cleaning.specs.Writing.{isParted, prefixOf, leafSpan}
 
 -- ---- joins
@@ -47,15 +46,7 @@ module _ (d : List ℕ) (n : ℕ) where
   pub prefix-plain : isAlone d ≡ false → isParted d n ≡ false → prefixOf d n ≡ d
   prefix-plain e h = rw (e, h)
 
-  -- it has at most one byte more than the branch, and no less where the branch does not stand alone
-  pub prefix-short : length (prefixOf d n) ≤ length d + 1
-  prefix-short = at (isAlone d) (isParted d n)
-    where
-      at : (alone parted : Bool) → length (cond alone [] (cond parted (d ++ (47 ∷ [])) d)) ≤ length d + 1
-      at true parted = omega arith
-      at false true = omega (arith, length-append d (47 ∷ []))
-      at false false = omega arith
-
+  -- it has no less bytes than the branch where that does not stand alone
   pub prefix-long : isAlone d ≡ false → length d ≤ length (prefixOf d n)
   prefix-long e = rw e (at (isParted d n))
     where
@@ -68,14 +59,14 @@ module _ (d : List ℕ) (n : ℕ) where
 -- a file without a directory has a branch of no bytes
 path-at : (a b outside : Bool) (text : List ℕ) (c : Span) (l : List ℕ)
     → pathIn (cond a single (cond b absolute (stored (textAt text c) outside))) l
-    ≡ appended (textAt text (cond a (record { at = 0; len = 0 }) (cond b (record { at = 0; len = 0 }) c))) l
+    ≡ appended (textAt text (cond (cond (not a) (not b) false) c (record { at = 0; len = 0 }))) l
 path-at true b outside text c l = refl
 path-at false true outside text c l = refl
 path-at false false outside text c l = refl
 
 beside-at : (a b outside : Bool) (text : List ℕ) (c : Span) (l : List ℕ)
     → besideText (cond a single (cond b absolute (stored (textAt text c) outside))) l
-    ≡ appended (textAt text (cond a (record { at = 0; len = 0 }) (cond b (record { at = 0; len = 0 }) c))) l
+    ≡ appended (textAt text (cond (cond (not a) (not b) false) c (record { at = 0; len = 0 }))) l
 beside-at true b outside text c l = refl
 beside-at false true outside text c l = refl
 beside-at false false outside text c l = refl
@@ -90,7 +81,7 @@ module _ (s : Store) (i : ℕ) where
   row = rowAt (s .rows) i
 
   abbrev branch : List ℕ
-  branch = textAt (s .text) (branchSpan (s .dirs) row)
+  branch = textAt (s .text) (directorySpan (s .dirs) row)
 
   -- the text that a verdict gives, by its parts
   text-parts : (v : ℕ) (b : Bool) → eqb v 1 ≡ b

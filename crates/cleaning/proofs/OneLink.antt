@@ -16,10 +16,10 @@ use Rattle.path.specs.Join.{appended, Joined, joinedIf}
 use Rattle.tables.specs.declared.span.Span.{Span}
 use Rattle.tables.specs.declared.rows.Row.{Row}
 use Rattle.tables.specs.Span.{endOf, textAt}
-use Rattle.tables.specs.Rows.{rowAt}
+use Rattle.tables.specs.Rows.{rowAt, directorySpan}
 use Rattle.tables.specs.Model.{Store}
 use Rattle.storage.specs.Rules.{both}
-use Rattle.cleaning.specs.Cleaning.{goneAt, linked, relinked, branchSpan, isWithin, ownFits, besideFits, rewrittenAt}
+use Rattle.cleaning.specs.Cleaning.{goneAt, linked, relinked, isWithin, ownFits, besideFits, rewrittenAt}
 use Rattle.cleaning.specs.Writing.{leafSpan}
 use Rattle.cleaning.proofs.NewTexts.{text-by}
 
@@ -41,7 +41,7 @@ both-no false b e = refl
 -- ---- a link's own path
 
 -- r is the row of file i, and b says where the text of its directory lies
-module _ (s : Store) (i : ℕ) (r : Row) (b : Span) (row : r ≡ rowAt (s .rows) i) (branch : b ≡ branchSpan (s .dirs) r) where
+module _ (s : Store) (i : ℕ) (r : Row) (b : Span) (row : r ≡ rowAt (s .rows) i) (branch : b ≡ directorySpan (s .dirs) r) where
   abbrev used : ℕ
   used = s .fs .«text_len»
 
@@ -55,7 +55,7 @@ module _ (s : Store) (i : ℕ) (r : Row) (b : Span) (row : r ≡ rowAt (s .rows)
   own-step : cond ownFit (linked s i ownText) s ≡ rewrittenAt 0 1 s i
   own-step =
       ap (λ (x : Span). cond (both (isWithin used x) (both (isWithin used (r .name)) (leb (length (appended (textAt (s .text) x) (textAt (s .text) (r .name)))) (length (s .text) - used)))) (linked s i (appended (textAt (s .text) x) (textAt (s .text) (r .name)))) s) branch
-      ∙ ap (λ (x : Row). cond (both (isWithin used (branchSpan (s .dirs) x)) (both (isWithin used (x .name)) (leb (length (appended (textAt (s .text) (branchSpan (s .dirs) x)) (textAt (s .text) (x .name)))) (length (s .text) - used)))) (linked s i (appended (textAt (s .text) (branchSpan (s .dirs) x)) (textAt (s .text) (x .name)))) s) row
+      ∙ ap (λ (x : Row). cond (both (isWithin used (directorySpan (s .dirs) x)) (both (isWithin used (x .name)) (leb (length (appended (textAt (s .text) (directorySpan (s .dirs) x)) (textAt (s .text) (x .name)))) (length (s .text) - used)))) (linked s i (appended (textAt (s .text) (directorySpan (s .dirs) x)) (textAt (s .text) (x .name)))) s) row
       ∙ ap (λ (t : List ℕ). cond (ownFits s i t) (linked s i t) s) (sym (text-by s i 1 refl))
 
   pub own-kept : ownFit ≡ false → s ≡ rewrittenAt 0 1 s i
@@ -75,14 +75,14 @@ module _ (s : Store) (i : ℕ) (r : Row) (b : Span) (row : r ≡ rowAt (s .rows)
 
 module _ (s : Store) (i n : ℕ) (r : Row) (row : r ≡ rowAt (s .rows) i) where
   abbrev pub besideOf : List ℕ
-  besideOf = appended (textAt (s .text) (branchSpan (s .dirs) r)) (textAt (s .text) (leafSpan 2 r))
+  besideOf = appended (textAt (s .text) (directorySpan (s .dirs) r)) (textAt (s .text) (leafSpan 2 r))
 
   abbrev pub roomBeside : ℕ
   roomBeside = length (s .text) - (s .fs .«text_len» - goneAt s i .len)
 
   beside-step : cond (both (leb (length besideOf) n) (leb (length besideOf) roomBeside)) (relinked s i besideOf) s ≡ rewrittenAt n 2 s i
   beside-step =
-      ap (λ (x : Row). cond (besideFits n s i (appended (textAt (s .text) (branchSpan (s .dirs) x)) (textAt (s .text) (leafSpan 2 x)))) (relinked s i (appended (textAt (s .text) (branchSpan (s .dirs) x)) (textAt (s .text) (leafSpan 2 x)))) s) row
+      ap (λ (x : Row). cond (besideFits n s i (appended (textAt (s .text) (directorySpan (s .dirs) x)) (textAt (s .text) (leafSpan 2 x)))) (relinked s i (appended (textAt (s .text) (directorySpan (s .dirs) x)) (textAt (s .text) (leafSpan 2 x)))) s) row
       ∙ ap (λ (t : List ℕ). cond (besideFits n s i t) (relinked s i t) s) (sym (text-by s i 2 refl))
 
   pub beside-long : leb (length besideOf) n ≡ false → s ≡ rewrittenAt n 2 s i

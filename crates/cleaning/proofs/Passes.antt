@@ -18,9 +18,9 @@ use Rattle.tables.specs.Rows.{rowAt, words, putRow}
 use Rattle.tables.specs.Model.{Store, fileOf}
 use Rattle.tables.proofs.Filled.{word-filled, word-behind}
 use Rattle.links.specs.Clean.{entryOf}
-use Rattle.links.specs.Judging.{textBy}
+use Rattle.links.specs.Judging.{isFlagged, textBy}
 use Rattle.cleaning.specs.Cleaning.{rowLowered, rowsLowered, linked, cutOut, goneAt, relinked, hasPlace, writtenAt, rewrittenAt, emptied, rewritten}
-use Rattle.cleaning.specs.Writing.{isLink, flagsIn, fateOf, markAfter, fatesBy, passed, emptiedAt}
+use Rattle.cleaning.specs.Writing.{flagsIn, fateOf, markAfter, fatesBy, passed, emptiedAt}
 
 -- ---- flags stay
 
@@ -117,7 +117,7 @@ module _ (g : ℕ → ℕ) (marks : List ℕ) (n : ℕ) where
   fates-end i k h = let e : n - i ≡ 0 = omega arith in rw e
 
 pub mark-behind : (flags : ℕ) (k i : ℕ) → k ≤ i → markAfter flags k ≤ i + 1
-mark-behind flags k i h = at (isLink flags)
+mark-behind flags k i h = at (isFlagged flags)
   where
     at : (b : Bool) → cond b (k + 1) k ≤ i + 1
     at true = omega arith

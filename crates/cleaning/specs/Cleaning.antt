@@ -3,7 +3,7 @@
 -- what a … cleaning frees is used': first every text goes that gives way to its link's own path, then each new text takes the
 -- place of the old one, so that no step needs more than the result.
 use Prim.Native.Nat.{ℕ, _+_, _-_, _/_, min}
-use mathlib.Core.Bool.{Bool, true, false, cond}
+use mathlib.Core.Bool.{Bool, cond}
 use mathlib.Core.List.{List, [], _∷_}
 use lib.Dec.{eqb, ltb, leb}
 use lib.ListN.{length}
@@ -13,7 +13,7 @@ use Rattle.tables.specs.declared.span.Span.{Span}
 use Rattle.tables.specs.declared.rows.Row.{Row}
 use Rattle.tables.specs.declared.storage.FileStorage.{FileStorage}
 use Rattle.tables.specs.Span.{endOf, clip, slid, low}
-use Rattle.tables.specs.Rows.{rowAt, words, putRow, dirAt, filled, dirsLowered}
+use Rattle.tables.specs.Rows.{rowAt, words, putRow, directorySpan, filled, dirsLowered}
 use Rattle.tables.specs.Model.{Store, fileOf}
 use Rattle.storage.specs.Rules.{both}
 use Rattle.links.specs.Clean.{Entry, entryOf}
@@ -103,12 +103,6 @@ writtenAt v s i =
     cond (eqb v 0) s
     (cond (eqb v 1) (linked s i (textBy v (entryOf (fileOf s i)))) (relinked s i (textBy v (entryOf (fileOf s i)))))
 
--- where the text of a file's directory lies; nowhere for a single name and an absolute path
-abbrev pub branchSpan : List ℕ → Row → Span
-branchSpan dirs r =
-    cond (eqb (r .«path_index») 1073741823) (record { at = 0; len = 0 })
-    (cond (eqb (r .«path_index») 1073741822) (record { at = 0; len = 0 }) (dirAt dirs (r .«path_index»)))
-
 -- a span lies within the first u bytes
 abbrev pub isWithin : ℕ → Span → Bool
 isWithin u c = leb (endOf c) u
@@ -116,7 +110,7 @@ isWithin u c = leb (endOf c) u
 -- the parts of a link's own path lie in the used part, and the path fits behind it
 abbrev pub ownFits : Store → ℕ → List ℕ → Bool
 ownFits s i t =
-    both (isWithin (s .fs .«text_len») (branchSpan (s .dirs) (rowAt (s .rows) i)))
+    both (isWithin (s .fs .«text_len») (directorySpan (s .dirs) (rowAt (s .rows) i)))
     (both (isWithin (s .fs .«text_len») (rowAt (s .rows) i .name)) (leb (length t) (length (s .text) - s .fs .«text_len»)))
 
 -- a text fits in n bytes, and in the text area where the old text goes

@@ -1,3 +1,4 @@
--- The definitions that the contracts of `cleaning` cite.
+-- The definitions that the contracts of `cleaning` cite: the tables after a cleaning (Cleaning), and what its private parts
+-- give (Writing).
 pub mod Cleaning
 pub mod Writing

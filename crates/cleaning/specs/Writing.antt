@@ -1,5 +1,5 @@
 -- What the private parts of a cleaning's code give: joins by their parts, and fates read from flags and marks. The meaning is
--- that of Cleaning.antt.
+-- that of Cleaning.antt; it relies on the joins of `path` and on the flags of a link in links' Judging.antt.
 use Prim.Native.Nat.{ℕ, zero, suc, _+_, _-_}
 use mathlib.Core.Bool.{Bool, false, cond, not}
 use mathlib.Core.List.{List, [], _∷_, _++_}
@@ -10,10 +10,10 @@ use Rattle.types.specs.Refusals.{value, refused}
 use Rattle.tables.specs.declared.span.Span.{Span}
 use Rattle.tables.specs.declared.rows.Row.{Row}
 use Rattle.tables.specs.Span.{textAt, clip}
-use Rattle.tables.specs.Rows.{rowAt, has}
+use Rattle.tables.specs.Rows.{rowAt, directorySpan, has}
 use Rattle.tables.specs.Model.{Store}
-use Rattle.links.specs.Judging.{cleared}
-use Rattle.cleaning.specs.Cleaning.{branchSpan, relinked, emptied, rewritten, keptAfter, newBytes, Cleaned, cleanedTo}
+use Rattle.links.specs.Judging.{isFlagged, cleared}
+use Rattle.cleaning.specs.Cleaning.{relinked, emptied, rewritten, keptAfter, newBytes, Cleaned, cleanedTo}
 
 -- ---- joins by their parts
 
@@ -31,19 +31,15 @@ leafSpan v r = cond (eqb v 1) (r .name) (cond (has (r .flags) 16) (r .link) (rec
 
 -- ---- fates
 
--- flag 8, and a text is held
-abbrev pub isLink : ℕ → Bool
-isLink flags = cond (has flags 8) (has flags 16) false
-
 abbrev pub flagsIn : List ℕ → ℕ → ℕ
 flagsIn rows i = rowAt rows i .flags
 
 -- the verdict on a file with those flags, if it is a flagged link that has the k-th mark; and the next link's mark
 abbrev pub fateOf : ℕ → List ℕ → ℕ → ℕ
-fateOf flags marks k = cond (isLink flags) (getD marks k 0) 0
+fateOf flags marks k = cond (isFlagged flags) (getD marks k 0) 0
 
 abbrev pub markAfter : ℕ → ℕ → ℕ
-markAfter flags k = cond (isLink flags) (k + 1) k
+markAfter flags k = cond (isFlagged flags) (k + 1) k
 
 -- the fates of the n files from place i on, whose flags are g; the next link has the k-th mark
 unfoldable pub fatesBy : (ℕ → ℕ) → List ℕ → ℕ → ℕ → ℕ → List ℕ
@@ -70,7 +66,7 @@ abbrev pub goneBytes : List ℕ → ℕ → ℕ → ℕ → ℕ
 goneBytes rows used v i = cond (eqb v 0) 0 (clip used (rowAt rows i .link) .len)
 
 abbrev pub newLength : List ℕ → List ℕ → ℕ → Row → ℕ
-newLength dirs text v r = cond (eqb v 0) 0 (length (appended (textAt text (branchSpan dirs r)) (textAt text (leafSpan v r))))
+newLength dirs text v r = cond (eqb v 0) 0 (length (appended (textAt text (directorySpan dirs r)) (textAt text (leafSpan v r))))
 
 -- what is left of u bytes, and the sum, file by file from i on
 abbrev pub leftBy : (ℕ → ℕ → ℕ) → List ℕ → ℕ → ℕ → ℕ

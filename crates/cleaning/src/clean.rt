@@ -8,7 +8,6 @@ ghost use Rattle.storage.specs.Outcomes.{storageSays};
 ghost use Rattle.links.specs.Judging.{lent};
 ghost use Rattle.cleaning.specs.Cleaning.{emptied, rewritten, Cleaned, cleanStored};
 ghost use Rattle.cleaning.specs.Writing.{flagsIn, fatesBy, allFates, cleanedBy};
-use crate::fates::clear;
 use crate::fates::fate_of;
 use crate::fates::mark_after;
 use crate::put::empty_link;
@@ -96,12 +95,12 @@ fn clean_judged(
     ensures { λ r. ⌜ _≡_ {A = Cleaned} (record { says = storageSays r; rows = now (rows .exit); dirs = now (dirs .exit); text = now (text .exit); marks = now (marks .exit); stage = now (stage .exit); path = [] }) (cleanedBy (allFates (lent fs (now (rows .entry)) (now (dirs .entry)) (now (text .entry))) (now (marks .entry))) (lent fs (now (rows .entry)) (now (dirs .entry)) (now (text .entry))) (now (marks .entry)) (now (stage .entry))) ⌝ }
 {
     if lacks_room(fs, rows, dirs, text, marks) {
-        clear(marks);
+        links::clear(marks);
         return StorageResult::Err(Refusal::NoRoom);
     }
     let cleaned = rewrite_links(fs, fs.num_files, rows, dirs, text, marks, stage);
-    clear(marks);
-    clear(stage);
+    links::clear(marks);
+    links::clear(stage);
     StorageResult::Ok(cleaned)
 }
 

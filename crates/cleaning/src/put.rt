@@ -9,20 +9,17 @@ ghost use Rattle.lists.specs.Lists.{partOf};
 ghost use Rattle.types.specs.Refusals.{usizeSays};
 ghost use Rattle.path.specs.Join.{appended, Joined, joinedIf, fits};
 ghost use Rattle.tables.specs.Span.{endOf, textAt};
-ghost use Rattle.tables.specs.Rows.{rowAt, putRow};
+ghost use Rattle.tables.specs.Rows.{rowAt, putRow, directorySpan};
 ghost use Rattle.tables.specs.Model.{Store};
 ghost use Rattle.storage.specs.Rules.{both};
 ghost use Rattle.links.specs.Judging.{lent};
-ghost use Rattle.cleaning.specs.Cleaning.{storageWith, rowWith, goneAt, relinked, branchSpan, isWithin, rewrittenAt};
+ghost use Rattle.cleaning.specs.Cleaning.{storageWith, rowWith, goneAt, relinked, isWithin, rewrittenAt};
 ghost use Rattle.cleaning.specs.Writing.{prefixOf, leafSpan, emptiedAt};
 use crate::cut::cut_out;
 use crate::cut::row_with;
 use crate::cut::storage_with;
-use crate::parts::branch_of;
-use crate::parts::is_alone;
 use crate::parts::is_parted;
 use crate::parts::is_within;
-use crate::parts::joined_length;
 use crate::parts::leaf_of;
 use lists::minus;
 use tables::FileStorage;
@@ -61,7 +58,7 @@ fn put_prefix(text: &mut [u8], branch: Span, n: usize, to: usize) -> usize
     ensures { λ _. ⌜ now (text .exit) ≡ sets (now (text .entry)) to (prefixOf (textAt (now (text .entry)) branch) n) ⌝ }
 {
     let part = tables::text_at(text, branch);
-    if is_alone(part) {
+    if path::is_alone(part) {
         return 0;
     }
     let parted = is_parted(part, n);
@@ -134,7 +131,7 @@ fn own_fits(text: &[u8], used: usize, branch: Span, name: Span) -> bool
     }
     let directory = tables::text_at(text, branch);
     let leaf = tables::text_at(text, name);
-    joined_length(directory, leaf) <= minus(text.len(), used)
+    path::joined_length(directory, leaf) <= minus(text.len(), used)
 }
 
 // Lets the text of link i, which is gone, be the link's own path, where that has its place.
@@ -148,7 +145,7 @@ fn write_own(
     ensures { λ r. ⌜ _≡_ {A = Store} (lent r (now (rows .exit)) (now (dirs .entry)) (now (text .exit))) (rewrittenAt 0 1 (lent fs (now (rows .entry)) (now (dirs .entry)) (now (text .entry))) i) ⌝ }
 {
     let row = tables::row_at(rows, i);
-    let branch = branch_of(dirs, row);
+    let branch = tables::directory_span(dirs, row);
     let name = row.name;
     if !own_fits(text, fs.text_len, branch, name) {
         return fs;
@@ -159,9 +156,9 @@ fn write_own(
 
 // Puts the text of a link from its directory into the stage, and gives its length.
 fn stage_text(dirs: &[u64], text: &[u8], row: Row, stage: &mut [u8]) -> UsizeResult
-    ensures { λ r. ⌜ _≡_ {A = Joined} (record { says = usizeSays r; buf = now (stage .exit) }) (joinedIf (fits (appended (textAt (now (text .entry)) (branchSpan (now (dirs .entry)) row)) (textAt (now (text .entry)) (leafSpan 2 row))) (now (stage .entry))) (appended (textAt (now (text .entry)) (branchSpan (now (dirs .entry)) row)) (textAt (now (text .entry)) (leafSpan 2 row))) (now (stage .entry))) ⌝ }
+    ensures { λ r. ⌜ _≡_ {A = Joined} (record { says = usizeSays r; buf = now (stage .exit) }) (joinedIf (fits (appended (textAt (now (text .entry)) (directorySpan (now (dirs .entry)) row)) (textAt (now (text .entry)) (leafSpan 2 row))) (now (stage .entry))) (appended (textAt (now (text .entry)) (directorySpan (now (dirs .entry)) row)) (textAt (now (text .entry)) (leafSpan 2 row))) (now (stage .entry))) ⌝ }
 {
-    let directory = tables::text_at(text, branch_of(dirs, row));
+    let directory = tables::text_at(text, tables::directory_span(dirs, row));
     let leaf = tables::text_at(text, leaf_of(row, 2));
     path::join_path(directory, leaf, stage)
 }

@@ -11,8 +11,6 @@ ghost use Rattle.links.specs.Judging.{lent};
 ghost use Rattle.cleaning.specs.Writing.{flagsIn, fatesBy, allFates, goneBytes, newLength, leftBy, sumBy, neededBy};
 use crate::fates::fate_of;
 use crate::fates::mark_after;
-use crate::parts::branch_of;
-use crate::parts::joined_length;
 use crate::parts::leaf_of;
 use lists::minus;
 use tables::FileStorage;
@@ -54,9 +52,9 @@ fn new_length(dirs: &[u64], text: &[u8], row: Row, fate: u8) -> usize
     if fate == 0 {
         return 0;
     }
-    let branch = tables::text_at(text, branch_of(dirs, row));
+    let branch = tables::text_at(text, tables::directory_span(dirs, row));
     let leaf = tables::text_at(text, leaf_of(row, fate));
-    joined_length(branch, leaf)
+    path::joined_length(branch, leaf)
 }
 
 // Whether the new texts of the first n files have more than `room` bytes.

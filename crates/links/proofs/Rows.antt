@@ -18,7 +18,7 @@ use Rattle.tables.proofs.Tabled.{tabled-same}
 use Rattle.storage.specs.Rules.{both}
 use Rattle.answers.specs.Answers.{isInside, internalPath}
 use Rattle.links.specs.Clean.{Entry, pathIn, own, isHeld, heldText, covers, isDirectory, Seen, nothing, file, link, orHere, fileAt, isThere, directoryLength}
-use Rattle.links.specs.Judging.{entriesOf, directoriesOf, besideText}
+use Rattle.links.specs.Judging.{isFlagged, entriesOf, directoriesOf, besideText}
 use Rattle.links.specs.Walking.{entryAt, entriesFrom, directoriesFrom, seenCode}
 
 -- ---- a row
@@ -42,7 +42,7 @@ branch-own false d name = refl
 
 module _ (s : Store) (i : ℕ) where
   -- whether file i is a flagged link
-  pub flagged-at : cond (has (rowAt (s .rows) i .flags) 8) (has (rowAt (s .rows) i .flags) 16) false ≡ entryAt s i .flagged
+  pub flagged-at : isFlagged (rowAt (s .rows) i .flags) ≡ entryAt s i .flagged
   flagged-at = rw (low-bit (rowAt (s .rows) i .flags), held-if (has (rowAt (s .rows) i .flags) 16) (textAt (s .text) (rowAt (s .rows) i .link)))
 
   -- its link text

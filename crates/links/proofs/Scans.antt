@@ -15,6 +15,7 @@ use Rattle.tables.specs.Rows.{rowAt, has}
 use Rattle.tables.specs.Model.{Store}
 use Rattle.answers.specs.Answers.{internalPath}
 use Rattle.links.specs.Clean.{Entry, own, Link, none, to, leadAt, without, directoryLength, space}
+use Rattle.links.specs.Judging.{isFlagged}
 use Rattle.links.specs.Walking.{entryAt, entriesFrom, anyAt, butLater, linkAt, leading, leadMark, leadText, opened, openOf, fresh}
 use Rattle.links.proofs.Rows.{flagged-at, own-at}
 
@@ -166,7 +167,7 @@ any-no f rest ms q b = cond-no (cond (ltb 0 (getD ms 0 0)) (cond (equal (own f) 
 -- ---- the search for a later link
 
 -- a link that leads on, traversed or not, at p: what its row says
-pub link-at : (s : Store) (i m : ℕ) (p : List ℕ) → cond (cond (has (rowAt (s .rows) i .flags) 8) (has (rowAt (s .rows) i .flags) 16) false) (cond (ltb 0 m) (equal (internalPath (s .dirs) (s .text) (rowAt (s .rows) i)) p) false) false ≡ linkAt (entryAt s i) m p
+pub link-at : (s : Store) (i m : ℕ) (p : List ℕ) → cond (isFlagged (rowAt (s .rows) i .flags)) (cond (ltb 0 m) (equal (internalPath (s .dirs) (s .text) (rowAt (s .rows) i)) p) false) false ≡ linkAt (entryAt s i) m p
 link-at s i m p = rw (flagged-at s i, own-at s i)
 
 -- past f

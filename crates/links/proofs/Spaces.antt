@@ -15,7 +15,7 @@ use Rattle.tables.specs.Rows.{rowAt, has}
 use Rattle.tables.specs.Model.{Store}
 use Rattle.storage.specs.Rules.{either}
 use Rattle.links.specs.Clean.{Entry, directoryLength, space, linkCount}
-use Rattle.links.specs.Judging.{entriesOf, lacksSpace}
+use Rattle.links.specs.Judging.{isFlagged, entriesOf, lacksSpace}
 use Rattle.links.specs.Walking.{entryAt, entriesFrom}
 use Rattle.links.proofs.Rows.{flagged-at, text-at, branchAt, length-at, entries-cons, entries-none, entries-all}
 
@@ -36,7 +36,7 @@ count-rows s s′ e q =
     ap linkCount (sym (entries-all s)) ∙ from (s .fs .«num_files») 0 ∙ (rw q (ap linkCount (entries-all s′)))
   where
     flags : (i : ℕ) → entryAt s i .flagged ≡ entryAt s′ i .flagged
-    flags i = sym (flagged-at s i) ∙ ap (λ (rows : List ℕ). cond (has (rowAt rows i .flags) 8) (has (rowAt rows i .flags) 16) false) e ∙ flagged-at s′ i
+    flags i = sym (flagged-at s i) ∙ ap (λ (rows : List ℕ). isFlagged (rowAt rows i .flags)) e ∙ flagged-at s′ i
 
     from : (n i : ℕ) → linkCount (entriesFrom s n i) ≡ linkCount (entriesFrom s′ n i)
     from zero i = refl
@@ -49,7 +49,7 @@ abbrev pub needAt : Store → ℕ → ℕ
 needAt s i = cond (entryAt s i .flagged) (directoryLength (entryAt s i .directory) + length (entryAt s i .text) + 2) 0
 
 -- the same, by its row
-pub need-row : (s : Store) (i : ℕ) → cond (cond (has (rowAt (s .rows) i .flags) 8) (has (rowAt (s .rows) i .flags) 16) false) (length (branchAt s i) + length (cond (has (rowAt (s .rows) i .flags) 16) (textAt (s .text) (rowAt (s .rows) i .link)) []) + 2) 0 ≡ needAt s i
+pub need-row : (s : Store) (i : ℕ) → cond (isFlagged (rowAt (s .rows) i .flags)) (length (branchAt s i) + length (cond (has (rowAt (s .rows) i .flags) 16) (textAt (s .text) (rowAt (s .rows) i .link)) []) + 2) 0 ≡ needAt s i
 need-row s i =
     ap (λ (b : Bool). cond b (length (branchAt s i) + length (cond (has (rowAt (s .rows) i .flags) 16) (textAt (s .text) (rowAt (s .rows) i .link)) []) + 2) 0) (flagged-at s i)
     ∙ ap (λ (n : ℕ). cond (entryAt s i .flagged) (n + length (cond (has (rowAt (s .rows) i .flags) 16) (textAt (s .text) (rowAt (s .rows) i .link)) []) + 2) 0) (length-at s i)

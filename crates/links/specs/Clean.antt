@@ -1,5 +1,6 @@
 -- Document 01, 'Links': what `sanitize_symlinks` makes of every link's text, on what a set means: its files' places, names and
--- texts, and its directories. 'Two passes as in the Rust.'
+-- texts, and its directories. 'Two passes as in the Rust.' It relies on the model of a set in `tables` and on the splits and
+-- joins of `path`.
 use Prim.Native.Nat.{ℕ, zero, suc, _+_, _-_}
 use mathlib.Core.Bool.{Bool, true, false, cond}
 use mathlib.Core.List.{List, [], _∷_, map}

@@ -1,15 +1,17 @@
--- The judgement that goes before a cleaning: for every flagged link, what becomes of its text, as a number. Private marks carry
--- more than that while links are judged (`firstMark`); the lent marks hold the verdicts alone afterwards.
+-- The judgement that goes before a cleaning: for every flagged link, what becomes of its text, as a number. While links are
+-- judged the lent marks carry more than that (`firstMark`); afterwards they hold the verdicts alone. It relies on Clean.antt for
+-- the two passes, on `tables` for what the lent tables hold, and on the rules in order of `storage`.
 use Prim.Native.Nat.{ℕ, _*_, _/_}
 use mathlib.Core.Bool.{Bool, true, false, cond, not}
 use mathlib.Core.List.{List, [], _∷_}
 use lib.Dec.{eqb, ltb}
 use lib.ListN.{length, replicate}
 use lib.Seq.{sets}
-use Rattle.types.specs.Refusals.{numberOf, Outcome, value, refused}
+use Rattle.types.specs.Refusals.{Outcome, value, refused}
 use Rattle.path.specs.Split.{isComplete}
 use Rattle.path.specs.Join.{appended}
 use Rattle.tables.specs.declared.storage.FileStorage.{FileStorage}
+use Rattle.tables.specs.Rows.{has}
 use Rattle.tables.specs.Model.{Directory, single, absolute, stored, Store, fileOf, directoryText, tabled}
 use Rattle.storage.specs.Rules.{when, firstOf, both, either}
 use Rattle.storage.specs.Addition.{badLength}
@@ -17,6 +19,10 @@ use Rattle.answers.specs.Answers.{rowsHeld, dirsHeld, textHeld}
 use Rattle.links.specs.Clean.{Entry, entryOf, own, Seen, nothing, file, link, isDirectory, fileAt, linksOf, resolves, space, linkCount}
 
 -- ---- the set that the lent tables hold
+
+-- the flags of a flagged link: flag 8, and a text is held
+abbrev pub isFlagged : ℕ → Bool
+isFlagged flags = cond (has flags 8) (has flags 16) false
 
 -- a cleaning looks neither at roots nor at times
 abbrev pub lent : FileStorage → List ℕ → List ℕ → List ℕ → Store

@@ -1,4 +1,5 @@
--- The definitions that the contracts of `links` cite.
+-- The definitions that the contracts of `links` cite: what a cleaning does to a set (Clean), the verdicts and refusals of
+-- `judge_links` (Judging), and what its private parts give (Walking).
 pub mod Clean
 pub mod Judging
 pub mod Walking

@@ -1,5 +1,6 @@
 -- Where the judgement of links stands, for the private parts of its code: parts of the lists of files and directories, marks
--- in use, texts in the work space, and what a walk needs. The meaning is that of Clean.antt.
+-- in use, texts in the work space, and what a walk needs. The meaning is that of Clean.antt; the
+-- marks are those of Judging.antt.
 use Prim.Native.Nat.{ℕ, zero, suc, _+_, _*_, _/_, _%_, _<_, _≤_}
 use mathlib.Core.Bool.{Bool, true, false, cond}
 use mathlib.Core.Path.{_≡_}
@@ -13,7 +14,7 @@ use Rattle.tables.specs.Rows.{rowAt, dirAt, has}
 use Rattle.tables.specs.Model.{Store, fileOf, directoryText}
 use Rattle.answers.specs.Answers.{isInside}
 use Rattle.links.specs.Clean.{Entry, entryOf, own, Link, Seen, nothing, file, link, linksOf, isDirectory, known, goes, resolves, weight, space}
-use Rattle.links.specs.Judging.{entriesOf, directoriesOf, firstMark, besideText}
+use Rattle.links.specs.Judging.{firstMark, besideText}
 
 -- file i
 abbrev pub entryAt : Store → ℕ → Entry

@@ -12,7 +12,6 @@ ghost use Rattle.links.specs.Walking.{entryAt, firstMarks};
 use crate::set::directory_of;
 use crate::set::file_at;
 use crate::set::is_directory;
-use crate::set::is_inside;
 use crate::set::is_link;
 use crate::set::link_text;
 use crate::text::append_in;
@@ -49,7 +48,7 @@ fn relative_mark(
     requires { ⌜ directoryLength (directoryOf (lent fs (now rows) (now dirs) (now text)) row) + length (now t) + 1 ≤ length (now stage) ⌝ }
     ensures { λ r. ⌜ r ≡ relativeMark (entriesOf (lent fs (now (rows .entry)) (now (dirs .entry)) (now (text .entry)))) (directoriesOf (lent fs (now (rows .entry)) (now (dirs .entry)) (now (text .entry)))) (directoryOf (lent fs (now (rows .entry)) (now (dirs .entry)) (now (text .entry))) row) (now (t .entry)) 25 ⌝ }
 {
-    if is_inside(row.path_index) {
+    if tables::is_inside(row.path_index) {
         let n = append_in(stage, directory_of(dirs, text, row), t);
         return settled_mark(fs, rows, dirs, text, &stage[..n]);
     }

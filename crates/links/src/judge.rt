@@ -7,7 +7,6 @@ ghost use Prim.Native.Nat.{_*_, _≤_};
 ghost use lib.ListN.{length};
 ghost use Rattle.types.specs.Refusals.{usizeSays};
 ghost use Rattle.storage.specs.Rules.{both, outcomeOf};
-ghost use Rattle.storage.specs.Addition.{badLength};
 ghost use Rattle.answers.specs.Answers.{rowsHeld, dirsHeld, textHeld};
 ghost use Rattle.links.specs.Clean.{space, linkCount};
 ghost use Rattle.links.specs.Judging.{lent, entriesOf, verdicts, judgingNumber, cleared, Judged, judged};
@@ -19,16 +18,6 @@ use crate::space::lacks_space;
 use tables::FileStorage;
 use types::Refusal;
 use types::UsizeResult;
-
-// Whether a piece length is out of range.
-fn is_bad_length(piece_length: u64) -> bool
-    ensures { λ r. ⌜ r ≡ badLength «piece_length» ⌝ }
-{
-    if piece_length < 1 {
-        return true;
-    }
-    2147483647 < piece_length
-}
 
 // Whether the lent tables have as many places as the set counts.
 fn is_held(fs: FileStorage, rows: &[u64], dirs: &[u64], text: &[u8]) -> bool
@@ -55,7 +44,7 @@ fn links_in(
 ) -> UsizeResult
     ensures { λ r. ⌜ usizeSays r ≡ outcomeOf (judgingNumber (lent fs (now (rows .entry)) (now (dirs .entry)) (now (text .entry))) marks stage path) (linkCount (entriesOf (lent fs (now (rows .entry)) (now (dirs .entry)) (now (text .entry))))) ⌝ }
 {
-    if is_bad_length(fs.piece_length) {
+    if storage::is_bad_length(fs.piece_length) {
         return UsizeResult::Err(Refusal::InvalidPieceLength);
     }
     if !is_held(fs, rows, dirs, text) {
@@ -79,7 +68,7 @@ fn keep_fates(marks: &mut [u8])
 }
 
 // Writes zeros over all bytes.
-fn clear(bytes: &mut [u8])
+pub fn clear(bytes: &mut [u8])
     ensures { λ _. ⌜ now (bytes .exit) ≡ cleared (now (bytes .entry)) ⌝ }
 {
     let mut i = 0;

@@ -13,5 +13,6 @@ mod space;
 mod text;
 mod work;
 
+pub use judge::clear;
 pub use judge::judge_links;
-pub use set::is_directory;
+pub use set::is_flagged;

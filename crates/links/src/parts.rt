@@ -4,25 +4,8 @@ ghost use mathlib.Core.Path.{_≡_};
 ghost use mathlib.Core.Bool.{cond};
 ghost use mathlib.Core.List.{_∷_};
 ghost use Rattle.lists.specs.Lists.{equal};
-ghost use Rattle.path.specs.Join.{isAlone, isClosed, appended};
+ghost use Rattle.path.specs.Join.{appended};
 ghost use Rattle.links.specs.Clean.{covers};
-
-// Whether a path is empty or `.`, which leaves the other part of a join alone.
-pub(crate) fn is_alone(path: &[u8]) -> bool
-    ensures { λ r. ⌜ r ≡ isAlone (now (path .entry)) ⌝ }
-{
-    if path.len() == 0 {
-        return true;
-    }
-    lists::same(path, b".")
-}
-
-// Whether a path ends in a separator.
-pub(crate) fn is_closed(path: &[u8]) -> bool
-    ensures { λ r. ⌜ r ≡ isClosed (now (path .entry)) ⌝ }
-{
-    lists::byte(path, lists::minus(path.len(), 1)) == b'/'
-}
 
 // Whether p is the directory d, or stands before one of its separators.
 pub(crate) fn is_covered(d: &[u8], p: &[u8]) -> bool
@@ -61,14 +44,14 @@ fn is_tail(closed: bool, name: &[u8], rest: &[u8]) -> bool
 pub(crate) fn joins_to(d: &[u8], name: &[u8], p: &[u8]) -> bool
     ensures { λ r. ⌜ r ≡ equal (appended (now (d .entry)) (now (name .entry))) (now (p .entry)) ⌝ }
 {
-    if is_alone(d) {
+    if path::is_alone(d) {
         return lists::same(name, p);
     }
     if name.len() == 0 {
         return lists::same(d, p);
     }
     let k = d.len();
-    if is_tail(is_closed(d), name, lists::part(p, k, p.len())) {
+    if is_tail(path::is_closed(d), name, lists::part(p, k, p.len())) {
         return lists::same(d, lists::part(p, 0, k));
     }
     false

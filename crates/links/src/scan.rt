@@ -7,9 +7,9 @@ ghost use Prim.Native.Nat.{_+_, _-_, _<_, _≤_};
 ghost use lib.Dec.{ltb};
 ghost use lib.ListN.{getD, drop};
 ghost use Rattle.lists.specs.Lists.{equal};
-ghost use Rattle.tables.specs.Rows.{rowAt, has};
+ghost use Rattle.tables.specs.Rows.{rowAt};
 ghost use Rattle.answers.specs.Answers.{internalPath};
-ghost use Rattle.links.specs.Judging.{lent};
+ghost use Rattle.links.specs.Judging.{isFlagged, lent};
 ghost use Rattle.links.specs.Walking.{entryAt, entriesFrom, lead, anyAt, leadMark};
 use crate::mark::lead_at;
 use crate::set::is_link;
@@ -27,7 +27,7 @@ fn is_link_at(
     k: usize,
     p: &[u8],
 ) -> bool
-    ensures { λ r. ⌜ r ≡ cond (cond (has (rowAt (now (rows .entry)) i .flags) 8) (has (rowAt (now (rows .entry)) i .flags) 16) false) (cond (ltb 0 (getD (map lead (now (marks .entry))) k 0)) (equal (internalPath (now (dirs .entry)) (now (text .entry)) (rowAt (now (rows .entry)) i)) (now (p .entry))) false) false ⌝ }
+    ensures { λ r. ⌜ r ≡ cond (isFlagged (rowAt (now (rows .entry)) i .flags)) (cond (ltb 0 (getD (map lead (now (marks .entry))) k 0)) (equal (internalPath (now (dirs .entry)) (now (text .entry)) (rowAt (now (rows .entry)) i)) (now (p .entry))) false) false ⌝ }
 {
     if is_link(rows, i) {
         if lead_at(marks, k) == 0 {

@@ -1,16 +1,14 @@
 // The set that the lent tables hold: what a row says of a link, of a file's directory and of its path, and scans
 // over all directories and files. They rely on parts.rt, on the total accessors of `tables` and on proofs/Rows.antt.
 ghost use mathlib.Core.Path.{_≡_};
-ghost use mathlib.Core.Bool.{false, cond, not};
+ghost use mathlib.Core.Bool.{cond};
 ghost use mathlib.Core.List.{[]};
-ghost use lib.Dec.{eqb};
 ghost use Rattle.lists.specs.Lists.{equal};
 ghost use Rattle.tables.specs.Span.{textAt};
 ghost use Rattle.tables.specs.Rows.{rowAt, dirAt, has};
-ghost use Rattle.storage.specs.Rules.{both};
 ghost use Rattle.answers.specs.Answers.{isInside, internalPath};
 ghost use Rattle.links.specs.Clean.{isDirectory, fileAt, isThere};
-ghost use Rattle.links.specs.Judging.{lent, entriesOf, directoriesOf};
+ghost use Rattle.links.specs.Judging.{isFlagged, lent, entriesOf, directoriesOf};
 ghost use Rattle.links.specs.Walking.{seenCode};
 use crate::parts::is_covered;
 use crate::parts::joins_to;
@@ -18,26 +16,26 @@ use tables::FileStorage;
 use tables::Row;
 use tables::Span;
 
-// The path index of a single name, which has no directory.
-const NO_PATH: u64 = 1073741823;
-
-// The path index of a file that was added by an absolute path.
-const PATH_IS_ABSOLUTE: u64 = 1073741822;
-
-// Whether file i is a flagged link: the flag is set, and a link text is held.
-pub(crate) fn is_link(rows: &[u64], i: usize) -> bool
-    ensures { λ r. ⌜ r ≡ cond (has (rowAt (now (rows .entry)) i .flags) 8) (has (rowAt (now (rows .entry)) i .flags) 16) false ⌝ }
+// Whether flags are those of a flagged link: the flag is set, and a link text is held.
+pub fn is_flagged(flags: u64) -> bool
+    ensures { λ r. ⌜ r ≡ isFlagged flags ⌝ }
 {
-    let flags = tables::flags_at(rows, i);
     if tables::is_symlink(flags) {
         return tables::holds_link(flags);
     }
     false
 }
 
+// Whether file i is a flagged link.
+pub(crate) fn is_link(rows: &[u64], i: usize) -> bool
+    ensures { λ r. ⌜ r ≡ isFlagged (rowAt (now (rows .entry)) i .flags) ⌝ }
+{
+    is_flagged(tables::flags_at(rows, i))
+}
+
 // 1 for a flagged link, else 0: how many marks file i has.
 pub(crate) fn link_count(rows: &[u64], i: usize) -> usize
-    ensures { λ r. ⌜ r ≡ cond (cond (has (rowAt (now (rows .entry)) i .flags) 8) (has (rowAt (now (rows .entry)) i .flags) 16) false) 1 0 ⌝ }
+    ensures { λ r. ⌜ r ≡ cond (isFlagged (rowAt (now (rows .entry)) i .flags)) 1 0 ⌝ }
 {
     if is_link(rows, i) { 1 } else { 0 }
 }
@@ -52,24 +50,11 @@ pub(crate) fn link_text(text: &[u8], row: Row) -> &[u8]
     tables::text_at(text, Span { at: 0, len: 0 })
 }
 
-// Whether a file with that path index lies in a stored directory.
-pub(crate) fn is_inside(path_index: u64) -> bool
-    ensures { λ r. ⌜ r ≡ both (not (eqb «path_index» 1073741823)) (not (eqb «path_index» 1073741822)) ⌝ }
-{
-    if path_index == NO_PATH {
-        return false;
-    }
-    path_index != PATH_IS_ABSOLUTE
-}
-
 // The directory of the file with that row, nothing for a single name and an absolute path.
 pub(crate) fn directory_of<'a>(dirs: &[u64], text: &'a [u8], row: Row) -> &'a [u8]
     ensures { λ r. ⌜ now r ≡ cond (isInside row) (textAt (now (text .entry)) (dirAt (now (dirs .entry)) (row .«path_index»))) [] ⌝ }
 {
-    if is_inside(row.path_index) {
-        return tables::text_at(text, tables::dir_at(dirs, row.path_index as usize));
-    }
-    tables::text_at(text, Span { at: 0, len: 0 })
+    tables::text_at(text, tables::directory_span(dirs, row))
 }
 
 // Whether the internal path of file i is p.
@@ -85,7 +70,7 @@ pub(crate) fn own_is(rows: &[u64], dirs: &[u64], text: &[u8], i: usize, p: &[u8]
 }
 
 // Whether p is a stored directory of the set, or the part of one that stands before one of its separators.
-pub fn is_directory(fs: FileStorage, dirs: &[u64], text: &[u8], p: &[u8]) -> bool
+pub(crate) fn is_directory(fs: FileStorage, dirs: &[u64], text: &[u8], p: &[u8]) -> bool
     ensures { λ r. ⌜ r ≡ isDirectory (directoriesOf (lent fs [] (now (dirs .entry)) (now (text .entry)))) (now (p .entry)) ⌝ }
 {
     let mut d = 0;

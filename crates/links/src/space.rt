@@ -1,13 +1,13 @@
 // How many marks a set's links need, and whether the work space is long enough. The space that links need is taken
 // off what is there link by link, since a sum could overflow. They rely on set.rt and the laws of proofs/Spaces.antt.
 ghost use mathlib.Core.Path.{_≡_};
-ghost use mathlib.Core.Bool.{false, cond};
+ghost use mathlib.Core.Bool.{cond};
 ghost use mathlib.Core.List.{[]};
 ghost use Prim.Native.Nat.{_+_, _-_};
 ghost use lib.ListN.{length};
-ghost use Rattle.tables.specs.Rows.{rowAt, has};
+ghost use Rattle.tables.specs.Rows.{rowAt};
 ghost use Rattle.links.specs.Clean.{space, linkCount};
-ghost use Rattle.links.specs.Judging.{lent, entriesOf, lacksSpace};
+ghost use Rattle.links.specs.Judging.{isFlagged, lent, entriesOf, lacksSpace};
 ghost use Rattle.links.specs.Walking.{rowText, rowBranch};
 use crate::set::directory_of;
 use crate::set::is_link;
@@ -31,7 +31,7 @@ pub(crate) fn count_links(fs: FileStorage, rows: &[u64]) -> usize
 // What is left of `left` bytes behind the space that file i needs: directory length + text length + 2 for a flagged
 // link, else nothing.
 fn left_behind(rows: &[u64], dirs: &[u64], text: &[u8], i: usize, left: usize) -> usize
-    ensures { λ r. ⌜ r ≡ left - cond (cond (has (rowAt (now (rows .entry)) i .flags) 8) (has (rowAt (now (rows .entry)) i .flags) 16) false) (length (rowBranch (now (rows .entry)) (now (dirs .entry)) (now (text .entry)) i) + length (rowText (now (rows .entry)) (now (text .entry)) i) + 2) 0 ⌝ }
+    ensures { λ r. ⌜ r ≡ left - cond (isFlagged (rowAt (now (rows .entry)) i .flags)) (length (rowBranch (now (rows .entry)) (now (dirs .entry)) (now (text .entry)) i) + length (rowText (now (rows .entry)) (now (text .entry)) i) + 2) 0 ⌝ }
 {
     if is_link(rows, i) {
         let row = tables::row_at(rows, i);

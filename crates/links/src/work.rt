@@ -3,8 +3,6 @@
 ghost use Prim.Native.Nat.{_+_, _<_, _≤_};
 ghost use lib.ListN.{length};
 ghost use Rattle.links.specs.Walking.{rowText, rowBranch, rowLead, Holds, Joined};
-use crate::parts::is_alone;
-use crate::parts::is_closed;
 use crate::set::directory_of;
 use crate::set::link_text;
 use crate::text::append_in;
@@ -39,15 +37,15 @@ pub(crate) fn substitute(path: &mut [u8], at: usize, e: usize, t: &[u8]) -> usiz
 {
     let end = at + e;
     let rest = end + 1;
-    if is_alone(t) {
+    if path::is_alone(t) {
         return rest;
     }
-    if is_alone(&path[rest..]) {
+    if path::is_alone(&path[rest..]) {
         let to = path.len() - t.len();
         put_at(path, to, t);
         return to;
     }
-    if is_closed(t) {
+    if path::is_closed(t) {
         let to = rest - t.len();
         put_at(path, to, t);
         return to;

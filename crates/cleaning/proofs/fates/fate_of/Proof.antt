@@ -4,17 +4,17 @@ use mathlib.Core.Path.{sym, _∙_}
 use Rattle.cleaning.proofs.fates.fate_of.Statement.{statement}
 use Rattle.cleaning.proofs.fates.fate_of.Tie as tie
 
-is-link-requires : tie.Need-is-link-requires
-is-link-requires c κs = search needs
+is-flagged-requires : tie.Need-is-flagged-requires
+is-flagged-requires c κs = search needs
 
 byte-requires : tie.Need-byte-requires
 byte-requires c κs = search needs
 
 returns : tie.Need-returns
-returns c = c .byte .ensures ∙ rw (sym (c .before .before .is-link .ensures) ∙ c .before .if1 .taken)
+returns c = c .byte .ensures ∙ rw (sym (c .before .before .is-flagged .ensures) ∙ c .before .if1 .taken)
 
 returns-2 : tie.Need-returns-2
-returns-2 c = rw (sym (c .before .is-link .ensures) ∙ c .if1 .left)
+returns-2 c = rw (sym (c .before .is-flagged .ensures) ∙ c .if1 .left)
 
 pub fate-of-spec : {M : Type 1} → statement M
-fate-of-spec = tie.close (tie.spec is-link-requires byte-requires returns returns-2)
+fate-of-spec = tie.close (tie.spec is-flagged-requires byte-requires returns returns-2)

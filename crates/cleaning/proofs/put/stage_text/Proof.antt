@@ -5,8 +5,8 @@ use Rattle.tables.specs.Span.{textAt}
 use Rattle.cleaning.proofs.put.stage_text.Statement.{statement}
 use Rattle.cleaning.proofs.put.stage_text.Tie as tie
 
-branch-of-requires : tie.Need-branch-of-requires
-branch-of-requires c κs = search needs
+directory-span-requires : tie.Need-directory-span-requires
+directory-span-requires c κs = search needs
 
 text-at-requires : tie.Need-text-at-requires
 text-at-requires c κs = search needs
@@ -26,7 +26,7 @@ same-length c = search needs
 returns : tie.Need-returns
 returns c =
     let a = c .before .before .before .before .before .before .before .before .before .before .before .args in
-    let b = c .before .before .before .before .before .before .text-at .ensures ∙ ap (textAt (a .text .now)) (c .before .before .before .before .before .before .before .branch-of .ensures) in
+    let b = c .before .before .before .before .before .before .text-at .ensures ∙ ap (textAt (a .text .now)) (c .before .before .before .before .before .before .before .directory-span .ensures) in
     let l = c .before .before .before .before .text-at2 .ensures ∙ ap (textAt (a .text .now)) (c .before .before .before .before .before .leaf-of .ensures) in
     c .before .before .join-path .ensures ∙ rw (b, l)
 
@@ -34,7 +34,7 @@ pub stage-text-spec : {M : Type 1} → statement M
 stage-text-spec =
     tie.close
     (tie.spec
-    branch-of-requires
+    directory-span-requires
     text-at-requires
     leaf-of-requires
     text-at-requires-2

@@ -14,14 +14,14 @@ use Rattle.cleaning.proofs.put.write_own.Tie as tie
 abbrev given : tie.Start → Store
 given c = lent (c .args .fs) (c .args .rows .now) (c .args .dirs .now) (c .args .text .now)
 
-fit-is : (c : tie.Else1) → ownFit (given (c .before .before .before .before .before .before .before .before .before .before)) (c .before .before .before .before .before .before .before .before .before .before .args .i) (c .before .before .before .before .before .row-at .result) (c .before .before .before .before .branch-of .result) (c .before .before .before .before .before .row-at .ensures) (c .before .before .before .before .branch-of .ensures) ≡ true
+fit-is : (c : tie.Else1) → ownFit (given (c .before .before .before .before .before .before .before .before .before .before)) (c .before .before .before .before .before .before .before .before .before .before .args .i) (c .before .before .before .before .before .row-at .result) (c .before .before .before .before .directory-span .result) (c .before .before .before .before .before .row-at .ensures) (c .before .before .before .before .directory-span .ensures) ≡ true
 fit-is c = sym (c .before .own-fits .ensures) ∙ not-false (c .before .own-fits .result) (c .if1 .left)
 
 row-at-requires : tie.Need-row-at-requires
 row-at-requires c κs = search needs
 
-branch-of-requires : tie.Need-branch-of-requires
-branch-of-requires c κs = search needs
+directory-span-requires : tie.Need-directory-span-requires
+directory-span-requires c κs = search needs
 
 own-fits-requires : tie.Need-own-fits-requires
 own-fits-requires c κs = search needs
@@ -33,11 +33,11 @@ same-length-2 : tie.Need-same-length-2
 same-length-2 c = search needs
 
 returns : tie.Need-returns
-returns c = own-kept (given (c .before .before .before .before .before .before .before .before .before .before)) (c .before .before .before .before .before .before .before .before .before .before .args .i) (c .before .before .before .before .before .row-at .result) (c .before .before .before .before .branch-of .result) (c .before .before .before .before .before .row-at .ensures) (c .before .before .before .before .branch-of .ensures) (sym (c .before .own-fits .ensures) ∙ not-true (c .before .own-fits .result) (c .if1 .taken))
+returns c = own-kept (given (c .before .before .before .before .before .before .before .before .before .before)) (c .before .before .before .before .before .before .before .before .before .before .args .i) (c .before .before .before .before .before .row-at .result) (c .before .before .before .before .directory-span .result) (c .before .before .before .before .before .row-at .ensures) (c .before .before .before .before .directory-span .ensures) (sym (c .before .own-fits .ensures) ∙ not-true (c .before .own-fits .result) (c .if1 .taken))
 
 put-joined-requires : tie.Need-put-joined-requires
 put-joined-requires c κs =
-    let p = own-places (given (c .before .before .before .before .before .before .before .before .before .before .before)) (c .before .before .before .before .before .before .before .before .before .before .before .args .i) (c .before .before .before .before .before .before .row-at .result) (c .before .before .before .before .before .branch-of .result) (c .before .before .before .before .before .before .row-at .ensures) (c .before .before .before .before .before .branch-of .ensures) (fit-is (c .before)) in
+    let p = own-places (given (c .before .before .before .before .before .before .before .before .before .before .before)) (c .before .before .before .before .before .before .before .before .before .before .before .args .i) (c .before .before .before .before .before .before .row-at .result) (c .before .before .before .before .before .directory-span .result) (c .before .before .before .before .before .before .row-at .ensures) (c .before .before .before .before .before .directory-span .ensures) (fit-is (c .before)) in
     p
 
 put-link-requires : tie.Need-put-link-requires
@@ -54,7 +54,7 @@ returns-2 c =
     let s = given (c .before .before .before .before .before .before .before .before .before .before .before .before .before .before .before .before .before .before) in
     let a = c .before .before .before .before .before .before .before .before .before .before .before .before .before .before .before .before .before .before .args in
     let r = c .before .before .before .before .before .before .before .before .before .before .before .before .before .row-at in
-    let b = c .before .before .before .before .before .before .before .before .before .before .before .before .branch-of in
+    let b = c .before .before .before .before .before .before .before .before .before .before .before .before .directory-span in
     let t = ownText s (a .i) (r .result) (b .result) (r .ensures) (b .ensures) in
     let put = linked-is (s .fs) (s .rows) (s .dirs) (s .text) (a .i) t (c .before .before .before .before .before .before .put-joined .ensures .0) (c .before .before .put-link .ensures .0) (c .before .before .put-link .ensures .1) (c .before .before .before .before .before .before .put-joined .ensures .1 .1) in
     own-written s (a .i) (r .result) (b .result) (r .ensures) (b .ensures) (fit-is (c .before .before .before .before .before .before .before .before)) _ put
@@ -64,7 +64,7 @@ write-own-spec =
     tie.close
     (tie.spec
     row-at-requires
-    branch-of-requires
+    directory-span-requires
     own-fits-requires
     same-length
     same-length-2

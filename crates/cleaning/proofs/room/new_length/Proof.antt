@@ -7,15 +7,15 @@ use lib.ListN.{length}
 use borrow.Author.Tests.{eq-eqb, ne-eqb}
 use Rattle.path.specs.Join.{appended}
 use Rattle.tables.specs.Span.{textAt}
-use Rattle.cleaning.specs.Cleaning.{branchSpan}
+use Rattle.tables.specs.Rows.{directorySpan}
 use Rattle.cleaning.proofs.room.new_length.Statement.{statement}
 use Rattle.cleaning.proofs.room.new_length.Tie as tie
 
 returns : tie.Need-returns
 returns c = rw (eq-eqb _ _ (c .if1 .taken))
 
-branch-of-requires : tie.Need-branch-of-requires
-branch-of-requires c κs = search needs
+directory-span-requires : tie.Need-directory-span-requires
+directory-span-requires c κs = search needs
 
 text-at-requires : tie.Need-text-at-requires
 text-at-requires c κs = search needs
@@ -32,11 +32,11 @@ joined-length-requires c κs = search needs
 returns-2 : tie.Need-returns-2
 returns-2 c =
     let a = c .before .before .before .before .before .before .before .before .args in
-    let b = c .before .before .before .text-at .ensures ∙ ap (textAt (a .text .now)) (c .before .before .before .before .branch-of .ensures) in
+    let b = c .before .before .before .text-at .ensures ∙ ap (textAt (a .text .now)) (c .before .before .before .before .directory-span .ensures) in
     let l = c .before .text-at2 .ensures ∙ ap (textAt (a .text .now)) (c .before .before .leaf-of .ensures) in
     c .joined-length .ensures
     ∙ ap (λ (x : List ℕ). length (appended x (c .before .text-at2 .result .now))) b
-    ∙ ap (λ (x : List ℕ). length (appended (textAt (a .text .now) (branchSpan (a .dirs .now) (a .row))) x)) l
+    ∙ ap (λ (x : List ℕ). length (appended (textAt (a .text .now) (directorySpan (a .dirs .now) (a .row))) x)) l
     ∙ rw (ne-eqb _ _ (c .before .before .before .before .before .if1 .left))
 
 pub new-length-spec : {M : Type 1} → statement M
@@ -44,7 +44,7 @@ new-length-spec =
     tie.close
     (tie.spec
     returns
-    branch-of-requires
+    directory-span-requires
     text-at-requires
     leaf-of-requires
     text-at-requires-2

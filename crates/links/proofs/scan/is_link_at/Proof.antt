@@ -8,8 +8,9 @@ use borrow.Author.Tests.{lt-ltb, le-ltb}
 use lib.Dec.{ltb}
 use lib.ListN.{getD}
 use Rattle.lists.specs.Lists.{equal}
-use Rattle.tables.specs.Rows.{rowAt, has}
+use Rattle.tables.specs.Rows.{rowAt}
 use Rattle.answers.specs.Answers.{internalPath}
+use Rattle.links.specs.Judging.{isFlagged}
 use Rattle.links.specs.Walking.{lead}
 use borrow.Author.Needs.{needs}
 use Rattle.links.proofs.scan.is_link_at.Statement.{statement}
@@ -31,7 +32,7 @@ led false l e r h k q = absurd (false≢true h)
 
 -- whether the file is a flagged link, its lead, and whether it stands at p
 abbrev flag : tie.Start → Bool
-flag c = cond (has (rowAt (c .args .rows .now) (c .args .i) .flags) 8) (has (rowAt (c .args .rows .now) (c .args .i) .flags) 16) false
+flag c = isFlagged (rowAt (c .args .rows .now) (c .args .i) .flags)
 
 abbrev its : tie.Start → ℕ
 its c = getD (map lead (c .args .marks .now)) (c .args .k) 0

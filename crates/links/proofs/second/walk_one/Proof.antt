@@ -9,7 +9,7 @@ use lib.Seq.{set-getD}
 use Rattle.tables.specs.Model.{Store}
 use Rattle.links.specs.Clean.{Entry}
 use Rattle.links.specs.Judging.{lent, entriesOf, directoriesOf}
-use Rattle.links.specs.Walking.{entryAt, lead, fate, walkedMark}
+use Rattle.links.specs.Walking.{entryAt, lead, walkedMark}
 use Rattle.links.proofs.Rows.{flagged-at}
 use Rattle.links.proofs.Scans.{cond-yes, cond-no}
 use Rattle.links.proofs.Walked.{walked-by, walked-not}

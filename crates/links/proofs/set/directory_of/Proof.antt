@@ -1,37 +1,31 @@
 -- `links::set::directory_of` meets its contract.
-use mathlib.Core.Path.{sym, ap, _∙_}
+use Prim.Native.Nat.{ℕ}
+use mathlib.Core.Path.{_≡_, refl, ap, _∙_}
+use mathlib.Core.Bool.{Bool, true, false, cond}
+use mathlib.Core.List.{List, []}
+use Rattle.tables.specs.declared.span.Span.{Span}
 use Rattle.tables.specs.Span.{textAt}
+use Rattle.tables.specs.Rows.{dirAt, isInside}
 use borrow.Author.Needs.{needs}
 use Rattle.links.proofs.set.directory_of.Statement.{statement}
 use Rattle.links.proofs.set.directory_of.Tie as tie
 
-is-inside-requires : tie.Need-is-inside-requires
-is-inside-requires c κs = search needs
+-- a span of no bytes has no text
+text-if : (b : Bool) (t : List ℕ) (s : Span) → textAt t (cond b s (record { at = 0; len = 0 })) ≡ cond b (textAt t s) []
+text-if true t s = refl
+text-if false t s = refl
 
-dir-at-requires : tie.Need-dir-at-requires
-dir-at-requires c κs = search needs
+directory-span-requires : tie.Need-directory-span-requires
+directory-span-requires c κs = search needs
 
 text-at-requires : tie.Need-text-at-requires
 text-at-requires c κs = search needs
 
 returns : tie.Need-returns
 returns c =
-    let e = sym (c .before .before .before .is-inside .ensures) ∙ c .before .before .if1 .taken in
-    c .text-at .ensures ∙ ap (textAt (c .before .before .before .before .before .before .args .text .now)) (c .before .dir-at .ensures) ∙ rw e
-
-text-at-requires-2 : tie.Need-text-at-requires-2
-text-at-requires-2 c κs = search needs
-
-returns-2 : tie.Need-returns-2
-returns-2 c = let e = sym (c .before .before .is-inside .ensures) ∙ c .before .if1 .left in c .text-at2 .ensures ∙ rw e
+    let a = c .before .before .before .before .args in
+    c .text-at .ensures ∙ ap (textAt (a .text .now)) (c .before .directory-span .ensures)
+    ∙ text-if (isInside (a .row)) (a .text .now) (dirAt (a .dirs .now) (a .row .«path_index»))
 
 pub directory-of-spec : {M : Type 1} → statement M
-directory-of-spec =
-    tie.close
-    (tie.spec
-    is-inside-requires
-    dir-at-requires
-    text-at-requires
-    returns
-    text-at-requires-2
-    returns-2)
+directory-of-spec = tie.close (tie.spec directory-span-requires text-at-requires returns)

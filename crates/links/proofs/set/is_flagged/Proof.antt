@@ -1,8 +1,8 @@
--- `cleaning::fates::is_link` meets its contract.
+-- `links::set::is_flagged` meets its contract.
 use borrow.Author.Needs.{needs}
 use mathlib.Core.Path.{sym, _∙_}
-use Rattle.cleaning.proofs.fates.is_link.Statement.{statement}
-use Rattle.cleaning.proofs.fates.is_link.Tie as tie
+use Rattle.links.proofs.set.is_flagged.Statement.{statement}
+use Rattle.links.proofs.set.is_flagged.Tie as tie
 
 is-symlink-requires : tie.Need-is-symlink-requires
 is-symlink-requires c κs = search needs
@@ -16,5 +16,5 @@ returns c = c .holds-link .ensures ∙ rw (sym (c .before .before .is-symlink .e
 returns-2 : tie.Need-returns-2
 returns-2 c = rw (sym (c .before .is-symlink .ensures) ∙ c .if1 .left)
 
-pub is-link-spec : {M : Type 1} → statement M
-is-link-spec = tie.close (tie.spec is-symlink-requires holds-link-requires returns returns-2)
+pub is-flagged-spec : {M : Type 1} → statement M
+is-flagged-spec = tie.close (tie.spec is-symlink-requires holds-link-requires returns returns-2)
