@@ -25,7 +25,8 @@ use Rattle.links.specs.Judging.{lent, entriesOf, judgingNumber, cleared}
 use Rattle.cleaning.specs.Cleaning.{cleanedStore, textNeeded, Cleaned, cleanedTo, cleanStored}
 use Rattle.model.specs.Sound.{Sound}
 use Rattle.model.specs.Documents.{sizes, EndToEnd, OnDisk, Marked, OnPiece, Each, LinkEmpty}
-use Rattle.model.specs.Reached.{Reached, fresh}
+use Rattle.storage.specs.Opening.{fresh}
+use Rattle.model.specs.Reached.{Reached}
 use Rattle.model.specs.Reached as reach
 use Rattle.model.proofs.Common.{sum-tabled}
 use Rattle.model.proofs.Opened.{sound-opened, view-opened}

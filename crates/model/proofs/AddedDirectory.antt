@@ -2,6 +2,7 @@
 -- AddedTexts.antt.
 use mathlib.Core.Path.{_≡_, refl, ap, _∙_}
 use mathlib.Core.Logic.{_⊎_, inl, inr}
+use mathlib.Core.Bool.{Bool, true, cond}
 use mathlib.Core.List.{List, [], _∷_, _++_}
 use Prim.Native.Nat.{ℕ, _+_, _*_, _≤_, _<_}
 use native.Mathlib.Omega.{arith}
@@ -12,23 +13,25 @@ use borrow.Author.Tests.{lt-ltb, le-ltb}
 use Rattle.lists.proofs.Orders.{le-or-lt}
 use Rattle.tables.specs.declared.span.Span.{Span}
 use Rattle.tables.specs.Span.{textAt}
-use Rattle.tables.specs.Rows.{dirAt, putDir}
+use Rattle.tables.specs.Rows.{dirAt}
 use Rattle.tables.specs.Model.{Store, tabled, directoryText, viewOf}
 use Rattle.tables.proofs.Spans.{read-before, read-new}
 use Rattle.tables.proofs.Words.{dir-back, dir-other}
 use Rattle.tables.proofs.Tabled.{tabled-more}
+use Rattle.storage.specs.Write.{putDirIf}
 use Rattle.model.specs.Sound.{Place, setName, dirName, fileName, linkText, spanOf, sumTo, Sound}
 use Rattle.model.proofs.Common.{sum-same, sum-more}
 use Rattle.model.proofs.AddedTexts.{Put, old, first, within-put, apart-put, Extends, set-name-kept, dirs-kept, files-kept}
 
-abbrev pub withDir : Store → List ℕ → Store
-withDir s d =
+-- the set with one more directory, or as it was
+abbrev pub dirStage : Bool → Store → List ℕ → Store
+dirStage b s d =
     record {
       fs = record {
         «piece_length» = s .fs .«piece_length»;
         v2 = s .fs .v2;
         «num_files» = s .fs .«num_files»;
-        «num_paths» = s .fs .«num_paths» + 1;
+        «num_paths» = s .fs .«num_paths» + cond b 1 0;
         «num_symlinks» = s .fs .«num_symlinks»;
         «num_mtimes» = s .fs .«num_mtimes»;
         name = s .fs .name;
@@ -40,9 +43,12 @@ withDir s d =
       rows = s .rows;
       roots = s .roots;
       times = s .times;
-      dirs = putDir (s .dirs) (s .fs .«num_paths») (record { at = s .fs .«text_len»; len = length d });
+      dirs = putDirIf b (s .dirs) (s .fs .«num_paths») (record { at = s .fs .«text_len»; len = length d });
       text = sets (s .text) (s .fs .«text_len») d;
     }
+
+abbrev pub withDir : Store → List ℕ → Store
+withDir s d = dirStage true s d
 
 module _ (s : Store) (d : List ℕ) (ok : Sound s) (few : s .fs .«num_paths» + 1 ≤ 65535) (room : (s .fs .«num_paths» + 1) * 2 ≤ length (s .dirs)) (space : s .fs .«text_len» + length d ≤ length (s .text)) where
   abbrev new : Store

@@ -47,13 +47,14 @@ rowFor o u f =
       flags = f .flags;
     }
 
-abbrev pub withFile : Store → NewFile → Store
-withFile s f =
+-- the set as it was, as where there is no pad, or with one more file
+abbrev pub padStage : Bool → Store → NewFile → Store
+padStage b s f =
     record {
       fs = record {
         «piece_length» = s .fs .«piece_length»;
         v2 = s .fs .v2;
-        «num_files» = s .fs .«num_files» + 1;
+        «num_files» = s .fs .«num_files» + cond b 0 1;
         «num_paths» = s .fs .«num_paths»;
         «num_symlinks» = s .fs .«num_symlinks»;
         «num_mtimes» = s .fs .«num_mtimes»;
@@ -63,12 +64,15 @@ withFile s f =
         «size_on_disk» = s .fs .«size_on_disk» + cond (has (f .flags) 1) 0 (f .size);
         trimmed = s .fs .trimmed;
       };
-      rows = putRow (s .rows) (s .fs .«num_files») (rowFor (s .fs .«total_size») (s .fs .«text_len») f);
-      roots = rootsAdded (s .roots) (s .fs .«num_files») (f .root);
+      rows = cond b (s .rows) (putRow (s .rows) (s .fs .«num_files») (rowFor (s .fs .«total_size») (s .fs .«text_len») f));
+      roots = cond b (s .roots) (rootsAdded (s .roots) (s .fs .«num_files») (f .root));
       times = s .times;
       dirs = s .dirs;
       text = sets (sets (s .text) (s .fs .«text_len») (f .name)) (s .fs .«text_len» + length (f .name)) (f .link);
     }
+
+abbrev pub withFile : Store → NewFile → Store
+withFile s f = padStage false s f
 
 -- what a new file must be
 pub record Fitting (s : Store) (f : NewFile) : Type 0 where

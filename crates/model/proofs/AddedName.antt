@@ -2,6 +2,7 @@
 -- the tables stay in order. Relies on the laws of spans and rows of `tables`.
 use mathlib.Core.Path.{_≡_, refl, sym, ap, _∙_}
 use mathlib.Core.Logic.{_⊎_, inl, inr}
+use mathlib.Core.Bool.{Bool, true, cond}
 use mathlib.Core.List.{List}
 use Prim.Native.Nat.{ℕ, _+_, _-_, _*_, _/_, _≤_, _<_, min}
 use native.Mathlib.Omega.{arith}
@@ -21,9 +22,9 @@ use Rattle.model.specs.Sound.{Place, setName, dirName, fileName, linkTex
 use Rattle.model.proofs.Common.{sum-same}
 use Rattle.model.proofs.Texts.{dir-span}
 
--- the set with the name t in place of the one at span c
-abbrev pub named : Store → Span → List ℕ → Store
-named s c t =
+-- the set with the name t in place of the one at span c, or as it was
+abbrev pub nameStage : Bool → Store → Span → List ℕ → Store
+nameStage b s c t =
     record {
       fs = record {
         «piece_length» = s .fs .«piece_length»;
@@ -32,7 +33,7 @@ named s c t =
         «num_paths» = s .fs .«num_paths»;
         «num_symlinks» = s .fs .«num_symlinks»;
         «num_mtimes» = s .fs .«num_mtimes»;
-        name = record { at = s .fs .«text_len» - c .len; len = length t };
+        name = cond b (record { at = s .fs .«text_len» - c .len; len = length t }) (s .fs .name);
         «text_len» = s .fs .«text_len» - c .len + length t;
         «total_size» = s .fs .«total_size»;
         «size_on_disk» = s .fs .«size_on_disk»;
@@ -41,9 +42,12 @@ named s c t =
       rows = s .rows;
       roots = s .roots;
       times = s .times;
-      dirs = dirsLowered (s .dirs) (s .fs .«num_paths») c;
-      text = sets (slid c (s .fs .«text_len») (s .text)) (s .fs .«text_len» - c .len) t;
+      dirs = cond b (dirsLowered (s .dirs) (s .fs .«num_paths») c) (s .dirs);
+      text = sets (cond b (slid c (s .fs .«text_len») (s .text)) (s .text)) (s .fs .«text_len» - c .len) t;
     }
+
+abbrev pub named : Store → Span → List ℕ → Store
+named s c t = nameStage true s c t
 
 -- a directory row once span c is removed
 pub dir-lowered : (dirs : List ℕ) (n : ℕ) (c : Span) (k : ℕ) → n * 2 ≤ length dirs → k < n → dirAt (dirsLowered dirs n c) k ≡ low c (dirAt dirs k)

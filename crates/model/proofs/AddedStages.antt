@@ -3,51 +3,22 @@
 -- AddedName.antt, AddedDirectory.antt and AddedFile.antt.
 use mathlib.Core.Path.{_≡_, refl, sym, ap, _∙_}
 use mathlib.Core.Bool.{Bool, true, false, cond}
-use mathlib.Core.List.{List, [], _∷_, _++_}
+use mathlib.Core.List.{List, [], _∷_, _++_, append-nil}
 use Prim.Native.Nat.{ℕ, _+_, _-_, _*_, _≤_}
 use native.Mathlib.Omega.{arith}
 use lib.IntN.{ℤ}
 use lib.ListN.{length}
-use lib.Seq.{sets}
 use Rattle.tables.specs.declared.span.Span.{Span}
-use Rattle.tables.specs.Span.{slid}
-use Rattle.tables.specs.Rows.{rootAt, putRow, has, dirsLowered}
+use Rattle.tables.specs.Rows.{rootAt, has}
 use Rattle.tables.specs.Model.{File, Store, directoryOf, viewOf}
-use Rattle.storage.specs.Write.{putDirIf, rootsAdded}
+use Rattle.storage.specs.Write.{rootsAdded}
 use Rattle.model.specs.Sound.{Place, setName, dirName, fileName, linkText, nowhere, spanOf, Sound}
 use Rattle.model.proofs.AddedTexts.{fileFrom}
-use Rattle.model.proofs.AddedName.{sound-named, named-name, named-directories, named-files}
-use Rattle.model.proofs.AddedDirectory.{sound-dir, dir-name, dir-directories, dir-files}
-use Rattle.model.proofs.AddedFile.{NewFile, rowFor, Fitting, sound-file, file-name, file-directories, file-files}
-
-append-none : {A : Type 0} (l : List A) → l ++ [] ≡ l
-append-none [] = refl
-append-none (x ∷ l) = ap (λ k. x ∷ k) (append-none l)
+use Rattle.model.proofs.AddedName.{nameStage, sound-named, named-name, named-directories, named-files}
+use Rattle.model.proofs.AddedDirectory.{dirStage, sound-dir, dir-name, dir-directories, dir-files}
+use Rattle.model.proofs.AddedFile.{NewFile, rowFor, padStage, Fitting, sound-file, file-name, file-directories, file-files}
 
 -- ---- the set's name
-
-abbrev pub nameStage : Bool → Store → Span → List ℕ → Store
-nameStage b s c t =
-    record {
-      fs = record {
-        «piece_length» = s .fs .«piece_length»;
-        v2 = s .fs .v2;
-        «num_files» = s .fs .«num_files»;
-        «num_paths» = s .fs .«num_paths»;
-        «num_symlinks» = s .fs .«num_symlinks»;
-        «num_mtimes» = s .fs .«num_mtimes»;
-        name = cond b (record { at = s .fs .«text_len» - c .len; len = length t }) (s .fs .name);
-        «text_len» = s .fs .«text_len» - c .len + length t;
-        «total_size» = s .fs .«total_size»;
-        «size_on_disk» = s .fs .«size_on_disk»;
-        trimmed = s .fs .trimmed;
-      };
-      rows = s .rows;
-      roots = s .roots;
-      times = s .times;
-      dirs = cond b (dirsLowered (s .dirs) (s .fs .«num_paths») c) (s .dirs);
-      text = sets (cond b (slid c (s .fs .«text_len») (s .text)) (s .text)) (s .fs .«text_len» - c .len) t;
-    }
 
 name-stays : (s : Store) (c : Span) (t : List ℕ) → c ≡ nowhere → t ≡ [] → nameStage false s c t ≡ s
 name-stays s c t e f =
@@ -79,29 +50,6 @@ module _ (s : Store) (c : Span) (t : List ℕ) (ok : Sound s) (space : s .fs .«
 
 -- ---- a directory
 
-abbrev pub dirStage : Bool → Store → List ℕ → Store
-dirStage b s d =
-    record {
-      fs = record {
-        «piece_length» = s .fs .«piece_length»;
-        v2 = s .fs .v2;
-        «num_files» = s .fs .«num_files»;
-        «num_paths» = s .fs .«num_paths» + cond b 1 0;
-        «num_symlinks» = s .fs .«num_symlinks»;
-        «num_mtimes» = s .fs .«num_mtimes»;
-        name = s .fs .name;
-        «text_len» = s .fs .«text_len» + length d;
-        «total_size» = s .fs .«total_size»;
-        «size_on_disk» = s .fs .«size_on_disk»;
-        trimmed = s .fs .trimmed;
-      };
-      rows = s .rows;
-      roots = s .roots;
-      times = s .times;
-      dirs = putDirIf b (s .dirs) (s .fs .«num_paths») (record { at = s .fs .«text_len»; len = length d });
-      text = sets (s .text) (s .fs .«text_len») d;
-    }
-
 dir-stays : (s : Store) (d : List ℕ) → d ≡ [] → dirStage false s d ≡ s
 dir-stays s d e =
     rw e
@@ -128,29 +76,6 @@ module _ (s : Store) (d : List ℕ) (ok : Sound s) (space : s .fs .«text_len» 
   dir-stage-directories false e few room = ap (λ (x : Store). viewOf x .directories) (dir-stays s d (e refl))
 
 -- ---- the pad's row, unless there is no pad
-
-abbrev pub padStage : Bool → Store → NewFile → Store
-padStage b s f =
-    record {
-      fs = record {
-        «piece_length» = s .fs .«piece_length»;
-        v2 = s .fs .v2;
-        «num_files» = s .fs .«num_files» + cond b 0 1;
-        «num_paths» = s .fs .«num_paths»;
-        «num_symlinks» = s .fs .«num_symlinks»;
-        «num_mtimes» = s .fs .«num_mtimes»;
-        name = s .fs .name;
-        «text_len» = s .fs .«text_len» + length (f .name) + length (f .link);
-        «total_size» = s .fs .«total_size» + f .size;
-        «size_on_disk» = s .fs .«size_on_disk» + cond (has (f .flags) 1) 0 (f .size);
-        trimmed = s .fs .trimmed;
-      };
-      rows = cond b (s .rows) (putRow (s .rows) (s .fs .«num_files») (rowFor (s .fs .«total_size») (s .fs .«text_len») f));
-      roots = cond b (s .roots) (rootsAdded (s .roots) (s .fs .«num_files») (f .root));
-      times = s .times;
-      dirs = s .dirs;
-      text = sets (sets (s .text) (s .fs .«text_len») (f .name)) (s .fs .«text_len» + length (f .name)) (f .link);
-    }
 
 -- no pad
 pub record Bare (f : NewFile) : Type 0 where
@@ -199,7 +124,7 @@ module _ (s : Store) (f : NewFile) (ok : Sound s) where
   pad-stage-directories false (some fit) = file-directories s f ok fit
 
   pub pad-stage-files : (b : Bool) → Padded s f b → viewOf (padStage b s f) .files ≡ viewOf s .files ++ cond b [] (fileIn s f ∷ [])
-  pad-stage-files true (none e) = ap (λ (x : Store). viewOf x .files) (pad-stays s f e) ∙ sym (append-none (viewOf s .files))
+  pad-stage-files true (none e) = ap (λ (x : Store). viewOf x .files) (pad-stays s f e) ∙ sym (append-nil (viewOf s .files))
   pad-stage-files false (some fit) = file-files s f ok fit
 
 -- ---- what no text or row depends on

@@ -1,6 +1,6 @@
 -- What stays when texts are put behind the used part and rows behind those held: the places of all texts are still within the
 -- used part and apart, and every text and file reads as before. Relies on the laws of spans of `tables`.
-use mathlib.Core.Path.{_≡_, refl, sym, ap, _∙_}
+use mathlib.Core.Path.{_≡_, sym, ap, _∙_}
 use mathlib.Core.List.{List}
 use Prim.Native.Nat.{ℕ, _+_, _%_, _≤_, _<_}
 use native.Mathlib.Omega.{arith}

@@ -16,8 +16,10 @@ use Rattle.tables.specs.Model.{absent, Directory, single, absolute, stored, Mod
 use Rattle.storage.specs.Rules.{both}
 use Rattle.storage.specs.Addition.{Addition, added, filesOf, sizeAdded, keeps, isV2, padOf, placeFor, fileAdded, padAdded, padDirectory, flagsKept, isAmong, withDirectory, withPlace, isPresent, isZero}
 use Rattle.storage.specs.Write.{placeOf, indexOf, isOutside, missing, setText, directoryNew, nameText, linkNew, padDirectoryNew, padText, oldName, kept, putDirIf, isNew, isNewPlace, isNewPad, rootsAdded, timesAdded, storageAdded, storeAdded}
-use Rattle.model.proofs.AddedFile.{NewFile, withFile}
-use Rattle.model.proofs.AddedStages.{nameStage, dirStage, padStage, settled}
+use Rattle.model.proofs.AddedName.{nameStage}
+use Rattle.model.proofs.AddedDirectory.{dirStage}
+use Rattle.model.proofs.AddedFile.{NewFile, withFile, padStage}
+use Rattle.model.proofs.AddedStages.{settled}
 use Rattle.model.proofs.AddedPlaces.{flagsOf, flags-one, kept-small, kept-one}
 use Rattle.model.proofs.AddedTimes.{heldAfter}
 

@@ -1,7 +1,7 @@
 -- A cleaning of tables in order: they stay in order, and mean what document 01 says of the cleaning; no text that is to be
--- written lacks its place, and the text needed is what is used afterwards. It relies on CleanedRun.antt and CleanedFates.antt.
---     sound-cleaned, view-cleaned, used-cleaned    the tables after it, where there is room and work space enough
---     needed-is                                    the text needed is that of the set after it
+-- written lacks its place. It relies on CleanedRun.antt and CleanedFates.antt.
+--     sound-cleaned, view-cleaned    the tables after it, where there is room and work space enough
+--     needed-is                      the text needed is that of the set after it
 use mathlib.Core.Path.{_≡_, refl, sym, ap, subst, _∙_}
 use mathlib.Core.Bool.{Bool, true, false, cond}
 use mathlib.Core.List.{List, [], map}
@@ -178,9 +178,6 @@ module _ (s : Store) (ok : Sound s) where
 
     pub sound-cleaned : Sound (cleanedStore m s)
     sound-cleaned = both-passes .sound
-
-    pub used-cleaned : cleanedStore m s .fs .«text_len» ≡ textNeeded s
-    used-cleaned = omega (arith, second .used, needed)
 
     pub view-cleaned : viewOf (cleanedStore m s) ≡ cleanedOf (viewOf s)
     view-cleaned =

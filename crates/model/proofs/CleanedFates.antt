@@ -5,22 +5,20 @@
 --     space-at                 a text of a flagged link fits into the work space
 use mathlib.Core.Path.{_≡_, refl, sym, ap, _∙_}
 use mathlib.Core.Bool.{Bool, true, false, cond, false≢true}
-use mathlib.Core.List.{List, [], _∷_, _++_}
+use mathlib.Core.List.{List, [], _∷_}
 use Prim.Native.Nat.{ℕ, zero, suc, _+_, _-_, _≤_, _<_}
 use native.Mathlib.Omega.{arith}
 use lib.Dec.{eqb}
-use lib.ListN.{length, length-append}
+use lib.ListN.{length}
 use borrow.Author.Tests.{eqb-true, eq-eqb, ne-eqb}
-use Rattle.lists.specs.Lists.{sum}
-use Rattle.path.specs.Join.{isAlone, isEmpty, isClosed, appended}
 use Rattle.tables.specs.declared.span.Span.{Span}
-use Rattle.tables.specs.Rows.{has}
 use Rattle.tables.specs.Model.{Optional, absent, present, Directory, single, absolute, stored, File, Store, tabled, fileOf}
 use Rattle.storage.specs.Addition.{linkLength}
 use Rattle.links.specs.Clean.{Entry, entryOf, isHeld, heldText, own, linkedTo, cleanText, cleanFile, directoryLength, space}
 use Rattle.links.specs.Judging.{verdictOf, besideText, textBy}
+use Rattle.links.proofs.Walk.{append-short}
 use Rattle.links.proofs.Verdicts.{verdict-text}
-use Rattle.cleaning.specs.Cleaning.{goneAt, fatesFor, fates, keptAfter, newBytes}
+use Rattle.cleaning.specs.Cleaning.{goneAt, fatesFor, keptAfter, newBytes}
 use Rattle.model.specs.Sound.{sumTo, textAtRow, Sound}
 use Rattle.model.proofs.Common.{sum-more}
 use Rattle.model.proofs.Texts.{link-span}
@@ -182,23 +180,10 @@ module _ (s : Store) (ok : Sound s) where
 
 -- ---- the work space
 
--- a join has at most one byte more
-appended-short : (b l : List ℕ) → length (appended b l) ≤ length b + length l + 1
-appended-short b l = at (isAlone b) (isEmpty l) (isClosed b)
-  where
-    joined : (c : Bool) → length (b ++ cond c l (47 ∷ l)) ≤ length b + length l + 1
-    joined true = omega (arith, length-append b l)
-    joined false = omega (arith, length-append b (47 ∷ l))
-
-    at : (a e c : Bool) → length (cond a l (cond e b (b ++ cond c l (47 ∷ l)))) ≤ length b + length l + 1
-    at true e c = omega arith
-    at false true c = omega arith
-    at false false c = joined c
-
 pub beside-short : (d : Directory) (t : List ℕ) → length (besideText d t) ≤ directoryLength d + length t + 2
 beside-short single t = omega arith
 beside-short absolute t = omega arith
-beside-short (stored d outside) t = omega (arith, appended-short d t)
+beside-short (stored d outside) t = omega (arith, append-short d t)
 
 -- what one flagged link adds to the work space
 pub space-at : (n : ℕ) (g : ℕ → Entry) (k : ℕ) → k < n → g k .flagged ≡ true → directoryLength (g k .directory) + length (g k .text) + 2 ≤ space (tabled n g)

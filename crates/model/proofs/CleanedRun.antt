@@ -16,11 +16,11 @@ use Rattle.path.specs.Join.{isAlone, isEmpty, isClosed, appended}
 use Rattle.tables.specs.declared.span.Span.{Span}
 use Rattle.tables.specs.declared.storage.FileStorage.{FileStorage}
 use Rattle.tables.specs.Span.{endOf, textAt}
-use Rattle.tables.specs.Rows.{rowAt, has}
+use Rattle.tables.specs.Rows.{rowAt, directorySpan, has}
 use Rattle.tables.specs.Model.{present, presentIf, Directory, single, absolute, stored, File, Store, fileOf}
 use Rattle.links.specs.Clean.{Entry, entryOf, isHeld, heldText, linkedTo}
 use Rattle.links.specs.Judging.{besideText, textBy}
-use Rattle.cleaning.specs.Cleaning.{goneAt, linked, relinked, emptied, writtenAt, branchSpan, ownFits, besideFits, hasPlace, rewrittenAt, rewritten}
+use Rattle.cleaning.specs.Cleaning.{goneAt, linked, relinked, emptied, writtenAt, ownFits, besideFits, hasPlace, rewrittenAt, rewritten}
 use Rattle.model.specs.Sound.{dirName, fileName, linkText, Sound}
 use Rattle.model.proofs.Texts.{dir-span, name-span, link-span, text-length}
 use Rattle.model.proofs.CleanedText.{Turned, turned-self, turned-same, turned-then, atFile}
@@ -259,10 +259,10 @@ module _ (s : Store) (ok : Sound s) (i : ℕ) (h : i < s .fs .«num_files») (v 
 
   -- it has its place
   module _ (m : ℕ) (short : eqb v 0 ≡ false → eqb v 1 ≡ false → length given ≤ m) where
-    branch-within : endOf (branchSpan (s .dirs) (rowAt (s .rows) i)) ≤ s .fs .«text_len»
+    branch-within : endOf (directorySpan (s .dirs) (rowAt (s .rows) i)) ≤ s .fs .«text_len»
     branch-within = at (eqb (rowAt (s .rows) i .«path_index») 1073741823) (eqb (rowAt (s .rows) i .«path_index») 1073741822) refl refl
       where
-        at : (a b : Bool) → eqb (rowAt (s .rows) i .«path_index») 1073741823 ≡ a → eqb (rowAt (s .rows) i .«path_index») 1073741822 ≡ b → endOf (branchSpan (s .dirs) (rowAt (s .rows) i)) ≤ s .fs .«text_len»
+        at : (a b : Bool) → eqb (rowAt (s .rows) i .«path_index») 1073741823 ≡ a → eqb (rowAt (s .rows) i .«path_index») 1073741822 ≡ b → endOf (directorySpan (s .dirs) (rowAt (s .rows) i)) ≤ s .fs .«text_len»
         at true b p q = rw p (omega arith)
         at false true p q = rw (p, q) (omega arith)
         at false false p q =
@@ -281,7 +281,7 @@ module _ (s : Store) (ok : Sound s) (i : ℕ) (h : i < s .fs .«num_files») (v 
         at : (b : Bool) → eqb v 1 ≡ b → cond b (ownFits s i given) (besideFits m s i given) ≡ true
         at true q =
             rw (
-              le-leb (endOf (branchSpan (s .dirs) (rowAt (s .rows) i))) (s .fs .«text_len») branch-within,
+              le-leb (endOf (directorySpan (s .dirs) (rowAt (s .rows) i))) (s .fs .«text_len») branch-within,
               le-leb (endOf (rowAt (s .rows) i .name)) (s .fs .«text_len») name-within,
             )
             (le-leb (length given) (length (s .text) - s .fs .«text_len») (omega (arith, room, grows p, bare q)))

@@ -3,15 +3,14 @@
 --     work-enough     links that are judged have their work space
 --     judging-is      the number on tables in order
 --     clean-done      a cleaning with work space and room is done
---     clean-short     one without room for the texts afterwards is refused by 10
 use mathlib.Core.Path.{_≡_, ap, _∙_}
 use mathlib.Core.Bool.{Bool, true, false, cond, not}
 use mathlib.Core.List.{List}
-use Prim.Native.Nat.{ℕ, _*_, _/_, _≤_, _<_}
+use Prim.Native.Nat.{ℕ, _*_, _/_, _≤_}
 use native.Mathlib.Omega.{arith}
 use lib.Dec.{eqb, leb, ltb}
 use lib.ListN.{length}
-use borrow.Author.Tests.{le-leb, le-ltb, lt-ltb, ltb-false}
+use borrow.Author.Tests.{le-leb, le-ltb, ltb-false}
 use Rattle.types.specs.Refusals.{value, refused}
 use Rattle.tables.specs.Model.{Store}
 use Rattle.storage.specs.Rules.{both}
@@ -75,7 +74,3 @@ module _ (s : Store) (marks stage path : List ℕ) (ok : Sound s) (good : badLen
   pub clean-done : textNeeded s ≤ length (s .text)
       → cleanStored s marks stage path ≡ cleanedTo (value (cleanedStore (length stage) s .fs)) (cleanedStore (length stage) s) (cleared marks) (cleared stage) (cleared path)
   clean-done room = answer-is ∙ ap (λ (b : Bool). cond b short done) (le-ltb (length (s .text)) (textNeeded s) room)
-
-  pub clean-short : length (s .text) < textNeeded s → cleanStored s marks stage path .says ≡ refused 10
-  clean-short room =
-      ap (λ (c : Cleaned). c .says) (answer-is ∙ ap (λ (b : Bool). cond b short done) (lt-ltb (length (s .text)) (textNeeded s) room))

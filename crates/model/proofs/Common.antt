@@ -1,14 +1,25 @@
--- Small laws that several proofs here use: sums by places, and sums of tables. They rely on the laws of `lists` and
--- `tables`.
+-- Small laws that several proofs here and in `listing` use: of two tests, sums by places, and sums of tables. They rely on
+-- the laws of `lists` and `tables`.
 use mathlib.Core.Path.{_≡_, refl, ap, _∙_}
-use mathlib.Core.List.{List, [], _∷_, _++_, map}
+use mathlib.Core.Bool.{Bool, true, false, false≢true}
+use mathlib.Core.List.{List, [], _∷_, _++_, map, map-append}
 use Prim.Native.Nat.{ℕ, zero, suc, _+_, _<_}
 use native.Mathlib.Omega.{arith}
 use Rattle.lists.specs.Lists.{sum}
 use Rattle.lists.proofs.Sums.{sum-append}
 use Rattle.tables.specs.Model.{tabled}
 use Rattle.tables.proofs.Tabled.{tabled-more}
+use Rattle.storage.specs.Rules.{both}
 use Rattle.model.specs.Sound.{sumTo}
+
+-- two tests hold, so each does
+pub both-first : (a b : Bool) → both a b ≡ true → a ≡ true
+both-first true b e = refl
+both-first false b e = e
+
+pub both-second : (a b : Bool) → both a b ≡ true → b ≡ true
+both-second true b e = e
+both-second false b e = absurd (false≢true e)
 
 pub sum-same : (n : ℕ) (v w : ℕ → ℕ) → ((k : ℕ) → k < n → v k ≡ w k) → sumTo n v ≡ sumTo n w
 unfolding sumTo
@@ -18,10 +29,6 @@ sum-same (suc n) v w e = omega (arith, sum-same n v w (λ k h. e k (omega arith)
 pub sum-more : (n : ℕ) (w : ℕ → ℕ) → sumTo (n + 1) w ≡ sumTo n w + w n
 unfolding sumTo
 sum-more n w = let e : n + 1 ≡ suc n = omega arith in rw e
-
-pub map-append : {A B : Type 0} (f : A → B) (xs ys : List A) → map f (xs ++ ys) ≡ map f xs ++ map f ys
-map-append f [] ys = refl
-map-append f (x ∷ xs) ys = ap (λ l. f x ∷ l) (map-append f xs ys)
 
 pub sum-map-append : {A : Type 0} (f : A → ℕ) (xs ys : List A) → sum (map f (xs ++ ys)) ≡ sum (map f xs) + sum (map f ys)
 sum-map-append f xs ys = ap sum (map-append f xs ys) ∙ sum-append (map f xs) (map f ys)

@@ -20,6 +20,7 @@ use Rattle.links.specs.Clean.{cleanedOf}
 use Rattle.model.specs.Documents as documents
 use Rattle.model.specs.Documents.{sizes, EndToEnd, sizeOnDisk, OnDisk, Marked, OnPiece, Each, none, more, LinkEmpty}
 use Rattle.model.specs.Reached.{Reached, opened, addition, trim, cleaning}
+use Rattle.model.proofs.Common.{both-second}
 use Rattle.model.proofs.Trimming.{flagsAt, Last, TailPad, tail-pad}
 use Rattle.model.proofs.Files.{map-take, map-drop, each-append, each-front, each-take, each-drop, each-map, each-unmap, sum-zero, sum-except, sizesOf, Laid, done, next, laid-append, laid-take, laid-map, laid-empty, laid-offset}
 use Rattle.model.proofs.CleanedFiles.{cleanedIn, clean-same, clean-held, clean-map, clean-map-same}
@@ -276,10 +277,6 @@ record Pieces (m : Model) : Type 0 where
   counted : m .links ≡ linked (m .files)
   whole : m .v2 ≡ true → m .total % m .pieceLength ≡ 0
   each : m .v2 ≡ true → Each (OnPiece (m .pieceLength)) (m .files)
-
-both-second : (a b : Bool) → both a b ≡ true → b ≡ true
-both-second true b e = e
-both-second false b e = absurd (false≢true e)
 
 module _ (m : Model) (a : Addition) (total : m .total ≡ sum (sizes m)) (links : Each LinkEmpty (m .files)) (p : Pieces m) where
   -- where v1 or v2 is open, there are no bytes yet

@@ -1,12 +1,13 @@
--- What the public documents say of a set, on the model.
-use Prim.Native.Nat.{ℕ, _+_, _%_, _<_}
+-- What the public documents say of a set, on the model: BEP 3 of the layout, BEP 47 of padding files, BEP 52 of pieces. They
+-- are demands on the files' offsets, sizes and flags, and rely on nothing but the model of `tables`.
+use Prim.Native.Nat.{ℕ, _%_, _<_}
 use mathlib.Core.Path.{_≡_}
 use mathlib.Core.Bool.{true, false, cond}
 use mathlib.Core.List.{List, [], _∷_, map}
 use lib.Dec.{eqb}
 use lib.ListN.{length, getD, take}
 use Rattle.lists.specs.Lists.{sum}
-use Rattle.tables.specs.Model.{Optional, absent, present, File, Model}
+use Rattle.tables.specs.Model.{absent, File, Model}
 
 abbrev pub sizes : Model → List ℕ
 sizes m = map (λ (f : File). f .size) (m .files)

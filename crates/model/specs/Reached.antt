@@ -1,29 +1,13 @@
--- The sets that opening, additions, trims and cleanings lead to, as models.
+-- The sets that opening, additions, trims and cleanings lead to, as models: what holds of every model here holds after every
+-- run of calls. It relies on what `storage` says of opening, additions and trims and `links` of a cleaning.
 use Prim.Native.Nat.{ℕ, _≤_}
 use mathlib.Core.Path.{_≡_}
-use mathlib.Core.Bool.{false}
-use mathlib.Core.List.{[]}
 use Rattle.types.specs.Refusals.{value}
 use Rattle.tables.specs.Model.{Model}
+use Rattle.storage.specs.Opening.{fresh}
 use Rattle.storage.specs.Addition.{Addition, Rooms, added, addedTo}
 use Rattle.storage.specs.Trim.{trimmedOf}
 use Rattle.links.specs.Clean.{cleanedOf}
-
--- a newly opened set
-abbrev pub fresh : ℕ → Model
-fresh n =
-    record {
-      pieceLength = n;
-      v2 = false;
-      name = [];
-      files = [];
-      directories = [];
-      times = [];
-      links = 0;
-      total = 0;
-      onDisk = 0;
-      trimmed = false;
-    }
 
 -- models that the calls lead to; the rooms are those of whatever tables are lent at the call
 pub data Reached : Model → Type 1 where

@@ -1,8 +1,9 @@
 -- When a set's tables are in order: the tables hold what the set's record counts, every text lies in the used part of the
--- text area, no two have a byte in common and together they fill it, and offsets are the sums of the sizes before.
+-- text area, no two have a byte in common and together they fill it, and offsets are the sums of the sizes before. It relies
+-- on the rows and spans of `tables`.
 use Prim.Native.Nat.{ℕ, zero, suc, _+_, _*_, _≤_, _<_}
 use mathlib.Core.Path.{_≡_}
-use mathlib.Core.Bool.{true, false, cond}
+use mathlib.Core.Bool.{false, cond}
 use lib.Dec.{ltb}
 use lib.ListN.{length}
 use Rattle.tables.specs.declared.span.Span.{Span}
