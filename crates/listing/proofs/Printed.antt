@@ -1,31 +1,34 @@
--- Laws of printing: runs of columns and texts are written one behind the other, and a path is three texts in a row.
-use Prim.Native.Nat.{ℕ, zero, suc, _+_, _%_, _≤_, _<_}
+-- Laws of printing: runs of columns and texts are written one behind the other, and a path is joined in the rest of a buffer.
+use Prim.Native.Nat.{ℕ, zero, suc, _+_, _-_, _%_, _≤_, _<_}
 use mathlib.Core.Path.{_≡_, refl, sym, ap, _∙_}
-use mathlib.Core.Bool.{Bool, true, false, cond}
-use mathlib.Core.List.{List, [], _∷_, _++_, append-nil, append-assoc}
+use mathlib.Core.Bool.{Bool, true, false, cond, not}
+use mathlib.Core.List.{List, [], _∷_, _++_, append-assoc}
 use native.Mathlib.Omega.{arith}
 use lib.Dec.{eqb}
 use native.Mathlib.Numerals.{add-one}
-use lib.ListN.{length, take, drop, set, length-append, drop-of-length-le}
+use lib.ListN.{length, take, drop, set, length-append, length-take, length-drop, drop-of-length-le}
 use lib.Seq.{sets, drop-cons}
 use borrow.Author.Tests.{le-leb, lt-leb, leb-true}
-use Rattle.lists.specs.Lists.{equal, ceiling}
+use Rattle.lists.specs.Lists.{ceiling}
 use Rattle.lists.specs.Decimal.{column}
 use Rattle.lists.proofs.Decimals.{column-length}
 use Rattle.lists.proofs.Runs.{sets-append}
 use Rattle.lists.proofs.Parts.{part-length}
-use Rattle.path.specs.Join.{isAlone, isEmpty, isClosed, glued, appended, Joined, joinedIf, fits}
+use Rattle.path.specs.Join.{isAlone, isEmpty, isClosed, appended, Joined, joinedIf, fits}
 use Rattle.path.proofs.Joins.{refused-is, written-is}
-use Rattle.types.specs.Refusals.{value, refused}
+use Rattle.types.specs.Refusals.{numberOf, value, refused, usizeSays}
+use Rattle.types.specs.declared.refusal.Refusal.{Refusal}
+use Rattle.types.specs.declared.refusal.UsizeResult.{UsizeResult}
+use Rattle.types.specs.declared.refusal.UsizeResult.the-variants as usize
 use Rattle.tables.specs.declared.rows.Row.{Row}
 use Rattle.tables.specs.declared.span.Span.{Span}
 use Rattle.tables.specs.Span.{textAt}
 use Rattle.tables.specs.declared.storage.FileStorage.{FileStorage}
 use Rattle.tables.specs.Rows.{rowAt, dirAt, has}
-use Rattle.tables.specs.Model.{Optional, single, absolute, stored, File, Store, tabled, directoryText, fileOf, viewOf}
+use Rattle.tables.specs.Model.{Optional, single, absolute, stored, File, Store, tabled, fileOf, viewOf}
 use Rattle.tables.proofs.Tabled.{length-tabled, getD-tabled}
 use Rattle.listing.specs.Run.{listed, stopped, internalPath, fileLine, fileLines, totalsLine, printed}
-use Rattle.listing.specs.Printing.{fourColumns, branchOf, glueOf, directoryIn, pathIn, rowLine, bare, shown, linesOf, putText}
+use Rattle.listing.specs.Printing.{fourColumns, pathIn, rowLine, bare, shown, linesOf, putText}
 
 -- texts in a row, each at the place behind the one before
 pub sets-two : (l a b : List ℕ) (at p : ℕ) → p ≡ at + length a → sets (sets l at a) p b ≡ sets l at (a ++ b)
@@ -49,54 +52,36 @@ put-four l at a b c width d last =
     (omega (arith, column-length 15 c))
     (omega (arith, column-length width d))
 
--- a path
-alone-parts : (b : Bool) (d n : List ℕ) → isEmpty d ≡ false
-    → cond b n (cond (isEmpty n) d (glued d n)) ≡ cond b [] d ++ (take (glueOf (cond b [] d) n) (47 ∷ []) ++ n)
-alone-parts true d n e = refl
-alone-parts false d [] e = rw (e, append-nil d)
-alone-parts false d (x ∷ n) e = rw e (closed (isClosed d))
+-- a path is at most one byte longer than its parts
+pub joined-few : (d n : List ℕ) → length (appended d n) ≤ length d + 1 + length n
+joined-few d n = at (isAlone d) (isEmpty n) (isClosed d)
   where
-    closed : (b : Bool) → d ++ cond b (x ∷ n) (47 ∷ x ∷ n) ≡ d ++ (take (cond b 0 1) (47 ∷ []) ++ (x ∷ n))
-    closed true = refl
-    closed false = refl
+    at : (a e c : Bool) → length (cond a n (cond e d (d ++ cond c n (47 ∷ n)))) ≤ length d + 1 + length n
+    at true e c = omega arith
+    at false true c = omega arith
+    at false false true = omega (arith, length-append d n)
+    at false false false = omega (arith, length-append d (47 ∷ n))
 
-pub path-parts : (d n : List ℕ) → appended d n ≡ branchOf d ++ (take (glueOf (branchOf d) n) (47 ∷ []) ++ n)
-path-parts [] n = refl
-path-parts (c ∷ t) n = alone-parts (equal (c ∷ t) (46 ∷ [])) (c ∷ t) n refl
+-- a join in the rest of a buffer, which has room for it
+module _ (out d n x : List ℕ) (at : ℕ) (r : UsizeResult) (h : at + length (appended d n) ≤ length out)
+    (e : _≡_ {A = Joined} (record { says = usizeSays r; buf = x }) (joinedIf (fits (appended d n) (take (length out - at) (drop at out))) (appended d n) (take (length out - at) (drop at out)))) where
+  joined : _≡_ {A = Joined} (record { says = usizeSays r; buf = x }) (record { says = value (length (appended d n)); buf = sets (take (length out - at) (drop at out)) 0 (appended d n) })
+  joined = e ∙ rw (le-leb (length (appended d n)) (length (take (length out - at) (drop at out))) (omega (arith, length-take (length out - at) (drop at out), length-drop at out)))
 
-glue-take : (b n : List ℕ) → length {A = ℕ} (take (glueOf b n) (47 ∷ [])) ≡ glueOf b n
-glue-take [] n = refl
-glue-take (c ∷ t) [] = refl
-glue-take (c ∷ t) (x ∷ n) = closed (isClosed (c ∷ t))
-  where
-    closed : (b : Bool) → length {A = ℕ} (take (cond b 0 1) (47 ∷ [])) ≡ cond b 0 1
-    closed true = refl
-    closed false = refl
+  pub joined-value : (k : ℕ) → r ≡ usize.Ok k → at + k ≡ at + length (appended d n)
+  joined-value k q =
+      let s : value k ≡ value (length (appended d n)) = ap usizeSays (sym q) ∙ ap (λ (j : Joined). j .says) joined in
+      let z : k ≡ length (appended d n) = cc in
+      omega (arith, z)
 
-pub glue-few : (b n : List ℕ) → glueOf b n ≤ 1
-glue-few [] n = omega arith
-glue-few (c ∷ t) [] = omega arith
-glue-few (c ∷ t) (x ∷ n) = closed (isClosed (c ∷ t))
-  where
-    closed : (b : Bool) → cond b 0 1 ≤ 1
-    closed true = omega arith
-    closed false = omega arith
+  pub joined-text : x ≡ sets (take (length out - at) (drop at out)) 0 (appended d n)
+  joined-text = ap (λ (j : Joined). j .buf) joined
 
-pub branch-few : (d : List ℕ) → length (branchOf d) ≤ length d
-branch-few d = alone (isAlone d)
-  where
-    alone : (b : Bool) → length (cond b [] d) ≤ length d
-    alone true = omega arith
-    alone false = omega arith
-
-pub path-length : (d n : List ℕ) → length (appended d n) ≡ length (branchOf d) + glueOf (branchOf d) n + length n
-path-length d n = rw (path-parts d n, length-append (branchOf d), length-append (take (glueOf (branchOf d) n) (47 ∷ [])) n, glue-take (branchOf d) n) (omega arith)
-
-pub put-path-is : (l d n : List ℕ) (at : ℕ)
-    → sets (sets (sets l at (branchOf d)) (at + length (branchOf d)) (take (glueOf (branchOf d) n) (47 ∷ []))) (at + length (branchOf d) + glueOf (branchOf d) n) n ≡ sets l at (appended d n)
-put-path-is l d n at =
-    rw (path-parts d n)
-    (sets-three l (branchOf d) (take (glueOf (branchOf d) n) (47 ∷ [])) n at (at + length (branchOf d)) (at + length (branchOf d) + glueOf (branchOf d) n) refl (ap (λ (k : ℕ). at + length (branchOf d) + k) (sym (glue-take (branchOf d) n))))
+  pub joined-always : (k : Refusal) → r ≡ usize.Err k → ⊥
+  joined-always k q =
+      let s : refused (numberOf k) ≡ value (length (appended d n)) = ap usizeSays (sym q) ∙ ap (λ (j : Joined). j .says) joined in
+      let z : _≡_ {A = ℕ} 0 1 = cc in
+      omega arith
 
 -- how long texts are
 pub four-length : (a b c width d last : ℕ) → length (fourColumns a b c width d last) ≡ 36 + width
@@ -106,15 +91,6 @@ four-length a b c width d last =
 
 pub text-few : (text : List ℕ) (s : Span) → length (textAt text s) ≤ length text
 text-few text s = omega (arith, part-length text (s .at) (s .len))
-
-pub directory-few : (dirs text : List ℕ) (r : Row) → length (directoryIn dirs text r) ≤ length text
-directory-few dirs text r =
-    one (eqb (r .«path_index») 1073741823) (eqb (r .«path_index») 1073741822)
-  where
-    one : (a b : Bool) → length (cond a [] (cond b [] (textAt text (dirAt dirs (r .«path_index»))))) ≤ length text
-    one true b = omega arith
-    one false true = omega arith
-    one false false = text-few text (dirAt dirs (r .«path_index»))
 
 -- a file's line
 pub put-line-is : (l path : List ℕ) (at end a b c d : ℕ) → end ≡ at + 38 + length path
@@ -128,9 +104,9 @@ row-line-length dirs text i r =
     (omega arith)
 
 -- what a row's file prints
-module _ (offset size : ℕ) (name : List ℕ) (flags : ℕ) (link root : Optional (List ℕ)) (made : Bool) (text : List ℕ) (outside : Bool) where
+module _ (offset size : ℕ) (name : List ℕ) (flags : ℕ) (link root : Optional (List ℕ)) (made : Bool) (area : List ℕ) (span : Span) (outside : Bool) where
   path-in : (a b : Bool)
-      → internalPath (record { offset = offset; size = size; name = name; directory = cond a single (cond b absolute (stored text outside)); flags = flags; link = link; root = root; made = made }) ≡ appended (cond a [] (cond b [] text)) name
+      → internalPath (record { offset = offset; size = size; name = name; directory = cond a single (cond b absolute (stored (textAt area span) outside)); flags = flags; link = link; root = root; made = made }) ≡ appended (textAt area (cond (cond (not a) (not b) false) span (record { at = 0; len = 0 }))) name
   path-in true b = refl
   path-in false true = refl
   path-in false false = refl
@@ -143,7 +119,7 @@ line-is s i k =
     let r = rowAt (s .rows) k in
     let f = fileOf s k in
     let p : internalPath f ≡ pathIn (s .dirs) (s .text) r =
-    path-in (r .offset) (r .size) (f .name) (f .flags) (f .link) (f .root) (f .made) (directoryText s (r .«path_index»)) (has (r .flags) 32) (eqb (r .«path_index») 1073741823) (eqb (r .«path_index») 1073741822) in
+    path-in (r .offset) (r .size) (f .name) (f .flags) (f .link) (f .root) (f .made) (s .text) (dirAt (s .dirs) (r .«path_index»)) (has (r .flags) 32) (eqb (r .«path_index») 1073741823) (eqb (r .«path_index») 1073741822) in
     let q : r .flags % 16 % 2 ≡ r .flags % 2 = omega arith in
     ap (λ (x : List ℕ). column 5 i ++ (column 15 (r .offset) ++ (column 15 (r .size) ++ (column 2 (r .flags % 16 % 2) ++ (32 ∷ (x ++ (10 ∷ []))))))) p
     ∙ ap (λ (n : ℕ). column 5 i ++ (column 15 (r .offset) ++ (column 15 (r .size) ++ (column 2 n ++ (32 ∷ (pathIn (s .dirs) (s .text) r ++ (10 ∷ []))))))) q

@@ -16,6 +16,7 @@ use Rattle.lists.specs.Decimal.{valueFrom}
 use Rattle.path.specs.Join.{isEmpty}
 use Rattle.storage.specs.Rules.{both, either}
 use Rattle.tables.specs.Model.{Optional, absent, present, presentIf}
+use Rattle.model.proofs.Common.{both-first, both-second}
 use Rattle.listing.specs.Form.{linesFrom, lines, unblanked, isDigit, areDigits, isNumber, numberIn, onlyIf}
 use Rattle.listing.specs.Answers.{firstLine, behindLine}
 
@@ -129,14 +130,6 @@ length-unblanked [] = omega arith
 length-unblanked (c ∷ t) = unblank-step (eqb c 32) c t (unblanked t) (length-unblanked t)
 
 -- what digits can be worth
-both-first : (a b : Bool) → both a b ≡ true → a ≡ true
-both-first true b e = refl
-both-first false b e = e
-
-both-second : (a b : Bool) → both a b ≡ true → b ≡ true
-both-second true b e = e
-both-second false b e = absurd (false≢true e)
-
 value-below : (v k : ℕ) (l : List ℕ) → areDigits l ≡ true → v < k → valueFrom v l < k * 10 ^ length l
 value-below v k [] e h = omega arith
 value-below v k (c ∷ t) e h =

@@ -19,11 +19,10 @@ use Rattle.path.specs.Join.{isEmpty, appended, Joined, joinedIf, fits}
 use Rattle.tables.specs.Model.{Optional, absent, present, Directory, single, absolute, stored, File, Model}
 use Rattle.storage.specs.Rules.{firstOf, both, either}
 use Rattle.storage.specs.Addition.{Addition, limit, isNegative, limitedName, badName, badLength, disagree, filesOf, unled, under, pathName, storedName, placeFor, newName, fileAdded, padAdded, padDirectory, padOf, sizeAdded, added, lacks, textOf, addingRules, addedTo}
-use Rattle.model.specs.Reached.{fresh}
+use Rattle.storage.specs.Opening.{fresh}
 use Rattle.listing.specs.Form.{linesFrom, lines, pieceLengthIn, fileIn}
 use Rattle.listing.specs.Run.{Run, listed, stopped, goOn, readAs, runFrom, openedAs, runLines, run, places, pieces, internalPath, fileLine, fileLines, totalsLine, printed, listing}
-use Rattle.listing.specs.Printing.{branchOf}
-use Rattle.listing.proofs.Printed.{path-length, branch-few, glue-few, four-length, refusal-length, put-yes}
+use Rattle.listing.proofs.Printed.{joined-few, four-length, refusal-length, put-yes}
 use Rattle.listing.proofs.Steps.{file-is}
 
 -- parts of a path are no longer than it
@@ -88,9 +87,6 @@ name-few : (path : List ℕ) → length (pathName path) ≤ length path
 name-few path = cond-few (isComplete path) path (rsplitLeaf path) (length path) (omega arith) (leaf-part-few path)
 
 -- the length of an internal path
-joined-few : (d n : List ℕ) → length (appended d n) ≤ length d + 1 + length n
-joined-few d n = omega (arith, path-length d n, branch-few d, glue-few (branchOf d) n)
-
 module _ (offset size : ℕ) (name : List ℕ) (flags : ℕ) (link root : Optional (List ℕ)) (made : Bool) where
   inside-few : (d : Directory) → length (internalPath (record { offset = offset; size = size; name = name; directory = d; flags = flags; link = link; root = root; made = made })) ≤ directoryLength d + 1 + length name
   unfolding directoryLength

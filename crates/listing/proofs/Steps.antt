@@ -22,19 +22,20 @@ use Rattle.storage.specs.Addition.{Addition, Rooms, sizeOf, added, addedTo}
 use Rattle.storage.specs.Write.{storeAdded}
 use Rattle.storage.specs.Outcomes.{Changed, roomsOf, addingNumber, optionalOf}
 use Rattle.storage.specs.Opening.{empty}
-use Rattle.model.specs.Reached.{fresh}
+use Rattle.storage.specs.Opening.{fresh}
 use Rattle.model.specs.Sound.{Sound}
 use Rattle.model.proofs.Adding.{adding}
 use Rattle.model.proofs.Added.{view-added, sound-added}
-use Rattle.listing.specs.Form.{lines, when, onlyIf, numberIn, pieceLengthIn, areFlags, additionOf, additionIn, fileIn}
+use Rattle.listing.specs.Form.{lines, provided, onlyIf, numberIn, pieceLengthIn, areFlags, additionOf, additionIn, fileIn}
 use Rattle.listing.specs.Run.{Run, listed, stopped, counted, goOn, openedAs, readAs, runFrom, run, places}
 use Rattle.listing.specs.Answers.{firstLine}
 use Rattle.listing.specs.declared.run.RunResult.the-variants.{Listed, Stopped}
-use Rattle.listing.specs.Steps.{openedBy, obeyed, countedBy, storeOf, runSays, Placed}
+use Rattle.storage.specs.Plan.{storeOf}
+use Rattle.listing.specs.Steps.{openedBy, obeyed, countedBy, runSays, Placed}
 use Rattle.listing.proofs.Reading.{number-small, first-take, lines-next}
 
 -- a number that passed the test of the piece length
-length-small : (b : Bool) (o : Optional ℕ) (n : ℕ) → present n ≡ when b (onlyIf (λ m. leb m 2147483647) o) → n ≤ 2147483647
+length-small : (b : Bool) (o : Optional ℕ) (n : ℕ) → present n ≡ provided b (onlyIf (λ m. leb m 2147483647) o) → n ≤ 2147483647
 length-small false o n e = let z : _≡_ {A = ℕ} 0 1 = cc in absurd (omega arith)
 length-small true absent n e = let z : _≡_ {A = ℕ} 0 1 = cc in absurd (omega arith)
 length-small true (present m) n e = at (leb m 2147483647) refl e
@@ -51,7 +52,7 @@ abbrev sizeIn : Optional Addition → ℕ
 sizeIn absent = 0
 sizeIn (present a) = sizeOf (a .size)
 
-size-small : (b : Bool) (o f : Optional ℕ) (path : List ℕ) → ((n : ℕ) → o ≡ present n → n < 1000000000000000) → sizeIn (when b (additionIn o f path)) < 1000000000000000
+size-small : (b : Bool) (o f : Optional ℕ) (path : List ℕ) → ((n : ℕ) → o ≡ present n → n < 1000000000000000) → sizeIn (provided b (additionIn o f path)) < 1000000000000000
 size-small false o f path h = omega arith
 size-small true absent f path h = omega arith
 size-small true (present n) absent path h = omega arith
@@ -67,7 +68,7 @@ size-is line size flags e =
     mod-eq-of-lt (omega (arith, q))
 
 -- what a file line says is an addition of its numbers and its path
-in-form : (b : Bool) (o f : Optional ℕ) (path : List ℕ) (a : Addition) → when b (additionIn o f path) ≡ present a → (n : ℕ) × (m : ℕ) × (a ≡ additionOf n m path)
+in-form : (b : Bool) (o f : Optional ℕ) (path : List ℕ) (a : Addition) → provided b (additionIn o f path) ≡ present a → (n : ℕ) × (m : ℕ) × (a ≡ additionOf n m path)
 in-form false o f path a e = let z : _≡_ {A = ℕ} 0 1 = cc in absurd (omega arith)
 in-form true absent f path a e = let z : _≡_ {A = ℕ} 0 1 = cc in absurd (omega arith)
 in-form true (present n) absent path a e = let z : _≡_ {A = ℕ} 0 1 = cc in absurd (omega arith)

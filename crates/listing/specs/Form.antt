@@ -4,7 +4,7 @@ use mathlib.Core.Bool.{Bool, true, false, cond}
 use mathlib.Core.List.{List, [], _∷_, _++_}
 use lib.Dec.{eqb, ltb, leb}
 use lib.IntN.{pos}
-use lib.ListN.{length, getD, take, drop, replicate}
+use lib.ListN.{length, getD, drop, replicate}
 use Rattle.lists.specs.Lists.{partOf}
 use Rattle.lists.specs.Decimal.{valueFrom}
 use Rattle.path.specs.Join.{isEmpty}
@@ -46,13 +46,13 @@ abbrev pub onlyIf : {A : Type 0} → (A → Bool) → Optional A → Optional A
 onlyIf f absent = absent
 onlyIf f (present a) = presentIf (f a) a
 
-abbrev pub when : {A : Type 0} → Bool → Optional A → Optional A
-when true a = a
-when false a = absent
+abbrev pub provided : {A : Type 0} → Bool → Optional A → Optional A
+provided true a = a
+provided false a = absent
 
 -- 'piece length in 10 columns'; 'a piece length above 2147483647 is out of form'
 abbrev pub pieceLengthIn : List ℕ → Optional ℕ
-pieceLengthIn line = when (eqb (length line) 10) (onlyIf (λ n. leb n 2147483647) (numberIn line))
+pieceLengthIn line = provided (eqb (length line) 10) (onlyIf (λ n. leb n 2147483647) (numberIn line))
 
 -- 'flags in 2 (a sum of 1, 2, 4 as above and 16 …; all else is out of form)'
 abbrev pub areFlags : ℕ → Bool
@@ -79,5 +79,5 @@ additionIn (present size) (present flags) path = present (additionOf size flags 
 -- 'per file size in 15, blank, flags in 2, blank, path'
 abbrev pub fileIn : List ℕ → Optional Addition
 fileIn line =
-    when (both (leb 19 (length line)) (both (eqb (getD line 15 0) 32) (eqb (getD line 18 0) 32)))
+    provided (both (leb 19 (length line)) (both (eqb (getD line 15 0) 32) (eqb (getD line 18 0) 32)))
     (additionIn (numberIn (partOf line 0 15)) (onlyIf areFlags (numberIn (partOf line 16 2))) (drop 19 line))

@@ -1,15 +1,16 @@
--- What the functions that print write: a row of four columns, and a file's line by its row in the tables.
+-- What the functions that print write: a row of four columns, and a file's line by its row in the tables. Run.antt says what
+-- is printed of a set; here stands the same by rows. It relies on the columns of `lists`, the joins of `path` and `tables`.
 use Prim.Native.Nat.{ℕ, _-_, _%_}
-use mathlib.Core.Bool.{Bool, cond}
+use mathlib.Core.Bool.{cond}
 use mathlib.Core.List.{List, [], _∷_, _++_}
-use lib.Dec.{eqb, leb}
+use lib.Dec.{leb}
 use Rattle.lists.specs.Decimal.{column}
 use Rattle.types.specs.Refusals.{Outcome, value, refused}
-use Rattle.path.specs.Join.{isAlone, isEmpty, isClosed, appended, Joined, joinedIf, fits}
+use Rattle.path.specs.Join.{appended, Joined, joinedIf, fits}
 use Rattle.tables.specs.declared.rows.Row.{Row}
 use Rattle.tables.specs.declared.storage.FileStorage.{FileStorage}
 use Rattle.tables.specs.Span.{textAt}
-use Rattle.tables.specs.Rows.{dirAt}
+use Rattle.tables.specs.Rows.{directorySpan}
 use Rattle.tables.specs.Model.{Model, Store, viewOf}
 use Rattle.listing.specs.Run.{fileLines}
 
@@ -17,18 +18,9 @@ use Rattle.listing.specs.Run.{fileLines}
 abbrev pub fourColumns : ℕ → ℕ → ℕ → ℕ → ℕ → ℕ → List ℕ
 fourColumns a b c width d last = column 5 a ++ (column 15 b ++ (column 15 c ++ (column width d ++ (last ∷ []))))
 
--- a path of a directory and a name is three texts in a row: the directory unless it is empty or `.`, a separator where
--- one is needed, and the name
-abbrev pub branchOf : List ℕ → List ℕ
-branchOf dir = cond (isAlone dir) [] dir
-
-abbrev pub glueOf : List ℕ → List ℕ → ℕ
-glueOf branch name = cond (isEmpty branch) 0 (cond (isEmpty name) 0 (cond (isClosed branch) 0 1))
-
 -- the directory of a row, of no bytes where the row has none
 abbrev pub directoryIn : List ℕ → List ℕ → Row → List ℕ
-directoryIn dirs text r =
-    cond (eqb (r .«path_index») 1073741823) [] (cond (eqb (r .«path_index») 1073741822) [] (textAt text (dirAt dirs (r .«path_index»))))
+directoryIn dirs text r = textAt text (directorySpan dirs r)
 
 abbrev pub pathIn : List ℕ → List ℕ → Row → List ℕ
 pathIn dirs text r = appended (directoryIn dirs text r) (textAt text (r .name))

@@ -1,16 +1,17 @@
--- Document 01, 'The listing': what `setlist` prints for an input.
+-- Document 01, 'The listing': what `setlist` prints for an input. Lines are read by Form.antt, and obeyed on the model by
+-- opening and adding as `storage` says; the set that results, or the refusal and its line, is printed.
 use Prim.Native.Nat.{ℕ, _+_, _%_}
-use mathlib.Core.Bool.{Bool, true, false, cond}
+use mathlib.Core.Bool.{cond}
 use mathlib.Core.List.{List, [], _∷_, _++_}
-use lib.Dec.{eqb, ltb, leb}
+use lib.Dec.{eqb, ltb}
 use lib.ListN.{length}
 use Rattle.lists.specs.Lists.{ceiling}
 use Rattle.lists.specs.Decimal.{column}
 use Rattle.path.specs.Join.{appended}
 use Rattle.types.specs.Refusals.{Outcome, value, refused}
 use Rattle.tables.specs.Model.{Optional, absent, present, Directory, single, absolute, stored, File, Model}
-use Rattle.storage.specs.Addition.{Addition, Rooms, addedTo}
-use Rattle.model.specs.Reached.{fresh}
+use Rattle.storage.specs.Addition.{Rooms, addedTo}
+use Rattle.storage.specs.Opening.{fresh}
 use Rattle.listing.specs.Form.{lines, pieceLengthIn, fileIn}
 
 -- how a run ends: with a set, or with a refusal's number and its line

@@ -1,4 +1,5 @@
--- What the steps of a run answer: opening by the first line, a file line obeyed, and the run as a whole.
+-- What the steps of a run answer: opening by the first line, a file line obeyed, and the run as a whole. Run.antt says the same
+-- on the model; here it stands on the lent tables, with the answers of `storage`.
 use Prim.Native.Nat.{ℕ}
 use mathlib.Core.Bool.{cond}
 use mathlib.Core.List.{List}
@@ -16,7 +17,7 @@ use Rattle.storage.specs.declared.answer.StorageResult.the-variants.{Ok, Err}
 use Rattle.storage.specs.Addition.{Addition}
 use Rattle.storage.specs.Outcomes.{Changed, addStored}
 use Rattle.storage.specs.Opening.{opened}
-use Rattle.listing.specs.Form.{pieceLengthIn, fileIn}
+use Rattle.storage.specs.Plan.{storeOf}
 use Rattle.listing.specs.Run.{Run, listed, stopped}
 use Rattle.listing.specs.declared.run.RunResult.{RunResult}
 use Rattle.listing.specs.declared.run.RunResult.the-variants.{Listed, Stopped}
@@ -40,10 +41,6 @@ stoppedBy (Err e) line = Stopped e line
 abbrev pub countedBy : FileStorage → ℕ → RunResult
 countedBy fs line =
     cond (ltb 2147483647 (ceiling (fs .«total_size») (fs .«piece_length»))) (Stopped TooManyPieces line) (Listed fs)
-
-abbrev pub storeOf : FileStorage → List ℕ → List ℕ → List ℤ → List ℕ → List ℕ → Store
-storeOf fs rows roots times dirs text =
-    record { fs = fs; rows = rows; roots = roots; times = times; dirs = dirs; text = text }
 
 -- how a run ends, by its answer and what the tables then hold
 abbrev pub runSays : RunResult → List ℕ → List ℕ → List ℤ → List ℕ → List ℕ → Run

@@ -1,14 +1,14 @@
 // Printing: numbers in columns, a file's line by its row, and a set's or a refusal's whole text. Room is
-// decided first and written after. Relies on `lists`, `tables` and the laws of proofs/Printed.antt.
+// decided first and written after. Relies on `lists`, `path`, `tables` and the laws of proofs/Printed.antt.
 ghost use mathlib.Core.Path.{_≡_};
 ghost use Prim.Native.Nat.{_+_, _≤_, _<_};
 ghost use lib.ListN.{length};
 ghost use lib.Seq.{sets};
 ghost use Rattle.lists.specs.Lists.{ceiling};
 ghost use Rattle.types.specs.Refusals.{usizeSays, numberOf};
-ghost use Rattle.path.specs.Join.{Joined, isAlone, appended};
+ghost use Rattle.path.specs.Join.{Joined, appended};
 ghost use Rattle.listing.specs.Run.{printed, listed, stopped};
-ghost use Rattle.listing.specs.Printing.{fourColumns, branchOf, glueOf, directoryIn, pathIn, rowLine, shown, linesOf, leftIn, putText};
+ghost use Rattle.listing.specs.Printing.{fourColumns, directoryIn, pathIn, rowLine, shown, linesOf, leftIn, putText};
 use tables::FileStorage;
 use tables::Row;
 use types::Refusal;
@@ -26,77 +26,24 @@ fn put_columns(out: &mut [u8], at: usize, a: u64, b: u64, c: u64, width: usize, 
     lists::put_byte(out, at + 35 + width, last);
 }
 
-// Whether a directory is empty or `.`, which leaves a name alone.
-fn is_alone(dir: &[u8]) -> bool
-    ensures { λ r. ⌜ r ≡ isAlone (now (dir .entry)) ⌝ }
-{
-    if dir.len() == 0 {
-        return true;
-    }
-    lists::same(dir, b".")
-}
-
-// A directory as it stands in a path.
-fn branch_of(dir: &[u8]) -> &[u8]
-    ensures { λ r. ⌜ now r ≡ branchOf (now (dir .entry)) ⌝ }
-{
-    if is_alone(dir) {
-        return lists::part(dir, 0, 0);
-    }
-    dir
-}
-
-// How many separators stand between a branch and a name.
-fn glue_of(branch: &[u8], name: &[u8]) -> usize
-    ensures { λ r. ⌜ r ≡ glueOf (now (branch .entry)) (now (name .entry)) ⌝ }
-{
-    if branch.len() == 0 {
-        return 0;
-    }
-    if name.len() == 0 {
-        return 0;
-    }
-    if branch[branch.len() - 1] == b'/' {
-        return 0;
-    }
-    1
-}
-
-// The length of the path of a directory and a name.
-fn path_length(dir: &[u8], name: &[u8]) -> usize
-    requires { ⌜ (length (now dir) ≤ 65536) × (length (now name) ≤ 65536) ⌝ }
-    ensures { λ r. ⌜ r ≡ length (appended (now (dir .entry)) (now (name .entry))) ⌝ }
-{
-    let branch = branch_of(dir);
-    branch.len() + glue_of(branch, name) + name.len()
-}
-
-// Writes the path of a directory and a name from place `at` on, and gives the place behind it.
+// Writes the path of a directory and a name from place `at` on, and gives the place behind it: the unwritten rest
+// of `out` is lent to the join, which has room there.
 fn put_path(out: &mut [u8], at: usize, dir: &[u8], name: &[u8]) -> usize
     requires { ⌜ at + length (appended (now dir) (now name)) ≤ length (now out) ⌝ }
     ensures { λ r. ⌜ r ≡ at + length (appended (now (dir .entry)) (now (name .entry))) ⌝ }
     ensures { λ _. ⌜ now (out .exit) ≡ sets (now (out .entry)) at (appended (now (dir .entry)) (now (name .entry))) ⌝ }
 {
-    let branch = branch_of(dir);
-    let glue = glue_of(branch, name);
-    lists::copy_behind(out, at, branch);
-    let to = at + branch.len();
-    lists::copy_behind(out, to, lists::part(b"/", 0, glue));
-    lists::copy_behind(out, to + glue, name);
-    to + glue + name.len()
+    match path::join_path(dir, name, &mut out[at..]) {
+        UsizeResult::Ok(n) => at + n,
+        UsizeResult::Err(_) => at,
+    }
 }
 
 // The text of a row's directory, of no bytes where the row has none.
 fn directory_in<'a>(dirs: &[u64], text: &'a [u8], row: Row) -> &'a [u8]
     ensures { λ r. ⌜ now r ≡ directoryIn (now (dirs .entry)) (now (text .entry)) row ⌝ }
 {
-    if row.path_index == 1073741823 {
-        return lists::part(text, 0, 0);
-    }
-    if row.path_index == 1073741822 {
-        return lists::part(text, 0, 0);
-    }
-    tables::text_at(text, tables::dir_at(dirs, row.path_index as usize))
+    tables::text_at(text, tables::directory_span(dirs, row))
 }
 
 // The length of a file's line.
@@ -105,7 +52,7 @@ fn row_line_length(dirs: &[u64], text: &[u8], row: Row) -> usize
     ensures { λ r. ⌜ r ≡ 39 + length (pathIn (now (dirs .entry)) (now (text .entry)) row) ⌝ }
 {
     39
-        + path_length(
+        + path::joined_length(
             directory_in(dirs, text, row),
             tables::text_at(text, row.name),
         )

@@ -12,7 +12,8 @@ ghost use Rattle.storage.specs.Outcomes.{Changed, storageSays};
 ghost use Rattle.model.specs.Sound.{Sound};
 ghost use Rattle.listing.specs.Form.{lines, pieceLengthIn, fileIn};
 ghost use Rattle.listing.specs.Run.{run, runFrom, places, listing};
-ghost use Rattle.listing.specs.Steps.{openedBy, obeyed, stoppedBy, countedBy, storeOf, runSays, Placed};
+ghost use Rattle.storage.specs.Plan.{storeOf};
+ghost use Rattle.listing.specs.Steps.{openedBy, obeyed, stoppedBy, countedBy, runSays, Placed};
 use crate::form::FileLine;
 use crate::form::Number;
 use crate::form::file_in;
@@ -90,7 +91,8 @@ fn add_line(
     )
 }
 
-// The run that a refused line ends.
+// The run that a refused line ends. Callers come here with a refusal only: `let else` hands on the whole answer,
+// so the other arm stands for what cannot happen.
 fn stopped_by(answer: StorageResult, line: usize) -> RunResult
     ensures { λ r. ⌜ r ≡ stoppedBy answer line ⌝ }
 {

@@ -4,6 +4,7 @@ use libc::STDIN_FILENO;
 use libc::STDOUT_FILENO;
 use types::UsizeResult;
 
+// Reads all of the input, up to one byte more than it may have, and writes its listing, for which `out` always has room.
 fn main() {
     let mut input = [0u8; 65537];
     let got = io::read_full(STDIN_FILENO, &mut input);

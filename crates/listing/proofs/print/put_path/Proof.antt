@@ -1,77 +1,77 @@
--- `listing::print::put_path` meets its contract.
-use Prim.Native.Nat.{_+_}
-use mathlib.Core.Path.{_≡_, sym, _∙_}
+-- `listing::print::put_path` meets its contract: the rest of the buffer is lent to the join, which has room there.
+use Prim.Native.Nat.{_+_, _-_}
+use mathlib.Core.Path.{_≡_, refl}
 use native.Mathlib.Omega.{arith}
 use lib.ListN.{length}
+use Rattle.lists.proofs.Runs.{sets-lent}
 use Rattle.path.specs.Join.{appended}
-use Rattle.listing.proofs.Printed.{path-length, put-path-is}
+use Rattle.listing.proofs.Printed.{joined-value, joined-text, joined-always}
 use borrow.Author.Needs.{needs}
 use Rattle.listing.proofs.print.put_path.Statement.{statement}
 use Rattle.listing.proofs.print.put_path.Tie as tie
 
--- the place behind the path is that behind its three texts
-ends : (c : tie.After-glue-of) → length (c .before .branch-of .result .now) + c .glue-of .result + length (c .before .before .before .before .before .args .name .now) ≡ length (appended (c .before .before .before .before .before .args .dir .now) (c .before .before .before .before .before .args .name .now))
-ends c = rw (c .glue-of .ensures, c .before .branch-of .ensures) (sym (path-length (c .before .before .before .before .before .args .dir .now) (c .before .before .before .before .before .args .name .now)))
+-- the place behind the path
+ends : (c : tie.After-known-told) → c .before .before .before .before .before .before .before .before .before .before .args .at + c .before .n .given .0 .0 ≡ c .before .before .before .before .before .before .before .before .before .before .args .at + length (appended (c .before .before .before .before .before .before .before .before .before .before .args .dir .now) (c .before .before .before .before .before .before .before .before .before .before .args .name .now))
+ends c =
+    let a = c .before .before .before .before .before .before .before .before .before .before .args in
+    let w = c .before .before .before .before .before .join-path in
+    joined-value (a .out .now) (a .dir .now) (a .name .now) (w .last .1 .1 .0) (a .at) (w .result) (c .before .before .before .before .before .before .before .before .before .before .pre) (w .ensures) (c .before .n .given .0 .0) (c .before .n .given .1)
 
-branch-of-requires : tie.Need-branch-of-requires
-branch-of-requires c κs = search needs
+sub-join-path : tie.Need-sub-join-path
+sub-join-path c = search needs
 
-glue-of-requires : tie.Need-glue-of-requires
-glue-of-requires c κs = search needs
+part-join-path-start : tie.Need-part-join-path-start
+part-join-path-start c = search needs
 
-copy-behind-requires : tie.Need-copy-behind-requires
-copy-behind-requires c κs = search needs
+part-join-path-end : tie.Need-part-join-path-end
+part-join-path-end c = search needs
 
-add-to : tie.Need-add-to
-add-to c = search needs
+join-path-requires : tie.Need-join-path-requires
+join-path-requires c κs = search needs
 
-slice-aggregate-part : tie.Need-slice-aggregate-part
-slice-aggregate-part c = search needs
-
-part-requires : tie.Need-part-requires
-part-requires c κs = search needs
-
-copy-behind-requires-2 : tie.Need-copy-behind-requires-2
-copy-behind-requires-2 c κs = search needs
-
-add-copy-behind : tie.Need-add-copy-behind
-add-copy-behind c = omega (arith, ends (c .before .before .before .before .before .before .before .before .before .before .before), c .before .before .before .before .before .before .before .before .before .before .before .before .before .before .before .before .pre, c .before .before .before .before .before .before .before .before .before .before .before .before .before .before .before .before .good .0)
-
-copy-behind-requires-3 : tie.Need-copy-behind-requires-3
-copy-behind-requires-3 c κs = search needs
+enum-known-n : tie.Need-enum-known-n
+enum-known-n c = search needs
 
 add-result : tie.Need-add-result
-add-result c = omega (arith, ends (c .before .before .before .before .before .before .before .before .before .before .before .before .before .before), c .before .before .before .before .before .before .before .before .before .before .before .before .before .before .before .before .before .before .before .pre, c .before .before .before .before .before .before .before .before .before .before .before .before .before .before .before .before .before .before .before .good .0)
+add-result c = omega (arith, ends c, c .before .before .before .before .before .before .before .before .before .before .pre, c .before .before .before .before .before .before .before .before .before .before .good .0)
 
-add-result-2 : tie.Need-add-result-2
-add-result-2 c = omega (arith, ends (c .before .before .before .before .before .before .before .before .before .before .before .before .before .before), c .before .before .before .before .before .before .before .before .before .before .before .before .before .before .before .before .before .before .before .pre, c .before .before .before .before .before .before .before .before .before .before .before .before .before .before .before .before .before .before .before .good .0)
+enum-told : tie.Need-enum-told
+enum-told c = search needs
 
 same-length : tie.Need-same-length
 same-length c = search needs
 
 returns : tie.Need-returns
 returns c =
-    let a = c .before .before .before .before .before .before .before .before .before .before .before .before .before .before .before .before .before .before .before .args in (
-      omega (arith, ends (c .before .before .before .before .before .before .before .before .before .before .before .before .before .before)),
-      c .before .before .copy-behind3 .ensures
-          ∙ rw (c .before .before .before .before .before .before .copy-behind2 .ensures, c .before .before .before .before .before .before .before .part .ensures, c .before .before .before .before .before .before .before .before .before .before .before .before .copy-behind .ensures, c .before .before .before .before .before .before .before .before .before .before .before .before .before .before .glue-of .ensures, c .before .before .before .before .before .before .before .before .before .before .before .before .before .before .before .branch-of .ensures)
-          (put-path-is (a .out .now) (a .dir .now) (a .name .now) (a .at)),
+    let a = c .before .before .before .before .before .before .before .before .before .before .args in
+    let w = c .before .before .before .before .before .join-path in
+    let p = c .before .before .before .before .before .before .before .before .before .before .pre in (
+      ends c,
+      rw (joined-text (a .out .now) (a .dir .now) (a .name .now) (w .last .1 .1 .0) (a .at) (w .result) p (w .ensures))
+          (sets-lent (a .out .now) (a .at) (length (a .out .now) - a .at) (appended (a .dir .now) (a .name .now)) (omega (arith, p)) refl),
     )
+
+same-length-2 : tie.Need-same-length-2
+same-length-2 c = search needs
+
+returns-2 : tie.Need-returns-2
+returns-2 c =
+    let a = c .before .before .before .before .before .before .before .before .before .args in
+    let w = c .before .before .before .before .join-path in
+    absurd (joined-always (a .out .now) (a .dir .now) (a .name .now) (w .last .1 .1 .0) (a .at) (w .result) (c .before .before .before .before .before .before .before .before .before .pre) (w .ensures) _ (c .enum-told .given .1))
 
 pub put-path-spec : {M : Type 1} → statement M
 put-path-spec =
     tie.close
     (tie.spec
-    branch-of-requires
-    glue-of-requires
-    copy-behind-requires
-    add-to
-    slice-aggregate-part
-    part-requires
-    copy-behind-requires-2
-    add-copy-behind
-    copy-behind-requires-3
+    sub-join-path
+    part-join-path-start
+    part-join-path-end
+    join-path-requires
+    enum-known-n
     add-result
-    add-result-2
+    enum-told
     same-length
-    returns)
+    returns
+    same-length-2
+    returns-2)

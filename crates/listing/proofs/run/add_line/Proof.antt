@@ -16,7 +16,8 @@ use Rattle.tables.specs.Model.{Optional, absent, presentIf}
 use Rattle.storage.specs.Addition.{Addition}
 use Rattle.listing.specs.declared.form.FileLine.{FileLine}
 use Rattle.listing.specs.Answers.{fileSays}
-use Rattle.listing.specs.Steps.{obeyed, storeOf}
+use Rattle.storage.specs.Plan.{storeOf}
+use Rattle.listing.specs.Steps.{obeyed}
 use Rattle.listing.proofs.Steps.{size-is, root-by}
 use borrow.Author.Needs.{needs}
 use Rattle.listing.proofs.run.add_line.Statement.{statement}

@@ -5,7 +5,8 @@ use lib.ListN.{replicate, length-replicate}
 use mathlib.Core.List.{List, []}
 use Rattle.listing.specs.Run.{run, places, printed}
 use Rattle.listing.specs.Printing.{putText}
-use Rattle.listing.specs.Steps.{Placed, storeOf, runSays}
+use Rattle.storage.specs.Plan.{storeOf}
+use Rattle.listing.specs.Steps.{Placed, runSays}
 use Rattle.listing.specs.declared.run.RunResult.{RunResult}
 use Rattle.listing.proofs.Printed.{shown-is}
 use borrow.Author.Needs.{needs}

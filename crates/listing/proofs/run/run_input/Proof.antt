@@ -11,12 +11,13 @@ use Rattle.storage.specs.declared.answer.StorageResult.{StorageResult}
 use Rattle.storage.specs.Outcomes.{storageSays}
 use Rattle.storage.specs.Opening.{empty}
 use Rattle.model.specs.Sound.{Sound}
-use Rattle.model.specs.Reached.{fresh}
+use Rattle.storage.specs.Opening.{fresh}
 use Rattle.model.proofs.Opened.{sound-opened, view-opened}
 use Rattle.listing.specs.Form.{lines, pieceLengthIn}
 use Rattle.listing.specs.Run.{run, runFrom, places}
 use Rattle.listing.specs.declared.run.RunResult.{RunResult}
-use Rattle.listing.specs.Steps.{openedBy, stoppedBy, storeOf, runSays}
+use Rattle.storage.specs.Plan.{storeOf}
+use Rattle.listing.specs.Steps.{openedBy, stoppedBy, runSays}
 use Rattle.listing.proofs.Steps.{line-few, run-long, run-none, first-stops, first-goes}
 use borrow.Author.Needs.{needs}
 use Rattle.listing.proofs.run.run_input.Statement.{statement}
