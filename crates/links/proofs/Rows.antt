@@ -168,28 +168,6 @@ module _ (s : Store) (p : List ℕ) (n i : ℕ) where
   pub directories-end : n ≤ i → isDirectory (directoriesFrom s (n - i) i) p ≡ false
   directories-end h = rw (directories-none s n i h)
 
-seen-past : (x : Seen) (l : Bool) → isThere x ≡ isThere (orHere x false l)
-seen-past nothing l = refl
-seen-past file l = refl
-seen-past link l = refl
-
-seen-here : (x : Seen) (l : Bool) → isThere (orHere x true l) ≡ true
-seen-here nothing true = refl
-seen-here nothing false = refl
-seen-here file l = refl
-seen-here link l = refl
-
-module _ (s : Store) (p : List ℕ) (n i : ℕ) where
-  -- the files, from the first on: one at another path, one at p, and no more of them
-  pub entries-turn : i < n → equal (own (entryAt s i)) p ≡ false → isThere (fileAt (entriesFrom s (n - (i + 1)) (i + 1)) p) ≡ isThere (fileAt (entriesFrom s (n - i) i) p)
-  entries-turn h e = rw (entries-cons s n i h, e) (seen-past (fileAt (entriesFrom s (n - (i + 1)) (i + 1)) p) (entryAt s i .flagged))
-
-  pub entries-hit : i < n → equal (own (entryAt s i)) p ≡ true → isThere (fileAt (entriesFrom s (n - i) i) p) ≡ true
-  entries-hit h e = rw (entries-cons s n i h, e) (seen-here (fileAt (entriesFrom s (n - (i + 1)) (i + 1)) p) (entryAt s i .flagged))
-
-  pub entries-end : n ≤ i → isThere (fileAt (entriesFrom s (n - i) i) p) ≡ false
-  entries-end h = rw (entries-none s n i h)
-
 -- what stands at p among later files stands there among all
 stays : (x : Seen) (a b : Bool) → isThere x ≡ true → orHere x a b ≡ x
 stays nothing a b h = absurd (false≢true h)

@@ -83,20 +83,6 @@ pub(crate) fn is_directory(fs: FileStorage, dirs: &[u64], text: &[u8], p: &[u8])
     false
 }
 
-// Whether a file of the set has the internal path p.
-pub(crate) fn has_file(fs: FileStorage, rows: &[u64], dirs: &[u64], text: &[u8], p: &[u8]) -> bool
-    ensures { λ r. ⌜ r ≡ isThere (fileAt (entriesOf (lent fs (now (rows .entry)) (now (dirs .entry)) (now (text .entry)))) (now (p .entry))) ⌝ }
-{
-    let mut i = 0;
-    while i < fs.num_files {
-        if own_is(rows, dirs, text, i, p) {
-            return true;
-        }
-        i += 1;
-    }
-    false
-}
-
 // What stands at p: 0 nothing, 1 a file, 2 a flagged link. Of files with one internal path the last counts, so it
 // goes from the last to the first.
 pub(crate) fn file_at(fs: FileStorage, rows: &[u64], dirs: &[u64], text: &[u8], p: &[u8]) -> u8
@@ -114,4 +100,11 @@ pub(crate) fn file_at(fs: FileStorage, rows: &[u64], dirs: &[u64], text: &[u8], 
         }
     }
     0
+}
+
+// Whether a file of the set has the internal path p.
+pub(crate) fn has_file(fs: FileStorage, rows: &[u64], dirs: &[u64], text: &[u8], p: &[u8]) -> bool
+    ensures { λ r. ⌜ r ≡ isThere (fileAt (entriesOf (lent fs (now (rows .entry)) (now (dirs .entry)) (now (text .entry)))) (now (p .entry))) ⌝ }
+{
+    file_at(fs, rows, dirs, text, p) != 0
 }
