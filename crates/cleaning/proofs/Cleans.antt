@@ -1,4 +1,4 @@
--- Laws of the whole call: the fates that the marks give are those of the definition, and each way out is its case. They rely on
+-- Laws of the whole call: the verdicts that the marks give are those of the definition, and each way out is its case. They rely on
 -- the laws of the files from a place on and of the judgement (`links`).
 use Prim.Native.Nat.{ℕ, zero, suc, _+_, _≤_}
 use mathlib.Core.Path.{_≡_, refl, sym, ap, _∙_}
@@ -17,46 +17,46 @@ use Rattle.links.specs.Judging.{isFlagged, entriesOf, directoriesOf, verdictOf,
 use Rattle.links.specs.Walking.{entryAt, entriesFrom}
 use Rattle.links.proofs.Rows.{flagged-at, entries-all}
 use Rattle.links.proofs.Judgements.{verdicts-set, roomy}
-use Rattle.cleaning.specs.Cleaning.{fatesFor, fates, emptied, rewritten, cleanedStore, textNeeded, Cleaned, cleanedTo, cleanStored}
-use Rattle.cleaning.specs.Writing.{flagsIn, fatesBy, allFates, neededBy, cleanedBy}
+use Rattle.cleaning.specs.Cleaning.{fileVerdictsFor, fileVerdicts, emptied, rewritten, cleanedStore, textNeeded, Cleaned, cleanedTo, cleanStored}
+use Rattle.cleaning.specs.Writing.{flagsIn, verdictsBy, allVerdicts, neededBy, cleanedBy}
 use Rattle.cleaning.proofs.OneLink.{cond-yes, cond-no}
 
--- ---- fates
+-- ---- verdicts
 
--- marks that go on with the verdicts give the fates of the files from i on
+-- marks that go on with the verdicts give the verdicts of the files from i on
 module _ (s : Store) (marks : List ℕ) (files : List Entry) (dirs : List (List ℕ)) where
   -- one file: its verdict is the next mark where it is a flagged link
-  one-fate : (b : Bool) (v k n i : ℕ) (vs fs rest : List ℕ) → drop k marks ≡ cond b (v ∷ vs) vs ++ rest
-      → ((j : ℕ) → drop j marks ≡ vs ++ rest → fatesBy (flagsIn (s .rows)) marks n (i + 1) j ≡ fs)
-      → cond b (getD marks k 0) 0 ∷ fatesBy (flagsIn (s .rows)) marks n (i + 1) (cond b (k + 1) k) ≡ cond b v 0 ∷ fs
-  one-fate true v k n i vs fs rest e others =
+  one-verdict : (b : Bool) (v k n i : ℕ) (vs fs rest : List ℕ) → drop k marks ≡ cond b (v ∷ vs) vs ++ rest
+      → ((j : ℕ) → drop j marks ≡ vs ++ rest → verdictsBy (flagsIn (s .rows)) marks n (i + 1) j ≡ fs)
+      → cond b (getD marks k 0) 0 ∷ verdictsBy (flagsIn (s .rows)) marks n (i + 1) (cond b (k + 1) k) ≡ cond b v 0 ∷ fs
+  one-verdict true v k n i vs fs rest e others =
       let z : k + 0 ≡ k = omega arith in
       let read : getD marks k 0 ≡ v = ap (λ (x : ℕ). getD marks x 0) (sym z) ∙ sym (getD-drop k marks 0 0) ∙ ap (λ (l : List ℕ). getD l 0 0) e in
       let next : drop (k + 1) marks ≡ vs ++ rest = sym (drop-drop 1 k marks) ∙ ap (drop 1) e in
       rw (read, others (k + 1) next)
-  one-fate false v k n i vs fs rest e others = rw (others k e)
+  one-verdict false v k n i vs fs rest e others = rw (others k e)
 
-  fates-from : (n i k : ℕ) (rest : List ℕ) → drop k marks ≡ verdictsFor files dirs (entriesFrom s n i) ++ rest
-      → fatesBy (flagsIn (s .rows)) marks n i k ≡ fatesFor files dirs (entriesFrom s n i)
-  unfolding fatesBy entriesFrom
-  fates-from zero i k rest e = refl
-  fates-from (suc n) i k rest e =
+  verdicts-from : (n i k : ℕ) (rest : List ℕ) → drop k marks ≡ verdictsFor files dirs (entriesFrom s n i) ++ rest
+      → verdictsBy (flagsIn (s .rows)) marks n i k ≡ fileVerdictsFor files dirs (entriesFrom s n i)
+  unfolding verdictsBy entriesFrom
+  verdicts-from zero i k rest e = refl
+  verdicts-from (suc n) i k rest e =
       let f = entryAt s i in
       let v = verdictOf files dirs f in
       let vs = verdictsFor files dirs (entriesFrom s n (i + 1)) in
-      let fs = fatesFor files dirs (entriesFrom s n (i + 1)) in
+      let fs = fileVerdictsFor files dirs (entriesFrom s n (i + 1)) in
       let flag : f .flagged ≡ isFlagged (flagsIn (s .rows) i) = sym (flagged-at s i) in
-      one-fate (isFlagged (flagsIn (s .rows) i)) v k n i vs fs rest (e ∙ ap (λ (b : Bool). cond b (v ∷ vs) vs ++ rest) flag) (λ j q. fates-from n (i + 1) j rest q)
+      one-verdict (isFlagged (flagsIn (s .rows) i)) v k n i vs fs rest (e ∙ ap (λ (b : Bool). cond b (v ∷ vs) vs ++ rest) flag) (λ j q. verdicts-from n (i + 1) j rest q)
       ∙ ap (λ (b : Bool). cond b v 0 ∷ fs) (sym flag)
 
--- the marks that a judgement leaves give all fates
-pub marked-fates : (s : Store) (marks : List ℕ) → linkCount (entriesOf s) ≤ length marks → allFates s (sets marks 0 (verdicts s)) ≡ fates s
-marked-fates s marks h =
+-- the marks that a judgement leaves give all verdicts
+pub marked-verdicts : (s : Store) (marks : List ℕ) → linkCount (entriesOf s) ≤ length marks → allVerdicts s (sets marks 0 (verdicts s)) ≡ fileVerdicts s
+marked-verdicts s marks h =
     let e : verdicts s ++ drop (linkCount (entriesOf s)) marks ≡ sets marks 0 (verdicts s) = verdicts-set s marks (verdicts s) (linkCount (entriesOf s)) refl h refl in
     let all = entries-all s in
     let q = sym e ∙ ap (λ (l : List Entry). verdictsFor (entriesOf s) (directoriesOf s) l ++ drop (linkCount (entriesOf s)) marks) (sym all) in
-    fates-from s (sets marks 0 (verdicts s)) (entriesOf s) (directoriesOf s) (s .fs .«num_files») 0 0 (drop (linkCount (entriesOf s)) marks) q
-    ∙ ap (fatesFor (entriesOf s) (directoriesOf s)) all
+    verdicts-from s (sets marks 0 (verdicts s)) (entriesOf s) (directoriesOf s) (s .fs .«num_files») 0 0 (drop (linkCount (entriesOf s)) marks) q
+    ∙ ap (fileVerdictsFor (entriesOf s) (directoriesOf s)) all
 
 -- ---- once links are judged
 
@@ -147,23 +147,23 @@ module _ (s : Store) (marks stage path : List ℕ) where
     went : (eqb number 0 ≡ true) × (_≡_ {A = Judged} (record { says = value n; marks = m; stage = t; path = p }) yes)
     went = said-yes (eqb number 0) yes no m t p number n refl q
 
-    all-fates : allFates s m ≡ fates s
-    all-fates =
+    all-verdicts : allVerdicts s m ≡ fileVerdicts s
+    all-verdicts =
         let k = eqb-true number 0 (went .0) in
-        ap (allFates s) (ap (λ (j : Judged). j .marks) (went .1))
-        ∙ marked-fates s marks (roomy s (length marks) (length stage) (length path) k .marked)
+        ap (allVerdicts s) (ap (λ (j : Judged). j .marks) (went .1))
+        ∙ marked-verdicts s marks (roomy s (length marks) (length stage) (length path) k .marked)
 
-    written-is : withPath (cleared path) (cleanedBy (fates s) s (sets marks 0 (verdicts s)) (cleared stage)) ≡ written
+    written-is : withPath (cleared path) (cleanedBy (fileVerdicts s) s (sets marks 0 (verdicts s)) (cleared stage)) ≡ written
     written-is =
         let short = cleanedTo (refused 10) s (cleared (sets marks 0 (verdicts s))) (cleared stage) [] in
-        let u = rewritten (length (cleared stage)) (fates s) 0 (emptied (fates s) 0 s) in
+        let u = rewritten (length (cleared stage)) (fileVerdicts s) 0 (emptied (fileVerdicts s) 0 s) in
         with-path (cleared path) (ltb (length (s .text)) (textNeeded s)) short (cleanedTo (value (u .fs)) u (cleared (sets marks 0 (verdicts s))) (cleared (cleared stage)) [])
         ∙ rw (length-replicate {A = ℕ} (length stage) 0, length-sets marks 0 (verdicts s))
 
-    pub judging-goes : (c : Cleaned) → c ≡ cleanedBy (allFates s m) s m t → withPath p c ≡ cleanStored s marks stage path
+    pub judging-goes : (c : Cleaned) → c ≡ cleanedBy (allVerdicts s m) s m t → withPath p c ≡ cleanStored s marks stage path
     judging-goes c h =
         ap (withPath p) h
-        ∙ ap (λ (vs : List ℕ). withPath p (cleanedBy vs s m t)) all-fates
-        ∙ ap (λ (j : Judged). withPath (j .path) (cleanedBy (fates s) s (j .marks) (j .stage))) (went .1)
+        ∙ ap (λ (vs : List ℕ). withPath p (cleanedBy vs s m t)) all-verdicts
+        ∙ ap (λ (j : Judged). withPath (j .path) (cleanedBy (fileVerdicts s) s (j .marks) (j .stage))) (went .1)
         ∙ written-is
         ∙ cond-yes (eqb number 0) written (cleanedTo (refused number) s marks stage path) (went .0)

@@ -122,8 +122,8 @@ staged-part t stage {n} {buf} e h q =
     ∙ ap (λ (x : List ℕ). partOf x 0 (length t)) q
     ∙ part-sets t stage 0 (omega (arith, leb-true (length t) (length stage) e))
 
--- ---- by the fate
+-- ---- by the verdict
 
 -- any verdict but 0 and 1 is that for the text from the link's directory
-pub other-fate : (n v : ℕ) (s : Store) (i : ℕ) → (v ≡ 0 → ⊥) → (v ≡ 1 → ⊥) → rewrittenAt n 2 s i ≡ rewrittenAt n v s i
-other-fate n v s i h k = rw (ne-eqb v 0 h, ne-eqb v 1 k)
+pub other-verdict : (n v : ℕ) (s : Store) (i : ℕ) → (v ≡ 0 → ⊥) → (v ≡ 1 → ⊥) → rewrittenAt n 2 s i ≡ rewrittenAt n v s i
+other-verdict n v s i h k = rw (ne-eqb v 0 h, ne-eqb v 1 k)

@@ -1,4 +1,4 @@
--- Laws of passes over the files: a pass leaves every row's flags, so that each file's fate can be read as it comes, and what is
+-- Laws of passes over the files: a pass leaves every row's flags, so that each file's verdict can be read as it comes, and what is
 -- still to do from each file on gives the whole. They rely on the laws of rows of `tables`.
 use Prim.Native.Nat.{ℕ, zero, suc, _+_, _-_, _*_, _/_, _≤_, _<_, min}
 use mathlib.Core.Path.{_≡_, refl, sym, ap, _∙_}
@@ -20,7 +20,7 @@ use Rattle.tables.proofs.Filled.{word-filled, word-behind}
 use Rattle.links.specs.Clean.{entryOf}
 use Rattle.links.specs.Judging.{isFlagged, textBy}
 use Rattle.cleaning.specs.Cleaning.{rowLowered, rowsLowered, linked, cutOut, goneAt, relinked, hasPlace, writtenAt, rewrittenAt, emptied, rewritten}
-use Rattle.cleaning.specs.Writing.{flagsIn, fateOf, markAfter, fatesBy, passed, emptiedAt}
+use Rattle.cleaning.specs.Writing.{flagsIn, verdictBy, markAfter, verdictsBy, passed, emptiedAt}
 
 -- ---- flags stay
 
@@ -87,34 +87,34 @@ pub rewritten-pass : (n : ℕ) (vs : List ℕ) (i : ℕ) (s : Store) → passed 
 rewritten-pass n [] i s = refl
 rewritten-pass n (v ∷ vs) i s = rewritten-pass n vs (i + 1) (rewrittenAt n v s i)
 
--- the texts that go leave every row's flags, and so the fates
+-- the texts that go leave every row's flags, and so the verdicts
 pub emptied-flags : (vs : List ℕ) (i : ℕ) (s : Store) (j : ℕ) → flagsIn (emptied vs i s .rows) j ≡ flagsIn (s .rows) j
 emptied-flags [] i s j = refl
 emptied-flags (v ∷ vs) i s j = emptied-flags vs (i + 1) (emptiedAt v s i) j ∙ emptied-keeps v s i j
 
-pub fates-same : (g h : ℕ → ℕ) → ((j : ℕ) → g j ≡ h j) → (marks : List ℕ) (n i k : ℕ) → fatesBy g marks n i k ≡ fatesBy h marks n i k
-unfolding fatesBy
-fates-same g h e marks zero i k = refl
-fates-same g h e marks (suc n) i k = rw (e i) (ap (λ (vs : List ℕ). fateOf (h i) marks k ∷ vs) (fates-same g h e marks n (i + 1) (markAfter (h i) k)))
+pub verdicts-same : (g h : ℕ → ℕ) → ((j : ℕ) → g j ≡ h j) → (marks : List ℕ) (n i k : ℕ) → verdictsBy g marks n i k ≡ verdictsBy h marks n i k
+unfolding verdictsBy
+verdicts-same g h e marks zero i k = refl
+verdicts-same g h e marks (suc n) i k = rw (e i) (ap (λ (vs : List ℕ). verdictBy (h i) marks k ∷ vs) (verdicts-same g h e marks n (i + 1) (markAfter (h i) k)))
 
-pub both-passes : (size n : ℕ) (marks : List ℕ) (s t : Store) → t ≡ emptied (fatesBy (flagsIn (s .rows)) marks n 0 0) 0 s
-    → rewritten size (fatesBy (flagsIn (t .rows)) marks n 0 0) 0 t
-    ≡ rewritten size (fatesBy (flagsIn (s .rows)) marks n 0 0) 0 (emptied (fatesBy (flagsIn (s .rows)) marks n 0 0) 0 s)
+pub both-passes : (size n : ℕ) (marks : List ℕ) (s t : Store) → t ≡ emptied (verdictsBy (flagsIn (s .rows)) marks n 0 0) 0 s
+    → rewritten size (verdictsBy (flagsIn (t .rows)) marks n 0 0) 0 t
+    ≡ rewritten size (verdictsBy (flagsIn (s .rows)) marks n 0 0) 0 (emptied (verdictsBy (flagsIn (s .rows)) marks n 0 0) 0 s)
 both-passes size n marks s t e =
-    let vs = fatesBy (flagsIn (s .rows)) marks n 0 0 in
+    let vs = verdictsBy (flagsIn (s .rows)) marks n 0 0 in
     let same : (j : ℕ) → flagsIn (t .rows) j ≡ flagsIn (s .rows) j = λ j. ap (λ (x : Store). flagsIn (x .rows) j) e ∙ emptied-flags vs 0 s j in
-    ap (λ (ws : List ℕ). rewritten size ws 0 t) (fates-same (flagsIn (t .rows)) (flagsIn (s .rows)) same marks n 0 0)
+    ap (λ (ws : List ℕ). rewritten size ws 0 t) (verdicts-same (flagsIn (t .rows)) (flagsIn (s .rows)) same marks n 0 0)
     ∙ ap (rewritten size vs 0) e
 
--- the fates still to come, file by file; marks are no more than files
+-- the verdicts still to come, file by file; marks are no more than files
 module _ (g : ℕ → ℕ) (marks : List ℕ) (n : ℕ) where
-  pub fates-turn : (i k : ℕ) → i < n → fatesBy g marks (n - i) i k ≡ fateOf (g i) marks k ∷ fatesBy g marks (n - (i + 1)) (i + 1) (markAfter (g i) k)
-  unfolding fatesBy
-  fates-turn i k h = let e : n - i ≡ suc (n - (i + 1)) = omega arith in rw e
+  pub verdicts-turn : (i k : ℕ) → i < n → verdictsBy g marks (n - i) i k ≡ verdictBy (g i) marks k ∷ verdictsBy g marks (n - (i + 1)) (i + 1) (markAfter (g i) k)
+  unfolding verdictsBy
+  verdicts-turn i k h = let e : n - i ≡ suc (n - (i + 1)) = omega arith in rw e
 
-  pub fates-end : (i k : ℕ) → n ≤ i → fatesBy g marks (n - i) i k ≡ []
-  unfolding fatesBy
-  fates-end i k h = let e : n - i ≡ 0 = omega arith in rw e
+  pub verdicts-end : (i k : ℕ) → n ≤ i → verdictsBy g marks (n - i) i k ≡ []
+  unfolding verdictsBy
+  verdicts-end i k h = let e : n - i ≡ 0 = omega arith in rw e
 
 pub mark-behind : (flags : ℕ) (k i : ℕ) → k ≤ i → markAfter flags k ≤ i + 1
 mark-behind flags k i h = at (isFlagged flags)
@@ -132,7 +132,7 @@ module _ (f : ℕ → Store → ℕ → Store) (marks : List ℕ) (n : ℕ) (s�
     pub dirs-long : length (s .dirs) ≡ length (s₀ .dirs)
     pub text-long : length (s .text) ≡ length (s₀ .text)
     pub flags : (j : ℕ) → flagsIn (s .rows) j ≡ flagsIn (s₀ .rows) j
-    pub rest : passed f (fatesBy (flagsIn (s₀ .rows)) marks (n - i) i k) i s ≡ passed f (fatesBy (flagsIn (s₀ .rows)) marks n 0 0) 0 s₀
+    pub rest : passed f (verdictsBy (flagsIn (s₀ .rows)) marks (n - i) i k) i s ≡ passed f (verdictsBy (flagsIn (s₀ .rows)) marks n 0 0) 0 s₀
 
   pub going-start : Going s₀ 0 0
   going-start =
@@ -146,29 +146,29 @@ module _ (f : ℕ → Store → ℕ → Store) (marks : List ℕ) (n : ℕ) (s�
         rest = rw (sub-zero n);
       }
 
-  pub going-end : (s : Store) (i k : ℕ) → Going s i k → n ≤ i → s ≡ passed f (fatesBy (flagsIn (s₀ .rows)) marks n 0 0) 0 s₀
+  pub going-end : (s : Store) (i k : ℕ) → Going s i k → n ≤ i → s ≡ passed f (verdictsBy (flagsIn (s₀ .rows)) marks n 0 0) 0 s₀
   going-end s i k p h =
-      ap (λ (vs : List ℕ). passed f vs i s) (sym (fates-end (flagsIn (s₀ .rows)) marks n i k h)) ∙ p .rest
+      ap (λ (vs : List ℕ). passed f vs i s) (sym (verdicts-end (flagsIn (s₀ .rows)) marks n i k h)) ∙ p .rest
 
-  pub going-turn : Keeps f → (s : Store) (i k : ℕ) → Going s i k → i < n → (s′ : Store) {fate k′ : ℕ}
-      → fate ≡ fateOf (flagsIn (s .rows) i) marks k → s′ ≡ f fate s i → k′ ≡ markAfter (flagsIn (s .rows) i) k
+  pub going-turn : Keeps f → (s : Store) (i k : ℕ) → Going s i k → i < n → (s′ : Store) {verdict k′ : ℕ}
+      → verdict ≡ verdictBy (flagsIn (s .rows) i) marks k → s′ ≡ f verdict s i → k′ ≡ markAfter (flagsIn (s .rows) i) k
       → length (s′ .rows) ≡ length (s .rows) → length (s′ .dirs) ≡ length (s .dirs) → length (s′ .text) ≡ length (s .text)
       → Going s′ (i + 1) k′
-  going-turn keeps s i k p h s′ {fate} {k′} e step mark rows dirs text =
+  going-turn keeps s i k p h s′ {verdict} {k′} e step mark rows dirs text =
       let g = flagsIn (s₀ .rows) in
-      let q : s′ ≡ f (fateOf (g i) marks k) s i =
-      step ∙ ap (λ (v : ℕ). f v s i) (e ∙ ap (λ (x : ℕ). fateOf x marks k) (p .flags i)) in
+      let q : s′ ≡ f (verdictBy (g i) marks k) s i =
+      step ∙ ap (λ (v : ℕ). f v s i) (e ∙ ap (λ (x : ℕ). verdictBy x marks k) (p .flags i)) in
       let m : k′ ≡ markAfter (g i) k = mark ∙ ap (λ (x : ℕ). markAfter x k) (p .flags i) in
-      let done = ap (λ (vs : List ℕ). passed f vs i s) (sym (fates-turn g marks n i k h)) ∙ p .rest in
+      let done = ap (λ (vs : List ℕ). passed f vs i s) (sym (verdicts-turn g marks n i k h)) ∙ p .rest in
       record {
         within = omega arith;
         counted = rw m (mark-behind (g i) k i (p .counted));
         rows-long = rows ∙ p .rows-long;
         dirs-long = dirs ∙ p .dirs-long;
         text-long = text ∙ p .text-long;
-        flags = λ j. ap (λ (x : Store). flagsIn (x .rows) j) step ∙ keeps fate s i j ∙ p .flags j;
+        flags = λ j. ap (λ (x : Store). flagsIn (x .rows) j) step ∙ keeps verdict s i j ∙ p .flags j;
         rest =
-            ap (λ (x : ℕ). passed f (fatesBy g marks (n - (i + 1)) (i + 1) x) (i + 1) s′) m
-            ∙ ap (passed f (fatesBy g marks (n - (i + 1)) (i + 1) (markAfter (g i) k)) (i + 1)) q
+            ap (λ (x : ℕ). passed f (verdictsBy g marks (n - (i + 1)) (i + 1) x) (i + 1) s′) m
+            ∙ ap (passed f (verdictsBy g marks (n - (i + 1)) (i + 1) (markAfter (g i) k)) (i + 1)) q
             ∙ done;
       }

@@ -1,5 +1,5 @@
 -- Laws of the text that a cleaning needs: what is left, and the sum of the new texts, file by file. They rely on the laws of
--- fates and of a new text's parts.
+-- verdicts and of a new text's parts.
 use Prim.Native.Nat.{ℕ, _+_, _-_, _≤_, _<_}
 use mathlib.Core.Path.{_≡_, refl, sym, ap, _∙_}
 use mathlib.Core.Bool.{Bool, true, false, cond}
@@ -16,9 +16,9 @@ use Rattle.tables.specs.Model.{Store, fileOf}
 use Rattle.links.specs.Clean.{entryOf}
 use Rattle.links.specs.Judging.{textBy}
 use Rattle.cleaning.specs.Cleaning.{keptAfter, newBytes}
-use Rattle.cleaning.specs.Writing.{fateOf, markAfter, fatesBy, goneBytes, newLength, leftBy, sumBy, neededBy}
+use Rattle.cleaning.specs.Writing.{verdictBy, markAfter, verdictsBy, goneBytes, newLength, leftBy, sumBy, neededBy}
 use Rattle.cleaning.proofs.NewTexts.{text-by}
-use Rattle.cleaning.proofs.Passes.{fates-turn, fates-end, mark-behind}
+use Rattle.cleaning.proofs.Passes.{verdicts-turn, verdicts-end, mark-behind}
 
 -- ---- a room less a number, and what is left of it
 
@@ -36,45 +36,45 @@ ltb-over r a b h = sym (lt-ltb r (a + b) (omega arith))
 
 module _ (h : ℕ → ℕ → ℕ) (g : ℕ → ℕ) (marks : List ℕ) (n : ℕ) where
   abbrev to-come : ℕ → ℕ → List ℕ
-  to-come i k = fatesBy g marks (n - i) i k
+  to-come i k = verdictsBy g marks (n - i) i k
 
   -- i files are passed, k flagged links among them, and so many bytes are left
   module _ (u : ℕ) where
     abbrev pub Leaving : ℕ → ℕ → ℕ → Type 0
-    Leaving left i k = (i ≤ n) × (k ≤ i) × (leftBy h (fatesBy g marks (n - i) i k) i left ≡ leftBy h (fatesBy g marks n 0 0) 0 u)
+    Leaving left i k = (i ≤ n) × (k ≤ i) × (leftBy h (verdictsBy g marks (n - i) i k) i left ≡ leftBy h (verdictsBy g marks n 0 0) 0 u)
 
     pub leaving-start : Leaving u 0 0
     leaving-start = (omega arith, omega arith, rw (sub-zero n))
 
     pub leaving-turn : (left i k : ℕ) → Leaving left i k → i < n → {left′ k′ : ℕ}
-        → left′ ≡ left - h (fateOf (g i) marks k) i → k′ ≡ markAfter (g i) k → Leaving left′ (i + 1) k′
+        → left′ ≡ left - h (verdictBy (g i) marks k) i → k′ ≡ markAfter (g i) k → Leaving left′ (i + 1) k′
     leaving-turn left i k (b, m, e) t p q =
-        (omega arith, rw q (mark-behind (g i) k i m), rw (p, q) (ap (λ (vs : List ℕ). leftBy h vs i left) (sym (fates-turn g marks n i k t)) ∙ e))
+        (omega arith, rw q (mark-behind (g i) k i m), rw (p, q) (ap (λ (vs : List ℕ). leftBy h vs i left) (sym (verdicts-turn g marks n i k t)) ∙ e))
 
-    pub leaving-end : (left i k : ℕ) → Leaving left i k → n ≤ i → left ≡ leftBy h (fatesBy g marks n 0 0) 0 u
-    leaving-end left i k (b, m, e) t = ap (λ (vs : List ℕ). leftBy h vs i left) (sym (fates-end g marks n i k t)) ∙ e
+    pub leaving-end : (left i k : ℕ) → Leaving left i k → n ≤ i → left ≡ leftBy h (verdictsBy g marks n 0 0) 0 u
+    leaving-end left i k (b, m, e) t = ap (λ (vs : List ℕ). leftBy h vs i left) (sym (verdicts-end g marks n i k t)) ∙ e
 
     -- the same for a sum that is taken off
     abbrev pub Taking : ℕ → ℕ → ℕ → Type 0
-    Taking left i k = (i ≤ n) × (k ≤ i) × (ltb left (sumBy h (fatesBy g marks (n - i) i k) i) ≡ ltb u (sumBy h (fatesBy g marks n 0 0) 0))
+    Taking left i k = (i ≤ n) × (k ≤ i) × (ltb left (sumBy h (verdictsBy g marks (n - i) i k) i) ≡ ltb u (sumBy h (verdictsBy g marks n 0 0) 0))
 
     pub taking-start : Taking u 0 0
     taking-start = (omega arith, omega arith, rw (sub-zero n))
 
     module _ (left i k : ℕ) (p : Taking left i k) where
-      taking-next : i < n → ltb left (h (fateOf (g i) marks k) i + sumBy h (fatesBy g marks (n - (i + 1)) (i + 1) (markAfter (g i) k)) (i + 1)) ≡ ltb u (sumBy h (fatesBy g marks n 0 0) 0)
-      taking-next t = ap (λ (vs : List ℕ). ltb left (sumBy h vs i)) (sym (fates-turn g marks n i k t)) ∙ p .2
+      taking-next : i < n → ltb left (h (verdictBy (g i) marks k) i + sumBy h (verdictsBy g marks (n - (i + 1)) (i + 1) (markAfter (g i) k)) (i + 1)) ≡ ltb u (sumBy h (verdictsBy g marks n 0 0) 0)
+      taking-next t = ap (λ (vs : List ℕ). ltb left (sumBy h vs i)) (sym (verdicts-turn g marks n i k t)) ∙ p .2
 
-      pub taking-stop : i < n → left < h (fateOf (g i) marks k) i → true ≡ ltb u (sumBy h (fatesBy g marks n 0 0) 0)
+      pub taking-stop : i < n → left < h (verdictBy (g i) marks k) i → true ≡ ltb u (sumBy h (verdictsBy g marks n 0 0) 0)
       taking-stop t o = ltb-over left _ _ o ∙ taking-next t
 
-      pub taking-turn : i < n → h (fateOf (g i) marks k) i ≤ left → {left′ k′ : ℕ}
-          → left′ ≡ left - h (fateOf (g i) marks k) i → k′ ≡ markAfter (g i) k → Taking left′ (i + 1) k′
+      pub taking-turn : i < n → h (verdictBy (g i) marks k) i ≤ left → {left′ k′ : ℕ}
+          → left′ ≡ left - h (verdictBy (g i) marks k) i → k′ ≡ markAfter (g i) k → Taking left′ (i + 1) k′
       taking-turn t o a q =
           (omega arith, rw q (mark-behind (g i) k i (p .1)), rw (a, q) (ltb-less left _ _ o ∙ taking-next t))
 
-      pub taking-end : n ≤ i → false ≡ ltb u (sumBy h (fatesBy g marks n 0 0) 0)
-      taking-end t = sym (le-ltb left 0 (omega arith)) ∙ ap (λ (vs : List ℕ). ltb left (sumBy h vs i)) (sym (fates-end g marks n i k t)) ∙ p .2
+      pub taking-end : n ≤ i → false ≡ ltb u (sumBy h (verdictsBy g marks n 0 0) 0)
+      taking-end t = sym (le-ltb left 0 (omega arith)) ∙ ap (λ (vs : List ℕ). ltb left (sumBy h vs i)) (sym (verdicts-end g marks n i k t)) ∙ p .2
 
 -- ---- the definitions
 

@@ -85,14 +85,14 @@ relinked s i t = linked (cutOut s (goneAt s i)) i t
 -- ---- all links' texts
 
 -- the verdict on each file; 0 on those that are no flagged links
-abbrev pub fatesFor : List Entry → List (List ℕ) → List Entry → List ℕ
-fatesFor files dirs [] = []
-fatesFor files dirs (f ∷ fs) = cond (f .flagged) (verdictOf files dirs f) 0 ∷ fatesFor files dirs fs
+abbrev pub fileVerdictsFor : List Entry → List (List ℕ) → List Entry → List ℕ
+fileVerdictsFor files dirs [] = []
+fileVerdictsFor files dirs (f ∷ fs) = cond (f .flagged) (verdictOf files dirs f) 0 ∷ fileVerdictsFor files dirs fs
 
-abbrev pub fates : Store → List ℕ
-fates s = fatesFor (entriesOf s) (directoriesOf s) (entriesOf s)
+abbrev pub fileVerdicts : Store → List ℕ
+fileVerdicts s = fileVerdictsFor (entriesOf s) (directoriesOf s) (entriesOf s)
 
--- texts that give way to their link's own path go; the fates are those of the files from i on
+-- texts that give way to their link's own path go; the verdicts are those of the files from i on
 abbrev pub emptied : List ℕ → ℕ → Store → Store
 emptied [] i s = s
 emptied (v ∷ vs) i s = emptied vs (i + 1) (cond (eqb v 1) (relinked s i []) s)
@@ -132,7 +132,7 @@ rewritten n [] i s = s
 rewritten n (v ∷ vs) i s = rewritten n vs (i + 1) (rewrittenAt n v s i)
 
 abbrev pub cleanedStore : ℕ → Store → Store
-cleanedStore n s = rewritten n (fates s) 0 (emptied (fates s) 0 s)
+cleanedStore n s = rewritten n (fileVerdicts s) 0 (emptied (fileVerdicts s) 0 s)
 
 -- ---- the text needed
 
@@ -147,7 +147,7 @@ newBytes [] i s = 0
 newBytes (v ∷ vs) i s = cond (eqb v 0) 0 (length (textBy v (entryOf (fileOf s i)))) + newBytes vs (i + 1) s
 
 abbrev pub textNeeded : Store → ℕ
-textNeeded s = keptAfter (fates s) 0 s (s .fs .«text_len») + newBytes (fates s) 0 s
+textNeeded s = keptAfter (fileVerdicts s) 0 s (s .fs .«text_len») + newBytes (fileVerdicts s) 0 s
 
 -- ---- the call
 

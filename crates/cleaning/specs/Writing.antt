@@ -1,4 +1,4 @@
--- What the private parts of a cleaning's code give: joins by their parts, and fates read from flags and marks. The meaning is
+-- What the private parts of a cleaning's code give: joins by their parts, and verdicts read from flags and marks. The meaning is
 -- that of Cleaning.antt; it relies on the joins of `path` and on the flags of a link in links' Judging.antt.
 use Prim.Native.Nat.{ℕ, zero, suc, _+_, _-_}
 use mathlib.Core.Bool.{Bool, false, cond, not}
@@ -29,29 +29,29 @@ prefixOf d n = cond (isAlone d) [] (cond (isParted d n) (d ++ (47 ∷ [])) d)
 abbrev pub leafSpan : ℕ → Row → Span
 leafSpan v r = cond (eqb v 1) (r .name) (cond (has (r .flags) 16) (r .link) (record { at = 0; len = 0 }))
 
--- ---- fates
+-- ---- verdicts
 
 abbrev pub flagsIn : List ℕ → ℕ → ℕ
 flagsIn rows i = rowAt rows i .flags
 
 -- the verdict on a file with those flags, if it is a flagged link that has the k-th mark; and the next link's mark
-abbrev pub fateOf : ℕ → List ℕ → ℕ → ℕ
-fateOf flags marks k = cond (isFlagged flags) (getD marks k 0) 0
+abbrev pub verdictBy : ℕ → List ℕ → ℕ → ℕ
+verdictBy flags marks k = cond (isFlagged flags) (getD marks k 0) 0
 
 abbrev pub markAfter : ℕ → ℕ → ℕ
 markAfter flags k = cond (isFlagged flags) (k + 1) k
 
--- the fates of the n files from place i on, whose flags are g; the next link has the k-th mark
-unfoldable pub fatesBy : (ℕ → ℕ) → List ℕ → ℕ → ℕ → ℕ → List ℕ
-fatesBy g marks zero i k = []
-fatesBy g marks (suc n) i k = fateOf (g i) marks k ∷ fatesBy g marks n (i + 1) (markAfter (g i) k)
+-- the verdicts of the n files from place i on, whose flags are g; the next link has the k-th mark
+unfoldable pub verdictsBy : (ℕ → ℕ) → List ℕ → ℕ → ℕ → ℕ → List ℕ
+verdictsBy g marks zero i k = []
+verdictsBy g marks (suc n) i k = verdictBy (g i) marks k ∷ verdictsBy g marks n (i + 1) (markAfter (g i) k)
 
-abbrev pub allFates : Store → List ℕ → List ℕ
-allFates s marks = fatesBy (flagsIn (s .rows)) marks (s .fs .«num_files») 0 0
+abbrev pub allVerdicts : Store → List ℕ → List ℕ
+allVerdicts s marks = verdictsBy (flagsIn (s .rows)) marks (s .fs .«num_files») 0 0
 
 -- ---- passes over the files
 
--- each file's step, by its fate
+-- each file's step, by its verdict
 abbrev pub passed : (ℕ → Store → ℕ → Store) → List ℕ → ℕ → Store → Store
 passed f [] i s = s
 passed f (v ∷ vs) i s = passed f vs (i + 1) (f v s i)
@@ -61,7 +61,7 @@ emptiedAt v s i = cond (eqb v 1) (relinked s i []) s
 
 -- ---- the text needed
 
--- the bytes of file i's old text that go, and those of its new text, by its fate
+-- the bytes of file i's old text that go, and those of its new text, by its verdict
 abbrev pub goneBytes : List ℕ → ℕ → ℕ → ℕ → ℕ
 goneBytes rows used v i = cond (eqb v 0) 0 (clip used (rowAt rows i .link) .len)
 

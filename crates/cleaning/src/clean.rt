@@ -7,12 +7,12 @@ ghost use Rattle.tables.specs.Model.{Store};
 ghost use Rattle.storage.specs.Outcomes.{storageSays};
 ghost use Rattle.links.specs.Judging.{lent};
 ghost use Rattle.cleaning.specs.Cleaning.{emptied, rewritten, Cleaned, cleanStored};
-ghost use Rattle.cleaning.specs.Writing.{flagsIn, fatesBy, allFates, cleanedBy};
-use crate::fates::fate_of;
-use crate::fates::mark_after;
+ghost use Rattle.cleaning.specs.Writing.{flagsIn, verdictsBy, allVerdicts, cleanedBy};
 use crate::put::empty_link;
 use crate::put::write_link;
 use crate::room::lacks_room;
+use crate::verdicts::mark_after;
+use crate::verdicts::verdict_of;
 use storage::StorageResult;
 use tables::FileStorage;
 use types::Refusal;
@@ -27,15 +27,15 @@ fn empty_links(
     text: &mut [u8],
     marks: &[u8],
 ) -> FileStorage
-    ensures { λ r. ⌜ _≡_ {A = Store} (lent r (now (rows .exit)) (now (dirs .exit)) (now (text .exit))) (emptied (fatesBy (flagsIn (now (rows .entry))) (now (marks .entry)) n 0 0) 0 (lent fs (now (rows .entry)) (now (dirs .entry)) (now (text .entry)))) ⌝ }
+    ensures { λ r. ⌜ _≡_ {A = Store} (lent r (now (rows .exit)) (now (dirs .exit)) (now (text .exit))) (emptied (verdictsBy (flagsIn (now (rows .entry))) (now (marks .entry)) n 0 0) 0 (lent fs (now (rows .entry)) (now (dirs .entry)) (now (text .entry)))) ⌝ }
 {
     let mut set = fs;
     let mut i = 0;
     let mut k = 0;
     while i < n {
         let flags = tables::flags_at(rows, i);
-        let fate = fate_of(flags, marks, k);
-        set = empty_link(set, rows, dirs, text, i, fate);
+        let verdict = verdict_of(flags, marks, k);
+        set = empty_link(set, rows, dirs, text, i, verdict);
         k = mark_after(flags, k);
         i += 1;
     }
@@ -52,15 +52,15 @@ fn write_links(
     marks: &[u8],
     stage: &mut [u8],
 ) -> FileStorage
-    ensures { λ r. ⌜ _≡_ {A = Store} (lent r (now (rows .exit)) (now (dirs .exit)) (now (text .exit))) (rewritten (length (now (stage .entry))) (fatesBy (flagsIn (now (rows .entry))) (now (marks .entry)) n 0 0) 0 (lent fs (now (rows .entry)) (now (dirs .entry)) (now (text .entry)))) ⌝ }
+    ensures { λ r. ⌜ _≡_ {A = Store} (lent r (now (rows .exit)) (now (dirs .exit)) (now (text .exit))) (rewritten (length (now (stage .entry))) (verdictsBy (flagsIn (now (rows .entry))) (now (marks .entry)) n 0 0) 0 (lent fs (now (rows .entry)) (now (dirs .entry)) (now (text .entry)))) ⌝ }
 {
     let mut set = fs;
     let mut i = 0;
     let mut k = 0;
     while i < n {
         let flags = tables::flags_at(rows, i);
-        let fate = fate_of(flags, marks, k);
-        set = write_link(set, rows, dirs, text, stage, i, fate);
+        let verdict = verdict_of(flags, marks, k);
+        set = write_link(set, rows, dirs, text, stage, i, verdict);
         k = mark_after(flags, k);
         i += 1;
     }
@@ -77,7 +77,7 @@ fn rewrite_links(
     marks: &[u8],
     stage: &mut [u8],
 ) -> FileStorage
-    ensures { λ r. ⌜ _≡_ {A = Store} (lent r (now (rows .exit)) (now (dirs .exit)) (now (text .exit))) (rewritten (length (now (stage .entry))) (fatesBy (flagsIn (now (rows .entry))) (now (marks .entry)) n 0 0) 0 (emptied (fatesBy (flagsIn (now (rows .entry))) (now (marks .entry)) n 0 0) 0 (lent fs (now (rows .entry)) (now (dirs .entry)) (now (text .entry))))) ⌝ }
+    ensures { λ r. ⌜ _≡_ {A = Store} (lent r (now (rows .exit)) (now (dirs .exit)) (now (text .exit))) (rewritten (length (now (stage .entry))) (verdictsBy (flagsIn (now (rows .entry))) (now (marks .entry)) n 0 0) 0 (emptied (verdictsBy (flagsIn (now (rows .entry))) (now (marks .entry)) n 0 0) 0 (lent fs (now (rows .entry)) (now (dirs .entry)) (now (text .entry))))) ⌝ }
 {
     let without = empty_links(fs, n, rows, dirs, text, marks);
     write_links(without, n, rows, dirs, text, marks, stage)
@@ -92,7 +92,7 @@ fn clean_judged(
     marks: &mut [u8],
     stage: &mut [u8],
 ) -> StorageResult
-    ensures { λ r. ⌜ _≡_ {A = Cleaned} (record { says = storageSays r; rows = now (rows .exit); dirs = now (dirs .exit); text = now (text .exit); marks = now (marks .exit); stage = now (stage .exit); path = [] }) (cleanedBy (allFates (lent fs (now (rows .entry)) (now (dirs .entry)) (now (text .entry))) (now (marks .entry))) (lent fs (now (rows .entry)) (now (dirs .entry)) (now (text .entry))) (now (marks .entry)) (now (stage .entry))) ⌝ }
+    ensures { λ r. ⌜ _≡_ {A = Cleaned} (record { says = storageSays r; rows = now (rows .exit); dirs = now (dirs .exit); text = now (text .exit); marks = now (marks .exit); stage = now (stage .exit); path = [] }) (cleanedBy (allVerdicts (lent fs (now (rows .entry)) (now (dirs .entry)) (now (text .entry))) (now (marks .entry))) (lent fs (now (rows .entry)) (now (dirs .entry)) (now (text .entry))) (now (marks .entry)) (now (stage .entry))) ⌝ }
 {
     if lacks_room(fs, rows, dirs, text, marks) {
         links::clear(marks);

@@ -2,9 +2,9 @@
 // It relies on the total accessors and writers of `lists` and `tables` and on the joins of `path`.
 mod clean;
 mod cut;
-mod fates;
 mod parts;
 mod put;
 mod room;
+mod verdicts;
 
 pub use clean::sanitize_symlinks;

@@ -186,7 +186,7 @@ fn write_beside(
     relink(fs, rows, dirs, text, i, lists::part(stage, 0, n))
 }
 
-// Writes the new text of file i, by its fate.
+// Writes the new text of file i, by its verdict.
 pub(crate) fn write_link(
     fs: FileStorage,
     rows: &mut [u64],
@@ -194,31 +194,31 @@ pub(crate) fn write_link(
     text: &mut [u8],
     stage: &mut [u8],
     i: usize,
-    fate: u8,
+    verdict: u8,
 ) -> FileStorage
-    ensures { λ r. ⌜ _≡_ {A = Store} (lent r (now (rows .exit)) (now (dirs .exit)) (now (text .exit))) (rewrittenAt (length (now (stage .entry))) fate (lent fs (now (rows .entry)) (now (dirs .entry)) (now (text .entry))) i) ⌝ }
+    ensures { λ r. ⌜ _≡_ {A = Store} (lent r (now (rows .exit)) (now (dirs .exit)) (now (text .exit))) (rewrittenAt (length (now (stage .entry))) verdict (lent fs (now (rows .entry)) (now (dirs .entry)) (now (text .entry))) i) ⌝ }
 {
-    if fate == 0 {
+    if verdict == 0 {
         return fs;
     }
-    if fate == 1 {
+    if verdict == 1 {
         return write_own(fs, rows, dirs, text, i);
     }
     write_beside(fs, rows, dirs, text, stage, i)
 }
 
-// Takes the old text of file i away, where its fate is the link's own path.
+// Takes the old text of file i away, where its verdict is the link's own path.
 pub(crate) fn empty_link(
     fs: FileStorage,
     rows: &mut [u64],
     dirs: &mut [u64],
     text: &mut [u8],
     i: usize,
-    fate: u8,
+    verdict: u8,
 ) -> FileStorage
-    ensures { λ r. ⌜ _≡_ {A = Store} (lent r (now (rows .exit)) (now (dirs .exit)) (now (text .exit))) (emptiedAt fate (lent fs (now (rows .entry)) (now (dirs .entry)) (now (text .entry))) i) ⌝ }
+    ensures { λ r. ⌜ _≡_ {A = Store} (lent r (now (rows .exit)) (now (dirs .exit)) (now (text .exit))) (emptiedAt verdict (lent fs (now (rows .entry)) (now (dirs .entry)) (now (text .entry))) i) ⌝ }
 {
-    if fate == 1 {
+    if verdict == 1 {
         return relink(fs, rows, dirs, text, i, b"");
     }
     fs

@@ -1,5 +1,5 @@
 // The room that a cleaning needs, taken off the text area's length text by text, since a sum could be too
-// large. Relies on fates.rt, parts.rt and the laws of proofs/Passes.antt.
+// large. Relies on verdicts.rt, parts.rt and the laws of proofs/Passes.antt.
 ghost use mathlib.Core.Path.{_≡_};
 ghost use mathlib.Core.Bool.{cond};
 ghost use Prim.Native.Nat.{_-_};
@@ -8,20 +8,20 @@ ghost use lib.ListN.{length};
 ghost use Rattle.tables.specs.Span.{clip};
 ghost use Rattle.tables.specs.Rows.{rowAt};
 ghost use Rattle.links.specs.Judging.{lent};
-ghost use Rattle.cleaning.specs.Writing.{flagsIn, fatesBy, allFates, goneBytes, newLength, leftBy, sumBy, neededBy};
-use crate::fates::fate_of;
-use crate::fates::mark_after;
+ghost use Rattle.cleaning.specs.Writing.{flagsIn, verdictsBy, allVerdicts, goneBytes, newLength, leftBy, sumBy, neededBy};
 use crate::parts::leaf_of;
+use crate::verdicts::mark_after;
+use crate::verdicts::verdict_of;
 use lists::minus;
 use tables::FileStorage;
 use tables::Row;
 use tables::Span;
 
-// What is left of `left` bytes once a link's old text goes, where its fate changes it.
-fn left_after(used: usize, link: Span, fate: u8, left: usize) -> usize
-    ensures { λ r. ⌜ r ≡ left - cond (eqb fate 0) 0 (clip used link .len) ⌝ }
+// What is left of `left` bytes once a link's old text goes, where its verdict changes it.
+fn left_after(used: usize, link: Span, verdict: u8, left: usize) -> usize
+    ensures { λ r. ⌜ r ≡ left - cond (eqb verdict 0) 0 (clip used link .len) ⌝ }
 {
-    if fate == 0 {
+    if verdict == 0 {
         return left;
     }
     let gone = tables::clipped(used, link);
@@ -30,44 +30,44 @@ fn left_after(used: usize, link: Span, fate: u8, left: usize) -> usize
 
 // What is left of the text held once the old texts of the first n files that change are gone.
 fn kept_after(used: usize, n: usize, rows: &[u64], marks: &[u8]) -> usize
-    ensures { λ r. ⌜ r ≡ leftBy (goneBytes (now (rows .entry)) used) (fatesBy (flagsIn (now (rows .entry))) (now (marks .entry)) n 0 0) 0 used ⌝ }
+    ensures { λ r. ⌜ r ≡ leftBy (goneBytes (now (rows .entry)) used) (verdictsBy (flagsIn (now (rows .entry))) (now (marks .entry)) n 0 0) 0 used ⌝ }
 {
     let mut left = used;
     let mut i = 0;
     let mut k = 0;
     while i < n {
         let row = tables::row_at(rows, i);
-        let fate = fate_of(row.flags, marks, k);
-        left = left_after(used, row.link, fate, left);
+        let verdict = verdict_of(row.flags, marks, k);
+        left = left_after(used, row.link, verdict, left);
         k = mark_after(row.flags, k);
         i += 1;
     }
     left
 }
 
-// How long the new text of a file is, by its fate.
-fn new_length(dirs: &[u64], text: &[u8], row: Row, fate: u8) -> usize
-    ensures { λ r. ⌜ r ≡ newLength (now (dirs .entry)) (now (text .entry)) fate row ⌝ }
+// How long the new text of a file is, by its verdict.
+fn new_length(dirs: &[u64], text: &[u8], row: Row, verdict: u8) -> usize
+    ensures { λ r. ⌜ r ≡ newLength (now (dirs .entry)) (now (text .entry)) verdict row ⌝ }
 {
-    if fate == 0 {
+    if verdict == 0 {
         return 0;
     }
     let branch = tables::text_at(text, tables::directory_span(dirs, row));
-    let leaf = tables::text_at(text, leaf_of(row, fate));
+    let leaf = tables::text_at(text, leaf_of(row, verdict));
     path::joined_length(branch, leaf)
 }
 
 // Whether the new texts of the first n files have more than `room` bytes.
 fn lacks_bytes(n: usize, rows: &[u64], dirs: &[u64], text: &[u8], marks: &[u8], room: usize) -> bool
-    ensures { λ r. ⌜ r ≡ ltb room (sumBy (λ v i. newLength (now (dirs .entry)) (now (text .entry)) v (rowAt (now (rows .entry)) i)) (fatesBy (flagsIn (now (rows .entry))) (now (marks .entry)) n 0 0) 0) ⌝ }
+    ensures { λ r. ⌜ r ≡ ltb room (sumBy (λ v i. newLength (now (dirs .entry)) (now (text .entry)) v (rowAt (now (rows .entry)) i)) (verdictsBy (flagsIn (now (rows .entry))) (now (marks .entry)) n 0 0) 0) ⌝ }
 {
     let mut left = room;
     let mut i = 0;
     let mut k = 0;
     while i < n {
         let row = tables::row_at(rows, i);
-        let fate = fate_of(row.flags, marks, k);
-        let more = new_length(dirs, text, row, fate);
+        let verdict = verdict_of(row.flags, marks, k);
+        let more = new_length(dirs, text, row, verdict);
         if left < more {
             return true;
         }
@@ -86,7 +86,7 @@ pub(crate) fn lacks_room(
     text: &[u8],
     marks: &[u8],
 ) -> bool
-    ensures { λ r. ⌜ r ≡ ltb (length (now (text .entry))) (neededBy (allFates (lent fs (now (rows .entry)) (now (dirs .entry)) (now (text .entry))) (now (marks .entry))) (lent fs (now (rows .entry)) (now (dirs .entry)) (now (text .entry)))) ⌝ }
+    ensures { λ r. ⌜ r ≡ ltb (length (now (text .entry))) (neededBy (allVerdicts (lent fs (now (rows .entry)) (now (dirs .entry)) (now (text .entry))) (now (marks .entry))) (lent fs (now (rows .entry)) (now (dirs .entry)) (now (text .entry)))) ⌝ }
 {
     let n = fs.num_files;
     let kept = kept_after(fs.text_len, n, rows, marks);

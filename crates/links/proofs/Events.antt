@@ -10,7 +10,7 @@ use lib.Seq.{map-set-same}
 use Rattle.tables.specs.Model.{Store, directoryText}
 use Rattle.links.specs.Clean.{Entry, to, leadAt, without, isDirectory, fileAt, isThere, covers, known, cut, weight, left, directoryLength, space}
 use Rattle.links.specs.Judging.{entriesOf, directoriesOf}
-use Rattle.links.specs.Walking.{lead, fate, entryAt, entriesFrom, directoriesFrom, anyAt, leadMark, leadText, openOf, walkOf, fresh, Joined}
+use Rattle.links.specs.Walking.{lead, verdict, entryAt, entriesFrom, directoriesFrom, anyAt, leadMark, leadText, openOf, walkOf, fresh, Joined}
 use Rattle.links.proofs.Rows.{entries-all, entries-cons, entries-none, directories-hit, directories-end}
 use Rattle.links.proofs.Walk.{lead-less}
 use Rattle.links.proofs.Turns.{turn-end, turn-dir, turn-dir-stop, turn-link, turn-link-stop, turn-link-less}
@@ -138,7 +138,7 @@ pub record Over (ends : List ℕ → Bool) (ms₀ stage₀ path₀ : List ℕ) (
   pub stage-long : length stage ≡ length stage₀
   pub path-long : length path ≡ length path₀
   pub marks-fresh : map fresh (map lead ms) ≡ map fresh (map lead ms₀)
-  pub fates-kept : map fate ms ≡ map fate ms₀
+  pub verdicts-kept : map verdict ms ≡ map verdict ms₀
   pub stopped : e < length path - at → false ≡ answer
   pub ended : length path - at ≤ e → ends (drop at path) ≡ answer
 

@@ -1,4 +1,4 @@
--- Marks as numbers: a lead below 8 and 8 times a fate. These laws rely on the kit's laws of lists.
+-- Marks as numbers: a lead below 8 and 8 times a verdict. These laws rely on the kit's laws of lists.
 use Prim.Native.Nat.{ℕ, zero, suc, _+_, _-_, _*_, _/_, _<_, _≤_}
 use mathlib.Core.Path.{_≡_, refl, sym, ap, _∙_}
 use mathlib.Core.List.{List, [], _∷_, _++_, map, append-nil}
@@ -6,7 +6,7 @@ use native.Mathlib.Omega.{arith}
 use native.Mathlib.Numerals.{add-one}
 use lib.ListN.{length, getD, set, take, drop, drop-of-length-le, length-map}
 use lib.Seq.{drop-cons, getD-at, set-at, take-suc, append-snoc, take-all, length-take-le, map-set-same}
-use Rattle.links.specs.Walking.{lead, fate, fresh}
+use Rattle.links.specs.Walking.{lead, verdict, fresh}
 
 -- ---- maps of marks
 
@@ -42,14 +42,14 @@ module _ (f : ℕ → ℕ) where
     pub map-end : length ms ≤ k → map f (take k ms) ++ drop k ms ≡ map f ms
     map-end h = rw (take-all k ms h, drop-of-length-le ms {i = k} h, append-nil)
 
--- ---- leads and fates
+-- ---- leads and verdicts
 
--- the lead and the fate of the number that holds both
+-- the lead and the verdict of the number that holds both
 lead-of : (v m : ℕ) → m < 8 → lead (v * 8 + m) ≡ m
 lead-of v m h = omega arith
 
-fate-of : (v m : ℕ) → m < 8 → fate (v * 8 + m) ≡ v
-fate-of v m h = omega arith
+verdict-of : (v m : ℕ) → m < 8 → verdict (v * 8 + m) ≡ v
+verdict-of v m h = omega arith
 
 -- every lead is below 8
 pub lead-below : (ms : List ℕ) (k : ℕ) → getD (map lead ms) k 0 < 8
@@ -60,20 +60,20 @@ module _ (ms : List ℕ) (k m : ℕ) (h : m < 8) where
   pub set-lead : map lead (set ms k (getD ms k 0 / 8 * 8 + m)) ≡ set (map lead ms) k m
   set-lead = map-set lead ms k (getD ms k 0 / 8 * 8 + m) ∙ ap (set (map lead ms) k) (lead-of (getD ms k 0 / 8) m h)
 
-  pub set-lead-fates : map fate (set ms k (getD ms k 0 / 8 * 8 + m)) ≡ map fate ms
-  set-lead-fates = map-set-same fate ms k (getD ms k 0 / 8 * 8 + m) 0 (fate-of (getD ms k 0 / 8) m h)
+  pub set-lead-verdicts : map verdict (set ms k (getD ms k 0 / 8 * 8 + m)) ≡ map verdict ms
+  set-lead-verdicts = map-set-same verdict ms k (getD ms k 0 / 8 * 8 + m) 0 (verdict-of (getD ms k 0 / 8) m h)
 
--- leads and fates together are the marks
-pub marks-from : (a b : List ℕ) → map lead a ≡ map lead b → map fate a ≡ map fate b → a ≡ b
+-- leads and verdicts together are the marks
+pub marks-from : (a b : List ℕ) → map lead a ≡ map lead b → map verdict a ≡ map verdict b → a ≡ b
 marks-from [] [] h k = refl
 marks-from [] (y ∷ b) h k = absurd (let z = ap length h in omega arith)
 marks-from (x ∷ a) [] h k = absurd (let z = ap length h in omega arith)
 marks-from (x ∷ a) (y ∷ b) h k =
     let p : lead x ≡ lead y = cc in
-    let q : fate x ≡ fate y = cc in
+    let q : verdict x ≡ verdict y = cc in
     let e : x ≡ y = omega arith in
     let t : map lead a ≡ map lead b = cc in
-    let u : map fate a ≡ map fate b = cc in
+    let u : map verdict a ≡ map verdict b = cc in
     let r = marks-from a b t u in
     cc
 

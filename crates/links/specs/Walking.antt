@@ -53,8 +53,8 @@ seenCode link = 2
 abbrev pub lead : ℕ → ℕ
 lead m = m % 8
 
-abbrev pub fate : ℕ → ℕ
-fate m = m / 8
+abbrev pub verdict : ℕ → ℕ
+verdict m = m / 8
 
 -- the first pass's mark for each flagged link
 abbrev pub firstMarks : List Entry → List (List ℕ) → List Entry → List ℕ
@@ -153,4 +153,4 @@ pub record Walkable (files : List Entry) (dirs : List (List ℕ)) (f : Entry) (n
 -- a link's mark after the second pass: where a walk decides, the text stays or the link's own path takes its place
 abbrev pub walkedMark : List Entry → List (List ℕ) → Entry → ℕ → ℕ
 walkedMark files dirs f m =
-    cond (eqb (fate m) 3) (cond (resolves files dirs (linksOf files dirs files) (f .text)) 0 1 * 8 + lead m) m
+    cond (eqb (verdict m) 3) (cond (resolves files dirs (linksOf files dirs files) (f .text)) 0 1 * 8 + lead m) m

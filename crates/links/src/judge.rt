@@ -10,7 +10,7 @@ ghost use Rattle.storage.specs.Rules.{both, outcomeOf};
 ghost use Rattle.answers.specs.Answers.{rowsHeld, dirsHeld, textHeld};
 ghost use Rattle.links.specs.Clean.{space, linkCount};
 ghost use Rattle.links.specs.Judging.{lent, entriesOf, verdicts, judgingNumber, cleared, Judged, judged};
-ghost use Rattle.links.specs.Walking.{fate};
+ghost use Rattle.links.specs.Walking.{verdict};
 use crate::first::first_marks;
 use crate::second::walk_links;
 use crate::space::count_links;
@@ -57,8 +57,8 @@ fn links_in(
 }
 
 // Takes the leads off all marks.
-fn keep_fates(marks: &mut [u8])
-    ensures { λ _. ⌜ now (marks .exit) ≡ map fate (now (marks .entry)) ⌝ }
+fn keep_verdicts(marks: &mut [u8])
+    ensures { λ _. ⌜ now (marks .exit) ≡ map verdict (now (marks .entry)) ⌝ }
 {
     let mut k = 0;
     while k < marks.len() {
@@ -95,7 +95,7 @@ fn judge(
 {
     first_marks(fs, rows, dirs, text, marks, stage);
     walk_links(fs, rows, dirs, text, marks, stage, path);
-    keep_fates(marks);
+    keep_verdicts(marks);
     clear(stage);
     clear(path);
 }

@@ -7,7 +7,7 @@ ghost use Rattle.tables.specs.Span.{textAt};
 ghost use Rattle.tables.specs.Rows.{dirAt};
 ghost use Rattle.links.specs.Clean.{covers, known, cut};
 ghost use Rattle.links.specs.Judging.{lent, entriesOf, directoriesOf};
-ghost use Rattle.links.specs.Walking.{rowText, rowBranch, rowLead, lead, fate, fresh, walkOf, Joined, Ready};
+ghost use Rattle.links.specs.Walking.{rowText, rowBranch, rowLead, lead, verdict, fresh, walkOf, Joined, Ready};
 use crate::mark::put_lead;
 use crate::parts::is_covered;
 use crate::scan::lead_mark;
@@ -63,7 +63,7 @@ fn traverse(
     requires { ⌜ (m ≤ 2) × (length (rowBranch (now rows) (now dirs) (now text) i) + length (rowText (now rows) (now text) i) + 1 ≤ length (now stage)) × (at + e < length (now path)) × (length (rowLead (now rows) (now dirs) (now text) i m) ≤ at) ⌝ }
     ensures { λ r. ⌜ Joined (now (path .entry)) at e (rowLead (now (rows .entry)) (now (dirs .entry)) (now (text .entry)) i m) (now (path .exit)) r ⌝ }
     ensures { λ _. ⌜ map lead (now (marks .exit)) ≡ set (map lead (now (marks .entry))) k (m + 2) ⌝ }
-    ensures { λ _. ⌜ map fate (now (marks .exit)) ≡ map fate (now (marks .entry)) ⌝ }
+    ensures { λ _. ⌜ map verdict (now (marks .exit)) ≡ map verdict (now (marks .entry)) ⌝ }
 {
     let n = lead_text(rows, dirs, text, i, m, stage);
     put_lead(marks, k, m + 2);
@@ -85,7 +85,7 @@ pub(crate) fn resolve(
     requires { ⌜ Ready (entriesOf (lent fs (now rows) (now dirs) (now text))) (map lead (now marks)) (now stage) (now path) from ⌝ }
     ensures { λ r. ⌜ r ≡ walkOf (entriesOf (lent fs (now (rows .entry)) (now (dirs .entry)) (now (text .entry)))) (directoriesOf (lent fs (now (rows .entry)) (now (dirs .entry)) (now (text .entry)))) (map lead (now (marks .entry))) (drop from (now (path .entry))) (cut (drop from (now (path .entry))) 0) ⌝ }
     ensures { λ _. ⌜ map fresh (map lead (now (marks .exit))) ≡ map fresh (map lead (now (marks .entry))) ⌝ }
-    ensures { λ _. ⌜ map fate (now (marks .exit)) ≡ map fate (now (marks .entry)) ⌝ }
+    ensures { λ _. ⌜ map verdict (now (marks .exit)) ≡ map verdict (now (marks .entry)) ⌝ }
 {
     let mut at = from;
     let mut e = cut_at(path, at, 0);

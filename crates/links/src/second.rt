@@ -7,10 +7,10 @@ ghost use Prim.Native.Nat.{_*_, _<_, _≤_};
 ghost use lib.ListN.{length, getD, set};
 ghost use Rattle.links.specs.Clean.{resolves, linksOf, space};
 ghost use Rattle.links.specs.Judging.{lent, entriesOf, directoriesOf, verdicts};
-ghost use Rattle.links.specs.Walking.{entryAt, lead, fate, firstMarks, Walkable, walkedMark};
-use crate::mark::fate_at;
-use crate::mark::put_fate;
+ghost use Rattle.links.specs.Walking.{entryAt, lead, verdict, firstMarks, Walkable, walkedMark};
+use crate::mark::put_verdict;
 use crate::mark::reopen;
+use crate::mark::verdict_at;
 use crate::resolve::resolve;
 use crate::set::is_link;
 use crate::set::link_text;
@@ -60,14 +60,14 @@ fn walk_one(
     if !is_link(rows, i) {
         return 0;
     }
-    if fate_at(marks, k) != 3 {
+    if verdict_at(marks, k) != 3 {
         return 1;
     }
     if walk_link(fs, rows, dirs, text, marks, stage, path, i) {
-        put_fate(marks, k, 0);
+        put_verdict(marks, k, 0);
         return 1;
     }
-    put_fate(marks, k, 1);
+    put_verdict(marks, k, 1);
     1
 }
 
@@ -82,7 +82,7 @@ pub(crate) fn walk_links(
     path: &mut [u8],
 )
     requires { ⌜ (now marks ≡ firstMarks (entriesOf (lent fs (now rows) (now dirs) (now text))) (directoriesOf (lent fs (now rows) (now dirs) (now text))) (entriesOf (lent fs (now rows) (now dirs) (now text)))) × (space (entriesOf (lent fs (now rows) (now dirs) (now text))) ≤ length (now stage)) × (2 * space (entriesOf (lent fs (now rows) (now dirs) (now text))) ≤ length (now path)) ⌝ }
-    ensures { λ _. ⌜ map fate (now (marks .exit)) ≡ verdicts (lent fs (now (rows .entry)) (now (dirs .entry)) (now (text .entry))) ⌝ }
+    ensures { λ _. ⌜ map verdict (now (marks .exit)) ≡ verdicts (lent fs (now (rows .entry)) (now (dirs .entry)) (now (text .entry))) ⌝ }
 {
     let mut i = 0;
     let mut k = 0;

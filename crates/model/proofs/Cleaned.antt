@@ -1,5 +1,5 @@
 -- A cleaning of tables in order: they stay in order, and mean what document 01 says of the cleaning; no text that is to be
--- written lacks its place. It relies on CleanedRun.antt and CleanedFates.antt.
+-- written lacks its place. It relies on CleanedRun.antt and CleanedVerdicts.antt.
 --     sound-cleaned, view-cleaned    the tables after it, where there is room and work space enough
 --     needed-is                      the text needed is that of the set after it
 use mathlib.Core.Path.{_≡_, refl, sym, ap, subst, _∙_}
@@ -18,21 +18,21 @@ use Rattle.tables.proofs.Tabled.{length-tabled, tabled-same}
 use Rattle.storage.specs.Addition.{fileText, textOf}
 use Rattle.links.specs.Clean.{Entry, entryOf, isHeld, linkedTo, cleanFile, cleanedOf, space}
 use Rattle.links.specs.Judging.{entriesOf, directoriesOf, verdictOf, textBy}
-use Rattle.cleaning.specs.Cleaning.{fates, emptied, cleanedStore, textNeeded}
+use Rattle.cleaning.specs.Cleaning.{fileVerdicts, emptied, cleanedStore, textNeeded}
 use Rattle.model.specs.Sound.{sumTo, Sound}
 use Rattle.model.proofs.Common.{sum-tabled}
 use Rattle.model.proofs.Files.{map-tabled}
 use Rattle.model.proofs.Texts.{text-is}
 use Rattle.model.proofs.CleanedFiles.{held-flagged}
 use Rattle.model.proofs.CleanedText.{Turned, turned-then, turned-view}
-use Rattle.model.proofs.CleanedRun.{fateOf, textLength, amount, amount-same, emptiedFile, freed, Passed, emptied-turned, rewrittenFile, grown, rewritten-turned}
-use Rattle.model.proofs.CleanedFates.{length-fates, fate, fate-at, fated-flagged, none-file, given-file, length-held, cleaned-file, replaced, new, longer, amount-two, amount-sum, sum-from, sum-two, balance, new-bytes, kept-after, replaced-used, beside-short, space-at}
+use Rattle.model.proofs.CleanedRun.{verdictIn, textLength, amount, amount-same, emptiedFile, freed, Passed, emptied-turned, rewrittenFile, grown, rewritten-turned}
+use Rattle.model.proofs.CleanedVerdicts.{length-file-verdicts, verdict, verdict-at, verdict-flagged, none-file, given-file, length-held, cleaned-file, replaced, new, longer, amount-two, amount-sum, sum-from, sum-two, balance, new-bytes, kept-after, replaced-used, beside-short, space-at}
 
 -- ---- the tables after a cleaning
 
 module _ (s : Store) (ok : Sound s) where
   abbrev vs : List ℕ
-  vs = fates s
+  vs = fileVerdicts s
 
   abbrev files : List Entry
   files = entriesOf s
@@ -43,41 +43,41 @@ module _ (s : Store) (ok : Sound s) where
   abbrev n : ℕ
   n = s .fs .«num_files»
 
-  -- the fates of the set's files
+  -- the verdicts of the set's files
   count : length vs ≡ n
-  count = length-fates files dirs files ∙ length-tabled n (λ i. entryOf (fileOf s i))
+  count = length-file-verdicts files dirs files ∙ length-tabled n (λ i. entryOf (fileOf s i))
 
-  fate-is : (k : ℕ) → k < n → fateOf vs 0 k ≡ fate files dirs (entryOf (fileOf s k))
-  fate-is k h = rw (zero-add k) at (fate-at files dirs n (λ i. entryOf (fileOf s i)) 0 k h)
+  verdict-is : (k : ℕ) → k < n → verdictIn vs 0 k ≡ verdict files dirs (entryOf (fileOf s k))
+  verdict-is k h = rw (zero-add k) at (verdict-at files dirs n (λ i. entryOf (fileOf s i)) 0 k h)
 
-  flagged : (k : ℕ) → k < n → eqb (fateOf vs 0 k) 0 ≡ false → entryOf (fileOf s k) .flagged ≡ true
+  flagged : (k : ℕ) → k < n → eqb (verdictIn vs 0 k) 0 ≡ false → entryOf (fileOf s k) .flagged ≡ true
   flagged k h e =
-      fated-flagged (entryOf (fileOf s k) .flagged) (verdictOf files dirs (entryOf (fileOf s k))) (ap (λ (v : ℕ). eqb v 0) (sym (fate-is k h)) ∙ e)
+      verdict-flagged (entryOf (fileOf s k) .flagged) (verdictOf files dirs (entryOf (fileOf s k))) (ap (λ (v : ℕ). eqb v 0) (sym (verdict-is k h)) ∙ e)
 
-  held : (k : ℕ) → k < n → eqb (fateOf vs 0 k) 0 ≡ false → isHeld (fileOf s k .link) ≡ true
+  held : (k : ℕ) → k < n → eqb (verdictIn vs 0 k) 0 ≡ false → isHeld (fileOf s k .link) ≡ true
   held k h e = held-flagged (fileOf s k) (flagged k h e)
 
   one-not-none : (v : ℕ) → eqb v 1 ≡ true → eqb v 0 ≡ false
   one-not-none v e = ap (λ (w : ℕ). eqb w 0) (eqb-true v 1 e)
 
-  amount-all : (w : ℕ → Entry → ℕ) → amount w vs 0 s ≡ sumTo n (λ k. w (fateOf vs 0 k) (entryOf (fileOf s k)))
+  amount-all : (w : ℕ → Entry → ℕ) → amount w vs 0 s ≡ sumTo n (λ k. w (verdictIn vs 0 k) (entryOf (fileOf s k)))
   amount-all w =
       let z : 0 + length vs ≡ n = omega (arith, count) in
-      let e = amount-sum w (λ k. w (fateOf vs 0 k) (entryOf (fileOf s k))) vs 0 s (λ k a b. refl) in
-      sum-from (amount w vs 0 s) n (λ k. w (fateOf vs 0 k) (entryOf (fileOf s k))) (rw z at e)
+      let e = amount-sum w (λ k. w (verdictIn vs 0 k) (entryOf (fileOf s k))) vs 0 s (λ k a b. refl) in
+      sum-from (amount w vs 0 s) n (λ k. w (verdictIn vs 0 k) (entryOf (fileOf s k))) (rw z at e)
 
   -- the tables between the two passes
   abbrev between : Store
   between = emptied vs 0 s
 
-  first : Passed s between (λ k. emptiedFile (fateOf vs 0 k)) (amount freed vs 0 s) 0
+  first : Passed s between (λ k. emptiedFile (verdictIn vs 0 k)) (amount freed vs 0 s) 0
   first =
-      emptied-turned vs 0 s ok (omega (arith, count)) (λ k a b e. held k (omega (arith, count)) (one-not-none (fateOf vs 0 k) e))
+      emptied-turned vs 0 s ok (omega (arith, count)) (λ k a b e. held k (omega (arith, count)) (one-not-none (verdictIn vs 0 k) e))
 
   same-count : between .fs .«num_files» ≡ n
   same-count = ap (λ (x : FileStorage). x .«num_files») (first .turned .record-is)
 
-  file-between : (k : ℕ) → k < 0 + length vs → fileOf between k ≡ emptiedFile (fateOf vs 0 k) (fileOf s k)
+  file-between : (k : ℕ) → k < 0 + length vs → fileOf between k ≡ emptiedFile (verdictIn vs 0 k) (fileOf s k)
   file-between k b = first .turned .files k (omega (arith, count))
 
   grown-between : (v : ℕ) (f : File) → grown v (entryOf (emptiedFile v f)) ≡ longer v (entryOf f)
@@ -90,7 +90,7 @@ module _ (s : Store) (ok : Sound s) where
 
   growth : amount grown vs 0 between ≡ amount longer vs 0 s
   growth =
-      amount-same grown longer vs 0 between s (λ k a b. ap (λ (f : File). grown (fateOf vs 0 k) (entryOf f)) (file-between k b) ∙ grown-between (fateOf vs 0 k) (fileOf s k))
+      amount-same grown longer vs 0 between s (λ k a b. ap (λ (f : File). grown (verdictIn vs 0 k) (entryOf f)) (file-between k b) ∙ grown-between (verdictIn vs 0 k) (fileOf s k))
 
   -- what is used in the end is what is needed
   needed : between .fs .«text_len» + amount grown vs 0 between ≡ textNeeded s
@@ -106,39 +106,39 @@ module _ (s : Store) (ok : Sound s) where
       )
 
   -- what the second pass asks of them
-  held-between : (k : ℕ) → 0 ≤ k → k < 0 + length vs → eqb (fateOf vs 0 k) 0 ≡ false → isHeld (fileOf between k .link) ≡ true
-  held-between k a b e = ap (λ (f : File). isHeld (f .link)) (file-between k b) ∙ at (eqb (fateOf vs 0 k) 1)
+  held-between : (k : ℕ) → 0 ≤ k → k < 0 + length vs → eqb (verdictIn vs 0 k) 0 ≡ false → isHeld (fileOf between k .link) ≡ true
+  held-between k a b e = ap (λ (f : File). isHeld (f .link)) (file-between k b) ∙ at (eqb (verdictIn vs 0 k) 1)
     where
       at : (c : Bool) → isHeld (cond c (linkedTo (present []) (fileOf s k)) (fileOf s k) .link) ≡ true
       at true = refl
       at false = held k (omega (arith, count)) e
 
-  bare-between : (k : ℕ) → 0 ≤ k → k < 0 + length vs → eqb (fateOf vs 0 k) 1 ≡ true → textLength between k ≡ 0
+  bare-between : (k : ℕ) → 0 ≤ k → k < 0 + length vs → eqb (verdictIn vs 0 k) 1 ≡ true → textLength between k ≡ 0
   bare-between k a b e =
       ap (λ (f : File). length (entryOf f .text)) (file-between k b)
       ∙ ap (λ (c : Bool). length (entryOf (cond c (linkedTo (present []) (fileOf s k)) (fileOf s k)) .text)) e
 
   -- both passes do to the files what the cleaning does
-  files-cleaned : tabled n (λ k. rewrittenFile (fateOf vs 0 k) (emptiedFile (fateOf vs 0 k) (fileOf s k))) ≡ cleanedOf (viewOf s) .files
+  files-cleaned : tabled n (λ k. rewrittenFile (verdictIn vs 0 k) (emptiedFile (verdictIn vs 0 k) (fileOf s k))) ≡ cleanedOf (viewOf s) .files
   files-cleaned =
-      tabled-same n (λ k. rewrittenFile (fateOf vs 0 k) (emptiedFile (fateOf vs 0 k) (fileOf s k))) (λ k. cleanFile files dirs (fileOf s k))
-      (λ k h. ap (λ (v : ℕ). rewrittenFile v (emptiedFile v (fileOf s k))) (fate-is k h) ∙ cleaned-file files dirs (fileOf s k))
+      tabled-same n (λ k. rewrittenFile (verdictIn vs 0 k) (emptiedFile (verdictIn vs 0 k) (fileOf s k))) (λ k. cleanFile files dirs (fileOf s k))
+      (λ k h. ap (λ (v : ℕ). rewrittenFile v (emptiedFile v (fileOf s k))) (verdict-is k h) ∙ cleaned-file files dirs (fileOf s k))
       ∙ sym (map-tabled (cleanFile files dirs) n (fileOf s))
       ∙ ap (λ (es : List Entry). map (cleanFile es dirs) (tabled n (fileOf s))) (sym (map-tabled entryOf n (fileOf s)))
 
   -- ---- the text needed
 
   abbrev file-of : ℕ → File
-  file-of k = rewrittenFile (fateOf vs 0 k) (emptiedFile (fateOf vs 0 k) (fileOf s k))
+  file-of k = rewrittenFile (verdictIn vs 0 k) (emptiedFile (verdictIn vs 0 k) (fileOf s k))
 
   -- a file's texts, with the new text instead of the old
-  text-of : (k : ℕ) → k < n → fileText (file-of k) + replaced (fateOf vs 0 k) (entryOf (fileOf s k)) ≡ fileText (fileOf s k) + new (fateOf vs 0 k) (entryOf (fileOf s k))
-  text-of k h = at (eqb (fateOf vs 0 k) 0) refl
+  text-of : (k : ℕ) → k < n → fileText (file-of k) + replaced (verdictIn vs 0 k) (entryOf (fileOf s k)) ≡ fileText (fileOf s k) + new (verdictIn vs 0 k) (entryOf (fileOf s k))
+  text-of k h = at (eqb (verdictIn vs 0 k) 0) refl
     where
-      at : (b : Bool) → eqb (fateOf vs 0 k) 0 ≡ b → fileText (file-of k) + cond b 0 (textLength s k) ≡ fileText (fileOf s k) + cond b 0 (length (textBy (fateOf vs 0 k) (entryOf (fileOf s k))))
-      at true p = ap (λ (f : File). fileText f + 0) (none-file (fateOf vs 0 k) (fileOf s k) p)
+      at : (b : Bool) → eqb (verdictIn vs 0 k) 0 ≡ b → fileText (file-of k) + cond b 0 (textLength s k) ≡ fileText (fileOf s k) + cond b 0 (length (textBy (verdictIn vs 0 k) (entryOf (fileOf s k))))
+      at true p = ap (λ (f : File). fileText f + 0) (none-file (verdictIn vs 0 k) (fileOf s k) p)
       at false p =
-          ap (λ (f : File). fileText f + textLength s k) (given-file (fateOf vs 0 k) (fileOf s k) (held k h p))
+          ap (λ (f : File). fileText f + textLength s k) (given-file (verdictIn vs 0 k) (fileOf s k) (held k h p))
           ∙ omega (arith, length-held (fileOf s k .link))
 
   -- 'Text needed is the sum of the set's name and all names, directories and link texts held after the call'
@@ -155,25 +155,25 @@ module _ (s : Store) (ok : Sound s) where
         ap (λ (fs : List File). sum (map fileText fs)) files-cleaned,
         sum-tabled fileText n file-of,
         sum-tabled fileText n (fileOf s),
-        sum-two n (λ k. fileText (file-of k)) (λ k. replaced (fateOf vs 0 k) (entryOf (fileOf s k))) (λ k. fileText (fileOf s k)) (λ k. new (fateOf vs 0 k) (entryOf (fileOf s k))) text-of,
+        sum-two n (λ k. fileText (file-of k)) (λ k. replaced (verdictIn vs 0 k) (entryOf (fileOf s k))) (λ k. fileText (fileOf s k)) (λ k. new (verdictIn vs 0 k) (entryOf (fileOf s k))) text-of,
       )
 
   -- ---- where there is room and work space enough
 
   module _ (m : ℕ) (room : textNeeded s ≤ length (s .text)) (work : space (entriesOf s) ≤ m) where
-    short-between : (k : ℕ) → 0 ≤ k → k < 0 + length vs → eqb (fateOf vs 0 k) 0 ≡ false → eqb (fateOf vs 0 k) 1 ≡ false → length (textBy (fateOf vs 0 k) (entryOf (fileOf between k))) ≤ m
+    short-between : (k : ℕ) → 0 ≤ k → k < 0 + length vs → eqb (verdictIn vs 0 k) 0 ≡ false → eqb (verdictIn vs 0 k) 1 ≡ false → length (textBy (verdictIn vs 0 k) (entryOf (fileOf between k))) ≤ m
     short-between k a b e z =
         let f : fileOf between k ≡ fileOf s k = file-between k b ∙ ap (λ (c : Bool). cond c (linkedTo (present []) (fileOf s k)) (fileOf s k)) z in
         let h : k < n = omega (arith, count) in
-        let l : length (textBy (fateOf vs 0 k) (entryOf (fileOf s k))) ≤ m = rw (e, z) (omega (arith, beside-short (entryOf (fileOf s k) .directory) (entryOf (fileOf s k) .text), space-at n (λ i. entryOf (fileOf s i)) k h (flagged k h e), work)) in
-        subst (λ (x : File). length (textBy (fateOf vs 0 k) (entryOf x)) ≤ m) (sym f) l
+        let l : length (textBy (verdictIn vs 0 k) (entryOf (fileOf s k))) ≤ m = rw (e, z) (omega (arith, beside-short (entryOf (fileOf s k) .directory) (entryOf (fileOf s k) .text), space-at n (λ i. entryOf (fileOf s i)) k h (flagged k h e), work)) in
+        subst (λ (x : File). length (textBy (verdictIn vs 0 k) (entryOf x)) ≤ m) (sym f) l
 
-    second : Passed between (cleanedStore m s) (λ k. rewrittenFile (fateOf vs 0 k)) 0 (amount grown vs 0 between)
+    second : Passed between (cleanedStore m s) (λ k. rewrittenFile (verdictIn vs 0 k)) 0 (amount grown vs 0 between)
     second =
         rewritten-turned m vs 0 between (first .turned .sound) (omega (arith, count, same-count)) held-between bare-between short-between
         (omega (arith, needed, room, first .turned .long))
 
-    both-passes : Turned s (cleanedStore m s) (λ k f. rewrittenFile (fateOf vs 0 k) (emptiedFile (fateOf vs 0 k) f))
+    both-passes : Turned s (cleanedStore m s) (λ k f. rewrittenFile (verdictIn vs 0 k) (emptiedFile (verdictIn vs 0 k) f))
     both-passes = turned-then (first .turned) (second .turned)
 
     pub sound-cleaned : Sound (cleanedStore m s)

@@ -14,7 +14,7 @@ use Rattle.types.specs.Refusals.{value, refused}
 use Rattle.tables.specs.Model.{Store, fileOf}
 use Rattle.links.specs.Clean.{entryOf}
 use Rattle.links.specs.Judging.{lent, textBy, judgingNumber, cleared}
-use Rattle.cleaning.specs.Cleaning.{goneAt, linked, relinked, fates, emptied, writtenAt, hasPlace, rewrittenAt, rewritten, cleanedStore, keptAfter, newBytes, textNeeded, Cleaned, cleanedTo, cleanStored}
+use Rattle.cleaning.specs.Cleaning.{goneAt, linked, relinked, fileVerdicts, emptied, writtenAt, hasPlace, rewrittenAt, rewritten, cleanedStore, keptAfter, newBytes, textNeeded, Cleaned, cleanedTo, cleanStored}
 
 -- other roots and times
 abbrev pub besides : List ℕ → List ℤ → Store → Store
@@ -52,7 +52,7 @@ module _ (roots : List ℕ) (times : List ℤ) where
 
   cleaned-besides : (n : ℕ) (s : Store) → cleanedStore n (besides roots times s) ≡ besides roots times (cleanedStore n s)
   cleaned-besides n s =
-      ap (rewritten n (fates s) 0) (emptied-besides (fates s) 0 s) ∙ rewritten-besides n (fates s) 0 (emptied (fates s) 0 s)
+      ap (rewritten n (fileVerdicts s) 0) (emptied-besides (fileVerdicts s) 0 s) ∙ rewritten-besides n (fileVerdicts s) 0 (emptied (fileVerdicts s) 0 s)
 
   -- the text needed, and so what the call says
   kept-besides : (vs : List ℕ) (i : ℕ) (s : Store) (u : ℕ) → keptAfter vs i (besides roots times s) u ≡ keptAfter vs i s u
@@ -65,7 +65,7 @@ module _ (roots : List ℕ) (times : List ℤ) where
       ap (λ (n : ℕ). cond (eqb v 0) 0 (length (textBy v (entryOf (fileOf s i)))) + n) (new-besides vs (i + 1) s)
 
   needed-besides : (s : Store) → textNeeded (besides roots times s) ≡ textNeeded s
-  needed-besides s = ap₂ _+_ (kept-besides (fates s) 0 s (s .fs .«text_len»)) (new-besides (fates s) 0 s)
+  needed-besides s = ap₂ _+_ (kept-besides (fileVerdicts s) 0 s (s .fs .«text_len»)) (new-besides (fileVerdicts s) 0 s)
 
   said-besides : (s : Store) (marks stage path : List ℕ) → cleanStored (besides roots times s) marks stage path ≡ cleanStored s marks stage path
   said-besides s marks stage path =

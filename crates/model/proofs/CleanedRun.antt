@@ -1,8 +1,8 @@
--- All steps of a cleaning, on tables in order, for any list of fates: first texts go, then texts are put. The tables stay in
--- order, each file has the text that its fate gives, and the used part grows and shrinks by the texts' lengths. It relies on
+-- All steps of a cleaning, on tables in order, for any list of verdicts: first texts go, then texts are put. The tables stay in
+-- order, each file has the text that its verdict gives, and the used part grows and shrinks by the texts' lengths. It relies on
 -- CleanedStep.antt.
---     fateOf                              the fate of a file
---     amount                              a sum over files, by their fates
+--     verdictIn                              the verdict of a file
+--     amount                              a sum over files, by their verdicts
 --     emptied-turned, rewritten-turned    the two passes
 use mathlib.Core.Path.{_≡_, refl, sym, ap, ap₂, subst, _∙_}
 use mathlib.Core.Bool.{Bool, true, false, cond}
@@ -26,33 +26,33 @@ use Rattle.model.proofs.Texts.{dir-span, name-span, link-span, text-len
 use Rattle.model.proofs.CleanedText.{Turned, turned-self, turned-same, turned-then, atFile}
 use Rattle.model.proofs.CleanedStep.{gone-is, emptied-turn, linked-turn, relinked-turn}
 
--- ---- fates
+-- ---- verdicts
 
--- the fate of file k, the first of the list being that of file i
-abbrev pub fateOf : List ℕ → ℕ → ℕ → ℕ
-fateOf [] i k = 0
-fateOf (v ∷ vs) i k = cond (eqb k i) v (fateOf vs (i + 1) k)
+-- the verdict of file k, the first of the list being that of file i
+abbrev pub verdictIn : List ℕ → ℕ → ℕ → ℕ
+verdictIn [] i k = 0
+verdictIn (v ∷ vs) i k = cond (eqb k i) v (verdictIn vs (i + 1) k)
 
 -- files before the list's first have none, the first has its own, those behind it theirs
-fate-before : (vs : List ℕ) (i k : ℕ) → k < i → fateOf vs i k ≡ 0
-fate-before [] i k h = refl
-fate-before (v ∷ vs) i k h =
-    ap (λ (b : Bool). cond b v (fateOf vs (i + 1) k)) (ne-eqb k i (λ e. omega arith)) ∙ fate-before vs (i + 1) k (omega arith)
+verdict-before : (vs : List ℕ) (i k : ℕ) → k < i → verdictIn vs i k ≡ 0
+verdict-before [] i k h = refl
+verdict-before (v ∷ vs) i k h =
+    ap (λ (b : Bool). cond b v (verdictIn vs (i + 1) k)) (ne-eqb k i (λ e. omega arith)) ∙ verdict-before vs (i + 1) k (omega arith)
 
-pub fate-here : (v : ℕ) (vs : List ℕ) (i : ℕ) → fateOf (v ∷ vs) i i ≡ v
-fate-here v vs i = ap (λ (b : Bool). cond b v (fateOf vs (i + 1) i)) (eq-eqb i i refl)
+pub verdict-here : (v : ℕ) (vs : List ℕ) (i : ℕ) → verdictIn (v ∷ vs) i i ≡ v
+verdict-here v vs i = ap (λ (b : Bool). cond b v (verdictIn vs (i + 1) i)) (eq-eqb i i refl)
 
-pub fate-behind : (v : ℕ) (vs : List ℕ) (i k : ℕ) → i + 1 ≤ k → fateOf (v ∷ vs) i k ≡ fateOf vs (i + 1) k
-fate-behind v vs i k h = ap (λ (b : Bool). cond b v (fateOf vs (i + 1) k)) (ne-eqb k i (λ e. omega arith))
+pub verdict-behind : (v : ℕ) (vs : List ℕ) (i k : ℕ) → i + 1 ≤ k → verdictIn (v ∷ vs) i k ≡ verdictIn vs (i + 1) k
+verdict-behind v vs i k h = ap (λ (b : Bool). cond b v (verdictIn vs (i + 1) k)) (ne-eqb k i (λ e. omega arith))
 
--- what a pass does to a file, by its fate
+-- what a pass does to a file, by its verdict
 module _ (change : ℕ → File → File) (same : (f : File) → change 0 f ≡ f) where
   -- a change of file i, and then of those behind it
-  fates-then : (v : ℕ) (vs : List ℕ) (i k : ℕ) (f : File) → change (fateOf vs (i + 1) k) (atFile i (change v) k f) ≡ change (fateOf (v ∷ vs) i k) f
-  fates-then v vs i k f = at (eqb k i) refl
+  verdicts-then : (v : ℕ) (vs : List ℕ) (i k : ℕ) (f : File) → change (verdictIn vs (i + 1) k) (atFile i (change v) k f) ≡ change (verdictIn (v ∷ vs) i k) f
+  verdicts-then v vs i k f = at (eqb k i) refl
     where
-      at : (b : Bool) → eqb k i ≡ b → change (fateOf vs (i + 1) k) (cond b (change v f) f) ≡ change (cond b v (fateOf vs (i + 1) k)) f
-      at true q = ap (λ (w : ℕ). change w (change v f)) (fate-before vs (i + 1) k (omega (arith, eqb-true k i q))) ∙ same (change v f)
+      at : (b : Bool) → eqb k i ≡ b → change (verdictIn vs (i + 1) k) (cond b (change v f) f) ≡ change (cond b v (verdictIn vs (i + 1) k)) f
+      at true q = ap (λ (w : ℕ). change w (change v f)) (verdict-before vs (i + 1) k (omega (arith, eqb-true k i q))) ∙ same (change v f)
       at false q = refl
 
 -- ---- link texts
@@ -81,7 +81,7 @@ text-len s ok k h = at (has (rowAt (s .rows) k .flags) 16) refl
 link-inside : (s : Store) → Sound s → (k : ℕ) → k < s .fs .«num_files» → rowAt (s .rows) k .link .len ≤ s .fs .«text_len»
 link-inside s ok k h = omega (arith, ok .within (linkText k), ap (λ (x : Span). x .len) (link-span s k h))
 
--- ---- sums over files by their fates
+-- ---- sums over files by their verdicts
 
 abbrev pub amount : (ℕ → Entry → ℕ) → List ℕ → ℕ → Store → ℕ
 amount w [] i s = 0
@@ -89,16 +89,16 @@ amount w (v ∷ vs) i s = w v (entryOf (fileOf s i)) + amount w vs (i + 1) s
 
 -- sums over other files with the same summands
 pub amount-same : (w x : ℕ → Entry → ℕ) (vs : List ℕ) (i : ℕ) (s t : Store)
-    → ((k : ℕ) → i ≤ k → k < i + length vs → w (fateOf vs i k) (entryOf (fileOf s k)) ≡ x (fateOf vs i k) (entryOf (fileOf t k)))
+    → ((k : ℕ) → i ≤ k → k < i + length vs → w (verdictIn vs i k) (entryOf (fileOf s k)) ≡ x (verdictIn vs i k) (entryOf (fileOf t k)))
     → amount w vs i s ≡ amount x vs i t
 amount-same w x [] i s t e = refl
 amount-same w x (v ∷ vs) i s t e = ap₂ _+_ first (amount-same w x vs (i + 1) s t rest)
   where
     first : w v (entryOf (fileOf s i)) ≡ x v (entryOf (fileOf t i))
-    first = rw (fate-here v vs i) at (e i (omega arith) (omega arith))
+    first = rw (verdict-here v vs i) at (e i (omega arith) (omega arith))
 
-    rest : (k : ℕ) → i + 1 ≤ k → k < i + 1 + length vs → w (fateOf vs (i + 1) k) (entryOf (fileOf s k)) ≡ x (fateOf vs (i + 1) k) (entryOf (fileOf t k))
-    rest k a b = rw (fate-behind v vs i k a) at (e k (omega arith) (omega arith))
+    rest : (k : ℕ) → i + 1 ≤ k → k < i + 1 + length vs → w (verdictIn vs (i + 1) k) (entryOf (fileOf s k)) ≡ x (verdictIn vs (i + 1) k) (entryOf (fileOf t k))
+    rest k a b = rw (verdict-behind v vs i k a) at (e k (omega arith) (omega arith))
 
 -- ---- the first pass
 
@@ -127,7 +127,7 @@ module _ (s : Store) (ok : Sound s) (i : ℕ) (h : i < s .fs .«num_files») whe
   idle : Passed s s (atFile i (λ (f : File). f)) 0 0
   idle = record { turned = turned-same (λ k b. same-files i k (fileOf s k)) (turned-self s ok); used = refl }
 
-  -- a text goes where its fate is 1
+  -- a text goes where its verdict is 1
   empty-step : (v : ℕ) → (eqb v 1 ≡ true → isHeld (fileOf s i .link) ≡ true) → Passed s (cond (eqb v 1) (relinked s i []) s) (atFile i (emptiedFile v)) (freed v (entryOf (fileOf s i))) 0
   empty-step v held = at (eqb v 1) held
     where
@@ -142,10 +142,10 @@ module _ (s : Store) (ok : Sound s) (i : ℕ) (h : i < s .fs .«num_files») whe
 
 -- a step and the steps behind it
 then : (change : ℕ → File → File) → ((f : File) → change 0 f ≡ f) → (v : ℕ) (vs : List ℕ) (i : ℕ) {s t u : Store} {a b c d : ℕ}
-    → Passed s t (atFile i (change v)) a b → Passed t u (λ k. change (fateOf vs (i + 1) k)) c d → Passed s u (λ k. change (fateOf (v ∷ vs) i k)) (a + c) (b + d)
+    → Passed s t (atFile i (change v)) a b → Passed t u (λ k. change (verdictIn vs (i + 1) k)) c d → Passed s u (λ k. change (verdictIn (v ∷ vs) i k)) (a + c) (b + d)
 then change same v vs i {s} p q =
     record {
-      turned = turned-same (λ k h. fates-then change same v vs i k (fileOf s k)) (turned-then (p .turned) (q .turned));
+      turned = turned-same (λ k h. verdicts-then change same v vs i k (fileOf s k)) (turned-then (p .turned) (q .turned));
       used = omega (arith, p .used, q .used);
     }
 
@@ -157,26 +157,26 @@ stays {s} {t} g i p k h d = p .files k h ∙ ap (λ (b : Bool). cond b (g (fileO
 count-is : {s t : Store} {g : ℕ → File → File} → Turned s t g → t .fs .«num_files» ≡ s .fs .«num_files»
 count-is p = ap (λ (x : FileStorage). x .«num_files») (p .record-is)
 
--- fate 0 leaves a file
+-- verdict 0 leaves a file
 emptied-none : (f : File) → emptiedFile 0 f ≡ f
 emptied-none f = refl
 
 -- all of them, from file i on
 pub emptied-turned : (vs : List ℕ) (i : ℕ) (s : Store) → Sound s → i + length vs ≤ s .fs .«num_files»
-    → ((k : ℕ) → i ≤ k → k < i + length vs → eqb (fateOf vs i k) 1 ≡ true → isHeld (fileOf s k .link) ≡ true)
-    → Passed s (emptied vs i s) (λ k. emptiedFile (fateOf vs i k)) (amount freed vs i s) 0
+    → ((k : ℕ) → i ≤ k → k < i + length vs → eqb (verdictIn vs i k) 1 ≡ true → isHeld (fileOf s k .link) ≡ true)
+    → Passed s (emptied vs i s) (λ k. emptiedFile (verdictIn vs i k)) (amount freed vs i s) 0
 emptied-turned [] i s ok h e = record { turned = turned-self s ok; used = refl }
 emptied-turned (v ∷ vs) i s ok h e =
-    let p = empty-step s ok i (omega arith) v (λ q. e i (omega arith) (omega arith) (rw (fate-here v vs i) q)) in
+    let p = empty-step s ok i (omega arith) v (λ q. e i (omega arith) (omega arith) (rw (verdict-here v vs i) q)) in
     let n = count-is (p .turned) in
     let same : (k : ℕ) → i + 1 ≤ k → k < i + 1 + length vs → fileOf (cond (eqb v 1) (relinked s i []) s) k ≡ fileOf s k =
     λ k a b. stays (emptiedFile v) i (p .turned) k (omega arith) (λ q. omega arith) in
     let r =
     emptied-turned vs (i + 1) (cond (eqb v 1) (relinked s i []) s) (p .turned .sound) (omega arith)
-    (λ k a b q. ap (λ (f : File). isHeld (f .link)) (same k a b) ∙ e k (omega arith) (omega arith) (rw (fate-behind v vs i k a) q)) in
+    (λ k a b q. ap (λ (f : File). isHeld (f .link)) (same k a b) ∙ e k (omega arith) (omega arith) (rw (verdict-behind v vs i k a) q)) in
     let z : amount freed vs (i + 1) (cond (eqb v 1) (relinked s i []) s) ≡ amount freed vs (i + 1) s =
-    amount-same freed freed vs (i + 1) (cond (eqb v 1) (relinked s i []) s) s (λ k a b. ap (λ (f : File). freed (fateOf vs (i + 1) k) (entryOf f)) (same k a b)) in
-    subst (λ (x : ℕ). Passed s (emptied (v ∷ vs) i s) (λ k. emptiedFile (fateOf (v ∷ vs) i k)) (freed v (entryOf (fileOf s i)) + x) 0) z
+    amount-same freed freed vs (i + 1) (cond (eqb v 1) (relinked s i []) s) s (λ k a b. ap (λ (f : File). freed (verdictIn vs (i + 1) k) (entryOf f)) (same k a b)) in
+    subst (λ (x : ℕ). Passed s (emptied (v ∷ vs) i s) (λ k. emptiedFile (verdictIn (v ∷ vs) i k)) (freed v (entryOf (fileOf s i)) + x) 0) z
     (then emptiedFile emptied-none v vs i p r)
 
 -- ---- the second pass
@@ -236,7 +236,7 @@ module _ (s : Store) (ok : Sound s) (i : ℕ) (h : i < s .fs .«num_files») (v 
   inside : rowAt (s .rows) i .link .len ≤ s .fs .«text_len»
   inside = link-inside s ok i h
 
-  -- a text is put where its fate is not 0
+  -- a text is put where its verdict is not 0
   written-step : Passed s (writtenAt v s i) (atFile i (rewrittenFile v)) 0 (grown v (entryOf (fileOf s i)))
   written-step = at (eqb v 0) (eqb v 1) refl refl
     where
@@ -300,23 +300,23 @@ module _ (s : Store) (ok : Sound s) (i : ℕ) (h : i < s .fs .«num_files») (v 
     rewrite-step =
         subst (λ (t : Store). Passed s t (atFile i (rewrittenFile v)) 0 (grown v (entryOf (fileOf s i)))) (sym rewritten-is) written-step
 
--- fate 0 leaves a file
+-- verdict 0 leaves a file
 rewritten-none : (f : File) → rewrittenFile 0 f ≡ f
 rewritten-none f = refl
 
 -- all of them, from file i on, where no text gives way any more and there is room for the texts and in the stage
 pub rewritten-turned : (m : ℕ) (vs : List ℕ) (i : ℕ) (s : Store) → Sound s → i + length vs ≤ s .fs .«num_files»
-    → ((k : ℕ) → i ≤ k → k < i + length vs → eqb (fateOf vs i k) 0 ≡ false → isHeld (fileOf s k .link) ≡ true)
-    → ((k : ℕ) → i ≤ k → k < i + length vs → eqb (fateOf vs i k) 1 ≡ true → textLength s k ≡ 0)
-    → ((k : ℕ) → i ≤ k → k < i + length vs → eqb (fateOf vs i k) 0 ≡ false → eqb (fateOf vs i k) 1 ≡ false → length (textBy (fateOf vs i k) (entryOf (fileOf s k))) ≤ m)
+    → ((k : ℕ) → i ≤ k → k < i + length vs → eqb (verdictIn vs i k) 0 ≡ false → isHeld (fileOf s k .link) ≡ true)
+    → ((k : ℕ) → i ≤ k → k < i + length vs → eqb (verdictIn vs i k) 1 ≡ true → textLength s k ≡ 0)
+    → ((k : ℕ) → i ≤ k → k < i + length vs → eqb (verdictIn vs i k) 0 ≡ false → eqb (verdictIn vs i k) 1 ≡ false → length (textBy (verdictIn vs i k) (entryOf (fileOf s k))) ≤ m)
     → s .fs .«text_len» + amount grown vs i s ≤ length (s .text)
-    → Passed s (rewritten m vs i s) (λ k. rewrittenFile (fateOf vs i k)) 0 (amount grown vs i s)
+    → Passed s (rewritten m vs i s) (λ k. rewrittenFile (verdictIn vs i k)) 0 (amount grown vs i s)
 rewritten-turned m [] i s ok h e z y r = record { turned = turned-self s ok; used = refl }
 rewritten-turned m (v ∷ vs) i s ok h e z y r =
     let p =
     rewrite-step s ok i (omega arith) v
-    (λ q. e i (omega arith) (omega arith) (rw (fate-here v vs i) q))
-    (λ q. z i (omega arith) (omega arith) (rw (fate-here v vs i) q))
+    (λ q. e i (omega arith) (omega arith) (rw (verdict-here v vs i) q))
+    (λ q. z i (omega arith) (omega arith) (rw (verdict-here v vs i) q))
     (omega arith)
     m
     (λ p q. short p q) in
@@ -324,22 +324,22 @@ rewritten-turned m (v ∷ vs) i s ok h e z y r =
     let same : (k : ℕ) → i + 1 ≤ k → k < i + 1 + length vs → fileOf (rewrittenAt m v s i) k ≡ fileOf s k =
     λ k a b. stays (rewrittenFile v) i (p .turned) k (omega arith) (λ q. omega arith) in
     let x : amount grown vs (i + 1) (rewrittenAt m v s i) ≡ amount grown vs (i + 1) s =
-    amount-same grown grown vs (i + 1) (rewrittenAt m v s i) s (λ k a b. ap (λ (f : File). grown (fateOf vs (i + 1) k) (entryOf f)) (same k a b)) in
+    amount-same grown grown vs (i + 1) (rewrittenAt m v s i) s (λ k a b. ap (λ (f : File). grown (verdictIn vs (i + 1) k) (entryOf f)) (same k a b)) in
     let q =
     rewritten-turned m vs (i + 1) (rewrittenAt m v s i) (p .turned .sound) (omega arith)
-    (λ k a b q. ap (λ (f : File). isHeld (f .link)) (same k a b) ∙ e k (omega arith) (omega arith) (rw (fate-behind v vs i k a) q))
-    (λ k a b q. ap (λ (f : File). length (entryOf f .text)) (same k a b) ∙ z k (omega arith) (omega arith) (rw (fate-behind v vs i k a) q))
+    (λ k a b q. ap (λ (f : File). isHeld (f .link)) (same k a b) ∙ e k (omega arith) (omega arith) (rw (verdict-behind v vs i k a) q))
+    (λ k a b q. ap (λ (f : File). length (entryOf f .text)) (same k a b) ∙ z k (omega arith) (omega arith) (rw (verdict-behind v vs i k a) q))
     (λ k a b c d. behind k a b (same k a b) c d)
     (omega (arith, p .used, p .turned .long, x)) in
-    subst (λ (y : ℕ). Passed s (rewritten m (v ∷ vs) i s) (λ k. rewrittenFile (fateOf (v ∷ vs) i k)) 0 (grown v (entryOf (fileOf s i)) + y)) x
+    subst (λ (y : ℕ). Passed s (rewritten m (v ∷ vs) i s) (λ k. rewrittenFile (verdictIn (v ∷ vs) i k)) 0 (grown v (entryOf (fileOf s i)) + y)) x
     (then rewrittenFile rewritten-none v vs i p q)
   where
     short : eqb v 0 ≡ false → eqb v 1 ≡ false → length (textBy v (entryOf (fileOf s i))) ≤ m
     short p q =
-        rw (fate-here v vs i) at (y i (omega arith) (omega arith) (rw (fate-here v vs i) p) (rw (fate-here v vs i) q))
+        rw (verdict-here v vs i) at (y i (omega arith) (omega arith) (rw (verdict-here v vs i) p) (rw (verdict-here v vs i) q))
 
     behind : (k : ℕ) → i + 1 ≤ k → k < i + 1 + length vs → fileOf (rewrittenAt m v s i) k ≡ fileOf s k
-        → eqb (fateOf vs (i + 1) k) 0 ≡ false → eqb (fateOf vs (i + 1) k) 1 ≡ false → length (textBy (fateOf vs (i + 1) k) (entryOf (fileOf (rewrittenAt m v s i) k))) ≤ m
+        → eqb (verdictIn vs (i + 1) k) 0 ≡ false → eqb (verdictIn vs (i + 1) k) 1 ≡ false → length (textBy (verdictIn vs (i + 1) k) (entryOf (fileOf (rewrittenAt m v s i) k))) ≤ m
     behind k a b f p q =
-        subst (λ (x : File). length (textBy (fateOf vs (i + 1) k) (entryOf x)) ≤ m) (sym f)
-        (rw (fate-behind v vs i k a) at (y k (omega arith) (omega arith) (rw (fate-behind v vs i k a) p) (rw (fate-behind v vs i k a) q)))
+        subst (λ (x : File). length (textBy (verdictIn vs (i + 1) k) (entryOf x)) ≤ m) (sym f)
+        (rw (verdict-behind v vs i k a) at (y k (omega arith) (omega arith) (rw (verdict-behind v vs i k a) p) (rw (verdict-behind v vs i k a) q)))

@@ -25,7 +25,7 @@ pub mod CleanedFiles
 pub mod CleanedText
 pub mod CleanedStep
 pub mod CleanedRun
-pub mod CleanedFates
+pub mod CleanedVerdicts
 pub mod Cleaned
 pub mod CleanedLent
 pub mod Documents

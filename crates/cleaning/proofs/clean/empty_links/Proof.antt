@@ -4,7 +4,7 @@ use Prim.Native.Nat.{ℕ, _-_}
 use mathlib.Core.Path.{ap, _∙_}
 use native.Mathlib.Omega.{arith}
 use Rattle.links.specs.Judging.{lent}
-use Rattle.cleaning.specs.Writing.{flagsIn, fateOf, markAfter, fatesBy, emptiedAt}
+use Rattle.cleaning.specs.Writing.{flagsIn, verdictBy, markAfter, verdictsBy, emptiedAt}
 use Rattle.cleaning.proofs.Passes.{emptied-keeps, emptied-pass, Going, going-start, going-turn, going-end}
 use Rattle.cleaning.proofs.clean.empty_links.Statement.{statement}
 use Rattle.cleaning.proofs.clean.empty_links.Tie as tie
@@ -23,8 +23,8 @@ loop-holds c =
 flags-at-requires : tie.Need-flags-at-requires Inv-loop μ-loop
 flags-at-requires c κs = search needs
 
-fate-of-requires : tie.Need-fate-of-requires Inv-loop μ-loop
-fate-of-requires c κs = search needs
+verdict-of-requires : tie.Need-verdict-of-requires Inv-loop μ-loop
+verdict-of-requires c κs = search needs
 
 empty-link-requires : tie.Need-empty-link-requires Inv-loop μ-loop
 empty-link-requires c κs = search needs
@@ -43,10 +43,10 @@ loop-again c =
     let a = c .before .before .before .before .before .before .before .before .before .before .before .before .before .before .before .before .before .before .before .before .args in
     let l = c .before .before .before .before .before .before .before .before .before .before .before .before .before .before .before .loop in
     let flags = c .before .before .before .before .before .before .before .before .before .before .before .before .flags-at .ensures in
-    let fate = c .before .before .before .before .before .before .before .before .before .before .before .fate-of .ensures ∙ ap (λ (x : ℕ). fateOf x (a .marks .now) (l .k)) flags in
+    let verdict = c .before .before .before .before .before .before .before .before .before .before .before .verdict-of .ensures ∙ ap (λ (x : ℕ). verdictBy x (a .marks .now) (l .k)) flags in
     let mark = c .mark-after .ensures ∙ ap (λ (x : ℕ). markAfter x (l .k)) flags in
     let step = c .before .before .before .before .before .before .before .empty-link in
-    going-turn emptiedAt (a .marks .now) (a .n) (lent (a .fs) (a .rows .now) (a .dirs .now) (a .text .now)) emptied-keeps (lent (l .set) (l .rows) (l .dirs) (l .text)) (l .i) (l .k) (l .inv) (c .before .before .before .before .before .before .before .before .before .before .before .before .before .before .loop-test .taken) (lent (step .result) (step .last .1 .0) (step .last .1 .1 .0) (step .last .1 .1 .1 .0)) fate (step .ensures) mark (step .kept .1 .0) (step .kept .1 .1 .0) (step .kept .1 .1 .1 .0)
+    going-turn emptiedAt (a .marks .now) (a .n) (lent (a .fs) (a .rows .now) (a .dirs .now) (a .text .now)) emptied-keeps (lent (l .set) (l .rows) (l .dirs) (l .text)) (l .i) (l .k) (l .inv) (c .before .before .before .before .before .before .before .before .before .before .before .before .before .before .loop-test .taken) (lent (step .result) (step .last .1 .0) (step .last .1 .1 .0) (step .last .1 .1 .1 .0)) verdict (step .ensures) mark (step .kept .1 .0) (step .kept .1 .1 .0) (step .kept .1 .1 .1 .0)
 
 same-length : tie.Need-same-length Inv-loop μ-loop
 same-length c = c .before .loop .inv .rows-long
@@ -63,7 +63,7 @@ returns c =
     let l = c .before .loop in
     let s = lent (a .fs) (a .rows .now) (a .dirs .now) (a .text .now) in
     going-end emptiedAt (a .marks .now) (a .n) s (lent (l .set) (l .rows) (l .dirs) (l .text)) (l .i) (l .k) (l .inv) (c .loop-test .left)
-    ∙ emptied-pass (fatesBy (flagsIn (a .rows .now)) (a .marks .now) (a .n) 0 0) 0 s
+    ∙ emptied-pass (verdictsBy (flagsIn (a .rows .now)) (a .marks .now) (a .n) 0 0) 0 s
 
 pub empty-links-spec : {M : Type 1} → statement M
 empty-links-spec =
@@ -73,7 +73,7 @@ empty-links-spec =
     μ-loop
     loop-holds
     flags-at-requires
-    fate-of-requires
+    verdict-of-requires
     empty-link-requires
     mark-after-requires
     add-i

@@ -7,7 +7,7 @@ use native.Mathlib.Omega.{arith}
 use lib.ListN.{length}
 use Rattle.links.specs.Judging.{lent}
 use Rattle.cleaning.specs.Cleaning.{rewrittenAt}
-use Rattle.cleaning.specs.Writing.{flagsIn, fateOf, markAfter, fatesBy}
+use Rattle.cleaning.specs.Writing.{flagsIn, verdictBy, markAfter, verdictsBy}
 use Rattle.cleaning.proofs.Passes.{rewritten-keeps, rewritten-pass, Going, going-start, going-turn, going-end}
 use Rattle.cleaning.proofs.clean.write_links.Statement.{statement}
 use Rattle.cleaning.proofs.clean.write_links.Tie as tie
@@ -26,8 +26,8 @@ loop-holds c =
 flags-at-requires : tie.Need-flags-at-requires Inv-loop μ-loop
 flags-at-requires c κs = search needs
 
-fate-of-requires : tie.Need-fate-of-requires Inv-loop μ-loop
-fate-of-requires c κs = search needs
+verdict-of-requires : tie.Need-verdict-of-requires Inv-loop μ-loop
+verdict-of-requires c κs = search needs
 
 write-link-requires : tie.Need-write-link-requires Inv-loop μ-loop
 write-link-requires c κs = search needs
@@ -48,11 +48,11 @@ loop-again c =
     let n = length (a .stage .now) in
     let s = lent (l .set) (l .rows) (l .dirs) (l .text) in
     let flags = c .before .before .before .before .before .before .before .before .before .before .before .before .before .before .before .flags-at .ensures in
-    let fate = c .before .before .before .before .before .before .before .before .before .before .before .before .before .before .fate-of .ensures ∙ ap (λ (x : ℕ). fateOf x (a .marks .now) (l .k)) flags in
+    let verdict = c .before .before .before .before .before .before .before .before .before .before .before .before .before .before .verdict-of .ensures ∙ ap (λ (x : ℕ). verdictBy x (a .marks .now) (l .k)) flags in
     let mark = c .mark-after .ensures ∙ ap (λ (x : ℕ). markAfter x (l .k)) flags in
     let step = c .before .before .before .before .before .before .before .before .before .write-link in
-    let put = step .ensures ∙ ap (λ (x : ℕ). rewrittenAt x (c .before .before .before .before .before .before .before .before .before .before .before .before .before .before .fate-of .result) s (l .i)) (l .inv .0) in
-    (step .kept .1 .1 .1 .1 .0 ∙ l .inv .0, going-turn (rewrittenAt n) (a .marks .now) (a .n) (lent (a .fs) (a .rows .now) (a .dirs .now) (a .text .now)) (rewritten-keeps n) s (l .i) (l .k) (l .inv .1) (c .before .before .before .before .before .before .before .before .before .before .before .before .before .before .before .before .before .loop-test .taken) (lent (step .result) (step .last .1 .0) (step .last .1 .1 .0) (step .last .1 .1 .1 .0)) fate put mark (step .kept .1 .0) (step .kept .1 .1 .0) (step .kept .1 .1 .1 .0))
+    let put = step .ensures ∙ ap (λ (x : ℕ). rewrittenAt x (c .before .before .before .before .before .before .before .before .before .before .before .before .before .before .verdict-of .result) s (l .i)) (l .inv .0) in
+    (step .kept .1 .1 .1 .1 .0 ∙ l .inv .0, going-turn (rewrittenAt n) (a .marks .now) (a .n) (lent (a .fs) (a .rows .now) (a .dirs .now) (a .text .now)) (rewritten-keeps n) s (l .i) (l .k) (l .inv .1) (c .before .before .before .before .before .before .before .before .before .before .before .before .before .before .before .before .before .loop-test .taken) (lent (step .result) (step .last .1 .0) (step .last .1 .1 .0) (step .last .1 .1 .1 .0)) verdict put mark (step .kept .1 .0) (step .kept .1 .1 .0) (step .kept .1 .1 .1 .0))
 
 same-length : tie.Need-same-length Inv-loop μ-loop
 same-length c = c .before .loop .inv .1 .rows-long
@@ -73,7 +73,7 @@ returns c =
     let n = length (a .stage .now) in
     let s = lent (a .fs) (a .rows .now) (a .dirs .now) (a .text .now) in
     going-end (rewrittenAt n) (a .marks .now) (a .n) s (lent (l .set) (l .rows) (l .dirs) (l .text)) (l .i) (l .k) (l .inv .1) (c .loop-test .left)
-    ∙ rewritten-pass n (fatesBy (flagsIn (a .rows .now)) (a .marks .now) (a .n) 0 0) 0 s
+    ∙ rewritten-pass n (verdictsBy (flagsIn (a .rows .now)) (a .marks .now) (a .n) 0 0) 0 s
 
 pub write-links-spec : {M : Type 1} → statement M
 write-links-spec =
@@ -83,7 +83,7 @@ write-links-spec =
     μ-loop
     loop-holds
     flags-at-requires
-    fate-of-requires
+    verdict-of-requires
     write-link-requires
     mark-after-requires
     add-i

@@ -7,7 +7,7 @@ use mathlib.Core.Bool.{cond}
 use lib.Dec.{eqb}
 use Rattle.tables.specs.Span.{clip}
 use Rattle.tables.specs.declared.rows.Row.{Row}
-use Rattle.cleaning.specs.Writing.{flagsIn, fateOf, markAfter, goneBytes}
+use Rattle.cleaning.specs.Writing.{flagsIn, verdictBy, markAfter, goneBytes}
 use Rattle.cleaning.proofs.Rooms.{Leaving, leaving-start, leaving-turn, leaving-end}
 use Rattle.cleaning.proofs.room.kept_after.Statement.{statement}
 use Rattle.cleaning.proofs.room.kept_after.Tie as tie
@@ -26,8 +26,8 @@ loop-holds c =
 row-at-requires : tie.Need-row-at-requires Inv-loop μ-loop
 row-at-requires c κs = search needs
 
-fate-of-requires : tie.Need-fate-of-requires Inv-loop μ-loop
-fate-of-requires c κs = search needs
+verdict-of-requires : tie.Need-verdict-of-requires Inv-loop μ-loop
+verdict-of-requires c κs = search needs
 
 left-after-requires : tie.Need-left-after-requires Inv-loop μ-loop
 left-after-requires c κs = search needs
@@ -46,8 +46,8 @@ loop-again c =
     let a = c .before .before .before .before .before .before .before .before .args in
     let l = c .before .before .before .before .before .loop in
     let row = c .before .before .before .row-at .ensures in
-    let fate = c .before .before .fate-of .ensures ∙ ap (λ (r : Row). fateOf (r .flags) (a .marks .now) (l .k)) row in
-    let left = c .before .left-after .ensures ∙ ap (λ (r : Row). l .left - cond (eqb (c .before .before .fate-of .result) 0) 0 (clip (a .used) (r .link) .len)) row ∙ ap (λ (v : ℕ). l .left - goneBytes (a .rows .now) (a .used) v (l .i)) fate in
+    let verdict = c .before .before .verdict-of .ensures ∙ ap (λ (r : Row). verdictBy (r .flags) (a .marks .now) (l .k)) row in
+    let left = c .before .left-after .ensures ∙ ap (λ (r : Row). l .left - cond (eqb (c .before .before .verdict-of .result) 0) 0 (clip (a .used) (r .link) .len)) row ∙ ap (λ (v : ℕ). l .left - goneBytes (a .rows .now) (a .used) v (l .i)) verdict in
     let mark = c .mark-after .ensures ∙ ap (λ (r : Row). markAfter (r .flags) (l .k)) row in
     leaving-turn (goneBytes (a .rows .now) (a .used)) (flagsIn (a .rows .now)) (a .marks .now) (a .n) (a .used) (l .left) (l .i) (l .k) (l .inv) (c .before .before .before .before .loop-test .taken) left mark
 
@@ -65,7 +65,7 @@ kept-after-spec =
     μ-loop
     loop-holds
     row-at-requires
-    fate-of-requires
+    verdict-of-requires
     left-after-requires
     mark-after-requires
     add-i

@@ -7,12 +7,12 @@ use mathlib.Core.List.{List}
 use native.Mathlib.Omega.{arith}
 use Rattle.tables.specs.declared.rows.Row.{Row}
 use Rattle.tables.specs.Rows.{rowAt}
-use Rattle.cleaning.specs.Writing.{flagsIn, fateOf, markAfter, newLength}
+use Rattle.cleaning.specs.Writing.{flagsIn, verdictBy, markAfter, newLength}
 use Rattle.cleaning.proofs.Rooms.{Taking, taking-start, taking-stop, taking-turn, taking-end}
 use Rattle.cleaning.proofs.room.lacks_bytes.Statement.{statement}
 use Rattle.cleaning.proofs.room.lacks_bytes.Tie as tie
 
--- how long the new text of file i is, by its fate
+-- how long the new text of file i is, by its verdict
 abbrev lengths : List ℕ → List ℕ → List ℕ → ℕ → ℕ → ℕ
 lengths rows dirs text v i = newLength dirs text v (rowAt rows i)
 
@@ -23,13 +23,13 @@ abbrev μ-loop : tie.MeasureT-loop
 μ-loop n rows dirs text marks room left₀ i₀ k₀ left i k = n - i
 
 -- what file i adds
-more-is : (c : tie.After-new-length Inv-loop μ-loop) → c .new-length .result ≡ lengths (c .before .before .before .before .before .before .before .before .before .args .rows .now) (c .before .before .before .before .before .before .before .before .before .args .dirs .now) (c .before .before .before .before .before .before .before .before .before .args .text .now) (fateOf (flagsIn (c .before .before .before .before .before .before .before .before .before .args .rows .now) (c .before .before .before .before .loop .i)) (c .before .before .before .before .before .before .before .before .before .args .marks .now) (c .before .before .before .before .loop .k)) (c .before .before .before .before .loop .i)
+more-is : (c : tie.After-new-length Inv-loop μ-loop) → c .new-length .result ≡ lengths (c .before .before .before .before .before .before .before .before .before .args .rows .now) (c .before .before .before .before .before .before .before .before .before .args .dirs .now) (c .before .before .before .before .before .before .before .before .before .args .text .now) (verdictBy (flagsIn (c .before .before .before .before .before .before .before .before .before .args .rows .now) (c .before .before .before .before .loop .i)) (c .before .before .before .before .before .before .before .before .before .args .marks .now) (c .before .before .before .before .loop .k)) (c .before .before .before .before .loop .i)
 more-is c =
     let a = c .before .before .before .before .before .before .before .before .before .args in
     let l = c .before .before .before .before .loop in
     let row = c .before .before .row-at .ensures in
-    let fate = c .before .fate-of .ensures ∙ ap (λ (r : Row). fateOf (r .flags) (a .marks .now) (l .k)) row in
-    c .new-length .ensures ∙ ap (λ (r : Row). newLength (a .dirs .now) (a .text .now) (c .before .fate-of .result) r) row ∙ ap (λ (v : ℕ). newLength (a .dirs .now) (a .text .now) v (rowAt (a .rows .now) (l .i))) fate
+    let verdict = c .before .verdict-of .ensures ∙ ap (λ (r : Row). verdictBy (r .flags) (a .marks .now) (l .k)) row in
+    c .new-length .ensures ∙ ap (λ (r : Row). newLength (a .dirs .now) (a .text .now) (c .before .verdict-of .result) r) row ∙ ap (λ (v : ℕ). newLength (a .dirs .now) (a .text .now) v (rowAt (a .rows .now) (l .i))) verdict
 
 loop-holds : tie.Need-loop-holds Inv-loop μ-loop
 loop-holds c =
@@ -39,8 +39,8 @@ loop-holds c =
 row-at-requires : tie.Need-row-at-requires Inv-loop μ-loop
 row-at-requires c κs = search needs
 
-fate-of-requires : tie.Need-fate-of-requires Inv-loop μ-loop
-fate-of-requires c κs = search needs
+verdict-of-requires : tie.Need-verdict-of-requires Inv-loop μ-loop
+verdict-of-requires c κs = search needs
 
 new-length-requires : tie.Need-new-length-requires Inv-loop μ-loop
 new-length-requires c κs = search needs
@@ -81,7 +81,7 @@ lacks-bytes-spec =
     μ-loop
     loop-holds
     row-at-requires
-    fate-of-requires
+    verdict-of-requires
     new-length-requires
     returns
     mark-after-requires

@@ -1,7 +1,7 @@
 -- `cleaning::room::lacks_room` meets its contract.
 use borrow.Author.Needs.{needs}
 use Rattle.links.specs.Judging.{lent}
-use Rattle.cleaning.specs.Writing.{allFates}
+use Rattle.cleaning.specs.Writing.{allVerdicts}
 use Rattle.cleaning.proofs.Rooms.{lacks-now, lacks-more}
 use Rattle.cleaning.proofs.room.lacks_room.Statement.{statement}
 use Rattle.cleaning.proofs.room.lacks_room.Tie as tie
@@ -13,7 +13,7 @@ returns : tie.Need-returns
 returns c =
     let a = c .before .before .before .before .before .before .args in
     let s = lent (a .fs) (a .rows .now) (a .dirs .now) (a .text .now) in
-    lacks-now (allFates s (a .marks .now)) s (c .before .kept-after .result) (c .before .kept-after .ensures) (c .if1 .taken)
+    lacks-now (allVerdicts s (a .marks .now)) s (c .before .kept-after .result) (c .before .kept-after .ensures) (c .if1 .taken)
 
 sub-lacks-bytes : tie.Need-sub-lacks-bytes
 sub-lacks-bytes c = search needs
@@ -25,7 +25,7 @@ returns-2 : tie.Need-returns-2
 returns-2 c =
     let a = c .before .before .before .before .before .before .before .args in
     let s = lent (a .fs) (a .rows .now) (a .dirs .now) (a .text .now) in
-    lacks-more (allFates s (a .marks .now)) s (c .before .before .kept-after .result) (c .before .before .kept-after .ensures) (c .before .if1 .left) (c .lacks-bytes .ensures)
+    lacks-more (allVerdicts s (a .marks .now)) s (c .before .before .kept-after .result) (c .before .before .kept-after .ensures) (c .before .if1 .left) (c .lacks-bytes .ensures)
 
 pub lacks-room-spec : {M : Type 1} → statement M
 lacks-room-spec =

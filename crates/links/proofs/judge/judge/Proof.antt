@@ -19,8 +19,8 @@ first-marks-requires c κs = search needs
 walk-links-requires : tie.Need-walk-links-requires
 walk-links-requires c κs = (c .before .before .before .before .before .before .before .first-marks .ensures ∙ marks-whole (theSet (c .before .before .before .before .before .before .before .before .before .before .before .before .before .before .before .before)) (c .before .before .before .before .before .before .before .before .before .before .before .before .before .before .before .before .args .marks .now) (c .before .before .before .before .before .before .before .before .before .before .before .before .before .before .before .before .pre .0), omega (arith, c .before .before .before .before .before .before .before .first-marks .kept .1 .1 .1 .1 .1 .0, c .before .before .before .before .before .before .before .before .before .before .before .before .before .before .before .before .pre .1 .0), c .before .before .before .before .before .before .before .before .before .before .before .before .before .before .before .before .pre .1 .1)
 
-keep-fates-requires : tie.Need-keep-fates-requires
-keep-fates-requires c κs = search needs
+keep-verdicts-requires : tie.Need-keep-verdicts-requires
+keep-verdicts-requires c κs = search needs
 
 clear-requires : tie.Need-clear-requires
 clear-requires c κs = search needs
@@ -40,7 +40,7 @@ same-length-3 c = search needs
 returns : tie.Need-returns
 returns c =
     let w = c .before .before .before .before .before .before .before .before .before .before .before .before .before .before .before .before .before .before .walk-links in
-    (c .before .before .before .before .before .before .before .before .before .before .keep-fates .ensures ∙ w .ensures, (c .before .before .before .before .before .before .clear .ensures ∙ ap (λ (n : ℕ). replicate n 0) (w .kept .1 .1 .1 .1 .1 .0 ∙ c .before .before .before .before .before .before .before .before .before .before .before .before .before .before .before .before .before .before .before .before .before .before .before .before .before .before .first-marks .kept .1 .1 .1 .1 .1 .0), c .before .before .clear2 .ensures ∙ ap (λ (n : ℕ). replicate n 0) (w .kept .1 .1 .1 .1 .1 .1 .0)))
+    (c .before .before .before .before .before .before .before .before .before .before .keep-verdicts .ensures ∙ w .ensures, (c .before .before .before .before .before .before .clear .ensures ∙ ap (λ (n : ℕ). replicate n 0) (w .kept .1 .1 .1 .1 .1 .0 ∙ c .before .before .before .before .before .before .before .before .before .before .before .before .before .before .before .before .before .before .before .before .before .before .before .before .before .before .first-marks .kept .1 .1 .1 .1 .1 .0), c .before .before .clear2 .ensures ∙ ap (λ (n : ℕ). replicate n 0) (w .kept .1 .1 .1 .1 .1 .1 .0)))
 
 pub judge-spec : {M : Type 1} → statement M
 judge-spec =
@@ -48,7 +48,7 @@ judge-spec =
     (tie.spec
     first-marks-requires
     walk-links-requires
-    keep-fates-requires
+    keep-verdicts-requires
     clear-requires
     clear-requires-2
     same-length

@@ -3,8 +3,8 @@ use Prim.Native.Nat.{ℕ, _+_, _*_, _/_}
 use mathlib.Core.Path.{_≡_, ap, _∙_}
 use mathlib.Core.List.{map}
 use lib.ListN.{getD, set}
-use Rattle.links.specs.Walking.{lead, fate}
-use Rattle.links.proofs.Packed.{set-lead, set-lead-fates}
+use Rattle.links.specs.Walking.{lead, verdict}
+use Rattle.links.proofs.Packed.{set-lead, set-lead-verdicts}
 use borrow.Author.Needs.{needs}
 use Rattle.links.proofs.mark.put_lead.Statement.{statement}
 use Rattle.links.proofs.mark.put_lead.Tie as tie
@@ -29,7 +29,7 @@ same-length : tie.Need-same-length
 same-length c = search needs
 
 returns : tie.Need-returns
-returns c = (ap (map lead) (stored (c .before .before)) ∙ set-lead (c .before .before .before .before .before .before .before .args .marks .now) (c .before .before .before .before .before .before .before .args .k) (c .before .before .before .before .before .before .before .args .m) (c .before .before .before .before .before .before .before .pre), ap (map fate) (stored (c .before .before)) ∙ set-lead-fates (c .before .before .before .before .before .before .before .args .marks .now) (c .before .before .before .before .before .before .before .args .k) (c .before .before .before .before .before .before .before .args .m) (c .before .before .before .before .before .before .before .pre))
+returns c = (ap (map lead) (stored (c .before .before)) ∙ set-lead (c .before .before .before .before .before .before .before .args .marks .now) (c .before .before .before .before .before .before .before .args .k) (c .before .before .before .before .before .before .before .args .m) (c .before .before .before .before .before .before .before .pre), ap (map verdict) (stored (c .before .before)) ∙ set-lead-verdicts (c .before .before .before .before .before .before .before .args .marks .now) (c .before .before .before .before .before .before .before .args .k) (c .before .before .before .before .before .before .before .args .m) (c .before .before .before .before .before .before .before .pre))
 
 pub put-lead-spec : {M : Type 1} → statement M
 put-lead-spec =

@@ -1,17 +1,17 @@
--- The proof of `reopen`. Its loop keeps: of the leads, the first k are fresh and the others are those at the start; the fates stay.
+-- The proof of `reopen`. Its loop keeps: of the leads, the first k are fresh and the others are those at the start; the verdicts stay.
 use Prim.Native.Nat.{ℕ, _+_, _-_, _<_}
 use mathlib.Core.Path.{_≡_, ap, _∙_}
 use mathlib.Core.List.{List, _++_, map}
 use native.Mathlib.Omega.{arith}
 use borrow.Author.Needs.{needs}
 use lib.ListN.{length, getD, set, take, drop, length-map}
-use Rattle.links.specs.Walking.{lead, fate, fresh}
+use Rattle.links.specs.Walking.{lead, verdict, fresh}
 use Rattle.links.proofs.Packed.{lead-below, map-read, map-turn, map-end, fresh-small}
 use Rattle.links.proofs.mark.reopen.Statement.{statement}
 use Rattle.links.proofs.mark.reopen.Tie as tie
 
 abbrev Inv-loop : tie.InvT-loop
-Inv-loop marks₀ k₀ marks k = (length marks ≡ length marks₀) × (map lead marks ≡ map fresh (take k (map lead marks₀)) ++ drop k (map lead marks₀)) × (map fate marks ≡ map fate marks₀)
+Inv-loop marks₀ k₀ marks k = (length marks ≡ length marks₀) × (map lead marks ≡ map fresh (take k (map lead marks₀)) ++ drop k (map lead marks₀)) × (map verdict marks ≡ map verdict marks₀)
 
 abbrev μ-loop : tie.MeasureT-loop
 μ-loop marks₀ k₀ marks k = length marks₀ - k

@@ -13,7 +13,7 @@ use lib.Seq.{take-all}
 use Rattle.tables.specs.Model.{Store, directoryText}
 use Rattle.links.specs.Clean.{Entry, covers, isDirectory, known, cut, weight, left}
 use Rattle.links.specs.Judging.{lent, entriesOf, directoriesOf}
-use Rattle.links.specs.Walking.{entryAt, entriesFrom, directoriesFrom, lead, fate, fresh, anyAt, leadMark, leadText, openOf, rowLead, Joined}
+use Rattle.links.specs.Walking.{entryAt, entriesFrom, directoriesFrom, lead, verdict, fresh, anyAt, leadMark, leadText, openOf, rowLead, Joined}
 use Rattle.links.proofs.Rows.{flagged-at, entries-start, directories-start, directories-turn}
 use Rattle.links.proofs.Scans.{Scan, scan-start, one-or-none}
 use Rattle.links.proofs.Events.{Met, Over, over-is, goesOn, walked-end, no-dir, dir-on, dir-less, dir-stop, link-none, link-past, mark-low, link-staged, link-short, link-marks, link-room, link-on, link-less}
@@ -34,7 +34,7 @@ abbrev μ-loop2 : tie.MeasureT-loop2
 μ-loop2 fs rows dirs text marks₀ stage₀ path₀ from at₀ e₀ d i₀ k₀ marks stage path at e i k = fs .«num_files» - i
 
 abbrev Inv-walk : tie.InvT-walk
-Inv-walk fs rows dirs text marks₀ stage₀ path₀ from at₀ e₀ marks stage path at e = (at ≤ length path) × (length marks ≡ length marks₀) × (length stage ≡ length stage₀) × (length path ≡ length path₀) × (weight (openOf (entriesOf (lent fs rows dirs text)) (map lead marks)) ≤ at) × (map fresh (map lead marks) ≡ map fresh (map lead marks₀)) × (map fate marks ≡ map fate marks₀) × (goesOn (lent fs rows dirs text) (map lead marks) path at e ≡ goesOn (lent fs rows dirs text) (map lead marks₀) path₀ «from» (cut (drop «from» path₀) 0))
+Inv-walk fs rows dirs text marks₀ stage₀ path₀ from at₀ e₀ marks stage path at e = (at ≤ length path) × (length marks ≡ length marks₀) × (length stage ≡ length stage₀) × (length path ≡ length path₀) × (weight (openOf (entriesOf (lent fs rows dirs text)) (map lead marks)) ≤ at) × (map fresh (map lead marks) ≡ map fresh (map lead marks₀)) × (map verdict marks ≡ map verdict marks₀) × (goesOn (lent fs rows dirs text) (map lead marks) path at e ≡ goesOn (lent fs rows dirs text) (map lead marks₀) path₀ «from» (cut (drop «from» path₀) 0))
 
 abbrev μ-walk : tie.MeasureT-walk
 μ-walk fs rows dirs text marks₀ stage₀ path₀ from at₀ e₀ marks stage path at e = left (openOf (entriesOf (lent fs rows dirs text)) (map lead marks)) (drop at path) e
@@ -125,7 +125,7 @@ out c =
     let w = c .before .walk in
     let o = c .walk-test in
     let is : (w .e < length (w .path) - w .at → false ≡ answer (c .before .before .before .before .before .before .before .before .before .before)) → (length (w .path) - w .at ≤ w .e → ends (c .before .before .before .before .before .before .before .before .before .before) (drop (w .at) (w .path)) ≡ answer (c .before .before .before .before .before .before .before .before .before .before)) → Over (ends (c .before .before .before .before .before .before .before .before .before .before)) (a .marks .now) (a .stage .now) (a .path .now) (answer (c .before .before .before .before .before .before .before .before .before .before)) (w .marks) (w .stage) (w .path) (w .at) (w .e) =
-    λ s n. record { inside = w .inv .0; marks-long = w .inv .1; stage-long = w .inv .2; path-long = w .inv .3; marks-fresh = w .inv .5; fates-kept = w .inv .6; stopped = s; ended = n } in
+    λ s n. record { inside = w .inv .0; marks-long = w .inv .1; stage-long = w .inv .2; path-long = w .inv .3; marks-fresh = w .inv .5; verdicts-kept = w .inv .6; stopped = s; ended = n } in
     let b = over-is (ends (c .before .before .before .before .before .before .before .before .before .before)) (a .marks .now) (a .stage .now) (a .path .now) (answer (c .before .before .before .before .before .before .before .before .before .before)) (w .marks) (w .stage) (w .path) (o .marks) (o .stage) (o .path) (w .at) (w .e) (o .at) (o .e) in
     ⊎-elim
     (λ v. b (v .1) (v .2) (v .3) (v .4) (v .5) (is (λ h. absurd (omega (arith, h, v .0 .left))) (λ h. sym (walked-end (theSet (c .before .before .before .before .before .before .before .before .before .before)) (map lead (w .marks)) (w .path) (w .at) (w .e) h) ∙ w .inv .7)))
@@ -229,7 +229,7 @@ walk-again-2 c =
       c .before .before .before .before .before .before .before .before .traverse .kept .1 .1 .1 .1 .1 .0 ∙ ap length (l .inv .2) ∙ w .inv .3,
       rw (led (c .before .before .before .before .before .before .before .before)) (link-room s (map lead (w .marks)) (w .path) (w .at) (w .e) (l .i) (l .k) m (met (c .before .before .before .before .before .before .before .before .before .before .before .before .before)) (c .before .before .before .before .before .before .before .before .before .before .before .before .if5 .taken) path r (c .cut-at3 .result) (joined (c .before .before .before .before .before .before .before .before)) (w .inv .4)),
       ap (map fresh) (led (c .before .before .before .before .before .before .before .before)) ∙ link-marks s (map lead (w .marks)) (w .path) (w .at) (w .e) (l .i) (l .k) m (met (c .before .before .before .before .before .before .before .before .before .before .before .before .before)) (c .before .before .before .before .before .before .before .before .before .before .before .before .if5 .taken) ∙ w .inv .5,
-      c .before .before .before .before .before .before .before .before .traverse .ensures .1 .1 ∙ ap (map fate) (l .inv .0) ∙ w .inv .6,
+      c .before .before .before .before .before .before .before .before .traverse .ensures .1 .1 ∙ ap (map verdict) (l .inv .0) ∙ w .inv .6,
       rw (led (c .before .before .before .before .before .before .before .before)) (link-on s (map lead (w .marks)) (w .path) (w .at) (w .e) (l .i) (l .k) m (met (c .before .before .before .before .before .before .before .before .before .before .before .before .before)) (c .before .before .before .before .before .before .before .before .before .before .before .before .if5 .taken) path r (c .cut-at3 .result) (joined (c .before .before .before .before .before .before .before .before)) (c .cut-at3 .ensures)) ∙ w .inv .7,
     )
 
@@ -265,7 +265,7 @@ same-length-3 : tie.Need-same-length-3 Inv-loop μ-loop Inv-loop2 μ-loop2 Inv-w
 same-length-3 c = out (c .before) .path-long
 
 returns : tie.Need-returns Inv-loop μ-loop Inv-loop2 μ-loop2 Inv-walk μ-walk
-returns c = (out (c .before) .stopped (c .if6 .taken), (out (c .before) .marks-fresh, out (c .before) .fates-kept))
+returns c = (out (c .before) .stopped (c .if6 .taken), (out (c .before) .marks-fresh, out (c .before) .verdicts-kept))
 
 part-requires-2 : tie.Need-part-requires-2 Inv-loop μ-loop Inv-loop2 μ-loop2 Inv-walk μ-walk
 part-requires-2 c κs = search needs
@@ -285,7 +285,7 @@ same-length-6 c = out (c .before .before .before .before) .path-long
 returns-2 : tie.Need-returns-2 Inv-loop μ-loop Inv-loop2 μ-loop2 Inv-walk μ-walk
 returns-2 c =
     let o = c .before .before .before .before .walk-test in
-    (c .is-known .ensures ∙ ap (ends (c .before .before .before .before .before .before .before .before .before .before .before .before .before .before)) (c .before .part2 .ensures ∙ take-all (length (o .path)) (drop (o .at) (o .path)) (omega (arith, length-drop (o .at) (o .path)))) ∙ out (c .before .before .before .before) .ended (c .before .before .before .if6 .left), (out (c .before .before .before .before) .marks-fresh, out (c .before .before .before .before) .fates-kept))
+    (c .is-known .ensures ∙ ap (ends (c .before .before .before .before .before .before .before .before .before .before .before .before .before .before)) (c .before .part2 .ensures ∙ take-all (length (o .path)) (drop (o .at) (o .path)) (omega (arith, length-drop (o .at) (o .path)))) ∙ out (c .before .before .before .before) .ended (c .before .before .before .if6 .left), (out (c .before .before .before .before) .marks-fresh, out (c .before .before .before .before) .verdicts-kept))
 
 pub resolve-spec : {M : Type 1} → statement M
 resolve-spec =

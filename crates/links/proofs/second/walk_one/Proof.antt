@@ -40,7 +40,7 @@ one f h = sym (cond-yes 1 0 f h)
 link-marks : (f : Bool) (ms ms′ : List ℕ) (k v : ℕ) → f ≡ true → ms′ ≡ set ms k v → ms′ ≡ cond f (set ms k v) ms
 link-marks f ms ms′ k v h q = q ∙ sym (cond-yes (set ms k v) ms f h)
 
--- a fate that the walk gives
+-- a verdict that the walk gives
 given : (ms ms′ ms″ : List ℕ) (k v w : ℕ) → ms′ ≡ ms → ms″ ≡ set ms′ k (v * 8 + lead (getD ms′ k 0)) → v * 8 + lead (getD ms k 0) ≡ w → ms″ ≡ set ms k w
 given ms ms′ ms″ k v w e q h = q ∙ rw (e, h)
 
@@ -53,8 +53,8 @@ returns c =
     let f : this (c .before .before .before .before .before .before .before .before) .flagged ≡ false = sym (flag-is (c .before)) ∙ not-true (c .before .is-link .result) (c .if1 .taken) in
     (sym (cond-no 1 0 (this s .flagged) f), sym (cond-no (set (s .args .marks .now) (s .args .k) (then s)) (s .args .marks .now) (this s .flagged) f))
 
-fate-at-requires : tie.Need-fate-at-requires
-fate-at-requires c κs = search needs
+verdict-at-requires : tie.Need-verdict-at-requires
+verdict-at-requires c κs = search needs
 
 same-length : tie.Need-same-length
 same-length c = search needs
@@ -63,15 +63,15 @@ returns-2 : tie.Need-returns-2
 returns-2 c =
     let s = c .before .before .before .before .before .before .before .before .before .before .before in
     let f : this (c .before .before .before .before .before .before .before .before .before .before .before) .flagged ≡ true = sym (flag-is (c .before .before .before .before)) ∙ not-false (c .before .before .before .before .is-link .result) (c .before .before .before .if1 .left) in
-    (one (this s .flagged) f, link-marks (this s .flagged) (s .args .marks .now) (s .args .marks .now) (s .args .k) (then s) f (sym (set-getD (s .args .marks .now) (s .args .k) 0) ∙ ap (set (s .args .marks .now) (s .args .k)) (walked-not (entriesOf (theSet s)) (directoriesOf (theSet s)) (this s) (mark s) (λ q. c .if2 .taken (c .before .fate-at .ensures ∙ q)))))
+    (one (this s .flagged) f, link-marks (this s .flagged) (s .args .marks .now) (s .args .marks .now) (s .args .k) (then s) f (sym (set-getD (s .args .marks .now) (s .args .k) 0) ∙ ap (set (s .args .marks .now) (s .args .k)) (walked-not (entriesOf (theSet s)) (directoriesOf (theSet s)) (this s) (mark s) (λ q. c .if2 .taken (c .before .verdict-at .ensures ∙ q)))))
 
 walk-link-requires : tie.Need-walk-link-requires
 walk-link-requires c κs =
     let p = c .before .before .before .before .before .before .before .before .before .before .before .before .before .before .pre in
     record { row = p .0; flag = sym (flag-is (c .before .before .before .before .before .before .before)) ∙ not-false (c .before .before .before .before .before .before .before .is-link .result) (c .before .before .before .before .before .before .if1 .left); marked = p .1; staged = p .2; room = p .3 }
 
-put-fate-requires : tie.Need-put-fate-requires
-put-fate-requires c κs = search needs
+put-verdict-requires : tie.Need-put-verdict-requires
+put-verdict-requires c κs = search needs
 
 same-length-2 : tie.Need-same-length-2
 same-length-2 c = search needs
@@ -86,10 +86,10 @@ returns-3 : tie.Need-returns-3
 returns-3 c =
     let s = c .before .before .before .before .before .before .before .before .before .before .before .before .before .before .before .before .before .before .before .before .before .before .before .before .before .before in
     let f : this (c .before .before .before .before .before .before .before .before .before .before .before .before .before .before .before .before .before .before .before .before .before .before .before .before .before .before) .flagged ≡ true = sym (flag-is (c .before .before .before .before .before .before .before .before .before .before .before .before .before .before .before .before .before .before .before)) ∙ not-false (c .before .before .before .before .before .before .before .before .before .before .before .before .before .before .before .before .before .before .before .is-link .result) (c .before .before .before .before .before .before .before .before .before .before .before .before .before .before .before .before .before .before .if1 .left) in
-    (one (this s .flagged) f, link-marks (this s .flagged) (s .args .marks .now) (c .before .before .put-fate .last .0) (s .args .k) (then s) f (given (s .args .marks .now) (c .before .before .before .before .before .before .before .before .before .before .before .walk-link .last .1 .1 .1 .1 .0) (c .before .before .put-fate .last .0) (s .args .k) 0 (then s) (c .before .before .before .before .before .before .before .before .before .before .before .walk-link .ensures .1) (c .before .before .put-fate .ensures) (walked-by (entriesOf (theSet s)) (directoriesOf (theSet s)) (this s) (mark s) 0 (sym (c .before .before .before .before .before .before .before .before .before .before .before .before .before .before .before .before .fate-at .ensures) ∙ c .before .before .before .before .before .before .before .before .before .before .before .before .before .before .before .if2 .left) (ap (λ (b : Bool). cond b 0 1) (sym (c .before .before .before .before .before .before .before .before .before .before .before .walk-link .ensures .0) ∙ c .before .before .before .before .if3 .taken)))))
+    (one (this s .flagged) f, link-marks (this s .flagged) (s .args .marks .now) (c .before .before .put-verdict .last .0) (s .args .k) (then s) f (given (s .args .marks .now) (c .before .before .before .before .before .before .before .before .before .before .before .walk-link .last .1 .1 .1 .1 .0) (c .before .before .put-verdict .last .0) (s .args .k) 0 (then s) (c .before .before .before .before .before .before .before .before .before .before .before .walk-link .ensures .1) (c .before .before .put-verdict .ensures) (walked-by (entriesOf (theSet s)) (directoriesOf (theSet s)) (this s) (mark s) 0 (sym (c .before .before .before .before .before .before .before .before .before .before .before .before .before .before .before .before .verdict-at .ensures) ∙ c .before .before .before .before .before .before .before .before .before .before .before .before .before .before .before .if2 .left) (ap (λ (b : Bool). cond b 0 1) (sym (c .before .before .before .before .before .before .before .before .before .before .before .walk-link .ensures .0) ∙ c .before .before .before .before .if3 .taken)))))
 
-put-fate-requires-2 : tie.Need-put-fate-requires-2
-put-fate-requires-2 c κs = search needs
+put-verdict-requires-2 : tie.Need-put-verdict-requires-2
+put-verdict-requires-2 c κs = search needs
 
 same-length-5 : tie.Need-same-length-5
 same-length-5 c = search needs
@@ -104,7 +104,7 @@ returns-4 : tie.Need-returns-4
 returns-4 c =
     let s = c .before .before .before .before .before .before .before .before .before .before .before .before .before .before .before .before .before .before .before .before .before .before .before .before .before .before in
     let f : this (c .before .before .before .before .before .before .before .before .before .before .before .before .before .before .before .before .before .before .before .before .before .before .before .before .before .before) .flagged ≡ true = sym (flag-is (c .before .before .before .before .before .before .before .before .before .before .before .before .before .before .before .before .before .before .before)) ∙ not-false (c .before .before .before .before .before .before .before .before .before .before .before .before .before .before .before .before .before .before .before .is-link .result) (c .before .before .before .before .before .before .before .before .before .before .before .before .before .before .before .before .before .before .if1 .left) in
-    (one (this s .flagged) f, link-marks (this s .flagged) (s .args .marks .now) (c .before .before .put-fate2 .last .0) (s .args .k) (then s) f (given (s .args .marks .now) (c .before .before .before .before .before .before .before .before .before .before .before .walk-link .last .1 .1 .1 .1 .0) (c .before .before .put-fate2 .last .0) (s .args .k) 1 (then s) (c .before .before .before .before .before .before .before .before .before .before .before .walk-link .ensures .1) (c .before .before .put-fate2 .ensures) (walked-by (entriesOf (theSet s)) (directoriesOf (theSet s)) (this s) (mark s) 1 (sym (c .before .before .before .before .before .before .before .before .before .before .before .before .before .before .before .before .fate-at .ensures) ∙ c .before .before .before .before .before .before .before .before .before .before .before .before .before .before .before .if2 .left) (ap (λ (b : Bool). cond b 0 1) (sym (c .before .before .before .before .before .before .before .before .before .before .before .walk-link .ensures .0) ∙ c .before .before .before .before .if3 .left)))))
+    (one (this s .flagged) f, link-marks (this s .flagged) (s .args .marks .now) (c .before .before .put-verdict2 .last .0) (s .args .k) (then s) f (given (s .args .marks .now) (c .before .before .before .before .before .before .before .before .before .before .before .walk-link .last .1 .1 .1 .1 .0) (c .before .before .put-verdict2 .last .0) (s .args .k) 1 (then s) (c .before .before .before .before .before .before .before .before .before .before .before .walk-link .ensures .1) (c .before .before .put-verdict2 .ensures) (walked-by (entriesOf (theSet s)) (directoriesOf (theSet s)) (this s) (mark s) 1 (sym (c .before .before .before .before .before .before .before .before .before .before .before .before .before .before .before .before .verdict-at .ensures) ∙ c .before .before .before .before .before .before .before .before .before .before .before .before .before .before .before .if2 .left) (ap (λ (b : Bool). cond b 0 1) (sym (c .before .before .before .before .before .before .before .before .before .before .before .walk-link .ensures .0) ∙ c .before .before .before .before .if3 .left)))))
 
 pub walk-one-spec : {M : Type 1} → statement M
 walk-one-spec =
@@ -112,16 +112,16 @@ walk-one-spec =
     (tie.spec
     is-link-requires
     returns
-    fate-at-requires
+    verdict-at-requires
     same-length
     returns-2
     walk-link-requires
-    put-fate-requires
+    put-verdict-requires
     same-length-2
     same-length-3
     same-length-4
     returns-3
-    put-fate-requires-2
+    put-verdict-requires-2
     same-length-5
     same-length-6
     same-length-7

@@ -1,12 +1,12 @@
-// Each file's fate, from its row's flags and the marks: the k-th flagged link's verdict is the k-th mark.
+// Each file's verdict, from its row's flags and the marks: the k-th flagged link's verdict is the k-th mark.
 // Relies on the accessors of `lists` and `tables`.
 ghost use mathlib.Core.Path.{_≡_};
 ghost use Prim.Native.Nat.{_+_, _^_, _<_};
-ghost use Rattle.cleaning.specs.Writing.{fateOf, markAfter};
+ghost use Rattle.cleaning.specs.Writing.{verdictBy, markAfter};
 
-// The fate of a file, whose mark is the k-th if it is a flagged link.
-pub(crate) fn fate_of(flags: u64, marks: &[u8], k: usize) -> u8
-    ensures { λ r. ⌜ r ≡ fateOf flags (now (marks .entry)) k ⌝ }
+// The verdict on a file, whose mark is the k-th if it is a flagged link.
+pub(crate) fn verdict_of(flags: u64, marks: &[u8], k: usize) -> u8
+    ensures { λ r. ⌜ r ≡ verdictBy flags (now (marks .entry)) k ⌝ }
 {
     if links::is_flagged(flags) {
         return lists::byte(marks, k);

@@ -1,6 +1,6 @@
--- The fates of a set's files in a cleaning: what becomes of each file, and the bytes that go and come, as sums over the
+-- The verdicts of a set's files in a cleaning: what becomes of each file, and the bytes that go and come, as sums over the
 -- files. It relies on CleanedRun.antt and on the law of verdicts in `links`.
---     fate-at, cleaned-file    the fate of each file gives what the cleaning makes of it
+--     verdict-at, cleaned-file    the verdict of each file gives what the cleaning makes of it
 --     balance, …               sums
 --     space-at                 a text of a flagged link fits into the work space
 use mathlib.Core.Path.{_≡_, refl, sym, ap, _∙_}
@@ -18,41 +18,41 @@ use Rattle.links.specs.Clean.{Entry, entryOf, isHeld, heldText, own, linkedTo, 
 use Rattle.links.specs.Judging.{verdictOf, besideText, textBy}
 use Rattle.links.proofs.Walk.{append-short}
 use Rattle.links.proofs.Verdicts.{verdict-text}
-use Rattle.cleaning.specs.Cleaning.{goneAt, fatesFor, keptAfter, newBytes}
+use Rattle.cleaning.specs.Cleaning.{goneAt, fileVerdictsFor, keptAfter, newBytes}
 use Rattle.model.specs.Sound.{sumTo, textAtRow, Sound}
 use Rattle.model.proofs.Common.{sum-more}
 use Rattle.model.proofs.Texts.{link-span}
 use Rattle.model.proofs.CleanedFiles.{held-flagged}
 use Rattle.model.proofs.CleanedStep.{gone-is}
-use Rattle.model.proofs.CleanedRun.{fateOf, fate-here, fate-behind, textLength, text-len, amount, emptiedFile, freed, rewrittenFile, text-longer}
+use Rattle.model.proofs.CleanedRun.{verdictIn, verdict-here, verdict-behind, textLength, text-len, amount, emptiedFile, freed, rewrittenFile, text-longer}
 
--- ---- the fates of a set's files
+-- ---- the verdicts of a set's files
 
 module _ (files : List Entry) (dirs : List (List ℕ)) where
-  -- the fate of a file, one for each, and where it stands in the list
-  abbrev pub fate : Entry → ℕ
-  fate f = cond (f .flagged) (verdictOf files dirs f) 0
+  -- the verdict of a file, one for each, and where it stands in the list
+  abbrev pub verdict : Entry → ℕ
+  verdict f = cond (f .flagged) (verdictOf files dirs f) 0
 
-  pub length-fates : (es : List Entry) → length (fatesFor files dirs es) ≡ length es
-  length-fates [] = refl
-  length-fates (e ∷ es) = ap suc (length-fates es)
+  pub length-file-verdicts : (es : List Entry) → length (fileVerdictsFor files dirs es) ≡ length es
+  length-file-verdicts [] = refl
+  length-file-verdicts (e ∷ es) = ap suc (length-file-verdicts es)
 
-  pub fate-at : (n : ℕ) (g : ℕ → Entry) (i k : ℕ) → k < n → fateOf (fatesFor files dirs (tabled n g)) i (i + k) ≡ fate (g k)
+  pub verdict-at : (n : ℕ) (g : ℕ → Entry) (i k : ℕ) → k < n → verdictIn (fileVerdictsFor files dirs (tabled n g)) i (i + k) ≡ verdict (g k)
   unfolding tabled
-  fate-at zero g i k h = absurd (omega arith)
-  fate-at (suc n) g i zero h =
+  verdict-at zero g i k h = absurd (omega arith)
+  verdict-at (suc n) g i zero h =
       let e : i + 0 ≡ i = omega arith in
-      rw e (ap (λ (b : Bool). cond b (fate (g 0)) (fateOf (fatesFor files dirs (tabled n (λ j. g (suc j)))) (i + 1) i)) (eq-eqb i i refl))
-  fate-at (suc n) g i (suc k) h =
+      rw e (ap (λ (b : Bool). cond b (verdict (g 0)) (verdictIn (fileVerdictsFor files dirs (tabled n (λ j. g (suc j)))) (i + 1) i)) (eq-eqb i i refl))
+  verdict-at (suc n) g i (suc k) h =
       let e : i + suc k ≡ i + 1 + k = omega arith in
       rw e
-      (ap (λ (b : Bool). cond b (fate (g 0)) (fateOf (fatesFor files dirs (tabled n (λ j. g (suc j)))) (i + 1) (i + 1 + k))) (ne-eqb (i + 1 + k) i (λ q. omega arith))
-      ∙ fate-at n (λ j. g (suc j)) (i + 1) k (omega arith))
+      (ap (λ (b : Bool). cond b (verdict (g 0)) (verdictIn (fileVerdictsFor files dirs (tabled n (λ j. g (suc j)))) (i + 1) (i + 1 + k))) (ne-eqb (i + 1 + k) i (λ q. omega arith))
+      ∙ verdict-at n (λ j. g (suc j)) (i + 1) k (omega arith))
 
--- a fate other than 0 is that of a flagged link
-pub fated-flagged : (b : Bool) (v : ℕ) → eqb (cond b v 0) 0 ≡ false → b ≡ true
-fated-flagged true v e = refl
-fated-flagged false v e = absurd (false≢true (sym e))
+-- a verdict other than 0 is that of a flagged link
+pub verdict-flagged : (b : Bool) (v : ℕ) → eqb (cond b v 0) 0 ≡ false → b ≡ true
+verdict-flagged true v e = refl
+verdict-flagged false v e = absurd (false≢true (sym e))
 
 -- ---- what becomes of a file
 
@@ -65,7 +65,7 @@ pub length-held : (l : Optional (List ℕ)) → linkLength l ≡ length (heldTex
 length-held absent = refl
 length-held (present t) = refl
 
--- a file with fate 0 stays, and one with another fate has the text that the fate gives
+-- a file with verdict 0 stays, and one with another verdict has the text that the verdict gives
 pub none-file : (v : ℕ) (f : File) → eqb v 0 ≡ true → rewrittenFile v (emptiedFile v f) ≡ f
 none-file v f p = let z : eqb v 1 ≡ false = ne-eqb v 1 (λ o. omega (arith, eqb-true v 0 p)) in rw (p, z)
 
@@ -85,7 +85,7 @@ module _ (files : List Entry) (dirs : List (List ℕ)) (f : File) where
   v = verdictOf files dirs (entryOf f)
 
   -- the passes do to a file what the cleaning does
-  pub cleaned-file : rewrittenFile (fate files dirs (entryOf f)) (emptiedFile (fate files dirs (entryOf f)) f) ≡ cleanFile files dirs f
+  pub cleaned-file : rewrittenFile (verdict files dirs (entryOf f)) (emptiedFile (verdict files dirs (entryOf f)) f) ≡ cleanFile files dirs f
   cleaned-file = at (entryOf f .flagged) (held-flagged f)
     where
       at : (b : Bool) → (b ≡ true → isHeld (f .link) ≡ true) → rewrittenFile (cond b v 0) (emptiedFile (cond b v 0) f) ≡ cond b (linkedTo (present (cleanText files dirs (entryOf f))) f) f
@@ -111,15 +111,15 @@ amount-two w x y z e [] i s = refl
 amount-two w x y z e (v ∷ vs) i s = omega (arith, e v (entryOf (fileOf s i)), amount-two w x y z e vs (i + 1) s)
 
 -- the sum over all files from place i on, by place
-pub amount-sum : (w : ℕ → Entry → ℕ) (g : ℕ → ℕ) (vs : List ℕ) (i : ℕ) (s : Store) → ((k : ℕ) → i ≤ k → k < i + length vs → g k ≡ w (fateOf vs i k) (entryOf (fileOf s k)))
+pub amount-sum : (w : ℕ → Entry → ℕ) (g : ℕ → ℕ) (vs : List ℕ) (i : ℕ) (s : Store) → ((k : ℕ) → i ≤ k → k < i + length vs → g k ≡ w (verdictIn vs i k) (entryOf (fileOf s k)))
     → amount w vs i s + sumTo i g ≡ sumTo (i + length vs) g
 amount-sum w g [] i s e = let z : i + 0 ≡ i = omega arith in rw z (omega arith)
-amount-sum w g (v ∷ vs) i s e = more (amount-sum w g vs (i + 1) s (λ k a b. e k (omega arith) (omega arith) ∙ ap (λ (x : ℕ). w x (entryOf (fileOf s k))) (fate-behind v vs i k a)))
+amount-sum w g (v ∷ vs) i s e = more (amount-sum w g vs (i + 1) s (λ k a b. e k (omega arith) (omega arith) ∙ ap (λ (x : ℕ). w x (entryOf (fileOf s k))) (verdict-behind v vs i k a)))
   where
     more : amount w vs (i + 1) s + sumTo (i + 1) g ≡ sumTo (i + 1 + length vs) g → amount w (v ∷ vs) i s + sumTo i g ≡ sumTo (i + suc (length vs)) g
     more r =
         let z : i + suc (length vs) ≡ i + 1 + length vs = omega arith in
-        let q : g i ≡ w v (entryOf (fileOf s i)) = e i (omega arith) (omega arith) ∙ ap (λ (x : ℕ). w x (entryOf (fileOf s i))) (fate-here v vs i) in
+        let q : g i ≡ w v (entryOf (fileOf s i)) = e i (omega arith) (omega arith) ∙ ap (λ (x : ℕ). w x (entryOf (fileOf s i))) (verdict-here v vs i) in
         rw z (omega (arith, r, q, sum-more i g))
 
 -- sums by place

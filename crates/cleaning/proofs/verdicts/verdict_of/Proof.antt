@@ -1,8 +1,8 @@
--- `cleaning::fates::fate_of` meets its contract.
+-- `cleaning::verdicts::verdict_of` meets its contract.
 use borrow.Author.Needs.{needs}
 use mathlib.Core.Path.{sym, _∙_}
-use Rattle.cleaning.proofs.fates.fate_of.Statement.{statement}
-use Rattle.cleaning.proofs.fates.fate_of.Tie as tie
+use Rattle.cleaning.proofs.verdicts.verdict_of.Statement.{statement}
+use Rattle.cleaning.proofs.verdicts.verdict_of.Tie as tie
 
 is-flagged-requires : tie.Need-is-flagged-requires
 is-flagged-requires c κs = search needs
@@ -16,5 +16,5 @@ returns c = c .byte .ensures ∙ rw (sym (c .before .before .is-flagged .ensures
 returns-2 : tie.Need-returns-2
 returns-2 c = rw (sym (c .before .is-flagged .ensures) ∙ c .if1 .left)
 
-pub fate-of-spec : {M : Type 1} → statement M
-fate-of-spec = tie.close (tie.spec is-flagged-requires byte-requires returns returns-2)
+pub verdict-of-spec : {M : Type 1} → statement M
+verdict-of-spec = tie.close (tie.spec is-flagged-requires byte-requires returns returns-2)

@@ -1,8 +1,8 @@
--- `cleaning::fates::mark_after` meets its contract.
+-- `cleaning::verdicts::mark_after` meets its contract.
 use borrow.Author.Needs.{needs}
 use mathlib.Core.Path.{sym, _∙_}
-use Rattle.cleaning.proofs.fates.mark_after.Statement.{statement}
-use Rattle.cleaning.proofs.fates.mark_after.Tie as tie
+use Rattle.cleaning.proofs.verdicts.mark_after.Statement.{statement}
+use Rattle.cleaning.proofs.verdicts.mark_after.Tie as tie
 
 is-flagged-requires : tie.Need-is-flagged-requires
 is-flagged-requires c κs = search needs
