@@ -11,7 +11,7 @@ use lib.Seq.{drop-drop, take-set-le, drop-set-lt, getD-set-same, getD-drop, getD
 use borrow.Author.Tests.{lt-ltb, ltb-true, ltb-false}
 use Rattle.lists.specs.Lists.{equal}
 use Rattle.lists.proofs.Equality.{equal-true}
-use Rattle.tables.specs.Rows.{rowAt, has}
+use Rattle.tables.specs.Rows.{rowAt}
 use Rattle.tables.specs.Model.{Store}
 use Rattle.answers.specs.Answers.{internalPath}
 use Rattle.links.specs.Clean.{Entry, own, Link, none, to, leadAt, without, directoryLength, space}

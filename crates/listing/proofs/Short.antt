@@ -15,7 +15,7 @@ use Rattle.lists.specs.Decimal.{decimal, column}
 use Rattle.lists.proofs.Decimals.{decimal-few, column-length}
 use Rattle.types.specs.Refusals.{Outcome, value, refused}
 use Rattle.path.specs.Split.{isSeparator, isComplete, trimmedFrom, trimmed, beforeLast, behindLast, behindFirst, rsplitBranch, rsplitLeaf, lsplitFirst, lsplitRest, hasParent}
-use Rattle.path.specs.Join.{isEmpty, appended, Joined, joinedIf, fits}
+use Rattle.path.specs.Join.{isEmpty, Joined, joinedIf, fits}
 use Rattle.tables.specs.Model.{Optional, absent, present, Directory, single, absolute, stored, File, Model}
 use Rattle.storage.specs.Rules.{firstOf, both, either}
 use Rattle.storage.specs.Addition.{Addition, limit, isNegative, limitedName, badName, badLength, disagree, filesOf, unled, under, pathName, storedName, placeFor, newName, fileAdded, padAdded, padDirectory, padOf, sizeAdded, added, lacks, textOf, addingRules, addedTo}
