@@ -1,21 +1,26 @@
 -- Laws of the search for a directory: the last place of a text among others, whether it is there, and both once one more
 -- is stored.
-use Prim.Native.Nat.{ℕ, suc, _+_, _-_, _≤_, _<_}
+use Prim.Native.Nat.{ℕ, zero, suc, _+_, _-_, _*_, _/_, _≤_, _<_, min}
 use mathlib.Core.Path.{_≡_, refl, sym, ap, _∙_}
 use mathlib.Core.Bool.{Bool, true, false, cond, _||_, true≢false, false≢true}
 use mathlib.Core.List.{List, [], _∷_, _++_}
 use native.Mathlib.Omega.{arith}
 use lib.Dec.{eqb}
-use lib.ListN.{length, length-append}
+use lib.ListN.{length, length-append, List·getD-eq-default}
 use Rattle.lists.specs.Lists.{equal, any}
 use Rattle.lists.proofs.Tests.{any-append}
+use Rattle.lists.proofs.Parts.{part-length}
+use Rattle.lists.proofs.Equality.{equal-length}
+use Rattle.tables.specs.declared.span.Span.{Span}
+use Rattle.tables.specs.Span.{textAt}
+use Rattle.tables.specs.Rows.{dirAt}
 use Rattle.tables.specs.Model.{tabled, stored}
 use Rattle.tables.proofs.Tabled.{length-tabled, tabled-more}
 use Rattle.storage.specs.declared.dirs.DirPlan.{DirPlan}
 use Rattle.storage.specs.Rules.{both}
 use Rattle.storage.specs.Addition.{isAmong, padDirectory}
 use Rattle.storage.specs.Write.{placeFrom, placeOf}
-use Rattle.storage.specs.Plan.{dirPlanOf, dirsWith, countWith, padDirPlanOf}
+use Rattle.storage.specs.Plan.{dirTexts, dirPlanOf, dirsWith, countWith, padDirPlanOf}
 
 -- one more text, at the end
 pub place-more : (d : List ℕ) (xs : List (List ℕ)) (x : List ℕ) (found i : ℕ)
@@ -101,6 +106,45 @@ search-end g d n i h = let e : i ≡ 0 = omega arith in rw e
 
 pub search-is : (g : ℕ → List ℕ) (d : List ℕ) (n : ℕ) → placeFrom n 0 d (tabled n g) ≡ placeOf d (tabled n g)
 search-is g d n = rw (length-tabled n g)
+
+-- rows that have another text do not change what is found
+search-past : (g : ℕ → List ℕ) (d : List ℕ) (n m k : ℕ) → m + k ≤ n → ((j : ℕ) → m ≤ j → j < n → equal d (g j) ≡ false)
+    → placeFrom n 0 d (tabled m g) ≡ placeFrom n 0 d (tabled (m + k) g)
+search-past g d n m zero h f = let e : m + 0 ≡ m = omega arith in rw e
+search-past g d n m (suc k) h f =
+    let e : m + suc k - 1 ≡ m + k = omega arith in
+    search-past g d n m k (omega arith) f
+    ∙ ap (λ (i : ℕ). placeFrom n 0 d (tabled i g)) (sym e)
+    ∙ search-turn g d n (m + suc k) (omega arith) (ap (λ (i : ℕ). equal d (g i)) e ∙ f (m + k) (omega arith) (omega arith))
+
+-- where more bytes stand behind a span's start than a text has, the area's end cannot cut the span to that length
+pub length-differs : (d text : List ℕ) (s : Span) → s .at < length text - length d → (s .len ≡ length d → ⊥) → false ≡ equal d (textAt text s)
+length-differs d text s h q = sym (equal-length d (textAt text s) (λ e. q (omega (arith, part-length text (s .at) (s .len)))))
+
+-- the text of a directory row; past the table's end it is empty
+abbrev pub rowText : List ℕ → List ℕ → ℕ → List ℕ
+rowText dirs text i = textAt text (dirAt dirs i)
+
+past : (dirs text : List ℕ) (i : ℕ) → length dirs / 2 ≤ i → rowText dirs text i ≡ []
+past dirs text i h = let l : length dirs ≤ i * 2 + 1 = omega arith in rw (List·getD-eq-default dirs 0 {n = i * 2 + 1} l)
+
+empty-is : (d : List ℕ) → length d ≡ 0 → equal d [] ≡ true
+empty-is [] e = refl
+empty-is (x ∷ d) e = absurd (omega arith)
+
+-- so the empty text has the last of n places that are more than the table's rows, and any other is searched in the table alone
+module _ (dirs text d : List ℕ) where
+  pub empty-last : (n : ℕ) → length dirs / 2 < n → length d ≡ 0 → n - 1 ≡ placeOf d (dirTexts dirs text n)
+  empty-last n h e =
+      search-found (rowText dirs text) d n n (omega arith) (ap (equal d) (past dirs text (n - 1) (omega arith)) ∙ empty-is d e) ∙ search-is (rowText dirs text) d n
+
+  pub table-alone : (n m : ℕ) → m ≡ min n (length dirs / 2) → (m < n → length d ≡ 0 → ⊥)
+      → placeFrom n 0 d (dirTexts dirs text m) ≡ placeOf d (dirTexts dirs text n)
+  table-alone n m e q =
+      let k : m + (n - m) ≡ n = omega arith in
+      search-past (rowText dirs text) d n m (n - m) (omega arith) (λ j l h. ap (equal d) (past dirs text j (omega arith)) ∙ equal-length d [] (q (omega arith)))
+      ∙ ap (λ (i : ℕ). placeFrom n 0 d (dirTexts dirs text i)) k
+      ∙ search-is (rowText dirs text) d n
 
 -- plans of a directory by what the search found
 module _ (d : List ℕ) (xs : List (List ℕ)) (n : ℕ) (l : length xs ≡ n) where

@@ -1,14 +1,18 @@
 // The search for an addition's directories among those stored, from the back, as in
 // `get_or_add_path`. Relies on the accessors of `tables` and the laws of proofs/Directories.antt.
 ghost use mathlib.Core.Path.{_≡_};
-ghost use Prim.Native.Nat.{_≤_};
+ghost use Prim.Native.Nat.{_/_, _≤_, _<_};
+ghost use lib.ListN.{length};
 ghost use Rattle.lists.specs.Lists.{equal};
+ghost use Rattle.tables.specs.Span.{textAt};
+ghost use Rattle.tables.specs.Rows.{dirAt};
 ghost use Rattle.storage.specs.Rules.{both};
 ghost use Rattle.storage.specs.Addition.{padDirectory};
-ghost use Rattle.storage.specs.Write.{placeOf};
+ghost use Rattle.storage.specs.Write.{placeFrom, placeOf};
 ghost use Rattle.storage.specs.Parts.{directoryAt};
 ghost use Rattle.storage.specs.Plan.{dirTexts, countWith, dirPlanOf, padDirPlanOf, dirsWith};
 use crate::parts::Lying;
+use tables::Span;
 
 // The path index of a directory, whether it is new, the length of its new text, and how many
 // directories there are with it.
@@ -19,19 +23,60 @@ pub(crate) struct DirPlan {
     pub count: usize,
 }
 
-// The place of the last of n directories with that text, n where there is none.
-fn find_dir(dirs: &[u64], text: &[u8], n: usize, dir: &[u8]) -> usize
-    ensures { λ r. ⌜ r ≡ placeOf (now (dir .entry)) (dirTexts (now (dirs .entry)) (now (text .entry)) n) ⌝ }
+// Whether a span's text is that one; where the area's end cannot cut a longer span to its length, the
+// two lengths are compared before the text is read.
+fn is_text(text: &[u8], s: Span, dir: &[u8]) -> bool
+    ensures { λ r. ⌜ r ≡ equal (now (dir .entry)) (textAt (now (text .entry)) s) ⌝ }
 {
-    let mut i = n;
+    let n = dir.len();
+    let at = s.at;
+    if at < lists::minus(text.len(), n) {
+        if s.len != n {
+            return false;
+        }
+        let end = at + n;
+        return lists::same(dir, &text[at..end]);
+    }
+    lists::same(dir, tables::text_at(text, s))
+}
+
+// Directory row i, without a test of the length, as the table holds it whole.
+fn whole_row(dirs: &[u64], i: usize) -> Span
+    requires { ⌜ i < length (now dirs) / 2 ⌝ }
+    ensures { λ r. ⌜ r ≡ dirAt (now (dirs .entry)) i ⌝ }
+{
+    Span {
+        at: dirs[i * 2] as usize,
+        len: dirs[i * 2 + 1] as usize,
+    }
+}
+
+// The place of the last of the first m directories with that text, n where there is none.
+fn find_among(dirs: &[u64], text: &[u8], m: usize, n: usize, dir: &[u8]) -> usize
+    requires { ⌜ m ≤ length (now dirs) / 2 ⌝ }
+    ensures { λ r. ⌜ r ≡ placeFrom n 0 (now (dir .entry)) (dirTexts (now (dirs .entry)) (now (text .entry)) m) ⌝ }
+{
+    let mut i = m;
     while 0 < i {
-        let s = tables::dir_at(dirs, i - 1);
-        if lists::same(dir, tables::text_at(text, s)) {
+        let s = whole_row(dirs, i - 1);
+        if is_text(text, s, dir) {
             return i - 1;
         }
         i -= 1;
     }
     n
+}
+
+// The place of the last of n directories with that text, n where there is none; rows past the table's
+// end have the empty text and are not looked at.
+fn find_dir(dirs: &[u64], text: &[u8], n: usize, dir: &[u8]) -> usize
+    ensures { λ r. ⌜ r ≡ placeOf (now (dir .entry)) (dirTexts (now (dirs .entry)) (now (text .entry)) n) ⌝ }
+{
+    let m = lists::least(n, dirs.len() / 2);
+    if m < n && dir.len() == 0 {
+        return n - 1;
+    }
+    find_among(dirs, text, m, n, dir)
 }
 
 // A stored directory, whose text is new where no row has it.
