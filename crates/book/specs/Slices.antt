@@ -22,7 +22,7 @@ abbrev pub joined : List Slice → List Slice
 joined [] = []
 joined (a ∷ r) = joinedTo a (joined r)
 
--- 'each nonempty file once, whole': 'Whole is offset 0 and the row's size'; the files are numbered from k
+-- each nonempty file once, whole: 'Whole is offset 0 and the row's size'; the files are numbered from k
 abbrev pub wholeFrom : ℕ → List ℕ → List Slice
 wholeFrom k [] = []
 wholeFrom k (x ∷ xs) = before (slice k 0 x) (wholeFrom (suc k) xs)

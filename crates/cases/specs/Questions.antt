@@ -24,7 +24,7 @@ use Rattle.layout.specs.Request.{fileMapped}
 use Rattle.layout.specs.Table.{Filled, recordOf, blockMapped}
 use Rattle.layout.specs.Given.{numPiecesGiven, pieceSize2Given, fileAtOffsetGiven, exclusiveGiven, inclusiveGiven}
 
--- tables with places for 4 files, 2 directories and 14 bytes of text, and a table for 4 slices: just enough for the sets below
+-- tables with places for 4 files, 2 directories and 14 bytes of text, and a table for 4 slices: enough for the sets below
 abbrev pub newStore : ℕ → Store
 newStore n =
     record {

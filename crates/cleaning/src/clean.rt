@@ -105,7 +105,7 @@ fn clean_judged(
 }
 
 // Cleans the links of a set: each flagged link's text is kept, becomes the text from the link's directory, or the
-// link's own internal path. Marks, stage and path are work space, and cleared.
+// link's own internal path. Marks, stage and path are work space, cleared once the links are judged.
 pub fn sanitize_symlinks(
     fs: FileStorage,
     rows: &mut [u64],

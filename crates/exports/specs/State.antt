@@ -13,7 +13,7 @@ use Rattle.tables.specs.declared.rows.Presence.{Presence}
 use Rattle.tables.specs.declared.rows.Presence.the-variants.{Absent, Present}
 use Rattle.storage.specs.Outcomes.{Changed}
 
--- no set: its piece length is 0, so every call refuses it by 1
+-- no set: its piece length is 0, which every change and every question refuses by 1
 abbrev pub noStorage : FileStorage
 noStorage =
     record {

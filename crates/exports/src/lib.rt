@@ -1,5 +1,6 @@
-// The C interface, for benchmarks and other languages: a set's record is twelve words of a lent slice,
-// and a call returns 0 or document 01's number. Relies on `storage` and `tables`.
+// The C interface, for benchmarks and other languages: a set's record is twelve lent words. A change returns 0 or
+// document 01's number; questions.rt and slices.rt say what a question returns. Relies on `storage`, `tables`,
+// `layout` and `mapping`.
 ghost use mathlib.Core.Path.{_≡_};
 ghost use lib.Seq.{sets};
 ghost use Rattle.tables.specs.Rows.{rootAt};
@@ -58,7 +59,7 @@ fn bit_of(on: bool) -> u64
     if on { 1 } else { 0 }
 }
 
-// Writes a set's record as its words, the last one first, as it is read.
+// Writes a set's record as its words, the last one first: where it has its place, all have.
 fn put_state(state: &mut [u64], fs: FileStorage)
     ensures { λ _. ⌜ now (state .exit) ≡ sets (now (state .entry)) 0 (wordsOf fs) ⌝ }
 {

@@ -1,5 +1,5 @@
--- The slices of a block on rows that lie end to end: none is empty, their files ascend, and their sizes sum to what is left
--- of the block. They rely on the law that the file found is the last one at or below the target.
+-- The slices of a block: none is empty and their files ascend, and on rows that lie end to end their sizes sum to what is
+-- left of the block. They rely on the law that the file found is the last one at or below the target.
 --     walk-ordered, slices-ordered     on any rows: no slice is empty, and the files ascend
 --     walk-sum, slices-sum             the sum of the sizes
 use mathlib.Core.Path.{_≡_, refl, sym, ap, _∙_}

@@ -1,5 +1,6 @@
-// Layout answers, from file_storage.rs: pieces, files at offsets, and both mappings. Every answer tests
-// document 01's refusals first, in its order. Relies on `tables`, `types`, `lists` and `merkle`.
+// Layout answers, from file_storage.rs: pieces, files at offsets, and both mappings. Every answer tests document 01's
+// refusals first, in its order; a list of questions first that its tables have the places. Relies on `tables`, `types`,
+// `lists`, `merkle`, `storage` and `answers`.
 mod decide;
 mod file;
 mod list;

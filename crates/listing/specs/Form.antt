@@ -76,7 +76,7 @@ additionIn absent flags path = absent
 additionIn (present size) absent path = absent
 additionIn (present size) (present flags) path = present (additionOf size flags path)
 
--- 'per file size in 15, blank, flags in 2, blank, path'
+-- 'per file size in 15, blank, flags in 2 …, blank, path'
 abbrev pub fileIn : List ℕ → Optional Addition
 fileIn line =
     provided (both (leb 19 (length line)) (both (eqb (getD line 15 0) 32) (eqb (getD line 18 0) 32)))

@@ -78,7 +78,7 @@ inOrder rf entries text =
 
 -- ---- changes
 
--- 'a rename that replaces an entry': each number once, ascending
+-- a rename takes the place of an older one of its file: each number once, ascending
 abbrev pub withRename : Renamed → List Renamed → List Renamed
 withRename r [] = r ∷ []
 withRename r (x ∷ xs) =

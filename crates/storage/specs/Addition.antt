@@ -241,7 +241,7 @@ pub record Rooms : Type 0 where
   pub times : ℕ
   pub text : ℕ
 
--- refusal 10: 'a table or text area shorter than the result needs, or over 65535 files or directories'
+-- refusal 10: 'a table, text area, … shorter than the result needs, or over 65535 files or directories'
 abbrev pub lacks : Rooms → Model → ℕ → Bool
 lacks rooms m text =
     either (ltb (min 65535 (rooms .files)) (filesOf m))

@@ -1,5 +1,5 @@
-// Signed numbers at the boundary: unsigned inside, signed in the Rust's signatures. Nothing outside
-// this crate computes with signed numbers. It relies on the laws of proofs/Boundary.antt.
+// Signed numbers at the boundary: unsigned inside, signed in the Rust's signatures. They rely on the laws of
+// proofs/Boundary.antt.
 ghost use mathlib.Core.Path.{_≡_};
 ghost use Prim.Native.Nat.{_%_, _^_};
 ghost use lib.IntN.{pos, negsuc};
