@@ -39,16 +39,16 @@ struct Place {
 
 /// The places again, in the columns that `map_files` takes, a stretch at a time; and a table for a stretch's answers.
 struct Lists {
-    files: Vec<u32>,
+    files: Vec<i32>,
     offsets: Vec<i64>,
     sizes: Vec<i32>,
-    answers: Vec<u64>,
+    answers: Vec<u32>,
 }
 
 impl Lists {
     fn new(places: &[Place]) -> Self {
         Self {
-            files: places.iter().map(|p| p.file as u32).collect(),
+            files: places.iter().map(|p| p.file).collect(),
             offsets: places.iter().map(|p| p.offset).collect(),
             sizes: vec![BLOCK as i32; places.len()],
             answers: vec![0; STRETCH * 4],
@@ -107,7 +107,7 @@ fn questions(inputs: &[Input]) -> (Vec<Block>, Vec<Place>, Vec<i64>) {
 }
 
 /// Asks both sides every question, and compares the answers.
-fn check(sets: &Sets, columns: &mut Columns) {
+fn check_answers(sets: &Sets, columns: &mut Columns) {
     for b in &sets.blocks {
         let rust = sets.rust.map_block(PieceIndex(b.piece), b.offset, BLOCK);
         assert_eq!(sets.port.map_block(b.piece, b.offset, BLOCK, columns), rust.len() as i64, "number of slices");
@@ -116,18 +116,18 @@ fn check(sets: &Sets, columns: &mut Columns) {
             assert_eq!(columns.slice(i), answer, "slice {i}");
         }
     }
-    let mut out = [0; 3];
     for p in &sets.places {
         let rust = sets.rust.map_file(FileIndex(p.file), p.offset, BLOCK as i32);
-        assert_eq!(sets.port.map_file(p.file, p.offset, BLOCK as i32, &mut out), 0, "`map_file` is refused");
-        assert_eq!(out, [rust.piece.0, rust.start, rust.length].map(i64::from), "request");
+        let port = sets.port.map_file(p.file, p.offset, BLOCK as i32);
+        assert_eq!(port.refusal, 0, "`map_file` is refused");
+        assert_eq!((port.piece, port.start, port.length), (rust.piece.0, rust.start, rust.length), "request");
     }
     let mut lists = Lists::new(&sets.places);
     for (k, places) in sets.places.chunks(STRETCH).enumerate() {
         assert_eq!(lists.ask(&sets.port, k), places.len() as i64, "`map_files` is refused");
         for (p, answer) in places.iter().zip(lists.answers.chunks(4)) {
             let rust = sets.rust.map_file(FileIndex(p.file), p.offset, BLOCK as i32);
-            assert_eq!(answer, [0, rust.piece.0 as u64, rust.start as u64, rust.length as u64], "request of a list");
+            assert_eq!(answer, [0, rust.piece.0 as u32, rust.start as u32, rust.length as u32], "request of a list");
         }
     }
     for &offset in &sets.offsets {
@@ -239,15 +239,28 @@ fn measure_blocks(question: &str, sets: &Sets, port: impl FnMut(&Block)) {
     );
 }
 
+/// Both sets of each size, whose answers are compared, and tables for the slices of a block.
+fn checked() -> (Vec<Sets>, Columns, Vec<Slice>) {
+    let sets: Vec<Sets> = FILES.iter().map(|&files| sets(files)).collect();
+    let mut columns = Columns::new(BLOCK as usize);
+    let mut slices = vec![Slice::default(); BLOCK as usize];
+    for s in &sets {
+        check_answers(s, &mut columns);
+        check_slices(s, &mut slices);
+    }
+    (sets, columns, slices)
+}
+
+/// Compares all answers.
+pub fn check() {
+    checked();
+}
+
 /// Prints the table.
 pub fn table() {
     println!("| question | files | Rust | Rust, called | port | port / Rust | port / called |");
     println!("|---|---:|---:|---:|---:|---:|---:|");
-    let sets: Vec<Sets> = FILES.iter().map(|&files| sets(files)).collect();
-    let mut columns = Columns::new(BLOCK as usize);
-    sets.iter().for_each(|s| check(s, &mut columns));
-    let mut slices = vec![Slice::default(); BLOCK as usize];
-    sets.iter().for_each(|s| check_slices(s, &mut slices));
+    let (sets, mut columns, mut slices) = checked();
     for s in &sets {
         measure_blocks("`map_block`", s, |b| {
             _ = black_box(s.port.map_block_slices(b.piece, b.offset, BLOCK, &mut slices));
@@ -259,25 +272,24 @@ pub fn table() {
         });
     }
     for s in &sets {
-        let mut out = [0; 3];
-        measure(
+        let mut lists = Lists::new(&s.places);
+        measure_stretches(
             "`map_file`",
             s.port.num_files(),
             &s.places,
             |p| _ = black_box(s.rust.map_file(FileIndex(p.file), p.offset, BLOCK as i32)),
             |p| _ = black_box(map_file(&s.rust, p.file, p.offset, BLOCK as i32)),
-            |p| _ = black_box(s.port.map_file(p.file, p.offset, BLOCK as i32, &mut out)),
+            |k, _| _ = black_box(lists.ask(&s.port, k)),
         );
     }
     for s in &sets {
-        let mut lists = Lists::new(&s.places);
-        measure_stretches(
-            "`map_file`, a list",
+        measure(
+            "`map_file`, a C call each",
             s.port.num_files(),
             &s.places,
             |p| _ = black_box(s.rust.map_file(FileIndex(p.file), p.offset, BLOCK as i32)),
             |p| _ = black_box(map_file(&s.rust, p.file, p.offset, BLOCK as i32)),
-            |k, _| _ = black_box(lists.ask(&s.port, k)),
+            |p| _ = black_box(s.port.map_file(p.file, p.offset, BLOCK as i32)),
         );
     }
     for s in &sets {

@@ -83,30 +83,28 @@ unsafe extern "C" {
         offset: i64,
     ) -> i64;
 
+    /// A state of twelve words has its length in its type, so it is a pointer alone.
     fn niflathen_map_file(
-        state: *const u64,
-        state_len: usize,
+        state: *const [u64; 12],
         rows: *const u64,
         rows_len: usize,
         index: i32,
         offset: i64,
         size: i32,
-        out: *mut i64,
-        out_len: usize,
-    ) -> u32;
+    ) -> FileRequest;
 
     fn niflathen_map_files(
         state: *const u64,
         state_len: usize,
         rows: *const u64,
         rows_len: usize,
-        files: *const u32,
+        files: *const i32,
         files_len: usize,
         offsets: *const i64,
         offsets_len: usize,
         sizes: *const i32,
         sizes_len: usize,
-        answers: *mut u64,
+        answers: *mut u32,
         answers_len: usize,
     ) -> i64;
 }
@@ -126,6 +124,16 @@ pub struct Slice {
     pub file: i32,
     pub offset: i64,
     pub size: i64,
+}
+
+/// A request, or zeros and the number of the refusal, as the port lays its `FileRequest`.
+#[repr(C)]
+#[derive(Clone, Copy)]
+pub struct FileRequest {
+    pub refusal: u32,
+    pub piece: i32,
+    pub start: i32,
+    pub length: i32,
 }
 
 /// The columns that `map_block` puts its slices into.
@@ -149,7 +157,7 @@ impl Columns {
 
 /// A set: its record's words and its tables.
 pub struct Set {
-    state: Vec<u64>,
+    state: [u64; 12],
     rows: Vec<u64>,
     roots: Vec<u8>,
     times: Vec<i64>,
@@ -161,7 +169,7 @@ impl Set {
     /// A set without files, with tables of zeros for so many files, directories and bytes of text.
     pub fn new(files: usize, directories: usize, text: usize) -> Self {
         let mut set = Self {
-            state: vec![0; 12],
+            state: [0; 12],
             rows: vec![0; files * 8],
             roots: vec![0; files * 32],
             times: vec![0; files],
@@ -297,29 +305,17 @@ impl Set {
         }
     }
 
-    /// Puts piece, start and length into `out`, and gives the number of the refusal, 0 for none.
+    /// Gives the request, or the number of the refusal.
     #[inline]
-    pub fn map_file(&self, index: i32, offset: i64, size: i32, out: &mut [i64; 3]) -> u32 {
+    pub fn map_file(&self, index: i32, offset: i64, size: i32) -> FileRequest {
         // SAFETY: as above.
-        unsafe {
-            niflathen_map_file(
-                self.state.as_ptr(),
-                self.state.len(),
-                self.rows.as_ptr(),
-                self.rows.len(),
-                index,
-                offset,
-                size,
-                out.as_mut_ptr(),
-                out.len(),
-            )
-        }
+        unsafe { niflathen_map_file(&self.state, self.rows.as_ptr(), self.rows.len(), index, offset, size) }
     }
 
     /// Puts four words for each question into `answers`, and gives the number of questions, or minus the number of the
     /// refusal.
     #[inline]
-    pub fn map_files(&self, files: &[u32], offsets: &[i64], sizes: &[i32], answers: &mut [u64]) -> i64 {
+    pub fn map_files(&self, files: &[i32], offsets: &[i64], sizes: &[i32], answers: &mut [u32]) -> i64 {
         // SAFETY: as above.
         unsafe {
             niflathen_map_files(

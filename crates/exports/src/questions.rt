@@ -1,9 +1,7 @@
 // The layout answers of the C interface: both mappings, `map_file` for a list, and the file at an offset. Relies on `layout`
 // and on the record that a set's words hold.
 ghost use mathlib.Core.Path.{_≡_};
-ghost use mathlib.Core.List.{[], _∷_};
 ghost use lib.IntN.{pos, negℤ};
-ghost use lib.Seq.{sets};
 ghost use Rattle.types.specs.Refusals.{usizeSays};
 ghost use Rattle.layout.specs.Results.{fileSays, requestSays};
 ghost use Rattle.layout.specs.Block.{mapBlock};
@@ -11,7 +9,7 @@ ghost use Rattle.layout.specs.Request.{fileMapped};
 ghost use Rattle.layout.specs.List.{filesMapped};
 ghost use Rattle.layout.specs.Given.{fileAtOffsetGiven};
 ghost use Rattle.exports.specs.State.{storageOf};
-ghost use Rattle.exports.specs.Layout.{countSaid, placeSaid, BlockSaid, blockSaid, RequestSaid, requestSaid, ListSaid, listSaid};
+ghost use Rattle.exports.specs.Layout.{countSaid, placeSaid, BlockSaid, blockSaid, requestSaid, ListSaid, listSaid};
 use crate::storage_at;
 use layout::FileResult;
 use layout::RequestResult;
@@ -53,28 +51,32 @@ fn file_in(answer: FileResult) -> i64
     }
 }
 
-// Puts three numbers into the first three places of a table that has them.
-fn put_three(out: &mut [i64], a: i64, b: i64, c: i64)
-    ensures { λ _. ⌜ now (out .exit) ≡ sets (now (out .entry)) 0 (a ∷ b ∷ c ∷ []) ⌝ }
-{
-    tables::put_time(out, 0, a);
-    tables::put_time(out, 1, b);
-    tables::put_time(out, 2, c);
+// A request of `map_file` as C has it: the number of the refusal, or 0 and the request.
+#[repr(C)]
+pub struct FileRequest {
+    pub refusal: u32,
+    pub piece: i32,
+    pub start: i32,
+    pub length: i32,
 }
 
-// Puts a request into a table's first three places, and gives the number of the refusal, 0 for none.
-fn put_request(out: &mut [i64], answer: RequestResult) -> u32
-    ensures { λ r. ⌜ _≡_ {A = RequestSaid} (record { number = r; out = now (out .exit) }) (requestSaid (requestSays answer) (now (out .entry))) ⌝ }
+// A request, or zeros and the number of the refusal.
+fn request_in(answer: RequestResult) -> FileRequest
+    ensures { λ r. ⌜ r ≡ requestSaid (requestSays answer) ⌝ }
 {
     match answer {
-        RequestResult::Ok(r) => {
-            if out.len() < 3 {
-                return 10;
-            }
-            put_three(out, wide(r.piece.0), wide(r.start), wide(r.length));
-            0
-        }
-        RequestResult::Err(e) => types::number(e),
+        RequestResult::Ok(r) => FileRequest {
+            refusal: 0,
+            piece: r.piece.0,
+            start: r.start,
+            length: r.length,
+        },
+        RequestResult::Err(e) => FileRequest {
+            refusal: types::number(e),
+            piece: 0,
+            start: 0,
+            length: 0,
+        },
     }
 }
 
@@ -112,23 +114,18 @@ pub extern "C" fn niflathen_file_index_at_offset(state: &[u64], rows: &[u64], of
     file_in(layout::file_index_at_offset(storage_at(state), rows, offset))
 }
 
-// `layout::map_file`: 0, and piece, start and length in `out`'s first three places; or the number of
-// the refusal.
+// `layout::map_file`. Words and answer have their sizes in their types, so that a call passes all in registers.
 #[no_mangle]
 pub extern "C" fn niflathen_map_file(
-    state: &[u64],
+    state: &[u64; 12],
     rows: &[u64],
     index: i32,
     offset: i64,
     size: i32,
-    out: &mut [i64],
-) -> u32
-    ensures { λ r. ⌜ _≡_ {A = RequestSaid} (record { number = r; out = now (out .exit) }) (requestSaid (fileMapped (storageOf (now (state .entry))) (now (rows .entry)) index offset size) (now (out .entry))) ⌝ }
+) -> FileRequest
+    ensures { λ r. ⌜ r ≡ requestSaid (fileMapped (storageOf (now (state .entry))) (now (rows .entry)) index offset size) ⌝ }
 {
-    put_request(
-        out,
-        layout::map_file(storage_at(state), rows, FileIndex(index), offset, size),
-    )
+    request_in(layout::map_file(storage_at(state), rows, FileIndex(index), offset, size))
 }
 
 // `layout::map_files`: the number of questions, or minus the number of the refusal.
@@ -136,10 +133,10 @@ pub extern "C" fn niflathen_map_file(
 pub extern "C" fn niflathen_map_files(
     state: &[u64],
     rows: &[u64],
-    files: &[u32],
+    files: &[i32],
     offsets: &[i64],
     sizes: &[i32],
-    answers: &mut [u64],
+    answers: &mut [u32],
 ) -> i64
     ensures { λ r. ⌜ _≡_ {A = ListSaid} (record { answer = r; answers = now (answers .exit) }) (listSaid (filesMapped (storageOf (now (state .entry))) (now (rows .entry)) (now (files .entry)) (now (offsets .entry)) (now (sizes .entry)) (now (answers .entry)))) ⌝ }
 {

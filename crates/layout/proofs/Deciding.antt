@@ -1,7 +1,6 @@
 -- Deciding before an answer. A decision says the number of the first refusal, or 0; the answer that follows says its value,
 -- or that number. Stated once for every list of rules; they rely on the definitions of specs/Questions.antt.
---     unsigned-of, unsigned-negative, file-or-past, past-negative
---                                         what a signed number is, by its unsigned reading
+--     unsigned-of, unsigned-negative      what a signed number is, by its unsigned reading
 --     below-yes, below-no                 what `within` says of a number
 --     below-not, below-as, index-low      what its sign says of it
 --     over-is                             whether there are more than k pieces, by a product
@@ -10,9 +9,9 @@
 --     pieces-known, piece-known           what that means for the set and a piece of it
 --     set-held, piece-held                what it means for the rows
 --     file-known, file-counted            what it means for a file and its set
---     past-any                            a file past the end of any set, for a negative number
+--     past-held, past-index, asked-past   a negative number's file is past the end of every set that a table holds
 --     asked-apart                         a question about bytes of a file is answered where the set and the question pass
-use Prim.Native.Nat.{ℕ, _+_, _-_, _*_, _%_, _^_, _≤_, _<_}
+use Prim.Native.Nat.{ℕ, suc, _+_, _-_, _*_, _%_, _^_, _≤_, _<_}
 use mathlib.Core.Path.{_≡_, refl, sym, ap, _∙_}
 use mathlib.Core.Bool.{Bool, true, false, cond, not, true≢false}
 use mathlib.Core.List.{List, [], _∷_, _++_}
@@ -37,7 +36,7 @@ use Rattle.storage.specs.Addition.{badLength, isNegative, sizeOf, limit}
 use Rattle.answers.specs.Answers.{indexOf, isBelow}
 use Rattle.layout.specs.declared.decide.Check.{Check}
 use Rattle.layout.specs.declared.decide.Check.the-variants.{Go, Stop}
-use Rattle.layout.specs.Deciding.{checkNumber, Counted, fileOrPast}
+use Rattle.layout.specs.Deciding.{checkNumber, Counted, fileOrPast, setAsked, placeAsked, bytesAsked}
 use Rattle.layout.specs.Questions.{numPieces, opened, noFile, manyPieces, noPiece, badRange, short}
 use Rattle.layout.specs.Pieces.{startOf, pieceSize}
 
@@ -49,14 +48,6 @@ unsigned-of (negsuc m) n e = absurd (let z : _≡_ {A = ℕ} 0 1 = cc in omega a
 pub unsigned-negative : (z : ℤ) → unsignedOf z ≡ Negative → (isNegative z ≡ true) × (sizeOf z ≡ 0)
 unsigned-negative (pos m) e = absurd (let z : _≡_ {A = ℕ} 0 1 = cc in omega arith)
 unsigned-negative (negsuc m) e = (refl, refl)
-
-pub file-or-past : (z : ℤ) (n : ℕ) → unsignedOf z ≡ Of n → fileOrPast z ≡ n
-file-or-past (pos m) n e = cc
-file-or-past (negsuc m) n e = absurd (let z : _≡_ {A = ℕ} 0 1 = cc in omega arith)
-
-pub past-negative : (z : ℤ) → unsignedOf z ≡ Negative → fileOrPast z ≡ 2 ^ 64 - 1
-past-negative (pos m) e = absurd (let z : _≡_ {A = ℕ} 0 1 = cc in omega arith)
-past-negative (negsuc m) e = refl
 
 -- one of so many
 module _ (r count : ℕ) where
@@ -272,14 +263,33 @@ asked-apart false false false true false = refl
 asked-apart false false false false true = refl
 asked-apart false false false false false = refl
 
--- a negative number is refused as that of a file past the end of any set
-pub past-any : {A : Type 0} (fs : FileStorage) (z : ℤ) (rules : List Rule) (a : ℕ → A) → fs .«num_files» < 2 ^ 64
-    → outcomeOf (firstOf (opened fs ∷ noFile fs (pos (fileOrPast z)) ∷ rules)) (a (fileOrPast z)) ≡ outcomeOf (firstOf (opened fs ∷ noFile fs z ∷ rules)) (a (indexOf z))
-past-any fs (pos n) rules a h = refl
-past-any fs (negsuc n) rules a h =
-    let e : ltb (2 ^ 64 - 1) (fs .«num_files») ≡ false = le-ltb (2 ^ 64 - 1) (fs .«num_files») (omega arith) in
-    rw e (by (badLength (fs .«piece_length»)))
+-- a negative number's file is past the end of every set that a table holds
+pub past-held : (z : ℤ) (n : ℕ) → SFits w32 z → n < 2 ^ 63 → ltb (fileOrPast z) n ≡ isBelow n z
+past-held (pos k) n f h = refl
+past-held (negsuc k) n f h =
+    let m : k < 2 ^ 31 = f .sfits in
+    le-ltb (2 ^ 64 - suc k) n (omega arith)
+
+pub past-index : (z : ℤ) (n : ℕ) → isBelow n z ≡ true → fileOrPast z ≡ indexOf z
+past-index (pos k) n e = refl
+past-index (negsuc k) n e = absurd (true≢false (sym e))
+
+-- a question is answered where the set passes its tests and the question its own, by the number counted round
+pub asked-past : (fs : FileStorage) (z offset size : ℤ) (room : ℕ) → SFits w32 z → room < 2 ^ 63
+    → both (eqb (firstOf (setAsked fs room)) 0) (eqb (firstOf (placeAsked fs (pos (fileOrPast z)) offset size)) 0) ≡ eqb (firstOf (bytesAsked fs z offset size room)) 0
+asked-past fs z offset size room f h = by (leb (fs .«num_files») room) refl
   where
-    by : (b : Bool) → outcomeOf (cond b 1 11) (a (2 ^ 64 - 1)) ≡ outcomeOf (cond b 1 11) (a 0)
-    by true = refl
-    by false = refl
+    apart : both (eqb (firstOf (setAsked fs room)) 0) (eqb (firstOf (placeAsked fs z offset size)) 0) ≡ eqb (firstOf (bytesAsked fs z offset size room)) 0
+    apart = sym (asked-apart (opened fs .test) (noFile fs z .test) (manyPieces fs .test) (badRange offset size .test) (short (leb (fs .«num_files») room) .test))
+
+    unfit : (a b : Bool) → eqb (firstOf (when a 1 ∷ when b 13 ∷ when true 10 ∷ [])) 0 ≡ false
+    unfit true b = refl
+    unfit false true = refl
+    unfit false false = refl
+
+    by : (b : Bool) → leb (fs .«num_files») room ≡ b
+        → both (eqb (firstOf (setAsked fs room)) 0) (eqb (firstOf (placeAsked fs (pos (fileOrPast z)) offset size)) 0) ≡ eqb (firstOf (bytesAsked fs z offset size room)) 0
+    by true e = rw (past-held z (fs .«num_files») f (omega (arith, leb-true (fs .«num_files») room e))) apart
+    by false e =
+        let u : eqb (firstOf (setAsked fs room)) 0 ≡ false = rw e (unfit (opened fs .test) (manyPieces fs .test)) in
+        rw u (rw u at apart)

@@ -20,9 +20,9 @@ answerWords (value r) = 0 ∷ sizeOf (r .piece) ∷ sizeOf (r .start) ∷ sizeOf
 answerWords (refused k) = k ∷ 0 ∷ 0 ∷ 0 ∷ []
 
 -- the answer to question i
-abbrev pub answerAt : FileStorage → List ℕ → List ℕ → List ℤ → List ℤ → ℕ → List ℕ
+abbrev pub answerAt : FileStorage → List ℕ → List ℤ → List ℤ → List ℤ → ℕ → List ℕ
 answerAt fs rows files offsets sizes i =
-    answerWords (fileMapped fs rows (pos (getD files i 0)) (getD offsets i (pos 0)) (getD sizes i (pos 0)))
+    answerWords (fileMapped fs rows (getD files i (pos 0)) (getD offsets i (pos 0)) (getD sizes i (pos 0)))
 
 -- the number of questions, or 10; and what the table of answers holds afterwards
 pub record Listed : Type 0 where
@@ -30,7 +30,7 @@ pub record Listed : Type 0 where
   pub answers : List ℕ
 
 -- a question for each file named; 10 where a table has no place for each of them
-abbrev pub filesMapped : FileStorage → List ℕ → List ℕ → List ℤ → List ℤ → List ℕ → Listed
+abbrev pub filesMapped : FileStorage → List ℕ → List ℤ → List ℤ → List ℤ → List ℕ → Listed
 filesMapped fs rows files offsets sizes answers =
     cond (ltb (min (length offsets) (min (length sizes) (length answers / 4))) (length files))
     (record { says = refused 10; answers = answers })

@@ -30,6 +30,7 @@ use crate::decide::decide;
 use crate::decide::has_many;
 use crate::decide::is_bad_range;
 use crate::decide::is_either;
+use crate::decide::is_no_file;
 use crate::decide::is_no_tree;
 use crate::number::ceil;
 use crate::number::file_number;
@@ -106,6 +107,32 @@ fn after_quotient(n: u64, d: u64) -> u64
     over(n - 1, d) + 1
 }
 
+// A place of the set's bytes as its piece and its start in that piece.
+pub(crate) struct Cut {
+    pub piece: u64,
+    pub start: u64,
+}
+
+// Place `at` cut by the piece length. A power of two, which most piece lengths are, cuts by a shift; the power is made
+// from the length's low zero bits and compared with it, so that nothing rests on their count.
+fn cut_at(at: u64, piece_length: u64) -> Cut
+    requires { ⌜ 0 < «piece_length» ⌝ }
+    ensures { λ r. ⌜ (r .piece ≡ at / «piece_length») × (r .start ≡ at % «piece_length») ⌝ }
+{
+    let bits = u64::trailing_zeros(piece_length) % 64;
+    let unit = 1u64 << bits;
+    if unit == piece_length {
+        return Cut {
+            piece: at >> bits,
+            start: at % unit,
+        };
+    }
+    Cut {
+        piece: at / piece_length,
+        start: at % piece_length,
+    }
+}
+
 // Where place `at` of the set's bytes lies, and how many of `size` bytes are left from there on.
 fn request_at(fs: FileStorage, at: u64, size: u64) -> Place
     requires { ⌜ 0 < fs .«piece_length» ⌝ }
@@ -118,9 +145,10 @@ fn request_at(fs: FileStorage, at: u64, size: u64) -> Place
             length: 0,
         };
     }
+    let c = cut_at(at, fs.piece_length);
     Place {
-        piece: at / fs.piece_length,
-        start: at % fs.piece_length,
+        piece: c.piece,
+        start: c.start,
         length: smaller(size, fs.total_size - at),
     }
 }
@@ -384,7 +412,7 @@ fn offset_of(rows: &[u64], k: usize) -> u64
 }
 
 // Whether a set's own tests let it answer questions about bytes of its files.
-pub(crate) fn is_fit(fs: FileStorage, room: usize) -> bool
+fn is_fit(fs: FileStorage, room: usize) -> bool
     ensures { λ r. ⌜ r ≡ eqb (firstOf (setAsked fs room)) 0 ⌝ }
 {
     if is_bad_length(fs.piece_length) {
@@ -407,13 +435,13 @@ fn is_asked(fs: FileStorage, k: usize, offset: i64, size: i32) -> bool
 }
 
 // Why a question about bytes of a file that is not answered is refused; it never gets to `Go`.
-fn refused_bytes(fs: FileStorage, k: usize, offset: i64, size: i32, room: usize) -> Refusal
-    requires { ⌜ eqb (firstOf (bytesAsked fs (pos k) offset size room)) 0 ≡ false ⌝ }
-    ensures { λ r. ⌜ numberOf r ≡ firstOf (bytesAsked fs (pos k) offset size room) ⌝ }
+fn refused_bytes(fs: FileStorage, index: FileIndex, offset: i64, size: i32, room: usize) -> Refusal
+    requires { ⌜ eqb (firstOf (bytesAsked fs (index .0) offset size room)) 0 ≡ false ⌝ }
+    ensures { λ r. ⌜ numberOf r ≡ firstOf (bytesAsked fs (index .0) offset size room) ⌝ }
 {
     match decide(
         is_bad_length(fs.piece_length),
-        !(k < fs.num_files),
+        is_no_file(fs, index),
         has_many(fs),
         false,
         is_bad_range(offset, is_negative32(size)),
@@ -425,30 +453,9 @@ fn refused_bytes(fs: FileStorage, k: usize, offset: i64, size: i32, room: usize)
     }
 }
 
-// `map_file` of file k of a set of which it is known whether its own tests are passed. All tests stand before the
-// answer, so that no answer waits for the number of a refusal.
-pub(crate) fn map_file_of(
-    fs: FileStorage,
-    rows: &[u64],
-    fit: bool,
-    k: usize,
-    offset: i64,
-    size: i32,
-) -> RequestResult
-    requires { ⌜ fit ≡ eqb (firstOf (setAsked fs (length (now rows) / 8))) 0 ⌝ }
-    ensures { λ r. ⌜ requestSays r ≡ fileMapped fs (now (rows .entry)) (pos k) offset size ⌝ }
-{
-    if are_both(fit, is_asked(fs, k, offset, size)) {
-        return RequestResult::Ok(signed_request(request_at(
-            fs,
-            offset_of(rows, k) + size64(offset),
-            size32(size),
-        )));
-    }
-    RequestResult::Err(refused_bytes(fs, k, offset, size, rows.len() / 8))
-}
-
-// Where bytes of a file lie: the piece, the start in it, and how many are left in the set. It does not stop at the file's end.
+// Where bytes of a file lie: the piece, the start in it, and how many are left in the set. It does not stop at the file's
+// end. All tests stand before the answer, so that no answer waits for the number of a refusal, and those on the set stand
+// apart, so that a loop of questions makes them once.
 pub fn map_file(
     fs: FileStorage,
     rows: &[u64],
@@ -458,14 +465,16 @@ pub fn map_file(
 ) -> RequestResult
     ensures { λ r. ⌜ requestSays r ≡ fileMapped fs (now (rows .entry)) (index .0) offset size ⌝ }
 {
-    map_file_of(
-        fs,
-        rows,
-        is_fit(fs, rows.len() / 8),
-        file_or_past(index),
-        offset,
-        size,
-    )
+    let k = file_or_past(index);
+    let fit = is_fit(fs, rows.len() / 8);
+    if are_both(fit, is_asked(fs, k, offset, size)) {
+        return RequestResult::Ok(signed_request(request_at(
+            fs,
+            offset_of(rows, k) + size64(offset),
+            size32(size),
+        )));
+    }
+    RequestResult::Err(refused_bytes(fs, index, offset, size, rows.len() / 8))
 }
 
 // The pieces that lie wholly in a file.

@@ -1,5 +1,5 @@
-// `map_file` for a list of questions, so that the tests on the set are made once for all of them. It relies on
-// file.rt and on the laws of rows written one behind another (tables, proofs/Filled.antt).
+// `map_file` for a list of questions: one call of it for each, in a loop that the compiler sees whole. It relies on file.rt
+// and on the laws of rows written one behind another (tables, proofs/Filled.antt).
 ghost use mathlib.Core.Path.{_≡_};
 ghost use mathlib.Core.List.{[], _∷_};
 ghost use Prim.Native.Nat.{_+_, _*_, _/_, _≤_, _<_};
@@ -7,18 +7,19 @@ ghost use lib.ListN.{length};
 ghost use lib.Seq.{sets};
 ghost use Rattle.types.specs.Refusals.{usizeSays};
 ghost use Rattle.tables.specs.Rows.{filled};
+ghost use Rattle.storage.specs.Addition.{sizeOf};
 ghost use Rattle.layout.specs.Results.{requestSays};
 ghost use Rattle.layout.specs.List.{Listed, answerWords, answerAt, filesMapped};
-use crate::file::is_fit;
-use crate::file::map_file_of;
+use crate::file::map_file;
 use crate::number::size32;
 use crate::result::RequestResult;
 use tables::FileStorage;
+use types::FileIndex;
 use types::Refusal;
 use types::UsizeResult;
 
 // Puts four words side by side, from place `at` on.
-fn put_words(answers: &mut [u64], at: usize, w0: u64, w1: u64, w2: u64, w3: u64)
+fn put_words(answers: &mut [u32], at: usize, w0: u32, w1: u32, w2: u32, w3: u32)
     requires { ⌜ at + 3 < length (now answers) ⌝ }
     ensures { λ _. ⌜ now (answers .exit) ≡ sets (now (answers .entry)) at (w0 ∷ w1 ∷ w2 ∷ w3 ∷ []) ⌝ }
 {
@@ -28,8 +29,15 @@ fn put_words(answers: &mut [u64], at: usize, w0: u64, w1: u64, w2: u64, w3: u64)
     answers[at + 3] = w3;
 }
 
+// An `i32` as a word, 0 where it is negative.
+fn word32(x: i32) -> u32
+    ensures { λ r. ⌜ r ≡ sizeOf x ⌝ }
+{
+    size32(x) as u32
+}
+
 // Puts the answer to question i in its place.
-fn put_answer(answers: &mut [u64], i: usize, answer: RequestResult)
+fn put_answer(answers: &mut [u32], i: usize, answer: RequestResult)
     requires { ⌜ i * 4 + 3 < length (now answers) ⌝ }
     ensures { λ _. ⌜ now (answers .exit) ≡ sets (now (answers .entry)) (i * 4) (answerWords (requestSays answer)) ⌝ }
 {
@@ -38,11 +46,11 @@ fn put_answer(answers: &mut [u64], i: usize, answer: RequestResult)
             answers,
             i * 4,
             0,
-            size32(r.piece.0),
-            size32(r.start),
-            size32(r.length),
+            word32(r.piece.0),
+            word32(r.start),
+            word32(r.length),
         ),
-        RequestResult::Err(e) => put_words(answers, i * 4, types::number(e) as u64, 0, 0, 0),
+        RequestResult::Err(e) => put_words(answers, i * 4, types::number(e), 0, 0, 0),
     }
 }
 
@@ -50,19 +58,18 @@ fn put_answer(answers: &mut [u64], i: usize, answer: RequestResult)
 fn answer_each(
     fs: FileStorage,
     rows: &[u64],
-    files: &[u32],
+    files: &[i32],
     offsets: &[i64],
     sizes: &[i32],
-    answers: &mut [u64],
+    answers: &mut [u32],
 )
     requires { ⌜ (length (now files) ≤ length (now offsets)) × (length (now files) ≤ length (now sizes)) × (length (now files) ≤ length (now answers) / 4) ⌝ }
     ensures { λ _. ⌜ now (answers .exit) ≡ sets (now (answers .entry)) 0 (filled (answerAt fs (now (rows .entry)) (now (files .entry)) (now (offsets .entry)) (now (sizes .entry))) 0 (length (now (files .entry)))) ⌝ }
 {
-    let fit = is_fit(fs, rows.len() / 8);
     let n = files.len();
     let mut i = 0;
     while i < n {
-        let answer = map_file_of(fs, rows, fit, files[i] as usize, offsets[i], sizes[i]);
+        let answer = map_file(fs, rows, FileIndex(files[i]), offsets[i], sizes[i]);
         put_answer(answers, i, answer);
         i += 1;
     }
@@ -73,10 +80,10 @@ fn answer_each(
 pub fn map_files(
     fs: FileStorage,
     rows: &[u64],
-    files: &[u32],
+    files: &[i32],
     offsets: &[i64],
     sizes: &[i32],
-    answers: &mut [u64],
+    answers: &mut [u32],
 ) -> UsizeResult
     ensures { λ r. ⌜ _≡_ {A = Listed} (record { says = usizeSays r; answers = now (answers .exit) }) (filesMapped fs (now (rows .entry)) (now (files .entry)) (now (offsets .entry)) (now (sizes .entry)) (now (answers .entry))) ⌝ }
 {

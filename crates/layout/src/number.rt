@@ -111,12 +111,12 @@ pub(crate) fn piece_number(piece: PieceIndex) -> u64
     piece.get() as u64
 }
 
-// The number of a file; one that no set has where it is negative.
+// The number of a file. A negative one is counted back from 2^64, past the files of every set whose rows are there: the
+// 64 bits of the number, which costs no test.
 pub(crate) fn file_or_past(index: FileIndex) -> usize
     ensures { λ r. ⌜ r ≡ fileOrPast (index .0) ⌝ }
 {
-    match types::unsigned32(index.0) {
-        Unsigned::Of(n) => n as usize,
-        Unsigned::Negative => 0xffff_ffff_ffff_ffff,
-    }
+    let x = index.0;
+    let above = (x as i64 + 0x8000_0000) as u64;
+    std::num::wrapping_sub_u64(above, 0x8000_0000) as usize
 }

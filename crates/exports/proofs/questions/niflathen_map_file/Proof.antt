@@ -13,21 +13,17 @@ storage-at-requires c κs = search needs
 map-file-requires : tie.Need-map-file-requires
 map-file-requires c κs = search needs
 
-put-request-requires : tie.Need-put-request-requires
-put-request-requires c κs = search needs
-
-same-length : tie.Need-same-length
-same-length c = search needs
+request-in-requires : tie.Need-request-in-requires
+request-in-requires c κs = search needs
 
 returns : tie.Need-returns
 returns c =
-    let a = c .before .before .before .before .before .before .before .args in
+    let a = c .before .before .before .before .before .args in
     let i : SFits w32 (a .index) = search needs in
     let o : SFits w64 (a .offset) = search needs in
     let s : SFits w32 (a .size) = search needs in
-    rw (c .before .before .map-file .ensures, c .before .before .before .storage-at .ensures, toZ-ofZ i, toZ-ofZ o, toZ-ofZ s) at (c .before .put-request .ensures)
+    rw (c .before .map-file .ensures, c .before .before .storage-at .ensures, toZ-ofZ i, toZ-ofZ o, toZ-ofZ s) at (c .request-in .ensures)
 
 pub niflathen-map-file-spec : {M : Type 1} → statement M
 niflathen-map-file-spec =
-    tie.close
-    (tie.spec storage-at-requires map-file-requires put-request-requires same-length returns)
+    tie.close (tie.spec storage-at-requires map-file-requires request-in-requires returns)

@@ -4,7 +4,6 @@ use mathlib.Core.Bool.{true≢false}
 use mir.Syntax.{w32, w64}
 use mir.Val.{SFits}
 use mir.Facts.{toZ-ofZ}
-use lib.IntN.{pos}
 use Rattle.storage.specs.Addition.{isNegative}
 use Rattle.storage.specs.Rules.{firstOf}
 use Rattle.layout.specs.Questions.{badRange}
@@ -23,11 +22,14 @@ range-of c =
     rw (toZ-ofZ offset-fits, n) at (c .is-bad-range .ensures)
 
 -- what the decision says, as the contract says it
-asked-is : (c : tie.After-decide) → checkNumber (c .decide .result) ≡ firstOf (bytesAsked (c .before .before .before .before .before .before .before .args .fs) (pos (c .before .before .before .before .before .before .before .args .k)) (c .before .before .before .before .before .before .before .args .offset) (c .before .before .before .before .before .before .before .args .size) (c .before .before .before .before .before .before .before .args .room))
-asked-is c = rw (c .before .before .before .before .before .before .is-bad-length .ensures, c .before .before .before .before .has-many .ensures, range-of (c .before .before), c .before .is-held .ensures) at (c .decide .ensures)
+asked-is : (c : tie.After-decide) → checkNumber (c .decide .result) ≡ firstOf (bytesAsked (c .before .before .before .before .before .before .before .args .fs) (c .before .before .before .before .before .before .before .args .index .0) (c .before .before .before .before .before .before .before .args .offset) (c .before .before .before .before .before .before .before .args .size) (c .before .before .before .before .before .before .before .args .room))
+asked-is c = rw (c .before .before .before .before .before .before .is-bad-length .ensures, c .before .before .before .before .before .is-no-file .ensures, c .before .before .before .before .has-many .ensures, range-of (c .before .before), c .before .is-held .ensures) at (c .decide .ensures)
 
 is-bad-length-requires : tie.Need-is-bad-length-requires
 is-bad-length-requires c κs = search needs
+
+is-no-file-requires : tie.Need-is-no-file-requires
+is-no-file-requires c κs = search needs
 
 has-many-requires : tie.Need-has-many-requires
 has-many-requires c κs = search needs
@@ -65,6 +67,7 @@ refused-bytes-spec =
     tie.close
     (tie.spec
     is-bad-length-requires
+    is-no-file-requires
     has-many-requires
     is-negative32-requires
     is-bad-range-requires

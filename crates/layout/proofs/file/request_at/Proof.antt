@@ -10,11 +10,8 @@ count-pieces-requires c κs = search needs
 returns : tie.Need-returns
 returns c = rw (le-leb _ _ (c .before .if1 .taken), c .count-pieces .ensures)
 
-div-t6 : tie.Need-div-t6
-div-t6 c = search needs
-
-rem-t7 : tie.Need-rem-t7
-rem-t7 c = search needs
+cut-at-requires : tie.Need-cut-at-requires
+cut-at-requires c κs = search needs
 
 sub-smaller : tie.Need-sub-smaller
 sub-smaller c = search needs
@@ -23,9 +20,9 @@ smaller-requires : tie.Need-smaller-requires
 smaller-requires c κs = search needs
 
 returns-2 : tie.Need-returns-2
-returns-2 c = rw (lt-leb _ _ (c .before .before .before .before .if1 .left), c .smaller .ensures)
+returns-2 c = rw (lt-leb _ _ (c .before .before .before .if1 .left), c .before .before .cut-at .ensures .0, c .before .before .cut-at .ensures .1, c .smaller .ensures)
 
 pub request-at-spec : {M : Type 1} → statement M
 request-at-spec =
     tie.close
-    (tie.spec count-pieces-requires returns div-t6 rem-t7 sub-smaller smaller-requires returns-2)
+    (tie.spec count-pieces-requires returns cut-at-requires sub-smaller smaller-requires returns-2)

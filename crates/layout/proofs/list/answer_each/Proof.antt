@@ -24,42 +24,36 @@ four-words (value r) = refl
 four-words (refused k) = refl
 
 abbrev Inv-loop : tie.InvT-loop
-Inv-loop fs rows files offsets sizes answers₀ fit n i₀ answers i = (n ≡ length files) × Writing 4 (answerAt fs rows files offsets sizes) n answers₀ answers i
+Inv-loop fs rows files offsets sizes answers₀ n i₀ answers i = (n ≡ length files) × Writing 4 (answerAt fs rows files offsets sizes) n answers₀ answers i
 
 abbrev μ-loop : tie.MeasureT-loop
-μ-loop fs rows files offsets sizes answers₀ fit n i₀ answers i = n - i
-
-is-fit-requires : tie.Need-is-fit-requires Inv-loop μ-loop
-is-fit-requires c κs = search needs
+μ-loop fs rows files offsets sizes answers₀ n i₀ answers i = n - i
 
 loop-holds : tie.Need-loop-holds Inv-loop μ-loop
 loop-holds c =
-    let a = c .before .before .before .before .args in
+    let a = c .before .before .args in
     (refl, writing-start 4 (answerAt (a .fs) (a .rows .now) (a .files .now) (a .offsets .now) (a .sizes .now)) (length (a .files .now)) (a .answers .now))
 
-mul-map-file-of : tie.Need-mul-map-file-of Inv-loop μ-loop
-mul-map-file-of c = search needs
+mul-t11 : tie.Need-mul-t11 Inv-loop μ-loop
+mul-t11 c = search needs
 
-shared-slice-read-map-file-of : tie.Need-shared-slice-read-map-file-of Inv-loop μ-loop
-shared-slice-read-map-file-of c = search needs
+shared-slice-copy-out-t13 : tie.Need-shared-slice-copy-out-t13 Inv-loop μ-loop
+shared-slice-copy-out-t13 c = search needs
 
-cast-map-file-of : tie.Need-cast-map-file-of Inv-loop μ-loop
-cast-map-file-of c = omega (arith, c .shared-slice-known3 .given (c .before .before .loop .i))
+mul-map-file : tie.Need-mul-map-file Inv-loop μ-loop
+mul-map-file c = search needs
 
-mul-map-file-of-2 : tie.Need-mul-map-file-of-2 Inv-loop μ-loop
-mul-map-file-of-2 c = search needs
+shared-slice-copy-out-map-file : tie.Need-shared-slice-copy-out-map-file Inv-loop μ-loop
+shared-slice-copy-out-map-file c = search needs
 
-shared-slice-copy-out-map-file-of : tie.Need-shared-slice-copy-out-map-file-of Inv-loop μ-loop
-shared-slice-copy-out-map-file-of c = search needs
+mul-map-file-2 : tie.Need-mul-map-file-2 Inv-loop μ-loop
+mul-map-file-2 c = search needs
 
-mul-map-file-of-3 : tie.Need-mul-map-file-of-3 Inv-loop μ-loop
-mul-map-file-of-3 c = search needs
+shared-slice-copy-out-map-file-2 : tie.Need-shared-slice-copy-out-map-file-2 Inv-loop μ-loop
+shared-slice-copy-out-map-file-2 c = search needs
 
-shared-slice-copy-out-map-file-of-2 : tie.Need-shared-slice-copy-out-map-file-of-2 Inv-loop μ-loop
-shared-slice-copy-out-map-file-of-2 c = search needs
-
-map-file-of-requires : tie.Need-map-file-of-requires Inv-loop μ-loop
-map-file-of-requires c κs = search needs
+map-file-requires : tie.Need-map-file-requires Inv-loop μ-loop
+map-file-requires c κs = search needs
 
 put-answer-requires : tie.Need-put-answer-requires Inv-loop μ-loop
 put-answer-requires c κs = search needs
@@ -72,21 +66,22 @@ loop-less c = search needs
 
 loop-again : tie.Need-loop-again Inv-loop μ-loop
 loop-again c =
-    let a = c .before .before .before .before .before .before .before .before .before .before .before .before .before .before .args in
+    let a = c .before .before .before .before .before .before .before .before .before .before .before .before .args in
     let l = c .before .before .before .before .before .before .before .before .before .loop in
     let g = answerAt (a .fs) (a .rows .now) (a .files .now) (a .offsets .now) (a .sizes .now) in
+    let f : SFits w32 (getD (a .files .now) (l .i) (pos 0)) = search needs in
     let o : SFits w64 (getD (a .offsets .now) (l .i) (pos 0)) = search needs in
     let s : SFits w32 (getD (a .sizes .now) (l .i) (pos 0)) = search needs in
-    let asked : requestSays (c .before .before .before .before .map-file-of .result) ≡ fileMapped (a .fs) (a .rows .now) (pos (getD (a .files .now) (l .i) 0)) (getD (a .offsets .now) (l .i) (pos 0)) (getD (a .sizes .now) (l .i) (pos 0)) = rw (toZ-ofZ o, toZ-ofZ s) at (c .before .before .before .before .map-file-of .ensures) in
+    let asked : requestSays (c .before .before .before .before .map-file .result) ≡ fileMapped (a .fs) (a .rows .now) (getD (a .files .now) (l .i) (pos 0)) (getD (a .offsets .now) (l .i) (pos 0)) (getD (a .sizes .now) (l .i) (pos 0)) = rw (toZ-ofZ f, toZ-ofZ o, toZ-ofZ s) at (c .before .before .before .before .map-file .ensures) in
     let put = c .before .before .put-answer .ensures ∙ ap (λ (o : Outcome Asked). sets (l .answers) (l .i * 4) (answerWords o)) asked in
-    (l .inv .0, writing-turn 4 g (length (a .files .now)) (a .answers .now) (l .answers) (l .i) (four-words (fileMapped (a .fs) (a .rows .now) (pos (getD (a .files .now) (l .i) 0)) (getD (a .offsets .now) (l .i) (pos 0)) (getD (a .sizes .now) (l .i) (pos 0)))) (l .inv .1) (c .before .before .before .before .before .before .before .before .loop-test .taken) put)
+    (l .inv .0, writing-turn 4 g (length (a .files .now)) (a .answers .now) (l .answers) (l .i) (four-words (fileMapped (a .fs) (a .rows .now) (getD (a .files .now) (l .i) (pos 0)) (getD (a .offsets .now) (l .i) (pos 0)) (getD (a .sizes .now) (l .i) (pos 0)))) (l .inv .1) (c .before .before .before .before .before .before .before .before .loop-test .taken) put)
 
 same-length : tie.Need-same-length Inv-loop μ-loop
 same-length c = c .before .loop .inv .1 .1
 
 returns : tie.Need-returns Inv-loop μ-loop
 returns c =
-    let a = c .before .before .before .before .before .before .args in
+    let a = c .before .before .before .before .args in
     let l = c .before .loop in
     writing-end 4 (answerAt (a .fs) (a .rows .now) (a .files .now) (a .offsets .now) (a .sizes .now)) (length (a .files .now)) (a .answers .now) (l .answers) (l .i) (l .inv .1) (c .loop-test .left)
 
@@ -96,16 +91,14 @@ answer-each-spec =
     (tie.spec
     Inv-loop
     μ-loop
-    is-fit-requires
     loop-holds
-    mul-map-file-of
-    shared-slice-read-map-file-of
-    cast-map-file-of
-    mul-map-file-of-2
-    shared-slice-copy-out-map-file-of
-    mul-map-file-of-3
-    shared-slice-copy-out-map-file-of-2
-    map-file-of-requires
+    mul-t11
+    shared-slice-copy-out-t13
+    mul-map-file
+    shared-slice-copy-out-map-file
+    mul-map-file-2
+    shared-slice-copy-out-map-file-2
+    map-file-requires
     put-answer-requires
     add-i
     loop-less

@@ -18,7 +18,7 @@ least-requires-2 c κs = search needs
 
 returns : tie.Need-returns
 returns c =
-    let a = c .before .before .before .before .before .before .args in
+    let a = c .before .before .before .before .before .args in
     let h : min (length (a .offsets .now)) (min (length (a .sizes .now)) (length (a .answers .now) / 4)) < length (a .files .now) = omega (arith, c .before .before .least .ensures, c .before .least2 .ensures, c .if1 .taken) in
     let e : ltb (min (length (a .offsets .now)) (min (length (a .sizes .now)) (length (a .answers .now) / 4))) (length (a .files .now)) ≡ true = lt-ltb (min (length (a .offsets .now)) (min (length (a .sizes .now)) (length (a .answers .now) / 4))) (length (a .files .now)) h in
     rw e
@@ -31,7 +31,7 @@ same-length c = search needs
 
 returns-2 : tie.Need-returns-2
 returns-2 c =
-    let a = c .before .before .before .before .before .before .before .before .before .before .args in
+    let a = c .before .before .before .before .before .before .before .before .before .args in
     let h : length (a .files .now) ≤ min (length (a .offsets .now)) (min (length (a .sizes .now)) (length (a .answers .now) / 4)) = omega (arith, c .before .before .before .before .before .before .least .ensures, c .before .before .before .before .before .least2 .ensures, c .before .before .before .before .if1 .left) in
     let e : ltb (min (length (a .offsets .now)) (min (length (a .sizes .now)) (length (a .answers .now) / 4))) (length (a .files .now)) ≡ false = le-ltb (min (length (a .offsets .now)) (min (length (a .sizes .now)) (length (a .answers .now) / 4))) (length (a .files .now)) h in
     rw (e, c .before .before .answer-each .ensures)

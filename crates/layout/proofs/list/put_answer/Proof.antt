@@ -13,14 +13,14 @@ enum-known-answer c = search needs
 mul-put-words : tie.Need-mul-put-words
 mul-put-words c = search needs
 
-size32-requires : tie.Need-size32-requires
-size32-requires c κs = search needs
+word32-requires : tie.Need-word32-requires
+word32-requires c κs = search needs
 
-size32-requires-2 : tie.Need-size32-requires-2
-size32-requires-2 c κs = search needs
+word32-requires-2 : tie.Need-word32-requires-2
+word32-requires-2 c κs = search needs
 
-size32-requires-3 : tie.Need-size32-requires-3
-size32-requires-3 c κs = search needs
+word32-requires-3 : tie.Need-word32-requires-3
+word32-requires-3 c κs = search needs
 
 put-words-requires : tie.Need-put-words-requires
 put-words-requires c κs = search needs
@@ -34,9 +34,6 @@ mul-put-words-2 c = search needs
 number-requires : tie.Need-number-requires
 number-requires c κs = search needs
 
-cast-put-words : tie.Need-cast-put-words
-cast-put-words c = search needs
-
 put-words-requires-2 : tie.Need-put-words-requires-2
 put-words-requires-2 c κs = search needs
 
@@ -49,7 +46,7 @@ returns c =
     let p : SFits w32 (r .piece .0) = search needs in
     let s : SFits w32 (r .start) = search needs in
     let l : SFits w32 (r .length) = search needs in
-    rw (c .before .before .before .before .before .before .before .before .before .before .before .answer .given .1) (rw (c .before .before .before .before .before .before .before .size32 .ensures, toZ-ofZ p, c .before .before .before .before .before .size322 .ensures, toZ-ofZ s, c .before .before .before .size323 .ensures, toZ-ofZ l) at (c .before .before .put-words .ensures))
+    rw (c .before .before .before .before .before .before .before .before .before .before .before .answer .given .1) (rw (c .before .before .before .before .before .before .before .word32 .ensures, toZ-ofZ p, c .before .before .before .before .before .word322 .ensures, toZ-ofZ s, c .before .before .before .word323 .ensures, toZ-ofZ l) at (c .before .before .put-words .ensures))
 
 same-length-2 : tie.Need-same-length-2
 same-length-2 c = search needs
@@ -63,14 +60,13 @@ put-answer-spec =
     (tie.spec
     enum-known-answer
     mul-put-words
-    size32-requires
-    size32-requires-2
-    size32-requires-3
+    word32-requires
+    word32-requires-2
+    word32-requires-3
     put-words-requires
     enum-known-answer-2
     mul-put-words-2
     number-requires
-    cast-put-words
     put-words-requires-2
     same-length
     returns
