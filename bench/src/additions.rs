@@ -99,18 +99,27 @@ fn print(case: Case, sets: usize, times: &Times) {
     );
 }
 
-/// Prints the table: nanoseconds for one addition.
-pub fn table() {
-    println!("| kind | directories | time | files | Rust | Rust, `reserve` | port | port / Rust | port / `reserve` |");
-    println!("|---|---:|---|---:|---:|---:|---:|---:|---:|");
+/// Hands over each case, with how many sets of it are built at a time and how often.
+fn each(mut case: impl FnMut(Case, usize, usize)) {
     for v2 in [false, true] {
         for directories in [1, 50] {
             for timed in [false, true] {
                 for (files, sets, repetitions) in SIZES {
-                    let case = Case { v2, directories, timed, files };
-                    print(case, sets, &run(case, sets, repetitions));
+                    case(Case { v2, directories, timed, files }, sets, repetitions);
                 }
             }
         }
     }
+}
+
+/// Builds one set of each case on both sides, and compares them.
+pub fn check() {
+    each(|case, _, _| _ = run(case, 1, 1));
+}
+
+/// Prints the table: nanoseconds for one addition.
+pub fn table() {
+    println!("| kind | directories | time | files | Rust | Rust, `reserve` | port | port / Rust | port / `reserve` |");
+    println!("|---|---:|---|---:|---:|---:|---:|---:|---:|");
+    each(|case, sets, repetitions| print(case, sets, &run(case, sets, repetitions)));
 }

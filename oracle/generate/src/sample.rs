@@ -30,8 +30,19 @@ pub fn write_sets(script: &mut Script) -> io::Result<()> {
     let mut random = start(script, SETS_HEAD)?;
     malformed::fixed_sets(script)?;
     sets::scenes(script, &mut random)?;
+    long_names(script)?;
     sets::random(script, &mut random, 50)?;
     cleanings::random(script, &mut random, 50)
+}
+
+/// A name of 4096 bytes, which is refused, and one of 4095, which is not.
+fn long_names(script: &mut Script) -> io::Result<()> {
+    script.line(b"open 10")?;
+    for length in [4096, 4095] {
+        let line = [b"add - :s/", &*vec![b'n'; length], b" 1 0 0 : -"].concat();
+        script.line(&line)?;
+    }
+    script.line(b"text_bytes")
 }
 
 const LAYOUT_HEAD: &[&str] = &[
