@@ -8,7 +8,7 @@ use crate::strings::Decoded;
 use crate::words;
 use tables::Presence;
 
-// What the words stand for. The three texts stand in buffers, of which these are the lengths.
+// What the words stand for. The three texts stand in a buffer, one behind the other, and these are their ends.
 pub(crate) struct Addition {
     pub is_formed: bool,
     pub given: Presence,
@@ -40,15 +40,15 @@ struct Texts {
 }
 
 // Reads the words of a line.
-pub(crate) fn read(line: &[u8], name: &mut [u8], path: &mut [u8], link: &mut [u8]) -> Addition {
-    let texts = read_texts(line, name, path, link);
+pub(crate) fn read(line: &[u8], target: &mut [u8]) -> Addition {
+    let texts = read_texts(line, target);
     let numbers = read_numbers(line);
     let root = roots::word(line, 7);
     let given = texts.given;
     let rooted = root.presence;
     let bytes = root.root;
     Addition {
-        is_formed: are_formed(line, texts.is_formed, numbers.is_formed, root.is_formed),
+        is_formed: words::are_formed(texts.is_formed, numbers.is_formed, root.is_formed),
         given: given,
         name: texts.name,
         path: texts.path,
@@ -59,20 +59,6 @@ pub(crate) fn read(line: &[u8], name: &mut [u8], path: &mut [u8], link: &mut [u8
         rooted: rooted,
         root: bytes,
     }
-}
-
-// Whether all words are in form, and none is left.
-fn are_formed(line: &[u8], texts: bool, numbers: bool, root: bool) -> bool {
-    if words::has(line, 8) {
-        return false;
-    }
-    if !texts {
-        return false;
-    }
-    if !numbers {
-        return false;
-    }
-    root
 }
 
 // Reads the numbers.
@@ -103,8 +89,8 @@ fn read_numbers(line: &[u8]) -> Numbers {
     }
 }
 
-// Decodes the texts, each into its buffer.
-fn read_texts(line: &[u8], name: &mut [u8], path: &mut [u8], link: &mut [u8]) -> Texts {
+// Decodes the texts into a buffer, one behind the other.
+fn read_texts(line: &[u8], target: &mut [u8]) -> Texts {
     let malformed = Texts {
         is_formed: false,
         given: Presence::Absent,
@@ -113,30 +99,30 @@ fn read_texts(line: &[u8], name: &mut [u8], path: &mut [u8], link: &mut [u8]) ->
         link: 0,
     };
     let is_none = lists::same(words::word(line, 1), b"-");
-    let Decoded::Bytes(n) = decode_name(line, is_none, name) else {
+    let Decoded::Bytes(name) = decode_name(line, is_none, target) else {
         return malformed;
     };
-    let Decoded::Bytes(m) = strings::word(line, 2, path) else {
+    let Decoded::Bytes(path) = strings::word_behind(line, 2, target, name) else {
         return malformed;
     };
-    let Decoded::Bytes(k) = strings::word(line, 6, link) else {
+    let Decoded::Bytes(link) = strings::word_behind(line, 6, target, path) else {
         return malformed;
     };
     Texts {
         is_formed: true,
         given: presence(is_none),
-        name: n,
-        path: m,
-        link: k,
+        name: name,
+        path: path,
+        link: link,
     }
 }
 
 // Decodes the given name, unless there is none.
-fn decode_name(line: &[u8], is_none: bool, name: &mut [u8]) -> Decoded {
+fn decode_name(line: &[u8], is_none: bool, target: &mut [u8]) -> Decoded {
     if is_none {
         return Decoded::Bytes(0);
     }
-    strings::word(line, 1, name)
+    strings::word(line, 1, target)
 }
 
 // Whether something is there, by whether it is none.

@@ -1,6 +1,8 @@
-// Answers by value: what a question gives, and how it is written. Relies on the result types of the
+// Answers by value: what a call gives, and how it is written. Relies on the result types of the
 // libraries and on output.rt.
+use crate::numbers;
 use crate::output;
+use crate::output::Buffer;
 use answers::BoolResult;
 use answers::I32Result;
 use answers::I64Result;
@@ -18,43 +20,60 @@ use types::PeerRequest;
 use types::Refusal;
 use types::UsizeResult;
 
-// An answer of at most three numbers or one text, or that there is none.
+// An answer of at most three numbers or one text, or that there is none. A text lies in the text of the set
+// or of its renames, or stands so long at the start of the buffer that it was composed in.
 pub(crate) enum Answer {
     BadCall,
     Refused(Refusal),
+    Done,
     Number(u64),
     Short(i32),
     Long(i64),
-    Boolean(bool),
-    Text(Span),
     Range(I32Range),
     Request(PeerRequest),
+    Text(Span),
+    Renamed(Span),
+    Composed(usize),
 }
 
-// Writes an answer; a text lies in the text area.
-pub(crate) fn put(answer: Answer, area: &[u8], out: &mut [u8], used: usize) -> usize {
+// Writes an answer of numbers, or a text of the set or of its renames.
+pub(crate) fn put(
+    answer: Answer,
+    text: &[u8],
+    area: &[u8],
+    out: &mut Buffer,
+    used: usize,
+) -> usize {
+    match answer {
+        Answer::Text(place) => put_text(tables::text_at(text, place), out, used),
+        Answer::Renamed(place) => put_text(tables::text_at(area, place), out, used),
+        _ => put_value(answer, out, used),
+    }
+}
+
+// Writes an answer that has no text.
+pub(crate) fn put_value(answer: Answer, out: &mut Buffer, used: usize) -> usize {
     match answer {
         Answer::BadCall => output::bad_call(out, used),
         Answer::Refused(refusal) => output::refused(out, used, types::number(refusal)),
-        Answer::Text(place) => put_text(tables::text_at(area, place), out, used),
+        Answer::Done => output::done(out, used),
         _ => put_numbers(answer, out, used),
     }
 }
 
 // Writes an answer of numbers.
-fn put_numbers(answer: Answer, out: &mut [u8], used: usize) -> usize {
+fn put_numbers(answer: Answer, out: &mut Buffer, used: usize) -> usize {
     let at = output::ok(out, used);
     let behind = put_values(answer, out, at);
     output::end(out, behind)
 }
 
 // Writes the values of an answer of numbers.
-fn put_values(answer: Answer, out: &mut [u8], used: usize) -> usize {
+fn put_values(answer: Answer, out: &mut Buffer, used: usize) -> usize {
     match answer {
         Answer::Number(n) => output::number(out, used, n),
         Answer::Short(n) => output::short(out, used, n),
         Answer::Long(n) => output::long(out, used, n),
-        Answer::Boolean(is_so) => output::boolean(out, used, is_so),
         Answer::Range(range) => put_two(range.begin, range.end, out, used),
         Answer::Request(request) => put_request(request, out, used),
         _ => used,
@@ -62,29 +81,42 @@ fn put_values(answer: Answer, out: &mut [u8], used: usize) -> usize {
 }
 
 // Writes two numbers.
-fn put_two(a: i32, b: i32, out: &mut [u8], used: usize) -> usize {
+fn put_two(a: i32, b: i32, out: &mut Buffer, used: usize) -> usize {
     let at = output::short(out, used, a);
     output::short(out, at, b)
 }
 
 // Writes a piece, a start and a length.
-fn put_request(request: PeerRequest, out: &mut [u8], used: usize) -> usize {
+fn put_request(request: PeerRequest, out: &mut Buffer, used: usize) -> usize {
     let at = output::short(out, used, request.piece.0);
     put_two(request.start, request.length, out, at)
 }
 
 // Writes an answer that is a byte string.
-pub(crate) fn put_text(bytes: &[u8], out: &mut [u8], used: usize) -> usize {
+pub(crate) fn put_text(bytes: &[u8], out: &mut Buffer, used: usize) -> usize {
     let at = output::ok(out, used);
     let behind = output::string(out, at, bytes);
     output::end(out, behind)
 }
 
-// Writes a text that was composed at the start of a buffer, or the refusal.
-pub(crate) fn put_composed(result: UsizeResult, buf: &[u8], out: &mut [u8], used: usize) -> usize {
+// Writes a text that was composed in a buffer, or why there is none.
+pub(crate) fn put_composed(answer: Answer, joined: &[u8], out: &mut Buffer, used: usize) -> usize {
+    match answer {
+        Answer::Composed(n) => put_text(lists::part(joined, 0, n), out, used),
+        _ => put_value(answer, out, used),
+    }
+}
+
+// Room to compose a text in.
+pub(crate) fn room() -> [u8; 262144] {
+    [0u8; 262144]
+}
+
+// The length of a composed text, or a refusal.
+pub(crate) fn composed(result: UsizeResult) -> Answer {
     match result {
-        UsizeResult::Ok(n) => put_text(lists::part(buf, 0, n), out, used),
-        UsizeResult::Err(refusal) => output::refused(out, used, types::number(refusal)),
+        UsizeResult::Ok(n) => Answer::Composed(n),
+        UsizeResult::Err(refusal) => Answer::Refused(refusal),
     }
 }
 
@@ -128,10 +160,10 @@ pub(crate) fn hash(result: U32Result) -> Answer {
     }
 }
 
-// A truth value, or a refusal.
+// A truth value as a number, or a refusal.
 pub(crate) fn boolean(result: BoolResult) -> Answer {
     match result {
-        BoolResult::Ok(is_so) => Answer::Boolean(is_so),
+        BoolResult::Ok(is_so) => Answer::Number(numbers::of_bool(is_so)),
         BoolResult::Err(refusal) => Answer::Refused(refusal),
     }
 }

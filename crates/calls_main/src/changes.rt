@@ -1,24 +1,15 @@
-// Additions, trims and cleanings: the set's tables are lent to the library. Relies on `storage`, on
-// addition.rt for the words of an addition, and on cleanings.rt.
+// Additions, trims and cleanings: the set's parts of the tables are lent to the library. Relies on `storage`,
+// on addition.rt for the words of an addition, and on cleanings.rt.
 use crate::addition;
 use crate::addition::Addition;
+use crate::answer::Answer;
 use crate::cleanings;
-use crate::kinds::Call;
-use crate::kinds::SetCall;
-use crate::output;
+use crate::kinds;
+use crate::places;
 use crate::state;
-use crate::words;
 use storage::StorageResult;
 use tables::FileStorage;
 use types::Refusal;
-
-// The change that a call is.
-pub(crate) enum Change {
-    None,
-    Add,
-    Trim,
-    Clean,
-}
 
 // What came of a change: the set's record behind it, or why there is none.
 pub(crate) enum Made {
@@ -27,30 +18,37 @@ pub(crate) enum Made {
     Refused(Refusal),
 }
 
-// The change that a call is; on a set that was never opened it is none.
-pub(crate) fn wanted(call: Call, is_open: bool) -> Change {
-    if !is_open {
-        return Change::None;
+// Changes the set that is spoken of, which is lent its own part of every table.
+pub(crate) fn answer(
+    call: usize,
+    line: &[u8],
+    rows: &mut [u64],
+    roots: &mut [u8],
+    times: &mut [i64],
+    dirs: &mut [u64],
+    text: &mut [u8],
+    cards: &mut [u64],
+) -> Answer {
+    if !state::is_open(cards) {
+        return Answer::BadCall;
     }
-    match call {
-        Call::OnSets(set_call) => wanted_on_sets(set_call),
-        _ => Change::None,
-    }
-}
-
-// The change that a call on sets is.
-fn wanted_on_sets(call: SetCall) -> Change {
-    match call {
-        SetCall::Add => Change::Add,
-        SetCall::Trim => Change::Trim,
-        SetCall::Clean => Change::Clean,
-        _ => Change::None,
-    }
+    let p = places::of_set(cards, state::at(cards));
+    let made = make(
+        call,
+        line,
+        state::record(cards),
+        places::words_of(rows, p.rows),
+        places::bytes_of(roots, p.roots),
+        places::times_of(times, p.times),
+        places::words_of(dirs, p.dirs),
+        places::bytes_of(text, p.text),
+    );
+    note(made, cards)
 }
 
 // Makes a change of a set, whose tables are lent.
-pub(crate) fn make(
-    change: Change,
+fn make(
+    call: usize,
     line: &[u8],
     fs: FileStorage,
     rows: &mut [u64],
@@ -59,11 +57,10 @@ pub(crate) fn make(
     dirs: &mut [u64],
     text: &mut [u8],
 ) -> Made {
-    match change {
-        Change::None => Made::BadCall,
-        Change::Add => add(line, fs, rows, roots, times, dirs, text),
-        Change::Trim => trim(line, fs, rows, roots, times, dirs, text),
-        Change::Clean => cleanings::clean(line, fs, rows, dirs, text),
+    match call {
+        kinds::ADD => add(line, fs, rows, roots, times, dirs, text),
+        kinds::TRIM => outcome(storage::remove_tail_padding(fs, rows, roots, times, dirs, text)),
+        _ => cleanings::clean(fs, rows, dirs, text),
     }
 }
 
@@ -77,33 +74,18 @@ fn add(
     dirs: &mut [u64],
     text: &mut [u8],
 ) -> Made {
-    let mut name = io::large_buffer();
-    let mut path = io::large_buffer();
-    let mut link = io::large_buffer();
-    let words = addition::read(line, &mut name, &mut path, &mut link);
+    let mut texts = io::large_buffer();
+    let words = addition::read(line, &mut texts);
     if !words.is_formed {
         return Made::BadCall;
     }
-    outcome(add_read(
-        words,
-        &name,
-        &path,
-        &link,
-        fs,
-        rows,
-        roots,
-        times,
-        dirs,
-        text,
-    ))
+    outcome(add_read(words, &texts, fs, rows, roots, times, dirs, text))
 }
 
-// Adds the file that the words stand for; the texts stand at the start of their buffers.
+// Adds the file that the words stand for; its texts stand in a buffer, one behind the other.
 fn add_read(
     words: Addition,
-    name: &[u8],
-    path: &[u8],
-    link: &[u8],
+    texts: &[u8],
     fs: FileStorage,
     rows: &mut [u64],
     roots: &mut [u8],
@@ -122,31 +104,20 @@ fn add_read(
         dirs,
         text,
         given,
-        lists::part(name, 0, words.name),
-        lists::part(path, 0, words.path),
+        between(texts, 0, words.name),
+        between(texts, words.name, words.path),
         words.size,
         words.flags,
         words.time,
-        lists::part(link, 0, words.link),
+        between(texts, words.path, words.link),
         rooted,
         root,
     )
 }
 
-// `trim`.
-fn trim(
-    line: &[u8],
-    fs: FileStorage,
-    rows: &mut [u64],
-    roots: &mut [u8],
-    times: &mut [i64],
-    dirs: &mut [u64],
-    text: &mut [u8],
-) -> Made {
-    if words::has(line, 1) {
-        return Made::BadCall;
-    }
-    outcome(storage::remove_tail_padding(fs, rows, roots, times, dirs, text))
+// The bytes from one place up to another.
+fn between(bytes: &[u8], from: usize, to: usize) -> &[u8] {
+    lists::part(bytes, from, lists::minus(to, from))
 }
 
 // What came of a change that the library was asked for.
@@ -157,14 +128,14 @@ pub(crate) fn outcome(result: StorageResult) -> Made {
     }
 }
 
-// Notes the record of a changed set, or writes the refusal.
-pub(crate) fn put(made: Made, cards: &mut [u64], out: &mut [u8], used: usize) -> usize {
+// Notes the record of a changed set, and gives the answer.
+fn note(made: Made, cards: &mut [u64]) -> Answer {
     match made {
-        Made::BadCall => output::bad_call(out, used),
+        Made::BadCall => Answer::BadCall,
         Made::Changed(fs) => {
             state::put_record(cards, fs);
-            output::done(out, used)
+            Answer::Done
         }
-        Made::Refused(refusal) => output::refused(out, used, types::number(refusal)),
+        Made::Refused(refusal) => Answer::Refused(refusal),
     }
 }

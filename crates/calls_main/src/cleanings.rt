@@ -2,20 +2,10 @@
 // `cleaning`. A small work space serves most sets; the large one is cleared only where that is too short.
 use crate::changes;
 use crate::changes::Made;
-use crate::words;
 use tables::FileStorage;
 
 // `clean`.
-pub(crate) fn clean(
-    line: &[u8],
-    fs: FileStorage,
-    rows: &mut [u64],
-    dirs: &mut [u64],
-    text: &mut [u8],
-) -> Made {
-    if words::has(line, 1) {
-        return Made::BadCall;
-    }
+pub(crate) fn clean(fs: FileStorage, rows: &mut [u64], dirs: &mut [u64], text: &mut [u8]) -> Made {
     let mut marks = [0u8; 256];
     let mut stage = [0u8; 2048];
     let mut path = [0u8; 4096];

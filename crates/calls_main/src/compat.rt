@@ -4,32 +4,24 @@ use crate::answer;
 use crate::answer::Answer;
 use crate::numbers;
 use crate::numbers::Number;
-use crate::output;
 use crate::places;
 use crate::state;
-use crate::words;
 
-// Answers whether the sets that a line names are compatible.
+// Whether the sets that a line names are compatible.
 pub(crate) fn answer(
     line: &[u8],
     rows: &[u64],
     dirs: &[u64],
     text: &[u8],
     cards: &[u64],
-    out: &mut [u8],
-    used: usize,
-) -> usize {
-    if words::has(line, 3) {
-        return output::bad_call(out, used);
-    }
+) -> Answer {
     let Number::Is(a) = numbers::word(line, 1) else {
-        return output::bad_call(out, used);
+        return Answer::BadCall;
     };
     let Number::Is(b) = numbers::word(line, 2) else {
-        return output::bad_call(out, used);
+        return Answer::BadCall;
     };
-    let found = compared(a, b, rows, dirs, text, cards);
-    answer::put(found, b"", out, used)
+    compared(a, b, rows, dirs, text, cards)
 }
 
 // Whether two sets are compatible, if there are sets of those numbers.
@@ -60,8 +52,8 @@ fn of_sets(
     text: &[u8],
     cards: &[u64],
 ) -> Answer {
-    let p = places::of_set(cards, first, rows.len(), 0, 0, dirs.len(), text.len());
-    let q = places::of_set(cards, second, rows.len(), 0, 0, dirs.len(), text.len());
+    let p = places::of_set(cards, first);
+    let q = places::of_set(cards, second);
     answer::boolean(names::files_compatible(
         state::record_at(cards, first),
         places::words_at(rows, p.rows),

@@ -1,10 +1,11 @@
 // Questions on what a file's row holds. Relies on `answers`, and on the modules for words and answers.
 use crate::answer;
 use crate::answer::Answer;
-use crate::kinds::FileQuestion;
+use crate::kinds;
 use crate::numbers;
 use crate::numbers::Short;
 use crate::output;
+use crate::output::Buffer;
 use answers::RootResult;
 use answers::UnitResult;
 use tables::FileStorage;
@@ -12,41 +13,39 @@ use types::FileIndex;
 
 // The answer to a question on a file.
 pub(crate) fn answer(
-    question: FileQuestion,
+    call: usize,
     line: &[u8],
     fs: FileStorage,
     rows: &[u64],
     times: &[i64],
     text: &[u8],
 ) -> Answer {
-    let Short::Is(n) = numbers::only(line) else {
+    let Short::Is(n) = numbers::short_word(line, 1) else {
         return Answer::BadCall;
     };
-    answer_of(question, FileIndex(n), fs, rows, times, text)
+    answer_of(call, FileIndex(n), fs, rows, times, text)
 }
 
 // The answer to a question on the file of a number.
 fn answer_of(
-    question: FileQuestion,
+    call: usize,
     index: FileIndex,
     fs: FileStorage,
     rows: &[u64],
     times: &[i64],
     text: &[u8],
 ) -> Answer {
-    match question {
-        FileQuestion::FileName => answer::text(answers::file_name(fs, rows, text, index)),
-        FileQuestion::FileSize => answer::long(answers::file_size(fs, rows, index)),
-        FileQuestion::FileOffset => answer::long(answers::file_offset(fs, rows, index)),
-        FileQuestion::PadFileAt => answer::boolean(answers::pad_file_at(fs, rows, index)),
-        FileQuestion::FileFlags => answer::small(answers::file_flags(fs, rows, index)),
-        FileQuestion::Mtime => answer::long(answers::mtime(fs, times, index)),
-        FileQuestion::FileAbsolutePath => {
+    match call {
+        kinds::FILE_NAME => answer::text(answers::file_name(fs, rows, text, index)),
+        kinds::FILE_SIZE => answer::long(answers::file_size(fs, rows, index)),
+        kinds::FILE_OFFSET => answer::long(answers::file_offset(fs, rows, index)),
+        kinds::PAD_FILE_AT => answer::boolean(answers::pad_file_at(fs, rows, index)),
+        kinds::FILE_FLAGS => answer::small(answers::file_flags(fs, rows, index)),
+        kinds::MTIME => answer::long(answers::mtime(fs, times, index)),
+        kinds::FILE_ABSOLUTE_PATH => {
             answer::boolean(answers::file_absolute_path(fs, rows, index))
         }
-        FileQuestion::InternalSymlink => {
-            answer::text(answers::internal_symlink(fs, rows, text, index))
-        }
+        _ => { answer::text(answers::internal_symlink(fs, rows, text, index)) }
     }
 }
 
@@ -56,17 +55,17 @@ pub(crate) fn root(
     fs: FileStorage,
     rows: &[u64],
     roots: &[u8],
-    out: &mut [u8],
+    out: &mut Buffer,
     used: usize,
 ) -> usize {
-    let Short::Is(n) = numbers::only(line) else {
+    let Short::Is(n) = numbers::short_word(line, 1) else {
         return output::bad_call(out, used);
     };
     put_root(answers::root(fs, rows, roots, FileIndex(n)), out, used)
 }
 
 // Writes a root, or the refusal.
-fn put_root(result: RootResult, out: &mut [u8], used: usize) -> usize {
+fn put_root(result: RootResult, out: &mut Buffer, used: usize) -> usize {
     let answer = result.answer;
     let bytes = result.root;
     match answer {
@@ -79,37 +78,31 @@ fn put_root(result: RootResult, out: &mut [u8], used: usize) -> usize {
     }
 }
 
-// `internal_file_path I`.
+// `internal_file_path I`: the path is composed in a buffer.
 pub(crate) fn internal_file_path(
     line: &[u8],
     fs: FileStorage,
     rows: &[u64],
     dirs: &[u64],
     text: &[u8],
-    out: &mut [u8],
-    used: usize,
-) -> usize {
-    let Short::Is(n) = numbers::only(line) else {
-        return output::bad_call(out, used);
+    joined: &mut [u8],
+) -> Answer {
+    let Short::Is(n) = numbers::short_word(line, 1) else {
+        return Answer::BadCall;
     };
-    let mut joined = [0u8; 131072];
-    let result = answers::internal_file_path(fs, rows, dirs, text, FileIndex(n), &mut joined);
-    answer::put_composed(result, &joined, out, used)
+    answer::composed(answers::internal_file_path(fs, rows, dirs, text, FileIndex(n), joined))
 }
 
-// `symlink I`.
+// `symlink I`: the path is composed in a buffer.
 pub(crate) fn symlink(
     line: &[u8],
     fs: FileStorage,
     rows: &[u64],
     text: &[u8],
-    out: &mut [u8],
-    used: usize,
-) -> usize {
-    let Short::Is(n) = numbers::only(line) else {
-        return output::bad_call(out, used);
+    joined: &mut [u8],
+) -> Answer {
+    let Short::Is(n) = numbers::short_word(line, 1) else {
+        return Answer::BadCall;
     };
-    let mut joined = [0u8; 131072];
-    let result = answers::symlink(fs, rows, text, FileIndex(n), &mut joined);
-    answer::put_composed(result, &joined, out, used)
+    answer::composed(answers::symlink(fs, rows, text, FileIndex(n), joined))
 }

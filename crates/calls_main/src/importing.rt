@@ -1,14 +1,13 @@
-// `import I :N I :N …`: the pairs of the line are read into columns, and the set's tables of renames are lent to
-// the library. Relies on `renames`, and on the modules for sets, words and output.
+// `import I :N I :N …`: the pairs of the line are read into columns, which are lent to the library with the
+// set's tables of renames. Relies on `renames`, and on the modules for words.
 use crate::numbers;
 use crate::numbers::Short;
-use crate::output;
-use crate::places;
-use crate::renaming;
-use crate::state;
+use crate::renaming::Renaming;
 use crate::strings;
 use crate::strings::Decoded;
 use crate::words;
+use renames::RenamedFiles;
+use tables::FileStorage;
 
 // What the words behind the call's name stand for: so many pairs, or nothing.
 enum Pairs {
@@ -16,34 +15,39 @@ enum Pairs {
     Malformed,
 }
 
-// Imports names for files of the set that is spoken of. A line has at most 16384 pairs.
+// Imports names for files of a set, whose tables of renames are lent. A line has at most 16384 pairs.
 pub(crate) fn import(
     line: &[u8],
+    fs: FileStorage,
+    held: RenamedFiles,
     entries: &mut [u64],
     area: &mut [u8],
-    cards: &mut [u64],
-    out: &mut [u8],
-    used: usize,
-) -> usize {
-    if !state::is_open(cards) {
-        return output::bad_call(out, used);
-    }
-    let mut files = [0i32; 16384];
-    let mut lengths = [0u64; 16384];
+) -> Renaming {
+    let mut files = file_column();
+    let mut lengths = length_column();
     let mut names = io::large_buffer();
     let Pairs::Count(n) = read_pairs(line, &mut files, &mut lengths, &mut names) else {
-        return output::bad_call(out, used);
+        return Renaming::BadCall;
     };
-    lend(
+    Renaming::Asked(renames::import_filenames(
+        fs,
+        held,
+        entries,
+        area,
         first(&files, n),
         &lengths,
         &names,
-        entries,
-        area,
-        cards,
-        out,
-        used,
-    )
+    ))
+}
+
+// Room for the numbers of the files.
+fn file_column() -> [i32; 16384] {
+    [0i32; 16384]
+}
+
+// Room for the lengths of the names.
+fn length_column() -> [u64; 16384] {
+    [0u64; 16384]
 }
 
 // The first n numbers, or as many as there are.
@@ -95,67 +99,10 @@ fn read_pair(
     if files.len() <= count {
         return Decoded::Malformed;
     }
-    if names.len() < used {
-        return Decoded::Malformed;
-    }
-    let Decoded::Bytes(n) = strings::word(pair, 1, &mut names[used..]) else {
+    let Decoded::Bytes(end) = strings::word_behind(pair, 1, names, used) else {
         return Decoded::Malformed;
     };
-    if names.len() - used < n {
-        return Decoded::Malformed;
-    }
     files[count] = file;
-    lists::put_word(lengths, count, n as u64);
-    Decoded::Bytes(used + n)
-}
-
-// Lends the set its own parts of the tables.
-fn lend(
-    files: &[i32],
-    lengths: &[u64],
-    names: &[u8],
-    entries: &mut [u64],
-    area: &mut [u8],
-    cards: &mut [u64],
-    out: &mut [u8],
-    used: usize,
-) -> usize {
-    let p = places::of_renames(state::at(cards), entries.len(), area.len());
-    let e0 = p.entries.start;
-    let e1 = p.entries.end;
-    let a0 = p.area.start;
-    let a1 = p.area.end;
-    imported(
-        files,
-        lengths,
-        names,
-        &mut entries[e0..e1],
-        &mut area[a0..a1],
-        cards,
-        out,
-        used,
-    )
-}
-
-// Imports names, the set's tables of renames being lent.
-fn imported(
-    files: &[i32],
-    lengths: &[u64],
-    names: &[u8],
-    entries: &mut [u64],
-    area: &mut [u8],
-    cards: &mut [u64],
-    out: &mut [u8],
-    used: usize,
-) -> usize {
-    let result = renames::import_filenames(
-        state::record(cards),
-        state::renamed(cards),
-        entries,
-        area,
-        files,
-        lengths,
-        names,
-    );
-    renaming::put(result, cards, out, used)
+    lists::put_word(lengths, count, lists::minus(end, used) as u64);
+    Decoded::Bytes(end)
 }

@@ -1,5 +1,6 @@
 // Standard input, line by line: blocks are read into a buffer, and each line is copied out of them into
 // another. Relies on `io` and on the accessors of `lists`.
+use crate::output::Buffer;
 use crate::scan;
 use libc::STDIN_FILENO;
 
@@ -26,7 +27,7 @@ pub(crate) fn start() -> Cursor {
 }
 
 // Reads the next line without its line feed, or says by `is_line` that there is none.
-pub(crate) fn next_line(block: &mut [u8], line: &mut [u8], before: Cursor) -> Cursor {
+pub(crate) fn next_line(block: &mut Buffer, line: &mut Buffer, before: Cursor) -> Cursor {
     let mut turns = u64::MAX;
     let mut cursor = Cursor {
         at: before.at,
@@ -47,7 +48,7 @@ pub(crate) fn next_line(block: &mut [u8], line: &mut [u8], before: Cursor) -> Cu
 
 // Takes what the block has of the line, after reading a block where all is taken. The last line may
 // lack its line feed.
-fn step(block: &mut [u8], line: &mut [u8], cursor: Cursor) -> Cursor {
+fn step(block: &mut Buffer, line: &mut Buffer, cursor: Cursor) -> Cursor {
     if cursor.at < cursor.end {
         return take(block, line, cursor);
     }

@@ -1,133 +1,159 @@
-// The names of calls. A kind of call is its own enum where several take the same words; the names of a
-// kind stand in one text, in the order of the enum. Relies on words.rt and scan.rt.
+// The names of calls, and a number for each: its place among all names. The calls of a kind stand side by
+// side, so a kind is a range of numbers. Relies on words.rt and scan.rt.
 use crate::scan;
 use crate::words;
 
-// A call on one string.
-pub(crate) enum StringCall {
-    Rsplit,
-    Lsplit,
-    HasParent,
-    IsComplete,
-    Filename,
-    Crc,
-}
+// On one string.
+pub(crate) const RSPLIT: usize = 0;
 
-// A call that speaks of no set.
-pub(crate) enum PlainCall {
-    LsplitAt,
-    Append,
-    Combine,
-    Width,
-}
+pub(crate) const LSPLIT: usize = 1;
 
-// A call that changes what sets there are, or one of them.
-pub(crate) enum SetCall {
-    Open,
-    Use,
-    Reset,
-    Add,
-    Trim,
-    Clean,
-}
+pub(crate) const HAS_PARENT: usize = 2;
 
-// A question on a set as a whole.
-pub(crate) enum SetQuestion {
-    Name,
-    NumFiles,
-    TotalSize,
-    SizeOnDisk,
-    PieceLength,
-    V2,
-    TextBytes,
-    NumPieces,
-    BlocksPerPiece,
-}
+pub(crate) const IS_COMPLETE: usize = 3;
 
-// A question on what a file's row holds.
-pub(crate) enum FileQuestion {
-    FileName,
-    FileSize,
-    FileOffset,
-    PadFileAt,
-    FileFlags,
-    Mtime,
-    FileAbsolutePath,
-    InternalSymlink,
-}
+pub(crate) const FILENAME: usize = 4;
 
-// A question on the pieces of a file.
-pub(crate) enum RangeQuestion {
-    Exclusive,
-    Inclusive,
-    FilePieceRange,
-    PieceIndexAtFile,
-    LastPieceIndexAtFile,
-}
+pub(crate) const CRC: usize = 5;
 
-// A question on the tree of a file.
-pub(crate) enum TreeQuestion {
-    FileNumPieces,
-    FileNumBlocks,
-    FileFirstPieceNode,
-    FileFirstBlockNode,
-}
+// On paths and on the width of a tree, with other words behind the name.
+pub(crate) const LSPLIT_AT: usize = 6;
 
-// A question on one piece.
-pub(crate) enum PieceQuestion {
-    PieceSize,
-    PieceSize2,
-    BlocksInPiece2,
-    FileIndexAtPiece,
-    LastFileIndexAtPiece,
-}
+pub(crate) const APPEND: usize = 7;
 
-// A question whose answer is a value.
-pub(crate) enum Question {
-    OnSet(SetQuestion),
-    OnFile(FileQuestion),
-    OnRange(RangeQuestion),
-    OnTree(TreeQuestion),
-    OnPiece(PieceQuestion),
-    FileIndexAtOffset,
-    FileIndexForRoot,
-    MapFile,
-}
+pub(crate) const COMBINE: usize = 8;
 
-// A question whose answer is longer.
-pub(crate) enum LongQuestion {
-    Dirs,
-    Root,
-    InternalFilePath,
-    Symlink,
-    MapBlock,
-    FilePath,
-    FilePathHash,
-    AllPathHashes,
-}
+pub(crate) const WIDTH: usize = 9;
 
-// A question on a set through its renames.
-pub(crate) enum RenamedQuestion {
-    Export,
-    RenamedPath,
-    RenamedName,
-    RenamedAbsolute,
-}
+// On what sets there are.
+pub(crate) const OPEN: usize = 10;
 
-// What a line asks for.
-pub(crate) enum Call {
-    Silent,
-    Unknown,
-    String(StringCall),
-    Plain(PlainCall),
-    OnSets(SetCall),
-    Ask(Question),
-    AskLong(LongQuestion),
-    Compat,
-    Rename,
-    Import,
-    AskRenamed(RenamedQuestion),
-}
+pub(crate) const USE: usize = 11;
+
+pub(crate) const RESET: usize = 12;
+
+// Changes of a set.
+pub(crate) const ADD: usize = 13;
+
+pub(crate) const TRIM: usize = 14;
+
+pub(crate) const CLEAN: usize = 15;
+
+// Changes of a set's renames.
+pub(crate) const RENAME: usize = 16;
+
+pub(crate) const IMPORT: usize = 17;
+
+// Questions on a set as a whole.
+pub(crate) const NAME: usize = 18;
+
+pub(crate) const NUM_FILES: usize = 19;
+
+pub(crate) const TOTAL_SIZE: usize = 20;
+
+pub(crate) const SIZE_ON_DISK: usize = 21;
+
+pub(crate) const PIECE_LENGTH: usize = 22;
+
+pub(crate) const V2: usize = 23;
+
+pub(crate) const TEXT_BYTES: usize = 24;
+
+pub(crate) const NUM_PIECES: usize = 25;
+
+pub(crate) const BLOCKS_PER_PIECE: usize = 26;
+
+// Questions on what a file's row holds.
+pub(crate) const FILE_NAME: usize = 27;
+
+pub(crate) const FILE_SIZE: usize = 28;
+
+pub(crate) const FILE_OFFSET: usize = 29;
+
+pub(crate) const PAD_FILE_AT: usize = 30;
+
+pub(crate) const FILE_FLAGS: usize = 31;
+
+pub(crate) const MTIME: usize = 32;
+
+pub(crate) const FILE_ABSOLUTE_PATH: usize = 33;
+
+pub(crate) const INTERNAL_SYMLINK: usize = 34;
+
+// Questions on the pieces of a file.
+pub(crate) const EXCLUSIVE: usize = 35;
+
+pub(crate) const INCLUSIVE: usize = 36;
+
+pub(crate) const FILE_PIECE_RANGE: usize = 37;
+
+pub(crate) const PIECE_INDEX_AT_FILE: usize = 38;
+
+pub(crate) const LAST_PIECE_INDEX_AT_FILE: usize = 39;
+
+// Questions on the tree of a file.
+pub(crate) const FILE_NUM_PIECES: usize = 40;
+
+pub(crate) const FILE_NUM_BLOCKS: usize = 41;
+
+pub(crate) const FILE_FIRST_PIECE_NODE: usize = 42;
+
+pub(crate) const FILE_FIRST_BLOCK_NODE: usize = 43;
+
+// Questions on one piece.
+pub(crate) const PIECE_SIZE: usize = 44;
+
+pub(crate) const PIECE_SIZE2: usize = 45;
+
+pub(crate) const BLOCKS_IN_PIECE2: usize = 46;
+
+pub(crate) const FILE_INDEX_AT_PIECE: usize = 47;
+
+pub(crate) const LAST_FILE_INDEX_AT_PIECE: usize = 48;
+
+// Questions on a layout with other words.
+pub(crate) const FILE_INDEX_AT_OFFSET: usize = 49;
+
+pub(crate) const FILE_INDEX_FOR_ROOT: usize = 50;
+
+pub(crate) const MAP_FILE: usize = 51;
+
+// A question on a whole path.
+pub(crate) const FILE_PATH_HASH: usize = 52;
+
+// Questions on a set through its renames.
+pub(crate) const RENAMED_NAME: usize = 53;
+
+pub(crate) const RENAMED_ABSOLUTE: usize = 54;
+
+// Questions whose answer is a text that is composed.
+pub(crate) const INTERNAL_FILE_PATH: usize = 55;
+
+pub(crate) const SYMLINK: usize = 56;
+
+pub(crate) const FILE_PATH: usize = 57;
+
+pub(crate) const RENAMED_PATH: usize = 58;
+
+// Questions with an answer of many values.
+pub(crate) const DIRS: usize = 59;
+
+pub(crate) const ROOT: usize = 60;
+
+pub(crate) const MAP_BLOCK: usize = 61;
+
+pub(crate) const ALL_PATH_HASHES: usize = 62;
+
+pub(crate) const EXPORT: usize = 63;
+
+// The question on two sets.
+pub(crate) const COMPAT: usize = 64;
+
+// What find gives for a name that none of these is.
+pub(crate) const UNKNOWN: usize = 65;
+
+// A line that has no answer.
+pub(crate) const SILENT: usize = 66;
 
 // The place of a name among names that have a blank behind each, or how many there are.
 fn place(names: &[u8], name: &[u8]) -> usize {
@@ -164,175 +190,21 @@ fn stands_at(names: &[u8], at: usize, name: &[u8]) -> bool {
 }
 
 // The call of a name.
-pub(crate) fn find(name: &[u8]) -> Call {
-    let n = place(b"rsplit lsplit has_parent is_complete filename crc ", name);
-    match n {
-        0 => Call::String(StringCall::Rsplit),
-        1 => Call::String(StringCall::Lsplit),
-        2 => Call::String(StringCall::HasParent),
-        3 => Call::String(StringCall::IsComplete),
-        4 => Call::String(StringCall::Filename),
-        5 => Call::String(StringCall::Crc),
-        _ => find_plain(name),
-    }
-}
-
-// The call of a name, which is not on one string.
-fn find_plain(name: &[u8]) -> Call {
-    let n = place(b"lsplit_at append combine width ", name);
-    match n {
-        0 => Call::Plain(PlainCall::LsplitAt),
-        1 => Call::Plain(PlainCall::Append),
-        2 => Call::Plain(PlainCall::Combine),
-        3 => Call::Plain(PlainCall::Width),
-        _ => find_on_sets(name),
-    }
-}
-
-// The call of a name that speaks of sets.
-fn find_on_sets(name: &[u8]) -> Call {
-    let n = place(b"open use reset add trim clean ", name);
-    match n {
-        0 => Call::OnSets(SetCall::Open),
-        1 => Call::OnSets(SetCall::Use),
-        2 => Call::OnSets(SetCall::Reset),
-        3 => Call::OnSets(SetCall::Add),
-        4 => Call::OnSets(SetCall::Trim),
-        5 => Call::OnSets(SetCall::Clean),
-        _ => find_set_question(name),
-    }
-}
-
-// The call of a name, among the questions.
-fn find_set_question(name: &[u8]) -> Call {
-    let n = place(
-        b"name num_files total_size size_on_disk piece_length v2 text_bytes num_pieces blocks_per_piece ",
+pub(crate) fn find(name: &[u8]) -> usize {
+    place(
+        b"rsplit lsplit has_parent is_complete filename crc lsplit_at append combine width open use reset add trim clean rename import name num_files total_size size_on_disk piece_length v2 text_bytes num_pieces blocks_per_piece file_name file_size file_offset pad_file_at file_flags mtime file_absolute_path internal_symlink exclusive inclusive file_piece_range piece_index_at_file last_piece_index_at_file file_num_pieces file_num_blocks file_first_piece_node file_first_block_node piece_size piece_size2 blocks_in_piece2 file_index_at_piece last_file_index_at_piece file_index_at_offset file_index_for_root map_file file_path_hash renamed_name renamed_absolute internal_file_path symlink file_path renamed_path dirs root map_block all_path_hashes export compat ",
         name,
-    );
-    match n {
-        0 => Call::Ask(Question::OnSet(SetQuestion::Name)),
-        1 => Call::Ask(Question::OnSet(SetQuestion::NumFiles)),
-        2 => Call::Ask(Question::OnSet(SetQuestion::TotalSize)),
-        3 => Call::Ask(Question::OnSet(SetQuestion::SizeOnDisk)),
-        4 => Call::Ask(Question::OnSet(SetQuestion::PieceLength)),
-        5 => Call::Ask(Question::OnSet(SetQuestion::V2)),
-        6 => Call::Ask(Question::OnSet(SetQuestion::TextBytes)),
-        7 => Call::Ask(Question::OnSet(SetQuestion::NumPieces)),
-        8 => Call::Ask(Question::OnSet(SetQuestion::BlocksPerPiece)),
-        _ => find_file_question(name),
-    }
+    )
 }
 
-// The call of a name, among the questions on a file's row and those behind them.
-fn find_file_question(name: &[u8]) -> Call {
-    let n = place(
-        b"file_name file_size file_offset pad_file_at file_flags mtime file_absolute_path internal_symlink ",
-        name,
-    );
-    match n {
-        0 => Call::Ask(Question::OnFile(FileQuestion::FileName)),
-        1 => Call::Ask(Question::OnFile(FileQuestion::FileSize)),
-        2 => Call::Ask(Question::OnFile(FileQuestion::FileOffset)),
-        3 => Call::Ask(Question::OnFile(FileQuestion::PadFileAt)),
-        4 => Call::Ask(Question::OnFile(FileQuestion::FileFlags)),
-        5 => Call::Ask(Question::OnFile(FileQuestion::Mtime)),
-        6 => Call::Ask(Question::OnFile(FileQuestion::FileAbsolutePath)),
-        7 => Call::Ask(Question::OnFile(FileQuestion::InternalSymlink)),
-        _ => find_range_question(name),
-    }
-}
-
-// The call of a name, among the questions on a file's pieces and those behind them.
-fn find_range_question(name: &[u8]) -> Call {
-    let n = place(
-        b"exclusive inclusive file_piece_range piece_index_at_file last_piece_index_at_file ",
-        name,
-    );
-    match n {
-        0 => Call::Ask(Question::OnRange(RangeQuestion::Exclusive)),
-        1 => Call::Ask(Question::OnRange(RangeQuestion::Inclusive)),
-        2 => Call::Ask(Question::OnRange(RangeQuestion::FilePieceRange)),
-        3 => Call::Ask(Question::OnRange(RangeQuestion::PieceIndexAtFile)),
-        4 => Call::Ask(Question::OnRange(RangeQuestion::LastPieceIndexAtFile)),
-        _ => find_tree_question(name),
-    }
-}
-
-// The call of a name, among the questions on a file's tree and those behind them.
-fn find_tree_question(name: &[u8]) -> Call {
-    let n = place(
-        b"file_num_pieces file_num_blocks file_first_piece_node file_first_block_node ",
-        name,
-    );
-    match n {
-        0 => Call::Ask(Question::OnTree(TreeQuestion::FileNumPieces)),
-        1 => Call::Ask(Question::OnTree(TreeQuestion::FileNumBlocks)),
-        2 => Call::Ask(Question::OnTree(TreeQuestion::FileFirstPieceNode)),
-        3 => Call::Ask(Question::OnTree(TreeQuestion::FileFirstBlockNode)),
-        _ => find_piece_question(name),
-    }
-}
-
-// The call of a name, among the questions on a piece and those behind them.
-fn find_piece_question(name: &[u8]) -> Call {
-    let n = place(
-        b"piece_size piece_size2 blocks_in_piece2 file_index_at_piece last_file_index_at_piece ",
-        name,
-    );
-    match n {
-        0 => Call::Ask(Question::OnPiece(PieceQuestion::PieceSize)),
-        1 => Call::Ask(Question::OnPiece(PieceQuestion::PieceSize2)),
-        2 => Call::Ask(Question::OnPiece(PieceQuestion::BlocksInPiece2)),
-        3 => Call::Ask(Question::OnPiece(PieceQuestion::FileIndexAtPiece)),
-        4 => Call::Ask(Question::OnPiece(PieceQuestion::LastFileIndexAtPiece)),
-        _ => find_other(name),
-    }
-}
-
-// The call of a name, among the questions that stand alone and those behind them.
-fn find_other(name: &[u8]) -> Call {
-    let n = place(
-        b"file_index_at_offset file_index_for_root map_file dirs root internal_file_path symlink map_block ",
-        name,
-    );
-    match n {
-        0 => Call::Ask(Question::FileIndexAtOffset),
-        1 => Call::Ask(Question::FileIndexForRoot),
-        2 => Call::Ask(Question::MapFile),
-        3 => Call::AskLong(LongQuestion::Dirs),
-        4 => Call::AskLong(LongQuestion::Root),
-        5 => Call::AskLong(LongQuestion::InternalFilePath),
-        6 => Call::AskLong(LongQuestion::Symlink),
-        7 => Call::AskLong(LongQuestion::MapBlock),
-        _ => find_path_question(name),
-    }
-}
-
-// The call of a name, among the questions on whole paths and on two sets, and those behind them.
-fn find_path_question(name: &[u8]) -> Call {
-    let n = place(b"file_path file_path_hash all_path_hashes compat ", name);
-    match n {
-        0 => Call::AskLong(LongQuestion::FilePath),
-        1 => Call::AskLong(LongQuestion::FilePathHash),
-        2 => Call::AskLong(LongQuestion::AllPathHashes),
-        3 => Call::Compat,
-        _ => find_rename(name),
-    }
-}
-
-// The call of a name, among those on renames.
-fn find_rename(name: &[u8]) -> Call {
-    let n = place(
-        b"rename import export renamed_path renamed_name renamed_absolute ",
-        name,
-    );
-    match n {
-        0 => Call::Rename,
-        1 => Call::Import,
-        2 => Call::AskRenamed(RenamedQuestion::Export),
-        3 => Call::AskRenamed(RenamedQuestion::RenamedPath),
-        4 => Call::AskRenamed(RenamedQuestion::RenamedName),
-        5 => Call::AskRenamed(RenamedQuestion::RenamedAbsolute),
-        _ => Call::Unknown,
+// The most words that a line of a call has, its name among them; `open` and `import` see to theirs themselves.
+pub(crate) fn most_words(call: usize) -> usize {
+    match call {
+        RESET | TRIM..=CLEAN | NAME..=BLOCKS_PER_PIECE | DIRS | ALL_PATH_HASHES | EXPORT => 1,
+        LSPLIT_AT..=COMBINE | RENAME | FILE_PATH_HASH | FILE_PATH..=RENAMED_PATH | COMPAT => 3,
+        MAP_FILE | MAP_BLOCK => 4,
+        ADD => 8,
+        OPEN | IMPORT => usize::MAX,
+        _ => 2,
     }
 }

@@ -1,119 +1,95 @@
 // Questions on the layout of a set. Relies on `layout`, and on the modules for words and answers.
 use crate::answer;
 use crate::answer::Answer;
-use crate::kinds::PieceQuestion;
-use crate::kinds::RangeQuestion;
-use crate::kinds::TreeQuestion;
+use crate::kinds;
 use crate::numbers;
 use crate::numbers::Long;
 use crate::numbers::Short;
 use crate::output;
+use crate::output::Buffer;
 use crate::roots;
-use crate::words;
 use tables::FileStorage;
 use tables::Presence;
 use types::FileIndex;
 use types::PieceIndex;
 use types::UsizeResult;
 
-// A question on the pieces of a file.
-pub(crate) fn on_range(
-    question: RangeQuestion,
+// A block by the words of a line: whether they are in form, its piece, and where it begins and how long it is.
+struct Block {
+    is_formed: bool,
+    piece: i32,
+    offset: i64,
+    size: i64,
+}
+
+// The answer to a question on a layout.
+pub(crate) fn answer(
+    call: usize,
     line: &[u8],
     fs: FileStorage,
     rows: &[u64],
+    hashes: &[u8],
 ) -> Answer {
-    let Short::Is(n) = numbers::only(line) else {
+    match call {
+        kinds::FILE_INDEX_AT_OFFSET => at_offset(line, fs, rows),
+        kinds::FILE_INDEX_FOR_ROOT => for_root(line, fs, rows, hashes),
+        kinds::MAP_FILE => map_file(line, fs, rows),
+        _ => on_number(call, line, fs, rows),
+    }
+}
+
+// The answer to a question on a file or a piece by its number.
+fn on_number(call: usize, line: &[u8], fs: FileStorage, rows: &[u64]) -> Answer {
+    let Short::Is(n) = numbers::short_word(line, 1) else {
         return Answer::BadCall;
     };
-    range_of(question, FileIndex(n), fs, rows)
+    match call {
+        kinds::EXCLUSIVE..=kinds::LAST_PIECE_INDEX_AT_FILE => {
+            range_of(call, FileIndex(n), fs, rows)
+        }
+        kinds::FILE_NUM_PIECES..=kinds::FILE_FIRST_BLOCK_NODE => {
+            tree_of(call, FileIndex(n), fs, rows)
+        }
+        _ => piece_of(call, PieceIndex(n), fs, rows),
+    }
 }
 
 // The answer to a question on the pieces of a file.
-fn range_of(question: RangeQuestion, index: FileIndex, fs: FileStorage, rows: &[u64]) -> Answer {
-    match question {
-        RangeQuestion::Exclusive => answer::pieces(layout::file_piece_range_exclusive(
-            fs,
-            rows,
-            index,
-        )),
-        RangeQuestion::Inclusive => answer::pieces(layout::file_piece_range_inclusive(
-            fs,
-            rows,
-            index,
-        )),
-        RangeQuestion::FilePieceRange => answer::range(layout::file_piece_range(fs, rows, index)),
-        RangeQuestion::PieceIndexAtFile => answer::piece(layout::piece_index_at_file(
-            fs,
-            rows,
-            index,
-        )),
-        RangeQuestion::LastPieceIndexAtFile => {
-            answer::piece(layout::last_piece_index_at_file(fs, rows, index))
-        }
+fn range_of(call: usize, index: FileIndex, fs: FileStorage, rows: &[u64]) -> Answer {
+    match call {
+        kinds::EXCLUSIVE => answer::pieces(layout::file_piece_range_exclusive(fs, rows, index)),
+        kinds::INCLUSIVE => answer::pieces(layout::file_piece_range_inclusive(fs, rows, index)),
+        kinds::FILE_PIECE_RANGE => answer::range(layout::file_piece_range(fs, rows, index)),
+        kinds::PIECE_INDEX_AT_FILE => answer::piece(layout::piece_index_at_file(fs, rows, index)),
+        _ => answer::piece(layout::last_piece_index_at_file(fs, rows, index)),
     }
-}
-
-// A question on the tree of a file.
-pub(crate) fn on_tree(
-    question: TreeQuestion,
-    line: &[u8],
-    fs: FileStorage,
-    rows: &[u64],
-) -> Answer {
-    let Short::Is(n) = numbers::only(line) else {
-        return Answer::BadCall;
-    };
-    tree_of(question, FileIndex(n), fs, rows)
 }
 
 // The answer to a question on the tree of a file.
-fn tree_of(question: TreeQuestion, index: FileIndex, fs: FileStorage, rows: &[u64]) -> Answer {
-    match question {
-        TreeQuestion::FileNumPieces => answer::short(layout::file_num_pieces(fs, rows, index)),
-        TreeQuestion::FileNumBlocks => answer::long(layout::file_num_blocks(fs, rows, index)),
-        TreeQuestion::FileFirstPieceNode => {
+fn tree_of(call: usize, index: FileIndex, fs: FileStorage, rows: &[u64]) -> Answer {
+    match call {
+        kinds::FILE_NUM_PIECES => answer::short(layout::file_num_pieces(fs, rows, index)),
+        kinds::FILE_NUM_BLOCKS => answer::long(layout::file_num_blocks(fs, rows, index)),
+        kinds::FILE_FIRST_PIECE_NODE => {
             answer::count(layout::file_first_piece_node(fs, rows, index))
         }
-        TreeQuestion::FileFirstBlockNode => {
-            answer::count(layout::file_first_block_node(fs, rows, index))
-        }
+        _ => answer::count(layout::file_first_block_node(fs, rows, index)),
     }
 }
 
-// A question on a piece.
-pub(crate) fn on_piece(
-    question: PieceQuestion,
-    line: &[u8],
-    fs: FileStorage,
-    rows: &[u64],
-) -> Answer {
-    let Short::Is(n) = numbers::only(line) else {
-        return Answer::BadCall;
-    };
-    piece_of(question, PieceIndex(n), fs, rows)
-}
-
 // The answer to a question on a piece.
-fn piece_of(question: PieceQuestion, piece: PieceIndex, fs: FileStorage, rows: &[u64]) -> Answer {
-    match question {
-        PieceQuestion::PieceSize => answer::short(layout::piece_size(fs, piece)),
-        PieceQuestion::PieceSize2 => answer::short(layout::piece_size2(fs, rows, piece)),
-        PieceQuestion::BlocksInPiece2 => answer::short(layout::blocks_in_piece2(fs, rows, piece)),
-        PieceQuestion::FileIndexAtPiece => {
-            answer::file(layout::file_index_at_piece(fs, rows, piece))
-        }
-        PieceQuestion::LastFileIndexAtPiece => {
-            answer::file(layout::last_file_index_at_piece(fs, rows, piece))
-        }
+fn piece_of(call: usize, piece: PieceIndex, fs: FileStorage, rows: &[u64]) -> Answer {
+    match call {
+        kinds::PIECE_SIZE => answer::short(layout::piece_size(fs, piece)),
+        kinds::PIECE_SIZE2 => answer::short(layout::piece_size2(fs, rows, piece)),
+        kinds::BLOCKS_IN_PIECE2 => answer::short(layout::blocks_in_piece2(fs, rows, piece)),
+        kinds::FILE_INDEX_AT_PIECE => answer::file(layout::file_index_at_piece(fs, rows, piece)),
+        _ => answer::file(layout::last_file_index_at_piece(fs, rows, piece)),
     }
 }
 
 // `file_index_at_offset O`.
-pub(crate) fn at_offset(line: &[u8], fs: FileStorage, rows: &[u64]) -> Answer {
-    if words::has(line, 2) {
-        return Answer::BadCall;
-    }
+fn at_offset(line: &[u8], fs: FileStorage, rows: &[u64]) -> Answer {
     let Long::Is(offset) = numbers::long_word(line, 1) else {
         return Answer::BadCall;
     };
@@ -121,10 +97,7 @@ pub(crate) fn at_offset(line: &[u8], fs: FileStorage, rows: &[u64]) -> Answer {
 }
 
 // `file_index_for_root ROOT`.
-pub(crate) fn for_root(line: &[u8], fs: FileStorage, rows: &[u64], hashes: &[u8]) -> Answer {
-    if words::has(line, 2) {
-        return Answer::BadCall;
-    }
+fn for_root(line: &[u8], fs: FileStorage, rows: &[u64], hashes: &[u8]) -> Answer {
     let word = roots::word(line, 1);
     if !word.is_formed {
         return Answer::BadCall;
@@ -138,10 +111,7 @@ pub(crate) fn for_root(line: &[u8], fs: FileStorage, rows: &[u64], hashes: &[u8]
 }
 
 // `map_file I OFFSET SIZE`.
-pub(crate) fn map_file(line: &[u8], fs: FileStorage, rows: &[u64]) -> Answer {
-    if words::has(line, 4) {
-        return Answer::BadCall;
-    }
+fn map_file(line: &[u8], fs: FileStorage, rows: &[u64]) -> Answer {
     let Short::Is(n) = numbers::short_word(line, 1) else {
         return Answer::BadCall;
     };
@@ -159,48 +129,62 @@ pub(crate) fn map_block(
     line: &[u8],
     fs: FileStorage,
     rows: &[u64],
-    out: &mut [u8],
+    out: &mut Buffer,
     used: usize,
 ) -> usize {
-    if words::has(line, 4) {
+    let block = block_in(line);
+    if !block.is_formed {
         return output::bad_call(out, used);
     }
+    map(block, fs, rows, out, used)
+}
+
+// The block that a line names.
+fn block_in(line: &[u8]) -> Block {
+    let malformed = Block {
+        is_formed: false,
+        piece: 0,
+        offset: 0,
+        size: 0,
+    };
     let Short::Is(n) = numbers::short_word(line, 1) else {
-        return output::bad_call(out, used);
+        return malformed;
     };
     let Long::Is(offset) = numbers::long_word(line, 2) else {
-        return output::bad_call(out, used);
+        return malformed;
     };
     let Long::Is(size) = numbers::long_word(line, 3) else {
-        return output::bad_call(out, used);
+        return malformed;
     };
-    map(PieceIndex(n), offset, size, fs, rows, out, used)
+    Block {
+        is_formed: true,
+        piece: n,
+        offset: offset,
+        size: size,
+    }
 }
 
 // Maps a block into columns of more places than a set has files, and writes the slices.
-fn map(
-    piece: PieceIndex,
-    offset: i64,
-    size: i64,
-    fs: FileStorage,
-    rows: &[u64],
-    out: &mut [u8],
-    used: usize,
-) -> usize {
-    let mut files = [0u64; 1024];
-    let mut offsets = [0u64; 1024];
-    let mut sizes = [0u64; 1024];
+fn map(block: Block, fs: FileStorage, rows: &[u64], out: &mut Buffer, used: usize) -> usize {
+    let mut files = column();
+    let mut offsets = column();
+    let mut sizes = column();
     let result = layout::map_block_core(
         fs,
         rows,
-        piece,
-        offset,
-        size,
+        PieceIndex(block.piece),
+        block.offset,
+        block.size,
         &mut files,
         &mut offsets,
         &mut sizes,
     );
     put_slices(result, &files, &offsets, &sizes, out, used)
+}
+
+// Room for a column of slices.
+fn column() -> [u64; 1024] {
+    [0u64; 1024]
 }
 
 // Writes the number of slices and the slices, or the refusal.
@@ -209,7 +193,7 @@ fn put_slices(
     files: &[u64],
     offsets: &[u64],
     sizes: &[u64],
-    out: &mut [u8],
+    out: &mut Buffer,
     used: usize,
 ) -> usize {
     match result {
@@ -229,7 +213,7 @@ fn each_slice(
     files: &[u64],
     offsets: &[u64],
     sizes: &[u64],
-    out: &mut [u8],
+    out: &mut Buffer,
     used: usize,
 ) -> usize {
     let mut at = used;

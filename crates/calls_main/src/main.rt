@@ -8,6 +8,7 @@ mod changes;
 mod cleanings;
 mod compat;
 mod file_questions;
+mod file_words;
 mod importing;
 mod input;
 mod kinds;
@@ -29,8 +30,9 @@ mod state;
 mod strings;
 mod words;
 
-// The tables have four parts each, one for each set, and the sets have a card each; `entries` and `area` are
-// the tables of the renames.
+// Answers line by line. The tables have four parts each, one for each set, and the sets have a card each;
+// `entries` and `area` are the tables of the renames. A proved loop has to end, and nothing says that the input
+// does, so the loop counts its turns down from a number that no run uses up.
 fn main() {
     let mut block = io::large_buffer();
     let mut line = io::large_buffer();
@@ -43,67 +45,35 @@ fn main() {
     let mut area = [0u8; 262144];
     let mut cards = [0u64; 73];
     let mut out = io::large_buffer();
-    let used = answer_all(
-        &mut block,
-        &mut line,
-        &mut rows,
-        &mut roots,
-        &mut times,
-        &mut dirs,
-        &mut text,
-        &mut entries,
-        &mut area,
-        &mut cards,
-        &mut out,
-    );
-    output::flush(&mut out, used);
+    let mut turns = u64::MAX;
+    let mut cursor = input::start();
+    let mut used = 0;
+    while turns > 0 {
+        cursor = input::next_line(&mut block, &mut line, cursor);
+        if !cursor.is_line {
+            break;
+        }
+        let length = cursor.length;
+        used = calls::answer_line(
+            &line,
+            length,
+            &mut rows,
+            &mut roots,
+            &mut times,
+            &mut dirs,
+            &mut text,
+            &mut entries,
+            &mut area,
+            &mut cards,
+            &mut out,
+            used,
+        );
+        turns -= 1;
+    }
+    output::flush(&out, used);
 }
 
 // The text areas of the four sets.
 fn text_areas() -> [u8; 1048576] {
     [0u8; 1048576]
-}
-
-// Answers line by line, and gives how much of the output is not yet written. A proved loop has to
-// end, and nothing says that the input does, so the loop counts its turns down from a number that no
-// run uses up.
-fn answer_all(
-    block: &mut [u8],
-    line: &mut [u8],
-    rows: &mut [u64],
-    roots: &mut [u8],
-    times: &mut [i64],
-    dirs: &mut [u64],
-    text: &mut [u8],
-    entries: &mut [u64],
-    area: &mut [u8],
-    cards: &mut [u64],
-    out: &mut [u8],
-) -> usize {
-    let mut turns = u64::MAX;
-    let mut cursor = input::start();
-    let mut used = 0;
-    while turns > 0 {
-        cursor = input::next_line(block, line, cursor);
-        if !cursor.is_line {
-            return used;
-        }
-        let length = cursor.length;
-        used = calls::answer_line(
-            line,
-            length,
-            rows,
-            roots,
-            times,
-            dirs,
-            text,
-            entries,
-            area,
-            cards,
-            out,
-            used,
-        );
-        turns -= 1;
-    }
-    used
 }

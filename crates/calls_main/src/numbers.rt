@@ -55,14 +55,6 @@ pub(crate) fn short_word(line: &[u8], number: usize) -> Short {
     Short::Is(types::signed32(n))
 }
 
-// The `i32` that is all that stands behind the name of a call.
-pub(crate) fn only(line: &[u8]) -> Short {
-    if words::has(line, 2) {
-        return Short::Malformed;
-    }
-    short_word(line, 1)
-}
-
 // Whether a word begins as a negative number does.
 fn is_negative(word: &[u8]) -> bool {
     lists::byte(word, 0) == b'-'
@@ -131,4 +123,12 @@ fn digit_value(c: u8) -> u64 {
 // A byte as a number of 64 bits.
 fn wide(b: u8) -> u64 {
     b as u64
+}
+
+// 1 for what is so, and 0 for what isn't.
+pub(crate) fn of_bool(is_so: bool) -> u64 {
+    if is_so {
+        return 1;
+    }
+    0
 }

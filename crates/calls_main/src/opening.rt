@@ -1,13 +1,11 @@
-// Opening a set, turning to another, forgetting all, and noting a change. Relies on `storage`, and on the
-// modules for words and output.
+// Opening a set, turning to another, and forgetting all. Relies on `storage`, and on the modules for words
+// and answers.
 ghost use Prim.Native.Nat.{_≤_};
-use crate::changes;
-use crate::changes::Made;
-use crate::kinds::SetCall;
+use crate::answer::Answer;
+use crate::kinds;
 use crate::numbers;
 use crate::numbers::Number;
 use crate::numbers::Short;
-use crate::output;
 use crate::state;
 use crate::state::Room;
 use crate::words;
@@ -28,38 +26,30 @@ struct Wanted {
     text: usize,
 }
 
-// Answers a call on sets, of which the change is made.
-pub(crate) fn answer(
-    call: SetCall,
-    made: Made,
-    line: &[u8],
-    cards: &mut [u64],
-    out: &mut [u8],
-    used: usize,
-) -> usize {
+// Answers a call on what sets there are.
+pub(crate) fn answer(call: usize, line: &[u8], cards: &mut [u64]) -> Answer {
     match call {
-        SetCall::Open => open(line, cards, out, used),
-        SetCall::Use => turn_to(line, cards, out, used),
-        SetCall::Reset => reset(line, cards, out, used),
-        _ => changes::put(made, cards, out, used),
+        kinds::OPEN => open(line, cards),
+        kinds::USE => turn_to(line, cards),
+        _ => reset(cards),
     }
 }
 
 // `open LENGTH [files=N] [dirs=N] [text=N]`.
-fn open(line: &[u8], cards: &mut [u64], out: &mut [u8], used: usize) -> usize {
+fn open(line: &[u8], cards: &mut [u64]) -> Answer {
     let Short::Is(piece_length) = numbers::short_word(line, 1) else {
-        return output::bad_call(out, used);
+        return Answer::BadCall;
     };
     let wanted = wanted_room(line);
     if !wanted.is_formed {
-        return output::bad_call(out, used);
+        return Answer::BadCall;
     }
     let room = Room {
         files: wanted.files,
         dirs: wanted.dirs,
         text: wanted.text,
     };
-    put_in(piece_length, room, cards, out, used)
+    put_in(piece_length, room, cards)
 }
 
 // The room that a line names.
@@ -73,10 +63,10 @@ fn wanted_room(line: &[u8]) -> Wanted {
         2 + one(files.is_named) + one(dirs.is_named) + one(text.is_named),
     );
     Wanted {
-        is_formed: all(
+        is_formed: words::are_formed(
             files.is_formed,
             dirs.is_formed,
-            all(text.is_formed, !is_long, true),
+            words::are_formed(text.is_formed, !is_long, true),
         ),
         files: files.places,
         dirs: dirs.places,
@@ -85,15 +75,15 @@ fn wanted_room(line: &[u8]) -> Wanted {
 }
 
 // Puts a new set in place of the one that is spoken of, where its piece length is in range.
-fn put_in(piece_length: i32, room: Room, cards: &mut [u64], out: &mut [u8], used: usize) -> usize {
+fn put_in(piece_length: i32, room: Room, cards: &mut [u64]) -> Answer {
     match storage::open(piece_length) {
         StorageResult::Ok(fs) => {
             state::put_room(cards, room);
             state::put_record(cards, fs);
             state::put_renamed(cards, 0, 0);
-            output::done(out, used)
+            Answer::Done
         }
-        StorageResult::Err(refusal) => output::refused(out, used, types::number(refusal)),
+        StorageResult::Err(refusal) => Answer::Refused(refusal),
     }
 }
 
@@ -148,36 +138,20 @@ fn one(is_so: bool) -> usize
     0
 }
 
-// Whether three things are so.
-fn all(a: bool, b: bool, c: bool) -> bool {
-    if a {
-        if b {
-            return c;
-        }
-    }
-    false
-}
-
 // `use N`.
-fn turn_to(line: &[u8], cards: &mut [u64], out: &mut [u8], used: usize) -> usize {
-    if words::has(line, 2) {
-        return output::bad_call(out, used);
-    }
+fn turn_to(line: &[u8], cards: &mut [u64]) -> Answer {
     let Number::Is(place) = numbers::word(line, 1) else {
-        return output::bad_call(out, used);
+        return Answer::BadCall;
     };
     if 3 < place {
-        return output::bad_call(out, used);
+        return Answer::BadCall;
     }
     state::turn_to(cards, place);
-    output::done(out, used)
+    Answer::Done
 }
 
 // `reset`.
-fn reset(line: &[u8], cards: &mut [u64], out: &mut [u8], used: usize) -> usize {
-    if words::has(line, 1) {
-        return output::bad_call(out, used);
-    }
+fn reset(cards: &mut [u64]) -> Answer {
     state::reset(cards);
-    output::done(out, used)
+    Answer::Done
 }

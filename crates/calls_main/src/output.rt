@@ -5,24 +5,27 @@ use crate::strings::is_plain;
 use libc::STDOUT_FILENO;
 use types::Unsigned;
 
+// A buffer of output, or of a line of input.
+pub(crate) type Buffer = [u8; 65536];
+
 // Writes out what the buffer holds.
-pub(crate) fn flush(out: &mut [u8], used: usize) {
+pub(crate) fn flush(out: &Buffer, used: usize) {
     io::write_all(STDOUT_FILENO, lists::part(out, 0, used));
 }
 
 // Puts one byte.
-fn put(out: &mut [u8], used: usize, byte: u8) -> usize {
-    if used < out.len() {
+fn put(out: &mut Buffer, used: usize, byte: u8) -> usize {
+    if used < 65536 {
         out[used] = byte;
         return used + 1;
     }
     io::write_all(STDOUT_FILENO, out);
-    lists::put_byte(out, 0, byte);
+    out[0] = byte;
     1
 }
 
 // Puts bytes as they are.
-fn text(out: &mut [u8], used: usize, bytes: &[u8]) -> usize {
+fn text(out: &mut Buffer, used: usize, bytes: &[u8]) -> usize {
     let mut at = used;
     let mut i = 0;
     while i < bytes.len() {
@@ -33,53 +36,53 @@ fn text(out: &mut [u8], used: usize, bytes: &[u8]) -> usize {
 }
 
 // Puts a line feed behind an answer.
-pub(crate) fn end(out: &mut [u8], used: usize) -> usize {
+pub(crate) fn end(out: &mut Buffer, used: usize) -> usize {
     put(out, used, b'\n')
 }
 
 // Puts the answer to a line that is no call.
-pub(crate) fn bad_call(out: &mut [u8], used: usize) -> usize {
+pub(crate) fn bad_call(out: &mut Buffer, used: usize) -> usize {
     text(out, used, b"badcall\n")
 }
 
 // Puts the answer to a call that is refused.
-pub(crate) fn refused(out: &mut [u8], used: usize, number: u32) -> usize {
+pub(crate) fn refused(out: &mut Buffer, used: usize, number: u32) -> usize {
     let at = text(out, used, b"refused ");
     let behind = digits(out, at, number as u64);
     end(out, behind)
 }
 
 // Puts the answer to a change that was made.
-pub(crate) fn done(out: &mut [u8], used: usize) -> usize {
+pub(crate) fn done(out: &mut Buffer, used: usize) -> usize {
     text(out, used, b"ok\n")
 }
 
 // Puts the start of an answer that has values behind it.
-pub(crate) fn ok(out: &mut [u8], used: usize) -> usize {
+pub(crate) fn ok(out: &mut Buffer, used: usize) -> usize {
     text(out, used, b"ok")
 }
 
 // Puts a value that is a number.
-pub(crate) fn number(out: &mut [u8], used: usize, n: u64) -> usize {
+pub(crate) fn number(out: &mut Buffer, used: usize, n: u64) -> usize {
     let at = put(out, used, b' ');
     digits(out, at, n)
 }
 
 // Puts a value that is a slice: `file:offset:size`.
-pub(crate) fn slice(out: &mut [u8], used: usize, file: u64, offset: u64, size: u64) -> usize {
+pub(crate) fn slice(out: &mut Buffer, used: usize, file: u64, offset: u64, size: u64) -> usize {
     let at = number(out, used, file);
     let behind = part(out, at, offset);
     part(out, behind, size)
 }
 
 // Puts a number behind `:`.
-fn part(out: &mut [u8], used: usize, n: u64) -> usize {
+fn part(out: &mut Buffer, used: usize, n: u64) -> usize {
     let at = put(out, used, b':');
     digits(out, at, n)
 }
 
 // Puts a value that is an `i64`.
-pub(crate) fn long(out: &mut [u8], used: usize, n: i64) -> usize {
+pub(crate) fn long(out: &mut Buffer, used: usize, n: i64) -> usize {
     match types::unsigned64(n) {
         Unsigned::Of(m) => number(out, used, m),
         Unsigned::Negative => negative(out, used, types::unsigned64(!n)),
@@ -87,7 +90,7 @@ pub(crate) fn long(out: &mut [u8], used: usize, n: i64) -> usize {
 }
 
 // Puts a value that is an `i32`.
-pub(crate) fn short(out: &mut [u8], used: usize, n: i32) -> usize {
+pub(crate) fn short(out: &mut Buffer, used: usize, n: i32) -> usize {
     match types::unsigned32(n) {
         Unsigned::Of(m) => number(out, used, m),
         Unsigned::Negative => negative(out, used, types::unsigned32(!n)),
@@ -95,7 +98,7 @@ pub(crate) fn short(out: &mut [u8], used: usize, n: i32) -> usize {
 }
 
 // Puts a negative number, by how far it lies below −1.
-fn negative(out: &mut [u8], used: usize, distance: Unsigned) -> usize {
+fn negative(out: &mut Buffer, used: usize, distance: Unsigned) -> usize {
     let at = text(out, used, b" -");
     digits(out, at, above(distance))
 }
@@ -114,7 +117,7 @@ fn above(n: Unsigned) -> u64 {
 }
 
 // Puts a value that is a root, in lower-case hex.
-pub(crate) fn hex(out: &mut [u8], used: usize, bytes: &[u8]) -> usize {
+pub(crate) fn hex(out: &mut Buffer, used: usize, bytes: &[u8]) -> usize {
     let mut at = put(out, used, b' ');
     let mut i = 0;
     while i < bytes.len() {
@@ -125,7 +128,7 @@ pub(crate) fn hex(out: &mut [u8], used: usize, bytes: &[u8]) -> usize {
 }
 
 // Puts a byte in lower-case hex.
-fn hex_byte(out: &mut [u8], used: usize, byte: u8) -> usize {
+fn hex_byte(out: &mut Buffer, used: usize, byte: u8) -> usize {
     let at = put(out, used, lower_digit(byte / 16));
     put(out, at, lower_digit(byte % 16))
 }
@@ -139,16 +142,8 @@ fn lower_digit(value: u8) -> u8 {
     87 + v
 }
 
-// Puts a value that is a Boolean.
-pub(crate) fn boolean(out: &mut [u8], used: usize, is_so: bool) -> usize {
-    if is_so {
-        return text(out, used, b" 1");
-    }
-    text(out, used, b" 0")
-}
-
 // Puts a value that is a byte string.
-pub(crate) fn string(out: &mut [u8], used: usize, bytes: &[u8]) -> usize {
+pub(crate) fn string(out: &mut Buffer, used: usize, bytes: &[u8]) -> usize {
     let mut at = text(out, used, b" :");
     let mut i = 0;
     while i < bytes.len() {
@@ -159,13 +154,12 @@ pub(crate) fn string(out: &mut [u8], used: usize, bytes: &[u8]) -> usize {
 }
 
 // Puts a byte of a string, plainly or coded.
-fn character(out: &mut [u8], used: usize, byte: u8) -> usize {
+fn character(out: &mut Buffer, used: usize, byte: u8) -> usize {
     if is_plain(byte) {
         return put(out, used, byte);
     }
-    let first = put(out, used, b'%');
-    let second = put(out, first, hex_digit(byte / 16));
-    put(out, second, hex_digit(byte % 16))
+    let coded = [b'%', hex_digit(byte / 16), hex_digit(byte % 16)];
+    text(out, used, &coded)
 }
 
 // The upper-case hex digit of a value, of which only the last four bits count.
@@ -178,7 +172,7 @@ fn hex_digit(value: u8) -> u8 {
 }
 
 // Puts a number's decimal digits.
-fn digits(out: &mut [u8], used: usize, n: u64) -> usize {
+fn digits(out: &mut Buffer, used: usize, n: u64) -> usize {
     let mut places = [0u8; 20];
     let k = lists::put_decimal(&mut places, 0, n);
     text(out, used, lists::part(&places, 0, k))

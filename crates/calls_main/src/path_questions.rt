@@ -1,46 +1,36 @@
 // Questions on whole paths and their hashes. Relies on `names`, and on the modules for words and answers.
 use crate::answer;
-use crate::numbers;
-use crate::numbers::Short;
+use crate::answer::Answer;
+use crate::file_words;
 use crate::output;
-use crate::strings;
-use crate::strings::Decoded;
-use crate::words;
+use crate::output::Buffer;
 use tables::FileStorage;
 use types::FileIndex;
 use types::UsizeResult;
 
-// `file_path I :SAVE`.
+// `file_path I :SAVE`: the path is composed in a buffer.
 pub(crate) fn file_path(
     line: &[u8],
     fs: FileStorage,
     rows: &[u64],
     dirs: &[u64],
     text: &[u8],
-    out: &mut [u8],
-    used: usize,
-) -> usize {
-    if words::has(line, 3) {
-        return output::bad_call(out, used);
-    }
-    let Short::Is(n) = numbers::short_word(line, 1) else {
-        return output::bad_call(out, used);
-    };
+    joined: &mut [u8],
+) -> Answer {
     let mut save = io::large_buffer();
-    let Decoded::Bytes(m) = strings::word(line, 2, &mut save) else {
-        return output::bad_call(out, used);
-    };
-    let mut joined = [0u8; 262144];
-    let result = names::file_path(
+    let words = file_words::read(line, &mut save);
+    if !words.is_formed {
+        return Answer::BadCall;
+    }
+    answer::composed(names::file_path(
         fs,
         rows,
         dirs,
         text,
-        FileIndex(n),
-        lists::part(&save, 0, m),
-        &mut joined,
-    );
-    answer::put_composed(result, &joined, out, used)
+        FileIndex(words.index),
+        lists::part(&save, 0, words.length),
+        joined,
+    ))
 }
 
 // `file_path_hash I :SAVE`.
@@ -50,49 +40,42 @@ pub(crate) fn file_path_hash(
     rows: &[u64],
     dirs: &[u64],
     text: &[u8],
-    out: &mut [u8],
-    used: usize,
-) -> usize {
-    if words::has(line, 3) {
-        return output::bad_call(out, used);
-    }
-    let Short::Is(n) = numbers::short_word(line, 1) else {
-        return output::bad_call(out, used);
-    };
+) -> Answer {
     let mut save = io::large_buffer();
-    let Decoded::Bytes(m) = strings::word(line, 2, &mut save) else {
-        return output::bad_call(out, used);
-    };
-    let result = names::file_path_hash(
+    let words = file_words::read(line, &mut save);
+    if !words.is_formed {
+        return Answer::BadCall;
+    }
+    answer::hash(names::file_path_hash(
         fs,
         rows,
         dirs,
         text,
-        FileIndex(n),
-        lists::part(&save, 0, m),
-    );
-    answer::put(answer::hash(result), b"", out, used)
+        FileIndex(words.index),
+        lists::part(&save, 0, words.length),
+    ))
 }
 
 // `all_path_hashes`. A set has no more of them than directories and bytes of text.
 pub(crate) fn all_path_hashes(
-    line: &[u8],
     fs: FileStorage,
     dirs: &[u64],
     text: &[u8],
-    out: &mut [u8],
+    out: &mut Buffer,
     used: usize,
 ) -> usize {
-    if words::has(line, 1) {
-        return output::bad_call(out, used);
-    }
-    let mut hashes = [0u32; 262400];
+    let mut hashes = hash_room();
     let result = names::all_path_hashes(fs, dirs, text, &mut hashes);
     put_hashes(result, &hashes, out, used)
 }
 
+// Room for all hashes.
+fn hash_room() -> [u32; 262400] {
+    [0u32; 262400]
+}
+
 // Writes the hashes at the start of a table, or the refusal.
-fn put_hashes(result: UsizeResult, hashes: &[u32], out: &mut [u8], used: usize) -> usize {
+fn put_hashes(result: UsizeResult, hashes: &[u32], out: &mut Buffer, used: usize) -> usize {
     match result {
         UsizeResult::Ok(n) => {
             let at = output::ok(out, used);
@@ -104,7 +87,7 @@ fn put_hashes(result: UsizeResult, hashes: &[u32], out: &mut [u8], used: usize) 
 }
 
 // The first n hashes.
-fn each_hash(hashes: &[u32], n: usize, out: &mut [u8], used: usize) -> usize {
+fn each_hash(hashes: &[u32], n: usize, out: &mut Buffer, used: usize) -> usize {
     let mut at = used;
     let mut i = 0;
     while i < n {

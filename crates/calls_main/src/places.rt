@@ -3,12 +3,27 @@
 ghost use Prim.Native.Nat.{_≤_};
 use crate::state;
 use lists::least;
-use lists::minus;
 
-// A part of a table.
+// The tables of the four sets: rows of files, roots, times, directories and texts.
+pub(crate) type Rows = [u64; 8192];
+
+pub(crate) type Roots = [u8; 32768];
+
+pub(crate) type Times = [i64; 1024];
+
+pub(crate) type Dirs = [u64; 2048];
+
+pub(crate) type Texts = [u8; 1048576];
+
+// The tables of their renames: entries and texts.
+pub(crate) type Entries = [u64; 3072];
+
+pub(crate) type Areas = [u8; 262144];
+
+// A part of a table: where it begins, and how many places it has.
 pub(crate) struct Place {
     pub start: usize,
-    pub end: usize,
+    pub count: usize,
 }
 
 // The parts of all tables.
@@ -26,78 +41,109 @@ pub(crate) struct RenamePlaces {
     pub area: Place,
 }
 
-// The part of so many places from `start` on, as far as a table of that length has them.
-fn part_of(length: usize, start: usize, n: usize) -> Place
-    ensures { λ r. ⌜ (r .start ≤ start) × (r .start ≤ r .end) × (r .end ≤ length) ⌝ }
+// The bounds of a part in a table.
+struct Bounds {
+    start: usize,
+    end: usize,
+}
+
+// Where a part lies in a table of a length, as far as that has it.
+fn inside(length: usize, place: Place) -> Bounds
+    ensures { λ r. ⌜ (r .start ≤ r .end) × (r .end ≤ length) ⌝ }
 {
-    let from = least(start, length);
-    let to = from + least(n, length - from);
-    Place {
+    let from = least(place.start, length);
+    let to = from + least(place.count, length - from);
+    Bounds {
         start: from,
         end: to,
     }
 }
 
-// The part of a table of words; no part begins behind its millionth word.
+// The part of a table of words.
 pub(crate) fn words_at(table: &[u64], place: Place) -> &[u64] {
-    let inside = part_of(
-        table.len(),
-        least(place.start, 1000000),
-        minus(place.end, place.start),
-    );
-    let from = inside.start;
-    let to = inside.end;
+    let part = inside(table.len(), place);
+    let from = part.start;
+    let to = part.end;
+    &table[from..to]
+}
+
+// The part of a table of times.
+pub(crate) fn times_at(table: &[i64], place: Place) -> &[i64] {
+    let part = inside(table.len(), place);
+    let from = part.start;
+    let to = part.end;
     &table[from..to]
 }
 
 // The part of a table of bytes.
 pub(crate) fn bytes_at(table: &[u8], place: Place) -> &[u8] {
-    lists::part(table, place.start, minus(place.end, place.start))
+    lists::part(table, place.start, place.count)
 }
 
-// The parts of the set at a place, in tables of those lengths.
-pub(crate) fn of_set(
-    cards: &[u64],
-    place: usize,
-    rows: usize,
-    roots: usize,
-    times: usize,
-    dirs: usize,
-    text: usize,
-) -> Places
-    ensures { λ r. ⌜ (r .rows .start ≤ 1000000) × (r .rows .start ≤ r .rows .end) × (r .rows .end ≤ rows) ⌝ }
-    ensures { λ r. ⌜ (r .roots .start ≤ 1000000) × (r .roots .start ≤ r .roots .end) × (r .roots .end ≤ roots) ⌝ }
-    ensures { λ r. ⌜ (r .times .start ≤ 1000000) × (r .times .start ≤ r .times .end) × (r .times .end ≤ times) ⌝ }
-    ensures { λ r. ⌜ (r .dirs .start ≤ 1000000) × (r .dirs .start ≤ r .dirs .end) × (r .dirs .end ≤ dirs) ⌝ }
-    ensures { λ r. ⌜ (r .text .start ≤ 1000000) × (r .text .start ≤ r .text .end) × (r .text .end ≤ text) ⌝ }
-{
+// The part of a table of words, to be changed.
+pub(crate) fn words_of(table: &mut [u64], place: Place) -> &mut [u64] {
+    let part = inside(table.len(), place);
+    let from = part.start;
+    let to = part.end;
+    &mut table[from..to]
+}
+
+// The part of a table of times, to be changed.
+pub(crate) fn times_of(table: &mut [i64], place: Place) -> &mut [i64] {
+    let part = inside(table.len(), place);
+    let from = part.start;
+    let to = part.end;
+    &mut table[from..to]
+}
+
+// The part of a table of bytes, to be changed.
+pub(crate) fn bytes_of(table: &mut [u8], place: Place) -> &mut [u8] {
+    let part = inside(table.len(), place);
+    let from = part.start;
+    let to = part.end;
+    &mut table[from..to]
+}
+
+// The parts of the set at a place.
+pub(crate) fn of_set(cards: &[u64], place: usize) -> Places {
     let at = place % 4;
     let room = state::lent_at(cards, place);
-    let of_rows = part_of(rows, at * 2048, least(room.files, 256) * 8);
-    let of_roots = part_of(roots, at * 8192, least(room.files, 256) * 32);
-    let of_times = part_of(times, at * 256, room.files);
-    let of_dirs = part_of(dirs, at * 512, least(room.dirs, 256) * 2);
-    let of_text = part_of(text, at * 262144, room.text);
+    let files = least(room.files, 256);
     Places {
-        rows: of_rows,
-        roots: of_roots,
-        times: of_times,
-        dirs: of_dirs,
-        text: of_text,
+        rows: Place {
+            start: at * 2048,
+            count: files * 8,
+        },
+        roots: Place {
+            start: at * 8192,
+            count: files * 32,
+        },
+        times: Place {
+            start: at * 256,
+            count: room.files,
+        },
+        dirs: Place {
+            start: at * 512,
+            count: least(room.dirs, 256) * 2,
+        },
+        text: Place {
+            start: at * 262144,
+            count: room.text,
+        },
     }
 }
 
-// The parts of the set at a place, in tables of renames of those lengths: 256 entries of three words, and
-// 65536 bytes.
-pub(crate) fn of_renames(place: usize, entries: usize, area: usize) -> RenamePlaces
-    ensures { λ r. ⌜ (r .entries .start ≤ 1000000) × (r .entries .start ≤ r .entries .end) × (r .entries .end ≤ entries) ⌝ }
-    ensures { λ r. ⌜ (r .area .start ≤ 1000000) × (r .area .start ≤ r .area .end) × (r .area .end ≤ area) ⌝ }
-{
+// The parts of the set at a place in the tables of renames: 256 entries of three words, and 65536 bytes.
+pub(crate) fn of_renames(place: usize) -> RenamePlaces {
     let at = place % 4;
-    let of_entries = part_of(entries, at * 768, 768);
-    let of_area = part_of(area, at * 65536, 65536);
     RenamePlaces {
-        entries: of_entries,
-        area: of_area,
+        entries: Place {
+            start: at * 768,
+            count: 768,
+        },
+        area: Place {
+            start: at * 65536,
+            count: 65536,
+        },
     }
 }

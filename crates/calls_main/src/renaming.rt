@@ -1,103 +1,98 @@
-// `rename I :NEW`: the set's tables of renames are lent to the library. Relies on `renames`, and on the
-// modules for sets, words and output.
-use crate::numbers;
-use crate::numbers::Short;
-use crate::output;
+// `rename I :NEW` and `import I :N I :N …`: the set's parts of the tables of renames are lent to the library.
+// Relies on `renames`, on importing.rt, and on the modules for sets, words and answers.
+use crate::answer::Answer;
+use crate::file_words;
+use crate::importing;
+use crate::kinds;
 use crate::places;
 use crate::state;
-use crate::strings;
-use crate::strings::Decoded;
-use crate::words;
+use renames::RenamedFiles;
 use renames::RenamesResult;
+use tables::FileStorage;
 use types::FileIndex;
 
-// Renames a file of the set that is spoken of.
-pub(crate) fn rename(
+// What came of a call: what the library answered, or nothing where the words are out of form.
+pub(crate) enum Renaming {
+    BadCall,
+    Asked(RenamesResult),
+}
+
+// Renames files of the set that is spoken of, which is lent its own parts of the tables.
+pub(crate) fn answer(
+    call: usize,
     line: &[u8],
     entries: &mut [u64],
     area: &mut [u8],
     cards: &mut [u64],
-    out: &mut [u8],
-    used: usize,
-) -> usize {
+) -> Answer {
     if !state::is_open(cards) {
-        return output::bad_call(out, used);
+        return Answer::BadCall;
     }
-    if words::has(line, 3) {
-        return output::bad_call(out, used);
-    }
-    let Short::Is(n) = numbers::short_word(line, 1) else {
-        return output::bad_call(out, used);
-    };
-    let mut name = io::large_buffer();
-    let Decoded::Bytes(m) = strings::word(line, 2, &mut name) else {
-        return output::bad_call(out, used);
-    };
-    lend(
-        FileIndex(n),
-        lists::part(&name, 0, m),
-        entries,
-        area,
-        cards,
-        out,
-        used,
-    )
-}
-
-// Lends the set its own parts of the tables.
-fn lend(
-    index: FileIndex,
-    name: &[u8],
-    entries: &mut [u64],
-    area: &mut [u8],
-    cards: &mut [u64],
-    out: &mut [u8],
-    used: usize,
-) -> usize {
-    let p = places::of_renames(state::at(cards), entries.len(), area.len());
-    let e0 = p.entries.start;
-    let e1 = p.entries.end;
-    let a0 = p.area.start;
-    let a1 = p.area.end;
-    renamed(
-        index,
-        name,
-        &mut entries[e0..e1],
-        &mut area[a0..a1],
-        cards,
-        out,
-        used,
-    )
-}
-
-// Renames a file, the set's tables of renames being lent.
-fn renamed(
-    index: FileIndex,
-    name: &[u8],
-    entries: &mut [u64],
-    area: &mut [u8],
-    cards: &mut [u64],
-    out: &mut [u8],
-    used: usize,
-) -> usize {
-    let result = renames::rename_file(
+    let p = places::of_renames(state::at(cards));
+    let made = make(
+        call,
+        line,
         state::record(cards),
         state::renamed(cards),
-        entries,
-        area,
-        index,
-        name,
+        places::words_of(entries, p.entries),
+        places::bytes_of(area, p.area),
     );
-    put(result, cards, out, used)
+    note(made, cards)
 }
 
-// Notes the renames, or writes the refusal.
-pub(crate) fn put(result: RenamesResult, cards: &mut [u64], out: &mut [u8], used: usize) -> usize {
+// Renames files of a set, whose tables of renames are lent.
+fn make(
+    call: usize,
+    line: &[u8],
+    fs: FileStorage,
+    held: RenamedFiles,
+    entries: &mut [u64],
+    area: &mut [u8],
+) -> Renaming {
+    match call {
+        kinds::RENAME => rename(line, fs, held, entries, area),
+        _ => importing::import(line, fs, held, entries, area),
+    }
+}
+
+// `rename I :NEW`.
+fn rename(
+    line: &[u8],
+    fs: FileStorage,
+    held: RenamedFiles,
+    entries: &mut [u64],
+    area: &mut [u8],
+) -> Renaming {
+    let mut name = io::large_buffer();
+    let words = file_words::read(line, &mut name);
+    if !words.is_formed {
+        return Renaming::BadCall;
+    }
+    Renaming::Asked(renames::rename_file(
+        fs,
+        held,
+        entries,
+        area,
+        FileIndex(words.index),
+        lists::part(&name, 0, words.length),
+    ))
+}
+
+// Notes the renames of a changed set, and gives the answer.
+fn note(made: Renaming, cards: &mut [u64]) -> Answer {
+    match made {
+        Renaming::BadCall => Answer::BadCall,
+        Renaming::Asked(result) => note_result(result, cards),
+    }
+}
+
+// Notes the renames that the library gave, or the refusal.
+fn note_result(result: RenamesResult, cards: &mut [u64]) -> Answer {
     match result {
         RenamesResult::Ok(made) => {
             state::put_renamed(cards, made.num_renames, made.text_len);
-            output::done(out, used)
+            Answer::Done
         }
-        RenamesResult::Err(refusal) => output::refused(out, used, types::number(refusal)),
+        RenamesResult::Err(refusal) => Answer::Refused(refusal),
     }
 }

@@ -2,43 +2,36 @@
 // answers.
 use crate::answer;
 use crate::answer::Answer;
-use crate::kinds::SetQuestion;
+use crate::kinds;
 use crate::output;
-use crate::words;
+use crate::output::Buffer;
 use answers::I32Result;
 use answers::SpanResult;
 use tables::FileStorage;
 
 // The answer to a question on a set.
-pub(crate) fn answer(question: SetQuestion, line: &[u8], fs: FileStorage, text: &[u8]) -> Answer {
-    if words::has(line, 1) {
-        return Answer::BadCall;
-    }
-    match question {
-        SetQuestion::Name => answer::text(answers::name(fs, text)),
-        SetQuestion::NumFiles => answer::short(answers::num_files(fs)),
-        SetQuestion::TotalSize => answer::long(answers::total_size(fs)),
-        SetQuestion::SizeOnDisk => answer::long(answers::size_on_disk(fs)),
-        SetQuestion::PieceLength => answer::short(answers::piece_length(fs)),
-        SetQuestion::V2 => answer::boolean(answers::v2(fs)),
-        SetQuestion::TextBytes => Answer::Number(fs.text_len as u64),
-        SetQuestion::NumPieces => answer::short(layout::num_pieces(fs)),
-        SetQuestion::BlocksPerPiece => answer::short(layout::blocks_per_piece(fs)),
+pub(crate) fn answer(call: usize, fs: FileStorage, text: &[u8]) -> Answer {
+    match call {
+        kinds::NAME => answer::text(answers::name(fs, text)),
+        kinds::NUM_FILES => answer::short(answers::num_files(fs)),
+        kinds::TOTAL_SIZE => answer::long(answers::total_size(fs)),
+        kinds::SIZE_ON_DISK => answer::long(answers::size_on_disk(fs)),
+        kinds::PIECE_LENGTH => answer::short(answers::piece_length(fs)),
+        kinds::V2 => answer::boolean(answers::v2(fs)),
+        kinds::TEXT_BYTES => Answer::Number(fs.text_len as u64),
+        kinds::NUM_PIECES => answer::short(layout::num_pieces(fs)),
+        _ => answer::short(layout::blocks_per_piece(fs)),
     }
 }
 
 // `dirs`: the texts of all directories.
 pub(crate) fn directories(
-    line: &[u8],
     fs: FileStorage,
     dirs: &[u64],
     text: &[u8],
-    out: &mut [u8],
+    out: &mut Buffer,
     used: usize,
 ) -> usize {
-    if words::has(line, 1) {
-        return output::bad_call(out, used);
-    }
     match answers::num_paths(fs) {
         I32Result::Ok(n) => {
             let at = output::ok(out, used);
@@ -55,7 +48,7 @@ fn each_directory(
     dirs: &[u64],
     text: &[u8],
     n: i32,
-    out: &mut [u8],
+    out: &mut Buffer,
     used: usize,
 ) -> usize {
     let count = types::FileIndex(n).get();
@@ -69,7 +62,7 @@ fn each_directory(
 }
 
 // The text of a directory; a refusal, which no directory of a set gives, is left out.
-fn directory(result: SpanResult, text: &[u8], out: &mut [u8], used: usize) -> usize {
+fn directory(result: SpanResult, text: &[u8], out: &mut Buffer, used: usize) -> usize {
     match result {
         SpanResult::Ok(place) => output::string(out, used, tables::text_at(text, place)),
         SpanResult::Err(_) => used,

@@ -3,6 +3,7 @@
 // stand the counts of the sets' renames. Relies on `tables` and `renames` for the records and on the
 // accessors of `lists`.
 ghost use Prim.Native.Nat.{_≤_};
+use crate::numbers::of_bool;
 use lists::put_word;
 use lists::word;
 use renames::RenamedFiles;
@@ -119,7 +120,7 @@ pub(crate) fn put_record(cards: &mut [u64], fs: FileStorage) {
         cards,
         card + 4,
         fs.piece_length,
-        flag(fs.v2),
+        of_bool(fs.v2),
         fs.num_files as u64,
         fs.num_paths as u64,
     );
@@ -137,7 +138,7 @@ pub(crate) fn put_record(cards: &mut [u64], fs: FileStorage) {
         fs.text_len as u64,
         fs.total_size,
         fs.size_on_disk,
-        flag(fs.trimmed),
+        of_bool(fs.trimmed),
     );
 }
 
@@ -165,12 +166,4 @@ fn put_four(cards: &mut [u64], from: usize, a: u64, b: u64, c: u64, d: u64)
     put_word(cards, from + 1, b);
     put_word(cards, from + 2, c);
     put_word(cards, from + 3, d);
-}
-
-// 1 for what is so, and 0 for what isn't.
-fn flag(is_so: bool) -> u64 {
-    if is_so {
-        return 1;
-    }
-    0
 }

@@ -22,6 +22,20 @@ pub(crate) fn word(line: &[u8], number: usize, target: &mut [u8]) -> Decoded {
     decode(words::word(line, number), target)
 }
 
+// Decodes a word of the line behind so many bytes of `target`, and gives where it ends.
+pub(crate) fn word_behind(line: &[u8], number: usize, target: &mut [u8], used: usize) -> Decoded {
+    if target.len() < used {
+        return Decoded::Malformed;
+    }
+    let Decoded::Bytes(n) = word(line, number, &mut target[used..]) else {
+        return Decoded::Malformed;
+    };
+    if target.len() - used < n {
+        return Decoded::Malformed;
+    }
+    Decoded::Bytes(used + n)
+}
+
 // Writes the bytes that a word stands for to the start of `target`.
 fn decode(word: &[u8], target: &mut [u8]) -> Decoded {
     if lists::byte(word, 0) != b':' {

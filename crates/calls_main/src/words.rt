@@ -46,3 +46,13 @@ pub(crate) fn begins_at(line: &[u8], i: usize) -> bool {
     }
     lists::byte(line, i - 1) == b' '
 }
+
+// Whether words of three kinds are all in form.
+pub(crate) fn are_formed(a: bool, b: bool, c: bool) -> bool {
+    if a {
+        if b {
+            return c;
+        }
+    }
+    false
+}

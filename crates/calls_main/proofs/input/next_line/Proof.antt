@@ -1,12 +1,10 @@
--- The loop keeps the lengths of both buffers, and the turns that are left are its measure.
-use mathlib.Core.Path.{_≡_}
+-- The loop ends: the turns that are left are its measure, and nothing has to hold from turn to turn.
 use borrow.Author.Needs.{needs}
-use lib.ListN.{length}
 use Rattle.calls_main.proofs.input.next_line.Statement.{statement}
 use Rattle.calls_main.proofs.input.next_line.Tie as tie
 
 abbrev Inv-loop : tie.InvT-loop
-Inv-loop block₀ line₀ turns₀ cursor₀ block line turns cursor = (length block ≡ length block₀) × (length line ≡ length line₀)
+Inv-loop block₀ line₀ turns₀ cursor₀ block line turns cursor = Unit {0}
 
 abbrev μ-loop : tie.MeasureT-loop
 μ-loop block₀ line₀ turns₀ cursor₀ block line turns cursor = turns
@@ -26,20 +24,8 @@ loop-less c = search needs
 loop-again : tie.Need-loop-again Inv-loop μ-loop
 loop-again c = search needs
 
-same-length : tie.Need-same-length Inv-loop μ-loop
-same-length c = search needs
-
-same-length-2 : tie.Need-same-length-2 Inv-loop μ-loop
-same-length-2 c = search needs
-
 returns : tie.Need-returns Inv-loop μ-loop
 returns c = search needs
-
-same-length-3 : tie.Need-same-length-3 Inv-loop μ-loop
-same-length-3 c = search needs
-
-same-length-4 : tie.Need-same-length-4 Inv-loop μ-loop
-same-length-4 c = search needs
 
 returns-2 : tie.Need-returns-2 Inv-loop μ-loop
 returns-2 c = search needs
@@ -55,9 +41,5 @@ next-line-spec =
     sub-turns
     loop-less
     loop-again
-    same-length
-    same-length-2
     returns
-    same-length-3
-    same-length-4
     returns-2)

