@@ -7,6 +7,7 @@ use crate::cleanings;
 use crate::kinds;
 use crate::places;
 use crate::state;
+use crate::strings;
 use storage::StorageResult;
 use tables::FileStorage;
 use types::Refusal;
@@ -104,20 +105,15 @@ fn add_read(
         dirs,
         text,
         given,
-        between(texts, 0, words.name),
-        between(texts, words.name, words.path),
+        strings::between(texts, 0, words.name),
+        strings::between(texts, words.name, words.path),
         words.size,
         words.flags,
         words.time,
-        between(texts, words.path, words.link),
+        strings::between(texts, words.path, words.link),
         rooted,
         root,
     )
-}
-
-// The bytes from one place up to another.
-fn between(bytes: &[u8], from: usize, to: usize) -> &[u8] {
-    lists::part(bytes, from, lists::minus(to, from))
 }
 
 // What came of a change that the library was asked for.

@@ -2,6 +2,7 @@
 // set's tables of renames. Relies on `renames`, and on the modules for words.
 use crate::numbers;
 use crate::numbers::Short;
+use crate::renaming;
 use crate::renaming::Renaming;
 use crate::strings;
 use crate::strings::Decoded;
@@ -29,7 +30,7 @@ pub(crate) fn import(
     let Pairs::Count(n) = read_pairs(line, &mut files, &mut lengths, &mut names) else {
         return Renaming::BadCall;
     };
-    Renaming::Asked(renames::import_filenames(
+    renaming::outcome(renames::import_filenames(
         fs,
         held,
         entries,

@@ -14,7 +14,6 @@ use crate::strings::Decoded;
 // Answers a call that speaks of no set.
 pub(crate) fn answer(call: usize, line: &[u8], out: &mut Buffer, used: usize) -> usize {
     match call {
-        kinds::LSPLIT_AT => lsplit_at(line, out, used),
         kinds::APPEND..=kinds::COMBINE => join(call, line, out, used),
         kinds::WIDTH => answer::put_value(width(line), out, used),
         _ => on_string(call, line, out, used),
@@ -27,11 +26,11 @@ fn on_string(call: usize, line: &[u8], out: &mut Buffer, used: usize) -> usize {
     let Decoded::Bytes(n) = strings::word(line, 1, &mut first) else {
         return output::bad_call(out, used);
     };
-    of_string(call, lists::part(&first, 0, n), out, used)
+    of_string(call, line, lists::part(&first, 0, n), out, used)
 }
 
-// Answers a call on a string.
-fn of_string(call: usize, s: &[u8], out: &mut Buffer, used: usize) -> usize {
+// Answers a call on the string of a line.
+fn of_string(call: usize, line: &[u8], s: &[u8], out: &mut Buffer, used: usize) -> usize {
     match call {
         kinds::RSPLIT => put_two(
             path::rsplit_path_branch(s),
@@ -45,6 +44,7 @@ fn of_string(call: usize, s: &[u8], out: &mut Buffer, used: usize) -> usize {
             out,
             used,
         ),
+        kinds::LSPLIT_AT => lsplit_at(line, s, out, used),
         kinds::FILENAME => answer::put_text(path::filename(s), out, used),
         _ => answer::put_value(value_of(call, s), out, used),
     }
@@ -67,45 +67,12 @@ fn put_two(a: &[u8], b: &[u8], out: &mut Buffer, used: usize) -> usize {
     output::end(out, behind)
 }
 
-// `lsplit_at :P N`.
-fn lsplit_at(line: &[u8], out: &mut Buffer, used: usize) -> usize {
-    let mut first = io::large_buffer();
-    let cut = cut_in(line, &mut first);
-    if !cut.is_formed {
+// `lsplit_at :P N`, of which the path is decoded.
+fn lsplit_at(line: &[u8], s: &[u8], out: &mut Buffer, used: usize) -> usize {
+    let Number::Is(n) = numbers::word(line, 2) else {
         return output::bad_call(out, used);
-    }
-    split_at(lists::part(&first, 0, cut.length), cut.place, out, used)
-}
-
-// The words of a cut: the path stands in a buffer, and this is its length.
-struct Cut {
-    is_formed: bool,
-    length: usize,
-    place: usize,
-}
-
-// Reads the path and the place of a cut.
-fn cut_in(line: &[u8], target: &mut [u8]) -> Cut {
-    let malformed = Cut {
-        is_formed: false,
-        length: 0,
-        place: 0,
     };
-    let Number::Is(place) = numbers::word(line, 2) else {
-        return malformed;
-    };
-    let Decoded::Bytes(n) = strings::word(line, 1, target) else {
-        return malformed;
-    };
-    Cut {
-        is_formed: true,
-        length: n,
-        place: place as usize,
-    }
-}
-
-// Writes the two parts of a path that is split at a place.
-fn split_at(s: &[u8], place: usize, out: &mut Buffer, used: usize) -> usize {
+    let place = n as usize;
     put_two(
         path::lsplit_path_at_first(s, place),
         path::lsplit_path_at_rest(s, place),
@@ -123,31 +90,30 @@ fn join(call: usize, line: &[u8], out: &mut Buffer, used: usize) -> usize {
 
 // Joins the two paths of a line in a buffer.
 fn joined_in(call: usize, line: &[u8], joined: &mut [u8]) -> Answer {
-    let mut second = io::large_buffer();
-    let Decoded::Bytes(m) = strings::word(line, 2, &mut second) else {
+    let mut texts = io::large_buffer();
+    let Decoded::Bytes(first) = strings::word(line, 1, &mut texts) else {
         return Answer::BadCall;
     };
+    let Decoded::Bytes(second) = strings::word_behind(line, 2, &mut texts, first) else {
+        return Answer::BadCall;
+    };
+    joined_paths(
+        call,
+        strings::between(&texts, 0, first),
+        strings::between(&texts, first, second),
+        joined,
+    )
+}
+
+// Joins two paths in a buffer; the branch that a leaf is appended to stands at its start.
+fn joined_paths(call: usize, a: &[u8], b: &[u8], joined: &mut [u8]) -> Answer {
     match call {
-        kinds::APPEND => append(line, lists::part(&second, 0, m), joined),
-        _ => combine(line, lists::part(&second, 0, m), joined),
+        kinds::APPEND => {
+            lists::copy_in(joined, a);
+            answer::composed(path::append_path(joined, a.len(), b))
+        }
+        _ => answer::composed(path::combine_path(a, b, joined)),
     }
-}
-
-// The first path of a line with a leaf appended: the branch stands in the buffer of the join.
-fn append(line: &[u8], leaf: &[u8], joined: &mut [u8]) -> Answer {
-    let Decoded::Bytes(n) = strings::word(line, 1, joined) else {
-        return Answer::BadCall;
-    };
-    answer::composed(path::append_path(joined, n, leaf))
-}
-
-// The first path of a line combined with another.
-fn combine(line: &[u8], other: &[u8], joined: &mut [u8]) -> Answer {
-    let mut first = io::large_buffer();
-    let Decoded::Bytes(n) = strings::word(line, 1, &mut first) else {
-        return Answer::BadCall;
-    };
-    answer::composed(path::combine_path(lists::part(&first, 0, n), other, joined))
 }
 
 // `width N`.

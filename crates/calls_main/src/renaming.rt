@@ -10,11 +10,13 @@ use renames::RenamedFiles;
 use renames::RenamesResult;
 use tables::FileStorage;
 use types::FileIndex;
+use types::Refusal;
 
-// What came of a call: what the library answered, or nothing where the words are out of form.
+// What came of a call: the set's renames behind it, or why there are none.
 pub(crate) enum Renaming {
     BadCall,
-    Asked(RenamesResult),
+    Changed(RenamedFiles),
+    Refused(Refusal),
 }
 
 // Renames files of the set that is spoken of, which is lent its own parts of the tables.
@@ -68,7 +70,7 @@ fn rename(
     if !words.is_formed {
         return Renaming::BadCall;
     }
-    Renaming::Asked(renames::rename_file(
+    outcome(renames::rename_file(
         fs,
         held,
         entries,
@@ -78,21 +80,22 @@ fn rename(
     ))
 }
 
+// What came of a call that the library was asked for.
+pub(crate) fn outcome(result: RenamesResult) -> Renaming {
+    match result {
+        RenamesResult::Ok(held) => Renaming::Changed(held),
+        RenamesResult::Err(refusal) => Renaming::Refused(refusal),
+    }
+}
+
 // Notes the renames of a changed set, and gives the answer.
 fn note(made: Renaming, cards: &mut [u64]) -> Answer {
     match made {
         Renaming::BadCall => Answer::BadCall,
-        Renaming::Asked(result) => note_result(result, cards),
-    }
-}
-
-// Notes the renames that the library gave, or the refusal.
-fn note_result(result: RenamesResult, cards: &mut [u64]) -> Answer {
-    match result {
-        RenamesResult::Ok(made) => {
-            state::put_renamed(cards, made.num_renames, made.text_len);
+        Renaming::Changed(held) => {
+            state::put_renamed(cards, held.num_renames, held.text_len);
             Answer::Done
         }
-        RenamesResult::Err(refusal) => Answer::Refused(refusal),
+        Renaming::Refused(refusal) => Answer::Refused(refusal),
     }
 }

@@ -4,6 +4,8 @@
 // accessors of `lists`.
 ghost use Prim.Native.Nat.{_≤_};
 use crate::numbers::of_bool;
+use crate::places;
+use crate::places::Place;
 use lists::put_word;
 use lists::word;
 use renames::RenamedFiles;
@@ -33,11 +35,15 @@ pub(crate) fn at(cards: &[u64]) -> usize
     (word(cards, 64) % 4) as usize
 }
 
-// Where the card of the set at a place begins; places are counted modulo four.
-fn card_of(place: usize) -> usize
-    ensures { λ r. ⌜ r ≤ 48 ⌝ }
-{
-    place % 4 * 16
+// The card of the set at a place; places are counted modulo four.
+fn card_at(cards: &[u64], place: usize) -> &[u64] {
+    places::words_at(
+        cards,
+        Place {
+            start: place % 4 * 16,
+            count: 16,
+        },
+    )
 }
 
 // Speaks of another set.
@@ -61,16 +67,16 @@ pub(crate) fn is_open(cards: &[u64]) -> bool {
 
 // Whether the set at a place was opened.
 pub(crate) fn is_open_at(cards: &[u64], place: usize) -> bool {
-    word(cards, card_of(place)) == 1
+    word(card_at(cards, place), 0) == 1
 }
 
 // What the set at a place was lent.
 pub(crate) fn lent_at(cards: &[u64], place: usize) -> Room {
-    let card = card_of(place);
+    let card = card_at(cards, place);
     Room {
-        files: word(cards, card + 1) as usize,
-        dirs: word(cards, card + 2) as usize,
-        text: word(cards, card + 3) as usize,
+        files: word(card, 1) as usize,
+        dirs: word(card, 2) as usize,
+        text: word(card, 3) as usize,
     }
 }
 
@@ -81,22 +87,22 @@ pub(crate) fn record(cards: &[u64]) -> FileStorage {
 
 // The record of the set at a place.
 pub(crate) fn record_at(cards: &[u64], place: usize) -> FileStorage {
-    let card = card_of(place);
+    let card = card_at(cards, place);
     FileStorage {
-        piece_length: word(cards, card + 4),
-        v2: word(cards, card + 5) == 1,
-        num_files: word(cards, card + 6) as usize,
-        num_paths: word(cards, card + 7) as usize,
-        num_symlinks: word(cards, card + 8) as usize,
-        num_mtimes: word(cards, card + 9) as usize,
+        piece_length: word(card, 4),
+        v2: word(card, 5) == 1,
+        num_files: word(card, 6) as usize,
+        num_paths: word(card, 7) as usize,
+        num_symlinks: word(card, 8) as usize,
+        num_mtimes: word(card, 9) as usize,
         name: Span {
-            at: word(cards, card + 10) as usize,
-            len: word(cards, card + 11) as usize,
+            at: word(card, 10) as usize,
+            len: word(card, 11) as usize,
         },
-        text_len: word(cards, card + 12) as usize,
-        total_size: word(cards, card + 13),
-        size_on_disk: word(cards, card + 14),
-        trimmed: word(cards, card + 15) == 1,
+        text_len: word(card, 12) as usize,
+        total_size: word(card, 13),
+        size_on_disk: word(card, 14),
+        trimmed: word(card, 15) == 1,
     }
 }
 

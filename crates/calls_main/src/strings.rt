@@ -36,6 +36,11 @@ pub(crate) fn word_behind(line: &[u8], number: usize, target: &mut [u8], used: u
     Decoded::Bytes(used + n)
 }
 
+// The bytes from one place up to another.
+pub(crate) fn between(bytes: &[u8], from: usize, to: usize) -> &[u8] {
+    lists::part(bytes, from, lists::minus(to, from))
+}
+
 // Writes the bytes that a word stands for to the start of `target`.
 fn decode(word: &[u8], target: &mut [u8]) -> Decoded {
     if lists::byte(word, 0) != b':' {
