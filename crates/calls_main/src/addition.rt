@@ -2,6 +2,7 @@
 use crate::numbers;
 use crate::numbers::Long;
 use crate::numbers::Number;
+use crate::output::Buffer;
 use crate::roots;
 use crate::strings;
 use crate::strings::Decoded;
@@ -40,7 +41,7 @@ struct Texts {
 }
 
 // Reads the words of a line.
-pub(crate) fn read(line: &[u8], target: &mut [u8]) -> Addition {
+pub(crate) fn read(line: &[u8], target: &mut Buffer) -> Addition {
     let texts = read_texts(line, target);
     let numbers = read_numbers(line);
     let root = roots::word(line, 7);
@@ -90,7 +91,7 @@ fn read_numbers(line: &[u8]) -> Numbers {
 }
 
 // Decodes the texts into a buffer, one behind the other.
-fn read_texts(line: &[u8], target: &mut [u8]) -> Texts {
+fn read_texts(line: &[u8], target: &mut Buffer) -> Texts {
     let malformed = Texts {
         is_formed: false,
         given: Presence::Absent,
@@ -102,10 +103,10 @@ fn read_texts(line: &[u8], target: &mut [u8]) -> Texts {
     let Decoded::Bytes(name) = decode_name(line, is_none, target) else {
         return malformed;
     };
-    let Decoded::Bytes(path) = strings::word_behind(line, 2, target, name) else {
+    let Decoded::Bytes(path) = strings::word(line, 2, target, name) else {
         return malformed;
     };
-    let Decoded::Bytes(link) = strings::word_behind(line, 6, target, path) else {
+    let Decoded::Bytes(link) = strings::word(line, 6, target, path) else {
         return malformed;
     };
     Texts {
@@ -118,11 +119,11 @@ fn read_texts(line: &[u8], target: &mut [u8]) -> Texts {
 }
 
 // Decodes the given name, unless there is none.
-fn decode_name(line: &[u8], is_none: bool, target: &mut [u8]) -> Decoded {
+fn decode_name(line: &[u8], is_none: bool, target: &mut Buffer) -> Decoded {
     if is_none {
         return Decoded::Bytes(0);
     }
-    strings::word(line, 1, target)
+    strings::word(line, 1, target, 0)
 }
 
 // Whether something is there, by whether it is none.

@@ -5,6 +5,7 @@ use crate::addition::Addition;
 use crate::answer::Answer;
 use crate::cleanings;
 use crate::kinds;
+use crate::output::Buffer;
 use crate::places;
 use crate::state;
 use crate::strings;
@@ -86,7 +87,7 @@ fn add(
 // Adds the file that the words stand for; its texts stand in a buffer, one behind the other.
 fn add_read(
     words: Addition,
-    texts: &[u8],
+    texts: &Buffer,
     fs: FileStorage,
     rows: &mut [u64],
     roots: &mut [u8],

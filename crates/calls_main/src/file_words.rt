@@ -2,6 +2,7 @@
 // for words.
 use crate::numbers;
 use crate::numbers::Short;
+use crate::output::Buffer;
 use crate::strings;
 use crate::strings::Decoded;
 
@@ -13,7 +14,7 @@ pub(crate) struct FileWords {
 }
 
 // Reads the words of a line.
-pub(crate) fn read(line: &[u8], target: &mut [u8]) -> FileWords {
+pub(crate) fn read(line: &[u8], target: &mut Buffer) -> FileWords {
     let malformed = FileWords {
         is_formed: false,
         index: 0,
@@ -22,7 +23,7 @@ pub(crate) fn read(line: &[u8], target: &mut [u8]) -> FileWords {
     let Short::Is(n) = numbers::short_word(line, 1) else {
         return malformed;
     };
-    let Decoded::Bytes(m) = strings::word(line, 2, target) else {
+    let Decoded::Bytes(m) = strings::word(line, 2, target, 0) else {
         return malformed;
     };
     FileWords {

@@ -2,6 +2,9 @@
 // set's tables of renames. Relies on `renames`, and on the modules for words.
 use crate::numbers;
 use crate::numbers::Short;
+use crate::output::Buffer;
+use crate::places;
+use crate::places::Place;
 use crate::renaming;
 use crate::renaming::Renaming;
 use crate::strings;
@@ -9,6 +12,11 @@ use crate::strings::Decoded;
 use crate::words;
 use renames::RenamedFiles;
 use tables::FileStorage;
+
+// The numbers of the files, and the lengths of their names.
+type Files = [i32; 16384];
+
+type Lengths = [u64; 16384];
 
 // What the words behind the call's name stand for: so many pairs, or nothing.
 enum Pairs {
@@ -36,30 +44,46 @@ pub(crate) fn import(
         entries,
         area,
         first(&files, n),
-        &lengths,
-        &names,
+        all_of(&lengths),
+        strings::between(&names, 0, 65536),
     ))
 }
 
 // Room for the numbers of the files.
-fn file_column() -> [i32; 16384] {
+fn file_column() -> Files {
     [0i32; 16384]
 }
 
 // Room for the lengths of the names.
-fn length_column() -> [u64; 16384] {
+fn length_column() -> Lengths {
     [0u64; 16384]
 }
 
+// The first n files.
+fn first(files: &Files, n: usize) -> &[i32] {
+    first_of(files, n)
+}
+
 // The first n numbers, or as many as there are.
-fn first(files: &[i32], n: usize) -> &[i32] {
-    let to = lists::least(n, files.len());
-    &files[0..to]
+fn first_of(numbers: &[i32], n: usize) -> &[i32] {
+    let to = lists::least(n, numbers.len());
+    &numbers[0..to]
+}
+
+// All lengths.
+fn all_of(lengths: &Lengths) -> &[u64] {
+    places::words_at(
+        lengths,
+        Place {
+            start: 0,
+            count: 16384,
+        },
+    )
 }
 
 // Reads the pairs behind the call's name: the files, the lengths of the names, and the names one behind the
 // other.
-fn read_pairs(line: &[u8], files: &mut [i32], lengths: &mut [u64], names: &mut [u8]) -> Pairs {
+fn read_pairs(line: &[u8], files: &mut Files, lengths: &mut Lengths, names: &mut Buffer) -> Pairs {
     let mut left = words::behind(line, 0).len();
     let mut count = 0;
     let mut used = 0;
@@ -88,22 +112,22 @@ fn last(line: &[u8], n: usize) -> &[u8] {
 // ends.
 fn read_pair(
     pair: &[u8],
-    files: &mut [i32],
-    lengths: &mut [u64],
-    names: &mut [u8],
+    files: &mut Files,
+    lengths: &mut Lengths,
+    names: &mut Buffer,
     count: usize,
     used: usize,
 ) -> Decoded {
     let Short::Is(file) = numbers::short_word(pair, 0) else {
         return Decoded::Malformed;
     };
-    if files.len() <= count {
+    if 16384 <= count {
         return Decoded::Malformed;
     }
-    let Decoded::Bytes(end) = strings::word_behind(pair, 1, names, used) else {
+    let Decoded::Bytes(end) = strings::word(pair, 1, names, used) else {
         return Decoded::Malformed;
     };
     files[count] = file;
-    lists::put_word(lengths, count, lists::minus(end, used) as u64);
+    lengths[count] = lists::minus(end, used) as u64;
     Decoded::Bytes(end)
 }

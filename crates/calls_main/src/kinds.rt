@@ -3,7 +3,7 @@
 use crate::scan;
 use crate::words;
 
-// On one string.
+// Calls on one string.
 pub(crate) const RSPLIT: usize = 0;
 
 pub(crate) const LSPLIT: usize = 1;
@@ -16,7 +16,7 @@ pub(crate) const FILENAME: usize = 4;
 
 pub(crate) const CRC: usize = 5;
 
-// On paths and on the width of a tree, with other words behind the name.
+// Calls on paths and on the width of a tree, with other words behind the name.
 pub(crate) const LSPLIT_AT: usize = 6;
 
 pub(crate) const APPEND: usize = 7;
@@ -25,7 +25,7 @@ pub(crate) const COMBINE: usize = 8;
 
 pub(crate) const WIDTH: usize = 9;
 
-// On what sets there are.
+// Calls on what sets there are.
 pub(crate) const OPEN: usize = 10;
 
 pub(crate) const USE: usize = 11;
@@ -149,7 +149,7 @@ pub(crate) const EXPORT: usize = 63;
 // The question on two sets.
 pub(crate) const COMPAT: usize = 64;
 
-// What find gives for a name that none of these is.
+// What a name is that none of these is.
 pub(crate) const UNKNOWN: usize = 65;
 
 // A line that has no answer.
@@ -192,7 +192,15 @@ fn stands_at(names: &[u8], at: usize, name: &[u8]) -> bool {
 // The call of a name.
 pub(crate) fn find(name: &[u8]) -> usize {
     place(
-        b"rsplit lsplit has_parent is_complete filename crc lsplit_at append combine width open use reset add trim clean rename import name num_files total_size size_on_disk piece_length v2 text_bytes num_pieces blocks_per_piece file_name file_size file_offset pad_file_at file_flags mtime file_absolute_path internal_symlink exclusive inclusive file_piece_range piece_index_at_file last_piece_index_at_file file_num_pieces file_num_blocks file_first_piece_node file_first_block_node piece_size piece_size2 blocks_in_piece2 file_index_at_piece last_file_index_at_piece file_index_at_offset file_index_for_root map_file file_path_hash renamed_name renamed_absolute internal_file_path symlink file_path renamed_path dirs root map_block all_path_hashes export compat ",
+        b"rsplit lsplit has_parent is_complete filename crc lsplit_at append combine width \
+          open use reset add trim clean rename import \
+          name num_files total_size size_on_disk piece_length v2 text_bytes num_pieces blocks_per_piece \
+          file_name file_size file_offset pad_file_at file_flags mtime file_absolute_path internal_symlink \
+          exclusive inclusive file_piece_range piece_index_at_file last_piece_index_at_file \
+          file_num_pieces file_num_blocks file_first_piece_node file_first_block_node \
+          piece_size piece_size2 blocks_in_piece2 file_index_at_piece last_file_index_at_piece \
+          file_index_at_offset file_index_for_root map_file file_path_hash renamed_name renamed_absolute \
+          internal_file_path symlink file_path renamed_path dirs root map_block all_path_hashes export compat ",
         name,
     )
 }

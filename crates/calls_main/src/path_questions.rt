@@ -4,6 +4,7 @@ use crate::answer::Answer;
 use crate::file_words;
 use crate::output;
 use crate::output::Buffer;
+use crate::strings;
 use tables::FileStorage;
 use types::FileIndex;
 use types::UsizeResult;
@@ -28,7 +29,7 @@ pub(crate) fn file_path(
         dirs,
         text,
         FileIndex(words.index),
-        lists::part(&save, 0, words.length),
+        strings::between(&save, 0, words.length),
         joined,
     ))
 }
@@ -52,7 +53,7 @@ pub(crate) fn file_path_hash(
         dirs,
         text,
         FileIndex(words.index),
-        lists::part(&save, 0, words.length),
+        strings::between(&save, 0, words.length),
     ))
 }
 

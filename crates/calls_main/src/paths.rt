@@ -23,10 +23,10 @@ pub(crate) fn answer(call: usize, line: &[u8], out: &mut Buffer, used: usize) ->
 // A call on one string.
 fn on_string(call: usize, line: &[u8], out: &mut Buffer, used: usize) -> usize {
     let mut first = io::large_buffer();
-    let Decoded::Bytes(n) = strings::word(line, 1, &mut first) else {
+    let Decoded::Bytes(n) = strings::word(line, 1, &mut first, 0) else {
         return output::bad_call(out, used);
     };
-    of_string(call, line, lists::part(&first, 0, n), out, used)
+    of_string(call, line, strings::between(&first, 0, n), out, used)
 }
 
 // Answers a call on the string of a line.
@@ -91,10 +91,10 @@ fn join(call: usize, line: &[u8], out: &mut Buffer, used: usize) -> usize {
 // Joins the two paths of a line in a buffer.
 fn joined_in(call: usize, line: &[u8], joined: &mut [u8]) -> Answer {
     let mut texts = io::large_buffer();
-    let Decoded::Bytes(first) = strings::word(line, 1, &mut texts) else {
+    let Decoded::Bytes(first) = strings::word(line, 1, &mut texts, 0) else {
         return Answer::BadCall;
     };
-    let Decoded::Bytes(second) = strings::word_behind(line, 2, &mut texts, first) else {
+    let Decoded::Bytes(second) = strings::word(line, 2, &mut texts, first) else {
         return Answer::BadCall;
     };
     joined_paths(

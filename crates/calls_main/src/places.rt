@@ -1,5 +1,5 @@
 // Where the tables of a set lie: each table has four quarters, one for each set, and a set is lent the
-// start of its own. Relies on state.rt.
+// start of its own. Relies on state.rt for what it was lent.
 ghost use Prim.Native.Nat.{_≤_};
 use crate::state;
 use lists::least;

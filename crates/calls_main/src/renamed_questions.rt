@@ -8,6 +8,7 @@ use crate::numbers;
 use crate::numbers::Short;
 use crate::output;
 use crate::output::Buffer;
+use crate::strings;
 use renames::FileNameResult;
 use renames::Rename;
 use renames::RenameResult;
@@ -85,7 +86,7 @@ pub(crate) fn path(
         entries,
         area,
         FileIndex(words.index),
-        lists::part(&save, 0, words.length),
+        strings::between(&save, 0, words.length),
         joined,
     ))
 }

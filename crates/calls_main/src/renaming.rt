@@ -6,6 +6,7 @@ use crate::importing;
 use crate::kinds;
 use crate::places;
 use crate::state;
+use crate::strings;
 use renames::RenamedFiles;
 use renames::RenamesResult;
 use tables::FileStorage;
@@ -76,7 +77,7 @@ fn rename(
         entries,
         area,
         FileIndex(words.index),
-        lists::part(&name, 0, words.length),
+        strings::between(&name, 0, words.length),
     ))
 }
 

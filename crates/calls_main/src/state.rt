@@ -1,7 +1,7 @@
 // The four sets of a script. What a set is besides its tables stands on its card, sixteen words of a
 // table that is lent to every call; one word behind the cards says which set calls speak of, and behind it
-// stand the counts of the sets' renames. Relies on `tables` and `renames` for the records and on the
-// accessors of `lists`.
+// stand the counts of the sets' renames. Relies on `tables` and `renames` for the records, on places.rt for
+// parts of a table, and on the accessors of `lists`.
 ghost use Prim.Native.Nat.{_≤_};
 use crate::numbers::of_bool;
 use crate::places;

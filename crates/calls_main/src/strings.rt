@@ -3,9 +3,10 @@
 // `lists`.
 ghost use Prim.Native.Nat.{_<_};
 ghost use lib.ListN.{length};
+use crate::output::Buffer;
 use crate::words;
 
-// What a word stands for: so many bytes, or nothing.
+// What a word stands for: bytes that end at a place, or nothing.
 pub(crate) enum Decoded {
     Bytes(usize),
     Malformed,
@@ -17,43 +18,33 @@ struct Unit {
     next: usize,
 }
 
-// Decodes a word of the line into `target`, words counted from 0.
-pub(crate) fn word(line: &[u8], number: usize, target: &mut [u8]) -> Decoded {
-    decode(words::word(line, number), target)
+// Decodes a word of the line into `target` behind so many bytes, and gives where it ends; words are counted
+// from 0.
+pub(crate) fn word(line: &[u8], number: usize, target: &mut Buffer, used: usize) -> Decoded {
+    decode(words::word(line, number), target, used)
 }
 
-// Decodes a word of the line behind so many bytes of `target`, and gives where it ends.
-pub(crate) fn word_behind(line: &[u8], number: usize, target: &mut [u8], used: usize) -> Decoded {
-    if target.len() < used {
-        return Decoded::Malformed;
-    }
-    let Decoded::Bytes(n) = word(line, number, &mut target[used..]) else {
-        return Decoded::Malformed;
-    };
-    if target.len() - used < n {
-        return Decoded::Malformed;
-    }
-    Decoded::Bytes(used + n)
-}
-
-// The bytes from one place up to another.
-pub(crate) fn between(bytes: &[u8], from: usize, to: usize) -> &[u8] {
+// The bytes of a buffer from one place up to another.
+pub(crate) fn between(bytes: &Buffer, from: usize, to: usize) -> &[u8] {
     lists::part(bytes, from, lists::minus(to, from))
 }
 
-// Writes the bytes that a word stands for to the start of `target`.
-fn decode(word: &[u8], target: &mut [u8]) -> Decoded {
+// Writes the bytes that a word stands for behind so many bytes of `target`, which has room for those of a line.
+fn decode(word: &[u8], target: &mut Buffer, used: usize) -> Decoded {
     if lists::byte(word, 0) != b':' {
         return Decoded::Malformed;
     }
     let mut i = 1;
-    let mut n = 0;
+    let mut n = used;
     while i < word.len() {
         let unit = unit_at(word, i);
         if unit.next <= i {
             return Decoded::Malformed;
         }
-        lists::put_byte(target, n, unit.byte);
+        if 65536 <= n {
+            return Decoded::Malformed;
+        }
+        target[n] = unit.byte;
         n += 1;
         i = unit.next;
     }

@@ -1,14 +1,11 @@
--- The loop keeps the lengths of the columns, and counts no more pairs than bytes were read. The bytes that are left are its measure:
--- a pair ends behind its start.
+-- The loop counts no more pairs than bytes were read. The bytes that are left are its measure: a pair ends behind its start.
 use Prim.Native.Nat.{_+_, _≤_}
-use mathlib.Core.Path.{_≡_}
 use borrow.Author.Needs.{needs}
-use lib.ListN.{length}
 use Rattle.calls_main.proofs.importing.read_pairs.Statement.{statement}
 use Rattle.calls_main.proofs.importing.read_pairs.Tie as tie
 
 abbrev Inv-loop : tie.InvT-loop
-Inv-loop line files₀ lengths₀ names₀ left₀ count₀ used₀ files lengths names left count used = (length files ≡ length files₀) × (length lengths ≡ length lengths₀) × (length names ≡ length names₀) × (count + left ≤ left₀)
+Inv-loop line files₀ lengths₀ names₀ left₀ count₀ used₀ files lengths names left count used = count + left ≤ left₀
 
 abbrev μ-loop : tie.MeasureT-loop
 μ-loop line files₀ lengths₀ names₀ left₀ count₀ used₀ files lengths names left count used = left
@@ -31,15 +28,6 @@ last-requires-2 c κs = search needs
 behind-requires-2 : tie.Need-behind-requires-2 Inv-loop μ-loop
 behind-requires-2 c κs = search needs
 
-same-length : tie.Need-same-length Inv-loop μ-loop
-same-length c = search needs
-
-same-length-2 : tie.Need-same-length-2 Inv-loop μ-loop
-same-length-2 c = search needs
-
-same-length-3 : tie.Need-same-length-3 Inv-loop μ-loop
-same-length-3 c = search needs
-
 returns : tie.Need-returns Inv-loop μ-loop
 returns c = search needs
 
@@ -52,15 +40,6 @@ enum-known-end c = search needs
 enum-told : tie.Need-enum-told Inv-loop μ-loop
 enum-told c = search needs
 
-same-length-4 : tie.Need-same-length-4 Inv-loop μ-loop
-same-length-4 c = search needs
-
-same-length-5 : tie.Need-same-length-5 Inv-loop μ-loop
-same-length-5 c = search needs
-
-same-length-6 : tie.Need-same-length-6 Inv-loop μ-loop
-same-length-6 c = search needs
-
 returns-2 : tie.Need-returns-2 Inv-loop μ-loop
 returns-2 c = search needs
 
@@ -72,15 +51,6 @@ loop-less c = search needs
 
 loop-again : tie.Need-loop-again Inv-loop μ-loop
 loop-again c = search needs
-
-same-length-7 : tie.Need-same-length-7 Inv-loop μ-loop
-same-length-7 c = search needs
-
-same-length-8 : tie.Need-same-length-8 Inv-loop μ-loop
-same-length-8 c = search needs
-
-same-length-9 : tie.Need-same-length-9 Inv-loop μ-loop
-same-length-9 c = search needs
 
 returns-3 : tie.Need-returns-3 Inv-loop μ-loop
 returns-3 c = search needs
@@ -97,21 +67,12 @@ read-pairs-spec =
     has-requires
     last-requires-2
     behind-requires-2
-    same-length
-    same-length-2
-    same-length-3
     returns
     read-pair-requires
     enum-known-end
     enum-told
-    same-length-4
-    same-length-5
-    same-length-6
     returns-2
     add-count
     loop-less
     loop-again
-    same-length-7
-    same-length-8
-    same-length-9
     returns-3)
