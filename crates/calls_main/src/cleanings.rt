@@ -2,6 +2,7 @@
 // `cleaning`. A small work space serves most sets; the large one is cleared only where that is too short.
 use crate::changes;
 use crate::changes::Made;
+use storage::StorageResult;
 use tables::FileStorage;
 
 // `clean`.
@@ -10,13 +11,18 @@ pub(crate) fn clean(fs: FileStorage, rows: &mut [u64], dirs: &mut [u64], text: &
     let mut stage = [0u8; 2048];
     let mut path = [0u8; 4096];
     match clean_with(fs, rows, dirs, text, &mut marks, &mut stage, &mut path) {
-        Made::Changed(changed) => Made::Changed(changed),
-        _ => clean_in_large(fs, rows, dirs, text),
+        StorageResult::Ok(changed) => Made::Changed(changed),
+        StorageResult::Err(_) => changes::outcome(clean_in_large(fs, rows, dirs, text)),
     }
 }
 
 // A cleaning with the large work space.
-fn clean_in_large(fs: FileStorage, rows: &mut [u64], dirs: &mut [u64], text: &mut [u8]) -> Made {
+fn clean_in_large(
+    fs: FileStorage,
+    rows: &mut [u64],
+    dirs: &mut [u64],
+    text: &mut [u8],
+) -> StorageResult {
     let mut marks = [0u8; 256];
     let mut stage = large_stage();
     let mut path = large_path();
@@ -32,8 +38,8 @@ fn clean_with(
     marks: &mut [u8],
     stage: &mut [u8],
     path: &mut [u8],
-) -> Made {
-    changes::outcome(cleaning::sanitize_symlinks(fs, rows, dirs, text, marks, stage, path))
+) -> StorageResult {
+    cleaning::sanitize_symlinks(fs, rows, dirs, text, marks, stage, path)
 }
 
 // A stage for 256 links in directories of 4096 bytes, and as many bytes of texts as a set can hold.
