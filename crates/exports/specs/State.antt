@@ -11,29 +11,14 @@ use Rattle.types.specs.Refusals.{Outcome, value, refused}
 use Rattle.tables.specs.declared.storage.FileStorage.{FileStorage}
 use Rattle.tables.specs.declared.rows.Presence.{Presence}
 use Rattle.tables.specs.declared.rows.Presence.the-variants.{Absent, Present}
+use Rattle.storage.specs.Opening.{empty}
 use Rattle.storage.specs.Outcomes.{Changed}
 
--- no set: its piece length is 0, which every change and every question refuses by 1
-abbrev pub noStorage : FileStorage
-noStorage =
-    record {
-      «piece_length» = 0;
-      v2 = false;
-      «num_files» = 0;
-      «num_paths» = 0;
-      «num_symlinks» = 0;
-      «num_mtimes» = 0;
-      name = record { at = 0; len = 0 };
-      «text_len» = 0;
-      «total_size» = 0;
-      «size_on_disk» = 0;
-      trimmed = false;
-    }
-
--- the set that the words hold, no set where they are not all there
+-- the set that the words hold; where they are not all there, one of piece length 0, which every change and every question
+-- refuses by 1
 abbrev pub storageOf : List ℕ → FileStorage
 storageOf w =
-    cond (ltb (length w) 12) noStorage
+    cond (ltb (length w) 12) (empty 0)
     (record {
       «piece_length» = getD w 0 0;
       v2 = not (eqb (getD w 1 0) 0);

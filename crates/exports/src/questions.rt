@@ -114,7 +114,7 @@ pub extern "C" fn niflathen_file_index_at_offset(state: &[u64], rows: &[u64], of
     file_in(layout::file_index_at_offset(storage_at(state), rows, offset))
 }
 
-// `layout::map_file`. Words and answer have their sizes in their types, so that a call passes all in registers.
+// `layout::map_file`. Words and answer have their sizes in their types, so that arguments and answer go in registers.
 #[no_mangle]
 pub extern "C" fn niflathen_map_file(
     state: &[u64; 12],

@@ -20,8 +20,8 @@ use native.Mathlib.Numerals.{add-one}
 use native.Mathlib.Omega.{arith}
 use lib.Dec.{eqb, ltb, leb}
 use lib.IntN.{ℤ, pos, negsuc}
-use mir.Syntax.{w32}
-use mir.Val.{SFits}
+use mir.Syntax.{w32, w64}
+use mir.Val.{SFits, ofZ}
 use borrow.Author.Tests.{lt-ltb, le-ltb, ltb-true, ltb-false, leb-true, eqb-true, ne-eqb, not-false}
 use Rattle.lists.specs.Lists.{ceiling}
 use Rattle.lists.proofs.Quotients.{ceiling-above, ceiling-le, ceiling-covers}
@@ -36,7 +36,7 @@ use Rattle.storage.specs.Addition.{badLength, isNegative, sizeOf, limit}
 use Rattle.answers.specs.Answers.{indexOf, isBelow}
 use Rattle.layout.specs.declared.decide.Check.{Check}
 use Rattle.layout.specs.declared.decide.Check.the-variants.{Go, Stop}
-use Rattle.layout.specs.Deciding.{checkNumber, Counted, fileOrPast, setAsked, placeAsked, bytesAsked}
+use Rattle.layout.specs.Deciding.{checkNumber, Counted, setAsked, placeAsked, bytesAsked}
 use Rattle.layout.specs.Questions.{numPieces, opened, noFile, manyPieces, noPiece, badRange, short}
 use Rattle.layout.specs.Pieces.{startOf, pieceSize}
 
@@ -250,7 +250,7 @@ first-append (r ∷ rs) qs h =
     ap (cond (r .test) (r .number)) (first-append rs qs (q .1)) ∙ first-behind (r .test) (r .number) (firstOf rs) (firstOf qs) (ltb-true 0 (r .number) (q .0))
 
 -- the tests of the set and those of the question, apart and in their order
-pub asked-apart : (a b c d e : Bool)
+asked-apart : (a b c d e : Bool)
     → eqb (firstOf (when a 1 ∷ when b 11 ∷ when c 13 ∷ when d 14 ∷ when e 10 ∷ [])) 0
     ≡ both (eqb (firstOf (when a 1 ∷ when c 13 ∷ when e 10 ∷ [])) 0) (eqb (firstOf (when b 11 ∷ when d 14 ∷ [])) 0)
 asked-apart true b c d e = refl
@@ -264,19 +264,19 @@ asked-apart false false false false true = refl
 asked-apart false false false false false = refl
 
 -- a negative number's file is past the end of every set that a table holds
-pub past-held : (z : ℤ) (n : ℕ) → SFits w32 z → n < 2 ^ 63 → ltb (fileOrPast z) n ≡ isBelow n z
+past-held : (z : ℤ) (n : ℕ) → SFits w32 z → n < 2 ^ 63 → ltb (ofZ w64 z) n ≡ isBelow n z
 past-held (pos k) n f h = refl
 past-held (negsuc k) n f h =
     let m : k < 2 ^ 31 = f .sfits in
     le-ltb (2 ^ 64 - suc k) n (omega arith)
 
-pub past-index : (z : ℤ) (n : ℕ) → isBelow n z ≡ true → fileOrPast z ≡ indexOf z
+pub past-index : (z : ℤ) (n : ℕ) → isBelow n z ≡ true → ofZ w64 z ≡ indexOf z
 past-index (pos k) n e = refl
 past-index (negsuc k) n e = absurd (true≢false (sym e))
 
 -- a question is answered where the set passes its tests and the question its own, by the number counted round
 pub asked-past : (fs : FileStorage) (z offset size : ℤ) (room : ℕ) → SFits w32 z → room < 2 ^ 63
-    → both (eqb (firstOf (setAsked fs room)) 0) (eqb (firstOf (placeAsked fs (pos (fileOrPast z)) offset size)) 0) ≡ eqb (firstOf (bytesAsked fs z offset size room)) 0
+    → both (eqb (firstOf (setAsked fs room)) 0) (eqb (firstOf (placeAsked fs (pos (ofZ w64 z)) offset size)) 0) ≡ eqb (firstOf (bytesAsked fs z offset size room)) 0
 asked-past fs z offset size room f h = by (leb (fs .«num_files») room) refl
   where
     apart : both (eqb (firstOf (setAsked fs room)) 0) (eqb (firstOf (placeAsked fs z offset size)) 0) ≡ eqb (firstOf (bytesAsked fs z offset size room)) 0
@@ -288,7 +288,7 @@ asked-past fs z offset size room f h = by (leb (fs .«num_files») room) refl
     unfit false false = refl
 
     by : (b : Bool) → leb (fs .«num_files») room ≡ b
-        → both (eqb (firstOf (setAsked fs room)) 0) (eqb (firstOf (placeAsked fs (pos (fileOrPast z)) offset size)) 0) ≡ eqb (firstOf (bytesAsked fs z offset size room)) 0
+        → both (eqb (firstOf (setAsked fs room)) 0) (eqb (firstOf (placeAsked fs (pos (ofZ w64 z)) offset size)) 0) ≡ eqb (firstOf (bytesAsked fs z offset size room)) 0
     by true e = rw (past-held z (fs .«num_files») f (omega (arith, leb-true (fs .«num_files») room e))) apart
     by false e =
         let u : eqb (firstOf (setAsked fs room)) 0 ≡ false = rw e (unfit (opened fs .test) (manyPieces fs .test)) in

@@ -1,9 +1,9 @@
 -- What the private parts of the code say: a decision before an answer, a set whose pieces can be counted, and a request
 -- before it is turned into signed numbers.
-use Prim.Native.Nat.{ℕ, suc, _-_, _^_, _≤_, _<_}
+use Prim.Native.Nat.{ℕ, _≤_, _<_}
 use mathlib.Core.List.{List, [], _∷_}
 use lib.Dec.{leb}
-use lib.IntN.{ℤ, pos, negsuc}
+use lib.IntN.{ℤ}
 use Rattle.types.specs.Refusals.{numberOf}
 use Rattle.tables.specs.declared.storage.FileStorage.{FileStorage}
 use Rattle.storage.specs.Rules.{Rule}
@@ -38,8 +38,3 @@ setAsked fs room = opened fs ∷ manyPieces fs ∷ short (leb (fs .«num_files»
 
 abbrev pub placeAsked : FileStorage → ℤ → ℤ → ℤ → List Rule
 placeAsked fs z offset size = noFile fs z ∷ badRange offset size ∷ []
-
--- a file's number; a negative one is counted back from 2^64
-abbrev pub fileOrPast : ℤ → ℕ
-fileOrPast (pos n) = n
-fileOrPast (negsuc n) = 2 ^ 64 - suc n

@@ -3,7 +3,7 @@
 ghost use mathlib.Core.Path.{_≡_};
 ghost use mathlib.Core.Bool.{false, not};
 ghost use mathlib.Core.List.{[], _∷_};
-ghost use Prim.Native.Nat.{_+_, _-_, _*_, _/_, _%_, _^_, _≤_, _<_};
+ghost use Prim.Native.Nat.{_+_, _-_, _*_, _/_, _%_, _^_, _<_};
 ghost use lib.Dec.{eqb};
 ghost use lib.IntN.{pos};
 ghost use lib.ListN.{length};
@@ -12,11 +12,10 @@ ghost use Rattle.lists.specs.Lists.{equal};
 ghost use Rattle.tables.specs.Rows.{rowAt};
 ghost use Rattle.merkle.specs.Width.{widthOf, hasTree};
 ghost use Rattle.storage.specs.Rules.{when, firstOf, both};
-ghost use Rattle.storage.specs.Addition.{sizeOf};
 ghost use Rattle.answers.specs.Answers.{indexOf, rowsHeld, rootsHeld, rootOf};
 ghost use Rattle.answers.specs.Results.{i32Says, i64Says};
 ghost use Rattle.layout.specs.Results.{Range, pieceSays, fileSays, pieceRangeSays, numberRangeSays, requestSays};
-ghost use Rattle.layout.specs.Questions.{asked, numPieces, opened, noFile, manyPieces, noTree, badRange, short};
+ghost use Rattle.layout.specs.Questions.{asked, opened, noFile, manyPieces, noTree, short};
 ghost use Rattle.layout.specs.Mapping.{Request, requestAt, mapFile};
 ghost use Rattle.layout.specs.Request.{fileMapped};
 ghost use Rattle.layout.specs.Given.{exclusiveGiven, inclusiveGiven};
@@ -108,9 +107,9 @@ fn after_quotient(n: u64, d: u64) -> u64
 }
 
 // A place of the set's bytes as its piece and its start in that piece.
-pub(crate) struct Cut {
-    pub piece: u64,
-    pub start: u64,
+struct Cut {
+    piece: u64,
+    start: u64,
 }
 
 // Place `at` cut by the piece length. A power of two, which most piece lengths are, cuts by a shift; the power is made
@@ -455,7 +454,7 @@ fn refused_bytes(fs: FileStorage, index: FileIndex, offset: i64, size: i32, room
 
 // Where bytes of a file lie: the piece, the start in it, and how many are left in the set. It does not stop at the file's
 // end. All tests stand before the answer, so that no answer waits for the number of a refusal, and those on the set stand
-// apart, so that a loop of questions makes them once.
+// apart, so that a compiler can make them once for a loop of questions.
 pub fn map_file(
     fs: FileStorage,
     rows: &[u64],

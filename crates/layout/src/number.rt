@@ -2,10 +2,11 @@
 // unsigned ones. It relies on `types` and on the quotients' laws of `lists`.
 ghost use mathlib.Core.Path.{_≡_};
 ghost use Prim.Native.Nat.{_-_, _/_, _%_, min};
+ghost use mir.Syntax.{w64};
+ghost use mir.Val.{ofZ};
 ghost use Rattle.lists.specs.Lists.{ceiling};
 ghost use Rattle.storage.specs.Addition.{isNegative, sizeOf};
 ghost use Rattle.answers.specs.Answers.{indexOf};
-ghost use Rattle.layout.specs.Deciding.{fileOrPast};
 use types::FileIndex;
 use types::PieceIndex;
 use types::Unsigned;
@@ -111,10 +112,9 @@ pub(crate) fn piece_number(piece: PieceIndex) -> u64
     piece.get() as u64
 }
 
-// The number of a file. A negative one is counted back from 2^64, past the files of every set whose rows are there: the
-// 64 bits of the number, which costs no test.
+// The 64 bits of a file's number: a negative one is counted back from 2^64, past the files of every set whose rows are there.
 pub(crate) fn file_or_past(index: FileIndex) -> usize
-    ensures { λ r. ⌜ r ≡ fileOrPast (index .0) ⌝ }
+    ensures { λ r. ⌜ r ≡ ofZ w64 (index .0) ⌝ }
 {
     let x = index.0;
     let above = (x as i64 + 0x8000_0000) as u64;

@@ -101,7 +101,8 @@ fn judge(
 }
 
 // Judges the flagged links of a set: how many they are, with the verdict on the n-th in mark n (0 its text stays, 1 it becomes
-// the link's own internal path, 2 it becomes the text from the link's directory). Stage and path are then cleared; a refusal leaves them as they were.
+// the link's own internal path, 2 it becomes the text from the link's directory). Stage and path are then cleared; a
+// refusal leaves all three as they were.
 pub fn judge_links(
     fs: FileStorage,
     rows: &[u64],

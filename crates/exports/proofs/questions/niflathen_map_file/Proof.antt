@@ -1,5 +1,4 @@
 -- `exports::questions::niflathen_map_file` meets its contract: the question's own, at the record that was read.
-use mathlib.Core.Path.{_∙_}
 use mir.Syntax.{w32, w64}
 use mir.Val.{SFits}
 use mir.Facts.{toZ-ofZ}

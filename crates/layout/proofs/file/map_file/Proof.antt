@@ -7,7 +7,7 @@ use lib.Dec.{eqb, leb}
 use lib.IntN.{pos}
 use lib.ListN.{length}
 use mir.Syntax.{w32, w64}
-use mir.Val.{SFits}
+use mir.Val.{SFits, ofZ}
 use mir.Facts.{toZ-ofZ}
 use borrow.Author.Tests.{eqb-true, leb-true, not-false}
 use Rattle.types.specs.Refusals.{value, refused}
@@ -15,7 +15,7 @@ use Rattle.storage.specs.Rules.{firstOf}
 use Rattle.storage.specs.Addition.{sizeOf}
 use Rattle.answers.specs.Answers.{indexOf, isBelow}
 use Rattle.layout.specs.Mapping.{Request, mapFile}
-use Rattle.layout.specs.Deciding.{requestOf, fileOrPast, bytesAsked, placeAsked}
+use Rattle.layout.specs.Deciding.{requestOf, bytesAsked, placeAsked}
 use Rattle.layout.proofs.Deciding.{Passed, none, below-is, offset-low, low-as, length-good, past-index, asked-past}
 use borrow.Author.Needs.{needs}
 use Rattle.layout.proofs.file.map_file.Statement.{statement}
@@ -29,7 +29,7 @@ answered-is c =
     let o : SFits w64 (a .offset) = search needs in
     let s : SFits w32 (a .size) = search needs in
     let r : length (a .rows .now) / 8 < 2 ^ 63 = search needs in
-    let q : c .before .is-asked .result ≡ eqb (firstOf (placeAsked (a .fs) (pos (fileOrPast (a .index .0))) (a .offset) (a .size))) 0 = rw (c .before .before .before .file-or-past .ensures, toZ-ofZ o, toZ-ofZ s) at (c .before .is-asked .ensures) in
+    let q : c .before .is-asked .result ≡ eqb (firstOf (placeAsked (a .fs) (pos (ofZ w64 (a .index .0))) (a .offset) (a .size))) 0 = rw (c .before .before .before .file-or-past .ensures, toZ-ofZ o, toZ-ofZ s) at (c .before .is-asked .ensures) in
     (rw (q, c .before .before .is-fit .ensures) at (c .are-both .ensures)) ∙ asked-past (a .fs) (a .index .0) (a .offset) (a .size) (length (a .rows .now) / 8) i r
 
 -- where it is, no refusal's test holds

@@ -1,10 +1,8 @@
 -- `layout::list::answer_each` meets its contract. The loop's invariant: of the n questions i are answered, their answers stand
 -- in the first places, and the rest of the table is untouched.
 use borrow.Author.Needs.{needs}
-use mathlib.Core.Path.{_≡_, refl, sym, ap, _∙_}
-use mathlib.Core.List.{List}
-use Prim.Native.Nat.{ℕ, _-_, _*_, _/_}
-use native.Mathlib.Omega.{arith}
+use mathlib.Core.Path.{_≡_, refl, ap, _∙_}
+use Prim.Native.Nat.{_-_, _*_}
 use lib.ListN.{length, getD}
 use lib.Seq.{sets}
 use lib.IntN.{pos}

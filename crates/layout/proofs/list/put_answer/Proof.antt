@@ -1,5 +1,4 @@
 -- `layout::list::put_answer` meets its contract: at each arm the answer is the one that the arm names.
-use mathlib.Core.Path.{_≡_, _∙_}
 use mir.Syntax.{w32}
 use mir.Val.{SFits}
 use mir.Facts.{toZ-ofZ}

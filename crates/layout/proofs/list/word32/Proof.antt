@@ -1,6 +1,6 @@
 -- `layout::list::word32` meets its contract: a number of 32 bits with a sign is below 2^31.
 use native.Mathlib.Omega.{arith}
-use mathlib.Core.Path.{_≡_, ap, _∙_}
+use mathlib.Core.Path.{_≡_}
 use mir.Syntax.{w32}
 use mir.Val.{SFits}
 use mir.Facts.{toZ-ofZ}

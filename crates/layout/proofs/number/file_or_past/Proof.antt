@@ -9,7 +9,6 @@ use mir.Val.{SFits, toZ, ofZ}
 use mir.Facts.{toZ-ofZ, sfits-widen}
 use borrow.Author.Tests.{le-ltb}
 use borrow.Author.Needs.{needs}
-use Rattle.layout.specs.Deciding.{fileOrPast}
 use Rattle.layout.proofs.number.file_or_past.Statement.{statement}
 use Rattle.layout.proofs.number.file_or_past.Tie as tie
 
@@ -30,7 +29,7 @@ raised-low (pos n) f =
     omega arith
 raised-low (negsuc n) f = omega arith
 
-lowered : (z : ℤ) → SFits w32 z → (r : ℕ) → r < 2 ^ 64 → (r + 2 ^ 31) % 2 ^ 64 ≡ raised z → r ≡ fileOrPast z
+lowered : (z : ℤ) → SFits w32 z → (r : ℕ) → r < 2 ^ 64 → (r + 2 ^ 31) % 2 ^ 64 ≡ raised z → r ≡ ofZ w64 z
 lowered (pos n) f r b e =
     let h : n < 2 ^ 31 = f .sfits in
     omega arith

@@ -1,5 +1,5 @@
 -- `storage::dirs::find_dir` meets its contract.
-use mathlib.Core.Path.{_≡_, _∙_}
+use mathlib.Core.Path.{_∙_}
 use mathlib.Core.Logic.{⊎-elim}
 use native.Mathlib.Omega.{arith}
 use Rattle.storage.proofs.Directories.{empty-last, table-alone}
