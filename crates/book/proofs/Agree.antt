@@ -38,7 +38,7 @@ use Rattle.model.proofs.CleanedLent.{cleaned-lent, needed-lent}
 use Rattle.model.proofs.Documents.{end-to-end, on-disk, marked, on-piece}
 use Rattle.book.specs.Book.{Call, add, trim, clean, rename, «import», Made, Book, sizesOf, afterAddition, afterTrim, entry, book}
 use Rattle.book.specs.Book as books
-use Rattle.book.specs.Calls.{cameOf, storeAfter, call, cleanedBy, SameSet, Leads}
+use Rattle.book.specs.Calls.{cameOf, storeAfter, call, cleanedBy, SameSet, Renames, Leads}
 use Rattle.book.specs.Calls as calls
 use Rattle.book.proofs.Entries.{bookOf, sizes-rows, book-added, book-trimmed, book-cleaned, entry-rename, entry-import}
 use Rattle.book.proofs.Rooted.{Settled, settled}
@@ -204,8 +204,8 @@ agrees-lent s t g same =
 
 -- ---- every list of calls
 
-pub agrees : {n : ℕ} {made : List Made} {s : Store} → Leads n made s → Agrees n made s
-agrees {n} (calls.opening {s} h e) = agrees-opened n s e h
+pub agrees : {n : ℕ} {made : List Made} {s : Store} {r : Renames} → Leads n made s r → Agrees n made s
+agrees {n} (calls.opening {s} h e z) = agrees-opened n s e h
 agrees {n} (calls.addition {made} {s} a c p e) =
     let g = agrees p in
     after-call (λ (m : Made) (t : Store). Agrees n (m ∷ made) t) (add a) (addingNumber s (viewOf s) a) s (storeAdded s (viewOf s) a)
@@ -227,19 +227,19 @@ agrees {n} (calls.cleaning {made} {s} marks stage path c p e) =
     (λ k. agrees-refused clean k g)
     c
     e
-agrees {n} (calls.renaming {made} {s} rf entries names x c p e) =
+agrees {n} (calls.renaming {made} {s} x c p e) =
     agrees-beside (record { call = rename x; came = cameOf (c .says) }) (entry-rename (book n made) x (cameOf (c .says))) (agrees p)
-agrees {n} (calls.importing {made} {s} rf entries names xs c p e) =
+agrees {n} (calls.importing {made} {s} xs c p e) =
     agrees-beside (record { call = «import» xs; came = cameOf (c .says) }) (entry-import (book n made) xs (cameOf (c .says))) (agrees p)
-agrees (calls.lending {made} {s} {t} p same) = agrees-lent s t (agrees p) same
+agrees (calls.lending {made} {s} {t} p same names) = agrees-lent s t (agrees p) same
 
-pub sizes-agree : {n : ℕ} {made : List Made} {s : Store} → Leads n made s → map (λ (f : File). f .size) (viewOf s .files) ≡ sizesOf (book n made .rows)
+pub sizes-agree : {n : ℕ} {made : List Made} {s : Store} {r : Renames} → Leads n made s r → map (λ (f : File). f .size) (viewOf s .files) ≡ sizesOf (book n made .rows)
 sizes-agree {n} {made} {s} p = sym (sizes-rows (viewOf s .files)) ∙ ap (λ (b : Book). sizesOf (b .rows)) (agrees p .books)
 
 -- ---- the public documents
 
-pub reached : {n : ℕ} {made : List Made} {s : Store} → Leads n made s → Reached (viewOf s)
-reached {n} (calls.opening {s} h e) = subst Reached (opened-view n s e) (reach.opened n (opened-is n s e .0) h)
+pub reached : {n : ℕ} {made : List Made} {s : Store} {r : Renames} → Leads n made s r → Reached (viewOf s)
+reached {n} (calls.opening {s} h e z) = subst Reached (opened-view n s e) (reach.opened n (opened-is n s e .0) h)
 reached (calls.addition {made} {s} a c p e) =
     after-call (λ (m : Made) (t : Store). Reached (viewOf t)) (add a) (addingNumber s (viewOf s) a) s (storeAdded s (viewOf s) a)
     (λ z. more (settled s a (agrees p .sound) z) (reached p))
@@ -264,11 +264,11 @@ reached (calls.cleaning {made} {s} marks stage path c p e) =
     (λ k. reached p)
     c
     e
-reached (calls.renaming {made} {s} rf entries names x c p e) = reached p
-reached (calls.importing {made} {s} rf entries names xs c p e) = reached p
-reached (calls.lending {made} {s} {t} p same) = subst Reached (sym (lent-view s t (agrees p .sound) same)) (reached p)
+reached (calls.renaming {made} {s} x c p e) = reached p
+reached (calls.importing {made} {s} xs c p e) = reached p
+reached (calls.lending {made} {s} {t} p same names) = subst Reached (sym (lent-view s t (agrees p .sound) same)) (reached p)
 
-module _ {n : ℕ} {made : List Made} {s : Store} (p : Leads n made s) where
+module _ {n : ℕ} {made : List Made} {s : Store} {r : Renames} (p : Leads n made s r) where
   -- BEP 3
   pub set-end-to-end : EndToEnd (viewOf s)
   set-end-to-end = end-to-end (reached p)

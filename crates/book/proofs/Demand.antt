@@ -159,6 +159,15 @@ module _ {n : ℕ} {xs : List ℕ} (s : Store) (h : Holds n xs (s .fs) (s .rows)
       ap (map sliceOf) (part-sets r (q .lent) 0 (omega (arith, d, a .room))) ∙
       records-are xs t (walk 0 xs t (q .size)) (h .few) (walk-lie xs t (q .size))
 
+  plain-is : (t : ℕ) (q : Asking) → Ask n xs s t q → t + q .size ≤ sum xs → take (counted (q .says)) (q .left) ≡ map recordOf (given q)
+  plain-is t q a l =
+      let r : List FileSlice = map recordOf (walk 0 xs t (q .size)) in
+      let d : meets xs t (q .size) ≡ length r = sym (length-map (walk 0 xs t (q .size)) recordOf ∙ walk-meets xs t (q .size)) in
+      ap (λ (f : Filled). take (counted (f .says)) (f .table)) (call-is t q a l) ∙
+      ap (λ (k : ℕ). take k (sets (q .lent) 0 r)) d ∙
+      part-sets r (q .lent) 0 (omega (arith, d, a .room)) ∙
+      ap (map recordOf) (sym (given-is t q a l))
+
   back-is : (t : ℕ) (p : Slice) → Lies xs t p → (m : ℕ) (r : Outcome Asked) → r ≡ fileMapped (s .fs) (s .rows) (pos (p .file)) (pos (p .offset)) (pos m) → Back n t r
   back-is t p w m r e =
       record {
@@ -175,6 +184,7 @@ module _ {n : ℕ} {xs : List ℕ} (s : Store) (h : Holds n xs (s .fs) (s .rows)
       let e = given-is t q a l in
       record {
         answered = answer-is t q a l;
+        plain = plain-is t q a l;
         ascending = rw e (walk-ascends 0 xs t (q .size));
         all = rw e (walk-bytes 0 xs t (q .size) l);
         each =

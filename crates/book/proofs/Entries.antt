@@ -39,7 +39,7 @@ bookOf m = record { pieceLength = m .pieceLength; v2 = m .v2; rows = rowsOf (m .
 pub sizes-rows : (fs : List File) → sizesOf (rowsOf fs) ≡ map (λ (f : File). f .size) fs
 sizes-rows fs = map-map (λ (r : Row). r .size) rowOf fs
 
-length-rows : (fs : List File) → length (rowsOf fs) ≡ length fs
+pub length-rows : (fs : List File) → length (rowsOf fs) ≡ length fs
 length-rows [] = refl
 length-rows (f ∷ fs) = ap suc (length-rows fs)
 

@@ -16,13 +16,12 @@ use Rattle.storage.specs.Addition.{Addition}
 use Rattle.storage.specs.Opening.{empty}
 use Rattle.storage.specs.Write.{placeFrom}
 use Rattle.links.specs.Clean.{step, walk}
-use Rattle.renames.specs.declared.rename.RenamedFiles.{RenamedFiles}
 use Rattle.renames.specs.Renames.{renamesFrom, orderedFrom}
 use Rattle.renames.specs.Imports.{Naming}
 use Rattle.book.specs.Book.{Came, done, refused, Made, book}
-use Rattle.book.specs.Calls.{Leads}
+use Rattle.book.specs.Calls.{Renames, noEntries, Leads}
 use Rattle.book.specs.Calls as calls
-use Rattle.book.proofs.Runs.{Known, adding, trimming, cleaning, renaming, importing, Answer, answerOf, entered, stepped, opens}
+use Rattle.book.proofs.Runs.{Known, adding, trimming, cleaning, renaming, importing, answerOf, entered, stepped, opens}
 
 -- ---- the tables, with places for 3 files, 2 directories and 15 bytes of text
 
@@ -126,18 +125,15 @@ link =
       root = absent;
     }
 
--- no renames, in tables with a place for one of 2 bytes; the name u for a file
-abbrev none : RenamedFiles
-none = record { «num_renames» = 0; «text_len» = 0 }
+-- no renames, in tables with a place for one of 2 bytes, and one: the name u for file 0, by a rename or an import
+abbrev unnamed : Renames
+unnamed = record { rf = noEntries; entries = replicate 3 0; text = replicate 2 0 }
+
+abbrev named : Renames
+named = record { rf = record { «num_renames» = 1; «text_len» = 1 }; entries = 0 ∷ 0 ∷ 1 ∷ []; text = 117 ∷ 0 ∷ [] }
 
 abbrev to : ℤ → Naming
 to z = record { file = z; name = 117 ∷ [] }
-
-abbrev renames : ℤ → Known
-renames z = renaming none (replicate 3 0) (replicate 2 0) (to z)
-
-abbrev imports : List Naming → Known
-imports xs = importing none (replicate 3 0) (replicate 2 0) xs
 
 -- the work space of one link whose text has 4 bytes
 abbrev cleans : Known
@@ -145,46 +141,51 @@ cleans = cleaning (replicate 1 0) (replicate 6 0) (replicate 12 0)
 
 -- ---- what comes of each
 
-abbrev Comes : Store → Known → Came → Store → Type 0
-Comes s k o t = answerOf s k ≡ record { came = o; store = t }
+abbrev Comes : Store → Renames → Known → Came → Store → Renames → Type 0
+Comes s r k o t q = answerOf s r k ≡ record { came = o; store = t; names = q }
 
-file-added : Comes start (adding (file (pos 10000))) done one
+file-added : Comes start unnamed (adding (file (pos 10000))) done one unnamed
 unfolding tabled filled placeFrom digitsWithin
 file-added = refl
 
-file-refused : Comes one (adding (file (negsuc 0))) (refused 2) one
+file-refused : Comes one unnamed (adding (file (negsuc 0))) (refused 2) one unnamed
 unfolding tabled filled placeFrom
 file-refused = refl
 
-link-added : Comes one (adding link) done two
+link-added : Comes one unnamed (adding link) done two unnamed
 unfolding tabled filled placeFrom
 link-added = refl
 
-clean-refused : Comes two (cleaning [] [] []) (refused 10) two
+clean-refused : Comes two unnamed (cleaning [] [] []) (refused 10) two unnamed
 unfolding tabled filled
 clean-refused = refl
 
-clean-done : Comes two cleans done three
+clean-done : Comes two unnamed cleans done three unnamed
 unfolding tabled filled step walk
 clean-done = refl
 
-rename-done : Comes three (renames (pos 0)) done three
+rename-done : Comes three unnamed (renaming (to (pos 0))) done three named
 unfolding renamesFrom orderedFrom
 rename-done = refl
 
-rename-refused : Comes three (renames (pos 9)) (refused 11) three
+rename-refused : Comes three named (renaming (to (pos 9))) (refused 11) three named
 unfolding renamesFrom orderedFrom
 rename-refused = refl
 
-import-done : Comes three (imports (to (pos 0) ∷ to (pos 9) ∷ [])) done three
+-- a second entry has no place
+rename-full : Comes three named (renaming (to (pos 1))) (refused 10) three named
+unfolding renamesFrom orderedFrom
+rename-full = refl
+
+import-done : Comes three named (importing (to (pos 0) ∷ to (pos 9) ∷ [])) done three named
 unfolding renamesFrom orderedFrom
 import-done = refl
 
-import-refused : Comes three (imports (to (negsuc 0) ∷ [])) (refused 11) three
+import-refused : Comes three named (importing (to (negsuc 0) ∷ [])) (refused 11) three named
 unfolding renamesFrom orderedFrom
 import-refused = refl
 
-trim-done : Comes three trimming done four
+trim-done : Comes three named trimming done four named
 unfolding tabled filled
 trim-done = refl
 
@@ -192,10 +193,11 @@ trim-done = refl
 
 abbrev before : List Made
 before =
-    entered (imports (to (negsuc 0) ∷ [])) (refused 11) ∷
-    entered (imports (to (pos 0) ∷ to (pos 9) ∷ [])) done ∷
-    entered (renames (pos 9)) (refused 11) ∷
-    entered (renames (pos 0)) done ∷
+    entered (importing (to (negsuc 0) ∷ [])) (refused 11) ∷
+    entered (importing (to (pos 0) ∷ to (pos 9) ∷ [])) done ∷
+    entered (renaming (to (pos 1))) (refused 10) ∷
+    entered (renaming (to (pos 9))) (refused 11) ∷
+    entered (renaming (to (pos 0))) done ∷
     entered cleans done ∷
     entered (cleaning [] [] []) (refused 10) ∷
     entered (adding link) done ∷
@@ -206,22 +208,20 @@ before =
 abbrev made : List Made
 made = entered trimming done ∷ before
 
-then : {n : ℕ} {made : List Made} {s t : Store} {o : Came} (k : Known) → Comes s k o t → Leads n made s → Leads n (entered k o ∷ made) t
-then k e p =
-    stepped k p (record { came = ap (λ (a : Answer). a .came) e; store = ap (λ (a : Answer). a .store) e })
-
-pub each-kind : Leads 16384 made four
+pub each-kind : Leads 16384 made four named
 each-kind =
-    then trimming trim-done
-    (then (imports (to (negsuc 0) ∷ [])) import-refused
-    (then (imports (to (pos 0) ∷ to (pos 9) ∷ [])) import-done
-    (then (renames (pos 9)) rename-refused
-    (then (renames (pos 0)) rename-done
-    (then cleans clean-done
-    (then (cleaning [] [] []) clean-refused
-    (then (adding link) link-added
-    (then (adding (file (negsuc 0))) file-refused
-    (then (adding (file (pos 10000))) file-added (calls.opening {s = start} (omega arith) (opens 16384 (omega arith))))))))))))
+    stepped trimming (
+    stepped (importing (to (negsuc 0) ∷ [])) (
+    stepped (importing (to (pos 0) ∷ to (pos 9) ∷ [])) (
+    stepped (renaming (to (pos 1))) (
+    stepped (renaming (to (pos 9))) (
+    stepped (renaming (to (pos 0))) (
+    stepped cleans (
+    stepped (cleaning [] [] []) (
+    stepped (adding link) (
+    stepped (adding (file (negsuc 0))) (
+    stepped (adding (file (pos 10000))) (calls.opening {s = start} {r = unnamed} (omega arith) (opens 16384 (omega arith)) refl)
+    file-added) file-refused) link-added) clean-refused) clean-done) rename-done) rename-refused) rename-full) import-done) import-refused) trim-done
 
 -- the book has the file, the row that fills up the piece and the link, and the trim takes the filling
 pub rows-before : book 16384 before .rows ≡ record { size = 10000; marked = false } ∷ record { size = 6384; marked = true } ∷ record { size = 0; marked = false } ∷ []

@@ -24,15 +24,15 @@ use Rattle.tables.proofs.Words.{row-ext, dir-ext, root-ext}
 use Rattle.model.specs.Sound.{Place, setName, dirName, fileName, linkText, nowhere, spanOf, textAtRow, sizeOfRow, padOfRow, Sound}
 use Rattle.model.proofs.Common.{sum-same}
 use Rattle.model.proofs.AddedTexts.{Extends, set-name-kept, dirs-kept, files-kept}
-use Rattle.book.specs.Calls.{SameSet}
+use Rattle.book.specs.Calls.{SameSet, Renames, SameRenames}
 
 -- ---- two lists that begin alike: one is long enough if the other is, and both read the same there
 
 module _ {A : Type 0} (n : ℕ) (l l₀ : List A) (e : take n l ≡ take n l₀) where
-  as-long : n ≤ length l₀ → n ≤ length l
+  pub as-long : n ≤ length l₀ → n ≤ length l
   as-long h = omega (arith, length-take n l, length-take n l₀, ap length e)
 
-  getD-below : (k : ℕ) (d : A) → k < n → getD l k d ≡ getD l₀ k d
+  pub getD-below : (k : ℕ) (d : A) → k < n → getD l k d ≡ getD l₀ k d
   getD-below k d h = sym (getD-take n l k d h) ∙ ap (λ (x : List A). getD x k d) e ∙ getD-take n l₀ k d h
 
   part-below : (at k : ℕ) → at + k ≤ n → partOf l at k ≡ partOf l₀ at k
@@ -148,6 +148,13 @@ same-through s t u p q =
       dirs = rw (p .fs) at (q .dirs) ∙ p .dirs;
       text = rw (p .fs) at (q .text) ∙ p .text;
     }
+
+pub names-self : (r : Renames) → SameRenames r r
+names-self r = record { rf = refl; entries = refl; text = refl }
+
+pub names-through : (r q p : Renames) → SameRenames r q → SameRenames q p → SameRenames r p
+names-through r q p a b =
+    record { rf = b .rf ∙ a .rf; entries = rw (a .rf) at (b .entries) ∙ a .entries; text = rw (a .rf) at (b .text) ∙ a .text }
 
 -- the same record, and each table of t begins with that of s
 pub record Longer (s t : Store) : Type 0 where

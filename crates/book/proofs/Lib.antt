@@ -11,6 +11,7 @@ pub mod Rooted
 pub mod Lent
 pub mod Agree
 pub mod Runs
+pub mod Named
 pub mod Example
 pub mod Says
 pub mod Theorem

@@ -3,7 +3,7 @@
 -- longer tables, and after every list of calls an addition is refused as document 01's table says. Relies on the
 -- definitions, on Agree.antt and on Lent.antt, and on `model` for what an addition and a cleaning answer.
 use mathlib.Core.Path.{_≡_, refl, sym, ap, ap₂, subst, _∙_}
-use mathlib.Core.Bool.{Bool, true, false, cond}
+use mathlib.Core.Bool.{Bool, true, false, cond, not}
 use mathlib.Core.List.{List, [], _∷_, _++_, map}
 use Prim.Native.Nat.{ℕ, _*_, _≤_, _<_, max}
 use native.Mathlib.Omega.{arith}
@@ -23,231 +23,219 @@ use Rattle.storage.specs.Outcomes.{Changed, changedIf, roomsOf, addingNumber, a
 use Rattle.links.specs.Clean.{cleanedOf, space, linkCount}
 use Rattle.links.specs.Judging.{lent, entriesOf, lacksSpace, cleared}
 use Rattle.cleaning.specs.Cleaning.{cleanedStore, Cleaned, cleanedTo, cleanStored}
-use Rattle.renames.specs.declared.rename.RenamedFiles.{RenamedFiles}
-use Rattle.renames.specs.Renames.{renameFile}
+use lib.Seq.{sets}
+use Rattle.renames.specs.Renames.{Renamed, inOrder, lacksRoom, renameFile, renamedTo, renamesOf, stateOf, wordsOf, textsOf}
 use Rattle.renames.specs.Renames as renames
-use Rattle.renames.specs.Imports.{Naming, importFilenames}
+use Rattle.answers.specs.Answers.{isBelow}
+use Rattle.renames.specs.Imports.{Naming, hasNegative, imported, importFilenames}
 use Rattle.model.proofs.Adding.{sound-holds, adding-number}
 use Rattle.model.proofs.Cleaning.{judging-is, space-enough}
 use Rattle.model.proofs.Cleaned.{needed-is}
 use Rattle.model.proofs.CleanedLent.{clean-lent}
 use Rattle.book.specs.Book.{Call, add, trim, clean, rename, «import», Came, done, refused, Made}
-use Rattle.book.specs.Calls.{cameOf, storeAfter, cleanedBy, SameSet, Leads}
+use Rattle.book.specs.Calls.{cameOf, storeAfter, cleanedBy, SameSet, Renames, noEntries, renamesAfter, SameRenames, Leads}
 use Rattle.book.specs.Calls as calls
-use Rattle.book.proofs.Lent.{same-self, same-through, Longer, longer}
+use Rattle.book.proofs.Lent.{same-self, same-through, names-self, names-through, Longer, longer}
 use Rattle.book.proofs.Agree.{agrees, leaving, refusing, after-call, after-clean, trimNumber}
 
 -- ---- one call
 
--- the calls that the relation knows; a cleaning is lent its work space, renames the tables that they lie in
+-- the calls that the relation knows; a cleaning is lent its work space
 pub data Known : Type 0 where
   adding : Addition → Known
   trimming : Known
   cleaning : (marks stage path : List ℕ) → Known
-  renaming : RenamedFiles → (entries names : List ℕ) → Naming → Known
-  importing : RenamedFiles → (entries names : List ℕ) → List Naming → Known
+  renaming : Naming → Known
+  importing : List Naming → Known
 
 abbrev pub callOf : Known → Call
 callOf (adding a) = add a
 callOf trimming = trim
 callOf (cleaning marks stage path) = clean
-callOf (renaming rf entries names x) = rename x
-callOf (importing rf entries names xs) = «import» xs
+callOf (renaming x) = rename x
+callOf (importing xs) = «import» xs
 
--- what comes of a call, and the set's tables after it
+-- what comes of a call, and the tables of the set and of its renames after it
 pub record Answer : Type 0 where
   pub came : Came
   pub store : Store
+  pub names : Renames
 
-abbrev pub changing : Store → Changed → Answer
-changing s c = record { came = cameOf (c .says); store = storeAfter (s .fs) c }
+abbrev pub changing : Store → Renames → Changed → Answer
+changing s r c = record { came = cameOf (c .says); store = storeAfter (s .fs) c; names = r }
+
+abbrev pub naming : Store → Renames → renames.Changed → Answer
+naming s r c = record { came = cameOf (c .says); store = s; names = renamesAfter r c }
 
 -- what the function called says, and leaves
-abbrev pub answerOf : Store → Known → Answer
-answerOf s (adding a) = changing s (addStored s a)
-answerOf s trimming = changing s (trimStored s)
-answerOf s (cleaning marks stage path) =
-    changing s (cleanedBy s (cleanStored (lent (s .fs) (s .rows) (s .dirs) (s .text)) marks stage path))
-answerOf s (renaming rf entries names x) = record { came = cameOf (renameFile (s .fs) rf entries names (x .file) (x .name) .says); store = s }
-answerOf s (importing rf entries names xs) = record { came = cameOf (importFilenames (s .fs) rf entries names xs .says); store = s }
+abbrev pub answerOf : Store → Renames → Known → Answer
+answerOf s r (adding a) = changing s r (addStored s a)
+answerOf s r trimming = changing s r (trimStored s)
+answerOf s r (cleaning marks stage path) =
+    changing s r (cleanedBy s (cleanStored (lent (s .fs) (s .rows) (s .dirs) (s .text)) marks stage path))
+answerOf s r (renaming x) = naming s r (renameFile (s .fs) (r .rf) (r .entries) (r .text) (x .file) (x .name))
+answerOf s r (importing xs) = naming s r (importFilenames (s .fs) (r .rf) (r .entries) (r .text) xs)
 
 abbrev pub entered : Known → Came → Made
 entered k o = record { call = callOf k; came = o }
 
 -- one step of the relation
-pub record Step (s : Store) (k : Known) (o : Came) (t : Store) : Type 0 where
-  pub came : answerOf s k .came ≡ o
-  pub store : answerOf s k .store ≡ t
+abbrev pub Step : Store → Renames → Known → Answer → Type 0
+Step s r k a = answerOf s r k ≡ a
 
 -- the relation goes on by such steps and by lendings, and by nothing else
-pub stepped : {n : ℕ} {made : List Made} {s t : Store} {o : Came} (k : Known) → Leads n made s → Step s k o t → Leads n (entered k o ∷ made) t
-stepped {n} {made} {s} {t} {o} k p q =
-    subst (λ (u : Store). Leads n (entered k o ∷ made) u) (q .store) (subst (λ (x : Came). Leads n (entered k x ∷ made) (answerOf s k .store)) (q .came) (at k))
+pub stepped : {n : ℕ} {made : List Made} {s : Store} {r : Renames} {a : Answer} (k : Known) → Leads n made s r → Step s r k a → Leads n (entered k (a .came) ∷ made) (a .store) (a .names)
+stepped {n} {made} {s} {r} {a} k p q =
+    subst (λ (x : Answer). Leads n (entered k (x .came) ∷ made) (x .store) (x .names)) q (at k)
   where
-    at : (k : Known) → Leads n (entered k (answerOf s k .came) ∷ made) (answerOf s k .store)
+    at : (k : Known) → Leads n (entered k (answerOf s r k .came) ∷ made) (answerOf s r k .store) (answerOf s r k .names)
     at (adding a) = calls.addition a (addStored s a) p refl
     at trimming = calls.trim (trimStored s) p refl
     at (cleaning marks stage path) = calls.cleaning marks stage path (cleanStored (lent (s .fs) (s .rows) (s .dirs) (s .text)) marks stage path) p refl
-    at (renaming rf entries names x) = calls.renaming rf entries names x (renameFile (s .fs) rf entries names (x .file) (x .name)) p refl
-    at (importing rf entries names xs) = calls.importing rf entries names xs (importFilenames (s .fs) rf entries names xs) p refl
+    at (renaming x) = calls.renaming x (renameFile (s .fs) (r .rf) (r .entries) (r .text) (x .file) (x .name)) p refl
+    at (importing xs) = calls.importing xs (importFilenames (s .fs) (r .rf) (r .entries) (r .text) xs) p refl
 
--- the last call led to the tables `left`; those at the end are they, or others lent behind it that hold the same set
-pub record LastStep (n : ℕ) (made : List Made) (m : Made) (t : Store) : Type 0 where
+-- the last call led to the tables of `left`; those at the end are they, or others lent behind it that hold the same
+pub record LastStep (n : ℕ) (made : List Made) (m : Made) (t : Store) (q : Renames) : Type 0 where
   pub before : Store
-  pub left : Store
+  pub names : Renames
+  pub left : Answer
   pub known : Known
-  pub leads : Leads n made before
-  pub step : Step before known (m .came) left
-  pub call : callOf known ≡ m .call
-  pub lent : SameSet left t
+  pub leads : Leads n made before names
+  pub step : Step before names known left
+  pub call : entered known (left .came) ≡ m
+  pub lent : SameSet (left .store) t
+  pub lent-names : SameRenames (left .names) q
 
-pub last-step : {n : ℕ} {made : List Made} {m : Made} {t : Store} → Leads n (m ∷ made) t → LastStep n made m t
-last-step (calls.addition {made} {s} a c p e) =
-    record {
-      before = s;
-      left = storeAfter (s .fs) c;
-      known = adding a;
-      leads = p;
-      step = record { came = ap (λ (x : Changed). cameOf (x .says)) (sym e); store = ap (storeAfter (s .fs)) (sym e) };
-      call = refl;
-      lent = same-self (storeAfter (s .fs) c);
-    }
-last-step (calls.trim {made} {s} c p e) =
-    record {
-      before = s;
-      left = storeAfter (s .fs) c;
-      known = trimming;
-      leads = p;
-      step = record { came = ap (λ (x : Changed). cameOf (x .says)) (sym e); store = ap (storeAfter (s .fs)) (sym e) };
-      call = refl;
-      lent = same-self (storeAfter (s .fs) c);
-    }
-last-step (calls.cleaning {made} {s} marks stage path c p e) =
-    record {
-      before = s;
-      left = storeAfter (s .fs) (cleanedBy s c);
-      known = cleaning marks stage path;
-      leads = p;
-      step = record { came = ap (λ (x : Cleaned). cameOf (x .says)) (sym e); store = ap (λ (x : Cleaned). storeAfter (s .fs) (cleanedBy s x)) (sym e) };
-      call = refl;
-      lent = same-self (storeAfter (s .fs) (cleanedBy s c));
-    }
-last-step (calls.renaming {made} {s} rf entries names x c p e) =
-    record {
-      before = s;
-      left = s;
-      known = renaming rf entries names x;
-      leads = p;
-      step = record { came = ap (λ (y : renames.Changed). cameOf (y .says)) (sym e); store = refl };
-      call = refl;
-      lent = same-self s;
-    }
-last-step (calls.importing {made} {s} rf entries names xs c p e) =
-    record {
-      before = s;
-      left = s;
-      known = importing rf entries names xs;
-      leads = p;
-      step = record { came = ap (λ (y : renames.Changed). cameOf (y .says)) (sym e); store = refl };
-      call = refl;
-      lent = same-self s;
-    }
-last-step (calls.lending {made} {s} {t} p same) =
+pub last-step : {n : ℕ} {made : List Made} {m : Made} {t : Store} {q : Renames} → Leads n (m ∷ made) t q → LastStep n made m t q
+last-step (calls.addition {made} {s} {r} a c p e) =
+    record { before = s; names = r; left = changing s r c; known = adding a; leads = p; step = ap (changing s r) (sym e); call = refl; lent = same-self _; lent-names = names-self _ }
+last-step (calls.trim {made} {s} {r} c p e) =
+    record { before = s; names = r; left = changing s r c; known = trimming; leads = p; step = ap (changing s r) (sym e); call = refl; lent = same-self _; lent-names = names-self _ }
+last-step (calls.cleaning {made} {s} {r} marks stage path c p e) =
+    record { before = s; names = r; left = changing s r (cleanedBy s c); known = cleaning marks stage path; leads = p; step = ap (λ (x : Cleaned). changing s r (cleanedBy s x)) (sym e); call = refl; lent = same-self _; lent-names = names-self _ }
+last-step (calls.renaming {made} {s} {r} x c p e) =
+    record { before = s; names = r; left = naming s r c; known = renaming x; leads = p; step = ap (naming s r) (sym e); call = refl; lent = same-self _; lent-names = names-self _ }
+last-step (calls.importing {made} {s} {r} xs c p e) =
+    record { before = s; names = r; left = naming s r c; known = importing xs; leads = p; step = ap (naming s r) (sym e); call = refl; lent = same-self _; lent-names = names-self _ }
+last-step (calls.lending {made} {s} {t} {r} {q} p same also) =
     let l = last-step p in
     record {
       before = l .before;
+      names = l .names;
       left = l .left;
       known = l .known;
       leads = l .leads;
       step = l .step;
       call = l .call;
-      lent = same-through (l .left) s t (l .lent) same;
+      lent = same-through (l .left .store) s t (l .lent) same;
+      lent-names = names-through (l .left .names) r q (l .lent-names) also;
     }
 
--- exactly one outcome, and one store after it
-pub record One (s : Store) (k : Known) : Type 0 where
-  pub outcome : Came
-  pub store : Store
-  pub step : Step s k outcome store
-  pub only : (o : Came) (t : Store) → Step s k o t → (o ≡ outcome) × (t ≡ store)
+-- exactly one outcome, and one set of tables after it
+pub record One (s : Store) (r : Renames) (k : Known) : Type 0 where
+  pub answer : Answer
+  pub step : Step s r k answer
+  pub only : (a : Answer) → Step s r k a → a ≡ answer
 
-pub came : (s : Store) (k : Known) → One s k
-came s k =
-    record {
-      outcome = answerOf s k .came;
-      store = answerOf s k .store;
-      step = record { came = refl; store = refl };
-      only = λ o t q. (sym (q .came), sym (q .store));
-    }
+pub came : (s : Store) (r : Renames) (k : Known) → One s r k
+came s r k = record { answer = answerOf s r k; step = refl; only = λ a q. sym q }
 
 -- ---- lists of calls
 
--- calls one after another from a store on, the latest first
-pub data Chain (s : Store) : List Made → Store → Type 0 where
-  none : Chain s [] s
-  more : {made : List Made} {t u : Store} (k : Known) (o : Came) → Chain s made t → Step t k o u → Chain s (entered k o ∷ made) u
+-- calls made, and the tables they led to
+pub record Reach : Type 0 where
+  pub made : List Made
+  pub store : Store
+  pub names : Renames
 
-pub led : {n : ℕ} {made : List Made} {s t : Store} → opened (pos n) ≡ value (s .fs) → n ≤ 2147483647 → Chain s made t → Leads n made t
-led e h none = calls.opening h e
-led e h (more k o c q) = stepped k (led e h c) q
+abbrev pub further : Known → Reach → Reach
+further k x =
+    record {
+      made = entered k (answerOf (x .store) (x .names) k .came) ∷ x .made;
+      store = answerOf (x .store) (x .names) k .store;
+      names = answerOf (x .store) (x .names) k .names;
+    }
 
--- the tables after a list of calls, the latest first, and what came of each
-abbrev pub storeOf : Store → List Known → Store
-storeOf s [] = s
-storeOf s (k ∷ ks) = answerOf (storeOf s ks) k .store
+-- after a list of calls, the latest first, on tables of a set and of renames
+abbrev pub reachOf : Store → Renames → List Known → Reach
+reachOf s r [] = record { made = []; store = s; names = r }
+reachOf s r (k ∷ ks) = further k (reachOf s r ks)
 
-abbrev pub madeOf : Store → List Known → List Made
-madeOf s [] = []
-madeOf s (k ∷ ks) = entered k (answerOf (storeOf s ks) k .came) ∷ madeOf s ks
-
-pub record Played (n : ℕ) (s : Store) (ks : List Known) : Type 0 where
-  pub same : map (λ (m : Made). m .call) (madeOf s ks) ≡ map callOf ks
-  pub chain : Chain s (madeOf s ks) (storeOf s ks)
-  pub leads : Leads n (madeOf s ks) (storeOf s ks)
+pub record Played (n : ℕ) (s : Store) (r : Renames) (ks : List Known) : Type 0 where
+  pub same : map (λ (m : Made). m .call) (reachOf s r ks .made) ≡ map callOf ks
+  pub leads : Leads n (reachOf s r ks .made) (reachOf s r ks .store) (reachOf s r ks .names)
 
 -- a set can be opened with every piece length from 1 on
 pub opens : (n : ℕ) → 0 < n → opened (pos n) ≡ value (empty n)
 opens n h = rw (ne-eqb n 0 (λ e. omega arith))
 
-pub played : (n : ℕ) (s : Store) → opened (pos n) ≡ value (s .fs) → n ≤ 2147483647 → (ks : List Known) → Played n s ks
-played n s e h [] = record { same = refl; chain = none; leads = calls.opening h e }
-played n s e h (k ∷ ks) =
-    let r = played n s e h ks in
-    let a = answerOf (storeOf s ks) k in
-    let x : Step (storeOf s ks) k (a .came) (a .store) = record { came = refl; store = refl } in
+pub played : (n : ℕ) (s : Store) (r : Renames) → opened (pos n) ≡ value (s .fs) → n ≤ 2147483647 → r .rf ≡ noEntries → (ks : List Known) → Played n s r ks
+played n s r e h z [] = record { same = refl; leads = calls.opening h e z }
+played n s r e h z (k ∷ ks) =
+    let x = played n s r e h z ks in
     record {
-      same = ap (λ (l : List Call). callOf k ∷ l) (r .same);
-      chain = more k (a .came) (r .chain) x;
-      leads = stepped k (r .leads) x;
+      same = ap (λ (l : List Call). callOf k ∷ l) (x .same);
+      leads = stepped {a = answerOf (reachOf s r ks .store) (reachOf s r ks .names) k} k (x .leads) refl;
     }
 
 -- ---- a refused call made again
 
--- a refusal leaves the store as it was
+-- a refusal leaves all tables as they were
 still : (number : ℕ) (s t : Store) (i : ℕ) → cameOf (changedIf number s t .says) ≡ refused i → storeAfter (s .fs) (changedIf number s t) ≡ s
 still number s t i =
     after-call (λ (m : Made) (u : Store). m .came ≡ refused i → u ≡ s) trim number s t (λ z e. cc) (λ e. refl) (changedIf number s t) refl
 
-still-clean : (s : Store) (marks stage path : List ℕ) (i : ℕ) → answerOf s (cleaning marks stage path) .came ≡ refused i → answerOf s (cleaning marks stage path) .store ≡ s
+still-clean : (s : Store) (marks stage path : List ℕ) (i : ℕ) → cameOf (cleanStored (lent (s .fs) (s .rows) (s .dirs) (s .text)) marks stage path .says) ≡ refused i → storeAfter (s .fs) (cleanedBy s (cleanStored (lent (s .fs) (s .rows) (s .dirs) (s .text)) marks stage path)) ≡ s
 still-clean s marks stage path i =
     after-clean (λ (m : Made) (u : Store). m .came ≡ refused i → u ≡ s) s marks stage path (λ z h e. cc) (λ k e. refl) (cleanStored (lent (s .fs) (s .rows) (s .dirs) (s .text)) marks stage path) refl
 
-refused-step : (s : Store) (k : Known) (i : ℕ) → answerOf s k .came ≡ refused i → Step s k (refused i) s
-refused-step s k i r = record { came = r; store = at k r }
+still-names : (k : ℕ) (rs : List Renamed) (r : Renames) (i : ℕ) → cameOf (renames.changedIf k rs (r .entries) (r .text) .says) ≡ refused i → renamesAfter r (renames.changedIf k rs (r .entries) (r .text)) ≡ r
+still-names k rs r i e = at (eqb k 0) e
   where
-    at : (k : Known) → answerOf s k .came ≡ refused i → answerOf s k .store ≡ s
-    at (adding a) = still (addingNumber s (viewOf s) a) s (storeAdded s (viewOf s) a) i
-    at trimming = still (trimNumber s) s (trimmedBy (tailPad (viewOf s .files)) s) i
-    at (cleaning marks stage path) = still-clean s marks stage path i
-    at (renaming rf entries names x) = λ e. refl
-    at (importing rf entries names xs) = λ e. refl
+    yes : renames.Changed
+    yes = record { says = value (stateOf rs); entries = sets (r .entries) 0 (wordsOf rs); text = sets (r .text) 0 (textsOf rs) }
+
+    no : renames.Changed
+    no = record { says = outcomes.refused k; entries = r .entries; text = r .text }
+
+    at : (b : Bool) → cameOf (cond b yes no .says) ≡ refused i → renamesAfter r (cond b yes no) ≡ r
+    at true q = let z : _≡_ {A = ℕ} 0 1 = cc in absurd (omega arith)
+    at false q = refl
+
+-- the numbers that a rename and an import are refused by
+abbrev pub renameNumber : Store → Renames → Naming → ℕ
+renameNumber s r x =
+    firstOf
+    (when (badLength (s .fs .«piece_length»)) 1 ∷
+    when (not (isBelow (s .fs .«num_files») (x .file))) 11 ∷
+    when (not (inOrder (r .rf) (r .entries) (r .text))) 10 ∷
+    when (lacksRoom (renamedTo (x .file) (x .name) (renamesOf (r .rf) (r .entries) (r .text))) (r .entries) (r .text)) 10 ∷ [])
+
+abbrev pub importNumber : Store → Renames → List Naming → ℕ
+importNumber s r xs =
+    firstOf
+    (when (badLength (s .fs .«piece_length»)) 1 ∷
+    when (hasNegative xs) 11 ∷
+    when (not (inOrder (r .rf) (r .entries) (r .text))) 10 ∷
+    when (lacksRoom (imported (s .fs .«num_files») xs (renamesOf (r .rf) (r .entries) (r .text))) (r .entries) (r .text)) 10 ∷ [])
+
+refused-step : (s : Store) (r : Renames) (k : Known) (i : ℕ) → answerOf s r k .came ≡ refused i → Step s r k (record { came = refused i; store = s; names = r })
+refused-step s r k i e = ap (λ (o : Came). record { came = o; store = answerOf s r k .store; names = answerOf s r k .names }) e ∙ at k e
+  where
+    at : (k : Known) → answerOf s r k .came ≡ refused i → _≡_ {A = Answer} (record { came = refused i; store = answerOf s r k .store; names = answerOf s r k .names }) (record { came = refused i; store = s; names = r })
+    at (adding a) e = ap (λ (u : Store). record { came = refused i; store = u; names = r }) (still (addingNumber s (viewOf s) a) s (storeAdded s (viewOf s) a) i e)
+    at trimming e = ap (λ (u : Store). record { came = refused i; store = u; names = r }) (still (trimNumber s) s (trimmedBy (tailPad (viewOf s .files)) s) i e)
+    at (cleaning marks stage path) e = ap (λ (u : Store). record { came = refused i; store = u; names = r }) (still-clean s marks stage path i e)
+    at (renaming x) e = ap (λ (u : Renames). record { came = refused i; store = s; names = u }) (still-names (renameNumber s r x) (renamedTo (x .file) (x .name) (renamesOf (r .rf) (r .entries) (r .text))) r i e)
+    at (importing xs) e = ap (λ (u : Renames). record { came = refused i; store = s; names = u }) (still-names (importNumber s r xs) (imported (s .fs .«num_files») xs (renamesOf (r .rf) (r .entries) (r .text))) r i e)
 
 -- refused, by 10 for instance, on tables too short, it can be made again on longer ones, a cleaning with more work space too, and
 -- the calls go on from there
-pub again : {n : ℕ} {made : List Made} {s t u : Store} {o : Came} (k j : Known) (i : ℕ)
-    → Leads n made s → answerOf s k .came ≡ refused i → Longer s t → Step t j o u → Leads n (entered j o ∷ entered k (refused i) ∷ made) u
-again {s = s} {t = t} k j i p r l q =
-    stepped j (calls.lending (stepped k p (refused-step s k i r)) (longer s t (agrees p .sound) l)) q
+pub again : {n : ℕ} {made : List Made} {s t : Store} {r q : Renames} {a : Answer} (k j : Known) (i : ℕ)
+    → Leads n made s r → answerOf s r k .came ≡ refused i → Longer s t → SameRenames r q → Step t q j a → Leads n (entered j (a .came) ∷ entered k (refused i) ∷ made) (a .store) (a .names)
+again {s = s} {t = t} {r = r} k j i p e l same x =
+    stepped j (calls.lending (stepped k p (refused-step s r k i e)) (longer s t (agrees p .sound) l) same) x
 
 -- ---- what is refused, and what is not
 
@@ -304,22 +292,22 @@ came-if k s t = at (eqb k 0)
     at true = refl
     at false = refl
 
-module _ {n : ℕ} {made : List Made} {s : Store} (p : Leads n made s) where
-  good : badLength (s .fs .«piece_length») ≡ false
+module _ {n : ℕ} {made : List Made} {s : Store} {r : Renames} (p : Leads n made s r) where
+  pub good : badLength (s .fs .«piece_length») ≡ false
   good = let g = agrees p in rw (g .lengths, le-ltb n 1 (g .some)) (le-ltb 2147483647 n (g .short))
 
   -- an addition is refused by the first row that holds, with its number, and done where none does
-  pub add-answer : (a : Addition) → answerOf s (adding a) .came ≡ cameBy (firstOf (addRefusals s a))
+  pub add-answer : (a : Addition) → answerOf s r (adding a) .came ≡ cameBy (firstOf (addRefusals s a))
   add-answer a =
       came-if (addingNumber s (viewOf s) a) s (storeAdded s (viewOf s) a)
       ∙ ap cameBy (adding-number s (agrees p .sound) a ∙ ap (λ (b : Bool). cond b 1 (firstOf (addRefusals s a))) good)
 
   -- so no set refuses every file: where no row holds, the addition is done
-  pub add-done : (a : Addition) → NoneHolds (addRefusals s a) → answerOf s (adding a) .came ≡ done
+  pub add-done : (a : Addition) → NoneHolds (addRefusals s a) → answerOf s r (adding a) .came ≡ done
   add-done a h = add-answer a ∙ ap cameBy (none-first (addRefusals s a) h)
 
   -- nor is it refused by 10 with space to spare: only where the set after it does not fit
-  pub add-ten : (a : Addition) → answerOf s (adding a) .came ≡ refused 10 → lacks (roomsOf s) (added (viewOf s) a) (textOf (added (viewOf s) a)) ≡ true
+  pub add-ten : (a : Addition) → answerOf s r (adding a) .came ≡ refused 10 → lacks (roomsOf s) (added (viewOf s) a) (textOf (added (viewOf s) a)) ≡ true
   add-ten a e =
       from-last 10 (take 9 (addRefusals s a)) (lacks (roomsOf s) (added (viewOf s) a) (textOf (added (viewOf s) a))) (omega arith)
       (refused-is (firstOf (addRefusals s a)) 10 (sym (add-answer a) ∙ e))
@@ -329,7 +317,7 @@ module _ {n : ℕ} {made : List Made} {s : Store} (p : Leads n made s) where
   trim-done = rw (good, sound-holds s (agrees p .sound))
 
   -- a cleaning likewise
-  pub clean-answer : (marks stage path : List ℕ) → answerOf s (cleaning marks stage path) .came ≡ cameBy (firstOf (cleanRefusals s marks stage path))
+  pub clean-answer : (marks stage path : List ℕ) → answerOf s r (cleaning marks stage path) .came ≡ cameBy (firstOf (cleanRefusals s marks stage path))
   clean-answer marks stage path =
       ap (λ (x : Cleaned). cameOf (x .says)) (clean-lent s marks stage path)
       ∙ ap₂ (λ (k t : ℕ). cameOf (said k (ltb (length (s .text)) t) .says)) (judging-is s (length marks) (length stage) (length path) (agrees p .sound) good) (needed-is s (agrees p .sound))
@@ -351,7 +339,7 @@ module _ {n : ℕ} {made : List Made} {s : Store} (p : Leads n made s) where
 
   -- done with document 01's work space, and room for the texts that the set then has
   pub clean-done : (marks stage path : List ℕ) → linkCount (entriesOf s) ≤ length marks → space (entriesOf s) ≤ length stage → 2 * space (entriesOf s) ≤ length path
-      → textOf (cleanedOf (viewOf s)) ≤ length (s .text) → answerOf s (cleaning marks stage path) .came ≡ done
+      → textOf (cleanedOf (viewOf s)) ≤ length (s .text) → answerOf s r (cleaning marks stage path) .came ≡ done
   clean-done marks stage path a b c room =
       clean-answer marks stage path
       ∙ ap cameBy (none-first (cleanRefusals s marks stage path) (space-enough s (length marks) (length stage) (length path) a b c, (le-ltb (length (s .text)) (textOf (cleanedOf (viewOf s))) room, tt)))

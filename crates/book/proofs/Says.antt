@@ -58,7 +58,7 @@ use Rattle.layout.proofs.map_file.Kinds as map-kinds
 use Rattle.layout.proofs.map_file.Reads as map-reads
 use Rattle.book.specs.Book.{Made}
 use Rattle.book.specs.Book as book
-use Rattle.book.specs.Calls.{cameOf, storeAfter, cleanedBy, call, Leads}
+use Rattle.book.specs.Calls.{cameOf, storeAfter, cleanedBy, call, Renames, noEntries, renamesAfter, Leads}
 use Rattle.book.specs.Calls as calls
 
 -- ---- `open`
@@ -68,8 +68,8 @@ module _ (κs : Lifetimes.Lfts 0) (a : World.ArgsD open.signature κs) (r : Worl
   open-says p = p
 
   -- the record that it gives, beside any tables, is where calls begin
-  pub open-leads : {n : ℕ} (t : Store) → n ≤ 2147483647 → a .0 ≡ pos n → storageSays r ≡ value (t .fs) → open-reads.Learnt κs a r s → Leads n [] t
-  open-leads t h e v p = calls.opening h (ap opened (sym e) ∙ sym (open-says p) ∙ v)
+  pub open-leads : {n : ℕ} (t : Store) (q : Renames) → n ≤ 2147483647 → a .0 ≡ pos n → storageSays r ≡ value (t .fs) → q .rf ≡ noEntries → open-reads.Learnt κs a r s → Leads n [] t q
+  open-leads t q h e v z p = calls.opening h (ap opened (sym e) ∙ sym (open-says p) ∙ v) z
 
 -- ---- `add_file`
 
@@ -108,7 +108,7 @@ module _ (κs : Lifetimes.Lfts 8) (a : World.ArgsD add_file.signature κs) (r : 
   add-file-says p = p
 
   -- a call on tables that calls led to is one call more
-  pub add-file-leads : {n : ℕ} {made : List Made} → Leads n made addedTo → add-reads.Learnt κs a r s → Leads n (call (book.add asked) addedBy ∷ made) (storeAfter (a .0) addedBy)
+  pub add-file-leads : {n : ℕ} {made : List Made} {q : Renames} → Leads n made addedTo q → add-reads.Learnt κs a r s → Leads n (call (book.add asked) addedBy ∷ made) (storeAfter (a .0) addedBy) q
   add-file-leads l p = calls.addition asked addedBy l (add-file-says p)
 
 -- ---- `remove_tail_padding`
@@ -131,7 +131,7 @@ module _ (κs : Lifetimes.Lfts 5) (a : World.ArgsD remove_tail_padding.signature
   pub trim-says : trim-reads.Learnt κs a r s → trimmedBy ≡ trimStored trimmedFrom
   trim-says p = p
 
-  pub trim-leads : {n : ℕ} {made : List Made} → Leads n made trimmedFrom → trim-reads.Learnt κs a r s → Leads n (call book.trim trimmedBy ∷ made) (storeAfter (a .0) trimmedBy)
+  pub trim-leads : {n : ℕ} {made : List Made} {q : Renames} → Leads n made trimmedFrom q → trim-reads.Learnt κs a r s → Leads n (call book.trim trimmedBy ∷ made) (storeAfter (a .0) trimmedBy) q
   trim-leads l p = calls.trim trimmedBy l (trim-says p)
 
 -- ---- `sanitize_symlinks`, to which roots and times are not lent
@@ -157,7 +157,7 @@ module _ (κs : Lifetimes.Lfts 6) (a : World.ArgsD sanitize_symlinks.signature �
   pub clean-says : clean-reads.Learnt κs a r s → cleaned ≡ cleanStored (lent (a .0) (now (a .1 .0)) (now (a .1 .1 .0)) (now (a .1 .1 .1 .0))) (now (a .1 .1 .1 .1 .0)) (now (a .1 .1 .1 .1 .1 .0)) (now (a .1 .1 .1 .1 .1 .1 .0))
   clean-says p = p
 
-  pub clean-leads : {n : ℕ} {made : List Made} (roots : List ℕ) (times : List ℤ) → Leads n made (cleanedFrom roots times) → clean-reads.Learnt κs a r s → Leads n (call book.clean (cleanedBy (cleanedFrom roots times) cleaned) ∷ made) (storeAfter (a .0) (cleanedBy (cleanedFrom roots times) cleaned))
+  pub clean-leads : {n : ℕ} {made : List Made} {q : Renames} (roots : List ℕ) (times : List ℤ) → Leads n made (cleanedFrom roots times) q → clean-reads.Learnt κs a r s → Leads n (call book.clean (cleanedBy (cleanedFrom roots times) cleaned) ∷ made) (storeAfter (a .0) (cleanedBy (cleanedFrom roots times) cleaned)) q
   clean-leads roots times l p =
       calls.cleaning (now (a .1 .1 .1 .1 .0)) (now (a .1 .1 .1 .1 .1 .0)) (now (a .1 .1 .1 .1 .1 .1 .0)) cleaned l (clean-says p)
 
@@ -173,10 +173,14 @@ module _ (κs : Lifetimes.Lfts 3) (a : World.ArgsD rename_file.signature κs) (r
   pub rename-says : rename-reads.Learnt κs a r s → renamedBy ≡ renameFile (a .0) (a .1 .0) (now (a .1 .1 .0)) (now (a .1 .1 .1 .0)) (named .file) (named .name)
   rename-says p = p
 
-  -- a call with the record of a set that calls led to is one call more, and leaves the set
-  pub rename-leads : {n : ℕ} {made : List Made} {t : Store} → a .0 ≡ t .fs → Leads n made t → rename-reads.Learnt κs a r s → Leads n (record { call = book.rename named; came = cameOf (renamesSays r) } ∷ made) t
+  -- the renames that were lent
+  abbrev pub renamedFrom : Renames
+  renamedFrom = record { rf = a .1 .0; entries = now (a .1 .1 .0); text = now (a .1 .1 .1 .0) }
+
+  -- a call with the record of a set that calls led to, on the renames that they left, is one call more, and leaves the set
+  pub rename-leads : {n : ℕ} {made : List Made} {t : Store} → a .0 ≡ t .fs → Leads n made t renamedFrom → rename-reads.Learnt κs a r s → Leads n (record { call = book.rename named; came = cameOf (renamesSays r) } ∷ made) t (renamesAfter renamedFrom renamedBy)
   rename-leads e l p =
-      calls.renaming (a .1 .0) (now (a .1 .1 .0)) (now (a .1 .1 .1 .0)) named renamedBy l
+      calls.renaming named renamedBy l
       (rename-says p ∙ ap (λ (fs : FileStorage). renameFile fs (a .1 .0) (now (a .1 .1 .0)) (now (a .1 .1 .1 .0)) (named .file) (named .name)) e)
 
 -- ---- `import_filenames`, likewise
@@ -191,9 +195,12 @@ module _ (κs : Lifetimes.Lfts 5) (a : World.ArgsD import_filenames.signature κ
   pub import-says : import-reads.Learnt κs a r s → importedBy ≡ importFilenames (a .0) (a .1 .0) (now (a .1 .1 .0)) (now (a .1 .1 .1 .0)) allNamed
   import-says p = p
 
-  pub import-leads : {n : ℕ} {made : List Made} {t : Store} → a .0 ≡ t .fs → Leads n made t → import-reads.Learnt κs a r s → Leads n (record { call = book.«import» allNamed; came = cameOf (renamesSays r) } ∷ made) t
+  abbrev pub importedFrom : Renames
+  importedFrom = record { rf = a .1 .0; entries = now (a .1 .1 .0); text = now (a .1 .1 .1 .0) }
+
+  pub import-leads : {n : ℕ} {made : List Made} {t : Store} → a .0 ≡ t .fs → Leads n made t importedFrom → import-reads.Learnt κs a r s → Leads n (record { call = book.«import» allNamed; came = cameOf (renamesSays r) } ∷ made) t (renamesAfter importedFrom importedBy)
   import-leads e l p =
-      calls.importing (a .1 .0) (now (a .1 .1 .0)) (now (a .1 .1 .1 .0)) allNamed importedBy l
+      calls.importing allNamed importedBy l
       (import-says p ∙ ap (λ (fs : FileStorage). importFilenames fs (a .1 .0) (now (a .1 .1 .0)) (now (a .1 .1 .1 .0)) allNamed) e)
 
 -- ---- `map_file`

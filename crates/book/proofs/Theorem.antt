@@ -14,7 +14,7 @@ use Rattle.tables.specs.Model.{Store}
 use Rattle.layout.specs.Table.{blockMapped}
 use Rattle.layout.specs.Request.{fileMapped}
 use Rattle.book.specs.Book.{Made, sizesOf, bytesOf, book}
-use Rattle.book.specs.Calls.{Leads}
+use Rattle.book.specs.Calls.{Renames, Leads}
 use Rattle.book.specs.Demand.{Asking, Asks, Demand3}
 use Rattle.book.proofs.Tables.{Holds, held-in-order}
 use Rattle.book.proofs.Agree.{agrees, sizes-agree}
@@ -23,21 +23,21 @@ use Rattle.book.proofs.Demand.{demand-of, many-blocks, many-files}
 -- 'one claim about the whole list': the calls `made`, refused ones included, led to the tables s; the blocks of `qs` cut the
 -- book's bytes, from 0 to the last
 pub demand-3 :
-    (n : ℕ) (made : List Made) (s : Store) (qs : List Asking) → Leads n made s →
+    (n : ℕ) (made : List Made) (s : Store) (r : Renames) (qs : List Asking) → Leads n made s r →
     ceiling (bytesOf (book n made .rows)) n ≤ 2147483647 →
     Asks n (sizesOf (book n made .rows)) s 0 (bytesOf (book n made .rows)) qs →
     Demand3 n (sizesOf (book n made .rows)) s qs
-demand-3 n made s qs p few a =
+demand-3 n made s r qs p few a =
     let g = agrees p in
     demand-of n (sizesOf (book n made .rows)) s qs (g .sound) (g .lengths) (g .some) (g .short) (sizes-agree p) few a
 
 -- the tables hold the book's rows
-holds : {n : ℕ} {made : List Made} {s : Store} → Leads n made s → Holds n (sizesOf (book n made .rows)) (s .fs) (s .rows)
+holds : {n : ℕ} {made : List Made} {s : Store} {r : Renames} → Leads n made s r → Holds n (sizesOf (book n made .rows)) (s .fs) (s .rows)
 holds {n} {made} {s} p =
     let g = agrees p in
     held-in-order n (sizesOf (book n made .rows)) s (g .sound) (g .lengths) (g .some) (g .short) (sizes-agree p)
 
-module _ {n : ℕ} {made : List Made} {s : Store} (p : Leads n made s) (many : 2147483647 < ceiling (bytesOf (book n made .rows)) n) where
+module _ {n : ℕ} {made : List Made} {s : Store} {r : Renames} (p : Leads n made s r) (many : 2147483647 < ceiling (bytesOf (book n made .rows)) n) where
   pub demand-3-many : (z offset size : ℤ) (out : List FileSlice) → blockMapped (s .fs) (s .rows) z offset size out ≡ record { says = refused 13; table = out }
   demand-3-many z offset size out = many-blocks (holds p) many z offset size out
 

@@ -1,7 +1,7 @@
 -- Which calls, with which outcomes, lead from a newly opened set to which tables. Each step's premise is what the function
 -- called ensures: `opened`, `addStored`, `trimStored`, `cleanStored`, `renameFile` and `importFilenames` are the definitions that the
--- contracts of `storage`, `cleaning` and `renames` cite, so a refused call is a step like any other. Renames lie in tables of
--- their own, which may hold anything at each call, so also what earlier calls left there.
+-- contracts of `storage`, `cleaning` and `renames` cite, so a refused call is a step like any other. 'Each call gets the set and
+-- renames as the last one left them'.
 use mathlib.Core.Path.{_≡_}
 use mathlib.Core.List.{List, [], _∷_}
 use Prim.Native.Nat.{ℕ, _*_, _≤_}
@@ -53,12 +53,35 @@ pub record SameSet (s t : Store) : Type 0 where
   pub dirs : take (s .fs .«num_paths» * 2) (t .dirs) ≡ take (s .fs .«num_paths» * 2) (s .dirs)
   pub text : take (s .fs .«text_len») (t .text) ≡ take (s .fs .«text_len») (s .text)
 
+-- the renames: their record, and the tables that they lie in
+pub record Renames : Type 0 where
+  pub rf : RenamedFiles
+  pub entries : List ℕ
+  pub text : List ℕ
+
+-- 'with no rename entries'
+abbrev pub noEntries : RenamedFiles
+noEntries = record { «num_renames» = 0; «text_len» = 0 }
+
+abbrev pub keptNames : Outcome RenamedFiles → RenamedFiles → RenamedFiles
+keptNames (value new) old = new
+keptNames (refused k) old = old
+
+abbrev pub renamesAfter : Renames → renames.Changed → Renames
+renamesAfter r c = record { rf = keptNames (c .says) (r .rf); entries = c .entries; text = c .text }
+
+-- other tables may be lent for the renames, too
+pub record SameRenames (r q : Renames) : Type 0 where
+  pub rf : q .rf ≡ r .rf
+  pub entries : take (r .rf .«num_renames» * 3) (q .entries) ≡ take (r .rf .«num_renames» * 3) (r .entries)
+  pub text : take (r .rf .«text_len») (q .text) ≡ take (r .rf .«text_len») (r .text)
+
 -- the calls, the latest first, on a set of that piece length, which an i32 holds, and the tables that they lead to
-pub data Leads (n : ℕ) : List Made → Store → Type 0 where
-  opening : {s : Store} → n ≤ 2147483647 → opened (pos n) ≡ value (s .fs) → Leads n [] s
-  addition : {made : List Made} {s : Store} (a : Addition) (c : Changed) → Leads n made s → c ≡ addStored s a → Leads n (call (book.add a) c ∷ made) (storeAfter (s .fs) c)
-  trim : {made : List Made} {s : Store} (c : Changed) → Leads n made s → c ≡ trimStored s → Leads n (call book.trim c ∷ made) (storeAfter (s .fs) c)
-  cleaning : {made : List Made} {s : Store} (marks stage path : List ℕ) (c : Cleaned) → Leads n made s → c ≡ cleanStored (lent (s .fs) (s .rows) (s .dirs) (s .text)) marks stage path → Leads n (call book.clean (cleanedBy s c) ∷ made) (storeAfter (s .fs) (cleanedBy s c))
-  renaming : {made : List Made} {s : Store} (rf : RenamedFiles) (entries names : List ℕ) (x : Naming) (c : renames.Changed) → Leads n made s → c ≡ renameFile (s .fs) rf entries names (x .file) (x .name) → Leads n (record { call = book.rename x; came = cameOf (c .says) } ∷ made) s
-  importing : {made : List Made} {s : Store} (rf : RenamedFiles) (entries names : List ℕ) (xs : List Naming) (c : renames.Changed) → Leads n made s → c ≡ importFilenames (s .fs) rf entries names xs → Leads n (record { call = book.«import» xs; came = cameOf (c .says) } ∷ made) s
-  lending : {made : List Made} {s t : Store} → Leads n made s → SameSet s t → Leads n made t
+pub data Leads (n : ℕ) : List Made → Store → Renames → Type 0 where
+  opening : {s : Store} {r : Renames} → n ≤ 2147483647 → opened (pos n) ≡ value (s .fs) → r .rf ≡ noEntries → Leads n [] s r
+  addition : {made : List Made} {s : Store} {r : Renames} (a : Addition) (c : Changed) → Leads n made s r → c ≡ addStored s a → Leads n (call (book.add a) c ∷ made) (storeAfter (s .fs) c) r
+  trim : {made : List Made} {s : Store} {r : Renames} (c : Changed) → Leads n made s r → c ≡ trimStored s → Leads n (call book.trim c ∷ made) (storeAfter (s .fs) c) r
+  cleaning : {made : List Made} {s : Store} {r : Renames} (marks stage path : List ℕ) (c : Cleaned) → Leads n made s r → c ≡ cleanStored (lent (s .fs) (s .rows) (s .dirs) (s .text)) marks stage path → Leads n (call book.clean (cleanedBy s c) ∷ made) (storeAfter (s .fs) (cleanedBy s c)) r
+  renaming : {made : List Made} {s : Store} {r : Renames} (x : Naming) (c : renames.Changed) → Leads n made s r → c ≡ renameFile (s .fs) (r .rf) (r .entries) (r .text) (x .file) (x .name) → Leads n (record { call = book.rename x; came = cameOf (c .says) } ∷ made) s (renamesAfter r c)
+  importing : {made : List Made} {s : Store} {r : Renames} (xs : List Naming) (c : renames.Changed) → Leads n made s r → c ≡ importFilenames (s .fs) (r .rf) (r .entries) (r .text) xs → Leads n (record { call = book.«import» xs; came = cameOf (c .says) } ∷ made) s (renamesAfter r c)
+  lending : {made : List Made} {s t : Store} {r q : Renames} → Leads n made s r → SameSet s t → SameRenames r q → Leads n made t q

@@ -13,7 +13,7 @@ use Rattle.storage.specs.Addition.{sizeOf}
 use Rattle.layout.specs.Results.{Asked}
 use Rattle.layout.specs.Mapping.{Slice}
 use Rattle.layout.specs.Request.{fileMapped}
-use Rattle.layout.specs.Table.{Filled, blockMapped}
+use Rattle.layout.specs.Table.{Filled, recordOf, blockMapped}
 use Rattle.book.specs.Slices.{slice, joined, whole as wholeFiles, bytesIn, AscendingFrom, meets, endToEnd, contentOf}
 
 -- a call of `map_block`: what it was asked, the table lent to it, and what came of it
@@ -67,6 +67,8 @@ pub record Right (pieceLength : ℕ) (sizes : List ℕ) (s : Store) (byte : ℕ)
 -- what must hold of a block at byte t
 pub record Block (pieceLength : ℕ) (sizes : List ℕ) (s : Store) (t : ℕ) (q : Asking) : Type 0 where
   pub answered : q .says ≡ value (meets sizes t (q .size))
+  -- the table's records are those of the slices, so no number in them is negative
+  pub plain : take (counted (q .says)) (q .left) ≡ map recordOf (given q)
   pub ascending : AscendingFrom 0 (given q)
   pub all : bytesIn (given q) ≡ q .size
   pub each : (a : List Slice) (p : Slice) (b : List Slice) → given q ≡ a ++ p ∷ b → Right pieceLength sizes s (t + bytesIn a) p

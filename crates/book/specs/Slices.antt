@@ -6,7 +6,7 @@ use mathlib.Core.List.{List, [], _∷_, _++_}
 use lib.Dec.{eqb}
 use lib.ListN.{getD}
 use Rattle.lists.specs.Lists.{partOf}
-use Rattle.layout.specs.Mapping.{Slice, before}
+use Rattle.layout.specs.Mapping.{Slice}
 
 abbrev pub slice : ℕ → ℕ → ℕ → Slice
 slice f o n = record { file = f; offset = o; size = n }
@@ -25,7 +25,7 @@ joined (a ∷ r) = joinedTo a (joined r)
 -- each nonempty file once, whole: 'Whole is offset 0 and the row's size'; the files are numbered from k
 abbrev pub wholeFrom : ℕ → List ℕ → List Slice
 wholeFrom k [] = []
-wholeFrom k (x ∷ xs) = before (slice k 0 x) (wholeFrom (suc k) xs)
+wholeFrom k (x ∷ xs) = cond (eqb x 0) (wholeFrom (suc k) xs) (slice k 0 x ∷ wholeFrom (suc k) xs)
 
 abbrev pub whole : List ℕ → List Slice
 whole xs = wholeFrom 0 xs
