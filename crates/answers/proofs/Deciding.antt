@@ -13,8 +13,8 @@ use Rattle.types.specs.declared.refusal.UsizeResult.{UsizeResult}
 use Rattle.types.specs.declared.refusal.UsizeResult.the-variants as usize
 use Rattle.path.specs.Join.{appended, Joined, joinedIf, fits}
 use Rattle.tables.specs.declared.storage.FileStorage.{FileStorage}
-use Rattle.storage.specs.Rules.{both, when, firstOf, outcomeOf}
-use Rattle.storage.specs.Addition.{badLength}
+use Rattle.rules.specs.Rules.{both, when, firstOf, outcomeOf}
+use Rattle.rules.specs.Bounds.{badLength}
 use Rattle.answers.specs.declared.result.UnitResult.{UnitResult}
 use Rattle.answers.specs.declared.result.UnitResult.the-variants as unit
 use Rattle.answers.specs.Results.{unitSays}

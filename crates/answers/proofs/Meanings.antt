@@ -18,8 +18,8 @@ use Rattle.tables.specs.Span.{textAt}
 use Rattle.tables.specs.Rows.{rowAt, dirAt, noPath, rootAt, has}
 use Rattle.tables.specs.Model.{Optional, absent, present, presentIf, Directory, single, absolute, stored, File, Store, directoryText, fileOf, viewOf}
 use Rattle.tables.proofs.Tabled.{length-tabled, getD-tabled}
-use Rattle.storage.specs.Rules.{both, outcomeOf}
-use Rattle.storage.specs.Addition.{badLength}
+use Rattle.rules.specs.Rules.{both, outcomeOf}
+use Rattle.rules.specs.Bounds.{badLength}
 use Rattle.answers.specs.Answers.{indexOf, askedHeld, askedDirectory, askedFile, askedLink, timeOf, rootOf, isAbsolute, internalPath, symlinkPath}
 use Rattle.answers.proofs.Deciding.{setNumber, directoryNumber, fileNumber, linkNumber}
 

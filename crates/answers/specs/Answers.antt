@@ -14,8 +14,8 @@ use Rattle.tables.specs.Span.{textAt}
 pub use Rattle.tables.specs.Rows.{isAbsolute, isInside}
 use Rattle.tables.specs.Rows.{rowAt, dirAt, rootAt, has}
 use Rattle.path.specs.Join.{Joined, appended, joinedIf, fits}
-use Rattle.storage.specs.Rules.{when, firstOf, outcomeOf}
-use Rattle.storage.specs.Addition.{sizeOf, badLength}
+use Rattle.rules.specs.Rules.{when, firstOf, outcomeOf}
+use Rattle.rules.specs.Bounds.{sizeOf, badLength}
 
 -- the number of an index, 0 where it is negative; and whether it is one of so many
 abbrev pub indexOf : ℤ → ℕ

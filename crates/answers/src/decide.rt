@@ -5,7 +5,7 @@ ghost use mathlib.Core.List.{[]};
 ghost use Prim.Native.Nat.{_/_};
 ghost use lib.Dec.{leb};
 ghost use Rattle.types.specs.Refusals.{usizeSays};
-ghost use Rattle.storage.specs.Rules.{both};
+ghost use Rattle.rules.specs.Rules.{both};
 ghost use Rattle.answers.specs.Results.{unitSays};
 ghost use Rattle.answers.specs.Answers.{askedHeld, askedDirectory, askedFile};
 use crate::result::UnitResult;
@@ -45,7 +45,7 @@ pub(crate) fn are_held(fs: FileStorage, words: usize, bytes: usize) -> bool
 pub(crate) fn set_in(fs: FileStorage, held: bool) -> UnitResult
     ensures { λ r. ⌜ unitSays r [] ≡ askedHeld fs held [] ⌝ }
 {
-    if storage::is_bad_length(fs.piece_length) {
+    if rules::is_bad_length(fs.piece_length) {
         return UnitResult::Err(Refusal::InvalidPieceLength);
     }
     if held {
@@ -58,7 +58,7 @@ pub(crate) fn set_in(fs: FileStorage, held: bool) -> UnitResult
 pub(crate) fn directory_in(fs: FileStorage, i: usize, held: bool) -> UnitResult
     ensures { λ r. ⌜ unitSays r [] ≡ askedDirectory fs i held [] ⌝ }
 {
-    if storage::is_bad_length(fs.piece_length) {
+    if rules::is_bad_length(fs.piece_length) {
         return UnitResult::Err(Refusal::InvalidPieceLength);
     }
     if fs.num_paths <= i {
@@ -74,7 +74,7 @@ pub(crate) fn directory_in(fs: FileStorage, i: usize, held: bool) -> UnitResult
 pub(crate) fn file_in(fs: FileStorage, index: FileIndex, held: bool) -> UsizeResult
     ensures { λ r. ⌜ usizeSays r ≡ askedFile fs (index .0) held (λ k. k) ⌝ }
 {
-    if storage::is_bad_length(fs.piece_length) {
+    if rules::is_bad_length(fs.piece_length) {
         return UsizeResult::Err(Refusal::InvalidPieceLength);
     }
     match index.within(fs.num_files) {

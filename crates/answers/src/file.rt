@@ -3,7 +3,7 @@
 ghost use mathlib.Core.Path.{_≡_};
 ghost use Prim.Native.Nat.{_%_};
 ghost use lib.IntN.{pos};
-ghost use Rattle.storage.specs.Rules.{both};
+ghost use Rattle.rules.specs.Rules.{both};
 ghost use Rattle.tables.specs.Rows.{rowAt, has};
 ghost use Rattle.answers.specs.Results.{i64Says, boolSays, u8Says, rootSays, rootGiven};
 ghost use Rattle.answers.specs.Answers.{askedFile, rowsHeld, rootsHeld, timesHeld, timeOf, rootOf, isAbsolute};

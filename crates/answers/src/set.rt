@@ -2,7 +2,7 @@
 ghost use mathlib.Core.Path.{_≡_};
 ghost use Prim.Native.Nat.{_%_, _^_};
 ghost use lib.IntN.{pos};
-ghost use Rattle.storage.specs.Rules.{both};
+ghost use Rattle.rules.specs.Rules.{both};
 ghost use Rattle.tables.specs.Rows.{dirAt};
 ghost use Rattle.answers.specs.Results.{i32Says, i64Says, boolSays, spanSays};
 ghost use Rattle.answers.specs.Answers.{askedSet, askedHeld, askedDirectory, dirsHeld, textHeld};

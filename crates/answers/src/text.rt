@@ -2,7 +2,7 @@
 // They rely on decide.rt, on the total accessors of `tables` and on the joins of `path`.
 ghost use mathlib.Core.Path.{_≡_};
 ghost use Rattle.types.specs.Refusals.{usizeSays};
-ghost use Rattle.storage.specs.Rules.{both};
+ghost use Rattle.rules.specs.Rules.{both};
 ghost use Rattle.tables.specs.Rows.{rowAt, has};
 ghost use Rattle.path.specs.Join.{Joined};
 ghost use Rattle.answers.specs.Results.{spanSays};

@@ -14,8 +14,9 @@ use Rattle.lists.specs.Lists.{sum}
 use Rattle.types.specs.Refusals.{value, refused}
 use Rattle.tables.specs.declared.storage.FileStorage.{FileStorage}
 use Rattle.tables.specs.Model.{Optional, absent, present, File, Model, Store, fileOf, viewOf}
-use Rattle.storage.specs.Rules.{outcomeOf, firstOf, when}
-use Rattle.storage.specs.Addition.{Addition, added, badLength}
+use Rattle.rules.specs.Rules.{outcomeOf, firstOf, when}
+use Rattle.rules.specs.Bounds.{badLength}
+use Rattle.storage.specs.Addition.{Addition, added}
 use Rattle.storage.specs.Trim.{tailPad}
 use Rattle.storage.specs.Write.{storeAdded}
 use Rattle.storage.specs.Opening.{empty, opened}
@@ -23,15 +24,15 @@ use Rattle.storage.specs.Outcomes.{Changed, changedIf, roomsOf, holds, addingNu
 use Rattle.links.specs.Clean.{space}
 use Rattle.links.specs.Judging.{lent, entriesOf, judgingNumber, cleared}
 use Rattle.cleaning.specs.Cleaning.{cleanedStore, textNeeded, Cleaned, cleanedTo, cleanStored}
-use Rattle.model.specs.Sound.{Sound}
-use Rattle.model.specs.Documents.{sizes, EndToEnd, OnDisk, Marked, OnPiece, Each, LinkEmpty}
+use Rattle.sound.specs.Sound.{Sound}
+use Rattle.sound.specs.Documents.{sizes, EndToEnd, OnDisk, Marked, OnPiece, Each, LinkEmpty}
 use Rattle.storage.specs.Opening.{fresh}
 use Rattle.model.specs.Reached.{Reached}
 use Rattle.model.specs.Reached as reach
-use Rattle.model.proofs.Common.{sum-tabled}
-use Rattle.model.proofs.Opened.{sound-opened, view-opened}
-use Rattle.model.proofs.Adding.{adding}
-use Rattle.model.proofs.Trimmed.{view-trimmed, sound-trimmed}
+use Rattle.sound.proofs.Common.{sum-tabled}
+use Rattle.sound.proofs.Opened.{sound-opened, view-opened}
+use Rattle.sound.proofs.Adding.{adding}
+use Rattle.sound.proofs.Trimmed.{view-trimmed, sound-trimmed}
 use Rattle.model.proofs.Cleaning.{work-enough}
 use Rattle.model.proofs.Cleaned.{sound-cleaned, view-cleaned}
 use Rattle.model.proofs.CleanedLent.{cleaned-lent, needed-lent}

@@ -24,10 +24,10 @@ use Rattle.types.specs.declared.index.FileSlice.{FileSlice}
 use Rattle.tables.specs.declared.storage.FileStorage.{FileStorage}
 use Rattle.tables.specs.Rows.{rowAt}
 use Rattle.tables.specs.Model.{File, Store, viewOf}
-use Rattle.storage.specs.Rules.{Rule, firstOf}
-use Rattle.storage.specs.Addition.{badLength, limit}
+use Rattle.rules.specs.Rules.{Rule, firstOf}
+use Rattle.rules.specs.Bounds.{badLength, limit}
 use Rattle.answers.specs.Answers.{rowsHeld}
-use Rattle.model.specs.Sound.{Sound}
+use Rattle.sound.specs.Sound.{Sound}
 use Rattle.layout.specs.Questions.{opened, manyPieces, noPiece, noFile, badRange, short}
 use Rattle.layout.specs.Results.{Asked}
 use Rattle.layout.specs.Mapping.{Slice}

@@ -13,16 +13,16 @@ use native.Mathlib.Numerals.{add-one}
 use Rattle.lists.specs.Lists.{sum}
 use Rattle.path.specs.Join.{isEmpty}
 use Rattle.tables.specs.Model.{Optional, absent, present, File, Model}
-use Rattle.storage.specs.Rules.{both, either}
+use Rattle.rules.specs.Rules.{both, either}
 use Rattle.storage.specs.Addition.{Addition, added, fileAdded, padAdded, padTo, padAfter, padOf, sizeAdded, flagsKept, keeps, isPresent, isV2}
 use Rattle.storage.specs.Trim.{tailPad, sizeAt, beginningAt, trimmedIf, trimmedOf}
 use Rattle.storage.proofs.Rules.{pad-none, pad-some}
 use Rattle.links.specs.Clean.{cleanedOf}
 use Rattle.renames.specs.Imports.{Naming}
-use Rattle.model.specs.Documents.{sizes}
-use Rattle.model.proofs.Files.{sum-zero}
+use Rattle.sound.specs.Documents.{sizes}
+use Rattle.sound.proofs.Files.{sum-zero}
 use Rattle.model.proofs.CleanedFiles.{clean-map-same}
-use Rattle.model.proofs.Trimming.{flagsAt, Last, tail-pad, NoTailPad, bare, other, no-tail-pad}
+use Rattle.sound.proofs.Trimming.{flagsAt, Last, tail-pad, NoTailPad, bare, other, no-tail-pad}
 use Rattle.book.specs.Book.{Came, done, refused, rename, «import», Row, Book, sizesOf, bytesOf, hasLink, versionAfter, rowFor, filling, linksAfter, afterAddition, trimmedRows, afterTrim, entry}
 
 -- ---- what the book keeps of a set

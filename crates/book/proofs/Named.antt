@@ -16,8 +16,8 @@ use lib.Seq.{sets, getD-take}
 use Rattle.types.specs.Refusals.{value, refused}
 use Rattle.tables.specs.Model.{Store, fileOf, viewOf}
 use Rattle.tables.proofs.Tabled.{length-tabled}
-use Rattle.storage.specs.Rules.{Rule, when, firstOf, both}
-use Rattle.storage.specs.Addition.{badLength}
+use Rattle.rules.specs.Rules.{Rule, when, firstOf, both}
+use Rattle.rules.specs.Bounds.{badLength}
 use Rattle.answers.specs.Answers.{isBelow, indexOf}
 use Rattle.renames.specs.declared.rename.RenamedFiles.{RenamedFiles}
 use Rattle.renames.specs.Renames.{Renamed, renamesOf, orderedFrom, inOrder, withRename, renamedTo, lacksRoom, stateOf, wordsOf, textsOf, modeFor, renameFile}
@@ -26,7 +26,7 @@ use Rattle.renames.specs.Imports.{Naming, fullPath, imported, hasNegative, impo
 use Rattle.renames.proofs.Rising.{Rises, Small, rises-read, small-read, rises-with, small-with}
 use Rattle.renames.proofs.Decisions.{order-in}
 use Rattle.renames.proofs.Kept.{kept-order}
-use Rattle.model.proofs.Adding.{pass-one, neither}
+use Rattle.sound.proofs.Adding.{pass-one, neither}
 use Rattle.book.specs.Book.{Came, Made, Row, Book, book}
 use Rattle.book.specs.Calls.{cameOf, Renames, noEntries, renamesAfter, SameRenames, Leads}
 use Rattle.book.specs.Calls as calls

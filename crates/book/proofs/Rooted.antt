@@ -16,14 +16,14 @@ use Rattle.tables.specs.Rows.{rowAt, rootAt, putRoot, putRow, has}
 use Rattle.tables.specs.Model.{Optional, absent, present, presentIf, Model, Store, fileOf, viewOf}
 use Rattle.tables.proofs.Tabled.{tabled-same, length-tabled}
 use Rattle.tables.proofs.Words.{row-back, length-root, root-ext, root-back, length-put-root, length-put-row}
-use Rattle.storage.specs.Rules.{firstOf, either}
+use Rattle.rules.specs.Rules.{firstOf, either}
 use Rattle.storage.specs.Addition.{Addition, added, addingRules, padOf, filesOf}
 use Rattle.storage.specs.Write.{storeAdded, rowAdded, padRow, textAfter}
 use Rattle.storage.specs.Outcomes.{roomsOf, holds, addingNumber}
-use Rattle.model.specs.Sound.{Place, setName, dirName, fileName, linkText, spanOf, Sound}
-use Rattle.model.proofs.Adding.{Fits, fits}
-use Rattle.model.proofs.AddedWhole.{count-files}
-use Rattle.model.proofs.Added.{view-added, sound-added}
+use Rattle.sound.specs.Sound.{Place, setName, dirName, fileName, linkText, spanOf, Sound}
+use Rattle.sound.proofs.Adding.{Fits, fits}
+use Rattle.sound.proofs.AddedWhole.{count-files}
+use Rattle.sound.proofs.Added.{view-added, sound-added}
 use Rattle.book.specs.Book.{Book, afterAddition}
 
 -- ---- tables with other roots

@@ -14,8 +14,9 @@ use borrow.Author.Tests.{ne-eqb, le-ltb}
 use Rattle.types.specs.Refusals.{value}
 use Rattle.types.specs.Refusals as outcomes
 use Rattle.tables.specs.Model.{Store, viewOf}
-use Rattle.storage.specs.Rules.{Rule, when, firstOf}
-use Rattle.storage.specs.Addition.{Addition, added, addingRules, badLength, lacks, textOf}
+use Rattle.rules.specs.Rules.{Rule, when, firstOf}
+use Rattle.rules.specs.Bounds.{badLength}
+use Rattle.storage.specs.Addition.{Addition, added, addingRules, lacks, textOf}
 use Rattle.storage.specs.Trim.{tailPad}
 use Rattle.storage.specs.Opening.{empty, opened}
 use Rattle.storage.specs.Write.{storeAdded}
@@ -28,7 +29,7 @@ use Rattle.renames.specs.Renames.{Renamed, inOrder, lacksRoom, renameFile, rena
 use Rattle.renames.specs.Renames as renames
 use Rattle.answers.specs.Answers.{isBelow}
 use Rattle.renames.specs.Imports.{Naming, hasNegative, imported, importFilenames}
-use Rattle.model.proofs.Adding.{sound-holds, adding-number}
+use Rattle.sound.proofs.Adding.{sound-holds, adding-number}
 use Rattle.model.proofs.Cleaning.{judging-is, space-enough}
 use Rattle.model.proofs.Cleaned.{needed-is}
 use Rattle.model.proofs.CleanedLent.{clean-lent}

@@ -19,9 +19,9 @@ use Rattle.tables.specs.declared.storage.FileStorage.{FileStorage}
 use Rattle.tables.specs.Rows.{rowAt}
 use Rattle.tables.specs.Model.{File, Store, tabled, fileOf, viewOf}
 use Rattle.tables.proofs.Tabled.{length-tabled, getD-tabled}
-use Rattle.storage.specs.Addition.{limit}
-use Rattle.model.specs.Sound.{Sound, sumTo, sizeOfRow}
-use Rattle.model.proofs.Files.{map-tabled}
+use Rattle.rules.specs.Bounds.{limit}
+use Rattle.sound.specs.Sound.{Sound, sumTo, sizeOfRow}
+use Rattle.sound.proofs.Files.{map-tabled}
 use Rattle.layout.specs.Search.{fileFound}
 use Rattle.layout.specs.Mapping.{Slice, before, slicesOf}
 use Rattle.layout.specs.Mapping as layout

@@ -7,8 +7,9 @@ use mathlib.Core.List.{List, [], _∷_, _++_, map}
 use lib.Dec.{eqb, ltb}
 use lib.ListN.{length}
 use Rattle.lists.specs.Lists.{sum}
-use Rattle.storage.specs.Rules.{both, either}
-use Rattle.storage.specs.Addition.{Addition, sizeOf, isPresent}
+use Rattle.rules.specs.Rules.{both, either}
+use Rattle.rules.specs.Bounds.{sizeOf}
+use Rattle.storage.specs.Addition.{Addition, isPresent}
 use Rattle.renames.specs.Imports.{Naming}
 
 -- a call, by its arguments

@@ -9,7 +9,7 @@ use Rattle.lists.specs.Lists.{sum, partOf}
 use Rattle.types.specs.Refusals.{Outcome, value, refused}
 use Rattle.types.specs.declared.index.FileSlice.{FileSlice}
 use Rattle.tables.specs.Model.{Store}
-use Rattle.storage.specs.Addition.{sizeOf}
+use Rattle.rules.specs.Bounds.{sizeOf}
 use Rattle.layout.specs.Results.{Asked}
 use Rattle.layout.specs.Mapping.{Slice}
 use Rattle.layout.specs.Request.{fileMapped}

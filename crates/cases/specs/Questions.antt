@@ -15,7 +15,7 @@ use Rattle.tables.specs.Model.{Store}
 use Rattle.storage.specs.Addition.{Addition}
 use Rattle.storage.specs.Opening.{empty}
 use Rattle.storage.specs.Outcomes.{Changed, addStored}
-use Rattle.storage.specs.Rules.{both}
+use Rattle.rules.specs.Rules.{both}
 use Rattle.answers.specs.Answers.{askedFile, askedLink, rowsHeld, textHeld}
 use Rattle.links.specs.Judging.{lent}
 use Rattle.cleaning.specs.Cleaning.{Cleaned, cleanStored}

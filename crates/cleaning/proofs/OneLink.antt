@@ -18,7 +18,7 @@ use Rattle.tables.specs.declared.rows.Row.{Row}
 use Rattle.tables.specs.Span.{endOf, textAt}
 use Rattle.tables.specs.Rows.{rowAt, directorySpan}
 use Rattle.tables.specs.Model.{Store}
-use Rattle.storage.specs.Rules.{both}
+use Rattle.rules.specs.Rules.{both}
 use Rattle.cleaning.specs.Cleaning.{goneAt, linked, relinked, isWithin, ownFits, besideFits, rewrittenAt}
 use Rattle.cleaning.specs.Writing.{leafSpan}
 use Rattle.cleaning.proofs.NewTexts.{text-by}

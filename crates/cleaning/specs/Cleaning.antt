@@ -15,7 +15,7 @@ use Rattle.tables.specs.declared.storage.FileStorage.{FileStorage}
 use Rattle.tables.specs.Span.{endOf, clip, slid, low}
 use Rattle.tables.specs.Rows.{rowAt, words, putRow, directorySpan, filled, dirsLowered}
 use Rattle.tables.specs.Model.{Store, fileOf}
-use Rattle.storage.specs.Rules.{both}
+use Rattle.rules.specs.Rules.{both}
 use Rattle.links.specs.Clean.{Entry, entryOf}
 use Rattle.links.specs.Judging.{entriesOf, directoriesOf, verdictOf, textBy, judgingNumber, cleared}
 

@@ -11,7 +11,7 @@ ghost use Rattle.path.specs.Join.{appended, Joined, joinedIf, fits};
 ghost use Rattle.tables.specs.Span.{endOf, textAt};
 ghost use Rattle.tables.specs.Rows.{rowAt, putRow, directorySpan};
 ghost use Rattle.tables.specs.Model.{Store};
-ghost use Rattle.storage.specs.Rules.{both};
+ghost use Rattle.rules.specs.Rules.{both};
 ghost use Rattle.links.specs.Judging.{lent};
 ghost use Rattle.cleaning.specs.Cleaning.{storageWith, rowWith, goneAt, relinked, isWithin, rewrittenAt};
 ghost use Rattle.cleaning.specs.Writing.{prefixOf, leafSpan, emptiedAt};

@@ -31,8 +31,8 @@ use Rattle.types.specs.declared.refusal.Refusal.{Refusal}
 use Rattle.types.proofs.Refusals.{numbered}
 use Rattle.types.specs.declared.signed.Unsigned.the-variants.{Of, Negative}
 use Rattle.tables.specs.declared.storage.FileStorage.{FileStorage}
-use Rattle.storage.specs.Rules.{Rule, when, firstOf, outcomeOf, both, either}
-use Rattle.storage.specs.Addition.{badLength, isNegative, sizeOf, limit}
+use Rattle.rules.specs.Rules.{Rule, when, firstOf, outcomeOf, both, either}
+use Rattle.rules.specs.Bounds.{badLength, isNegative, sizeOf, limit}
 use Rattle.answers.specs.Answers.{indexOf, isBelow}
 use Rattle.layout.specs.declared.decide.Check.{Check}
 use Rattle.layout.specs.declared.decide.Check.the-variants.{Go, Stop}

@@ -19,8 +19,8 @@ use Rattle.tables.specs.Rows.{rowAt}
 use Rattle.types.specs.Refusals.{numberOf, value, refused}
 use Rattle.types.specs.declared.refusal.Refusal.{Refusal}
 use Rattle.tables.specs.declared.storage.FileStorage.{FileStorage}
-use Rattle.storage.specs.Rules.{firstOf}
-use Rattle.storage.specs.Addition.{sizeOf}
+use Rattle.rules.specs.Rules.{firstOf}
+use Rattle.rules.specs.Bounds.{sizeOf}
 use Rattle.answers.specs.Answers.{indexOf, rowsHeld}
 use Rattle.layout.specs.declared.decide.Check.{Check}
 use Rattle.layout.specs.declared.decide.Check.the-variants.{Go, Stop}

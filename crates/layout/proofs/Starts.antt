@@ -10,8 +10,8 @@ use Rattle.types.specs.Refusals.{numberOf}
 use Rattle.types.specs.declared.refusal.Refusal.{Refusal}
 use Rattle.tables.specs.declared.storage.FileStorage.{FileStorage}
 use Rattle.tables.specs.Rows.{rowAt}
-use Rattle.storage.specs.Rules.{firstOf}
-use Rattle.storage.specs.Addition.{sizeOf}
+use Rattle.rules.specs.Rules.{firstOf}
+use Rattle.rules.specs.Bounds.{sizeOf}
 use Rattle.answers.specs.Answers.{indexOf, rowsHeld}
 use Rattle.layout.specs.declared.decide.Check.{Check}
 use Rattle.layout.specs.declared.decide.Check.the-variants.{Go, Stop}

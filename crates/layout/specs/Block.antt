@@ -9,8 +9,8 @@ use lib.ListN.{length}
 use lib.Seq.{sets}
 use Rattle.types.specs.Refusals.{Outcome, value, refused}
 use Rattle.tables.specs.declared.storage.FileStorage.{FileStorage}
-use Rattle.storage.specs.Rules.{Rule, firstOf}
-use Rattle.storage.specs.Addition.{sizeOf}
+use Rattle.rules.specs.Rules.{Rule, firstOf}
+use Rattle.rules.specs.Bounds.{sizeOf}
 use Rattle.answers.specs.Answers.{indexOf, rowsHeld}
 use Rattle.layout.specs.Questions.{opened, manyPieces, noPiece, badRange, short}
 use Rattle.layout.specs.Pieces.{startOf}

@@ -6,7 +6,7 @@ use lib.Dec.{leb}
 use lib.IntN.{ℤ}
 use Rattle.types.specs.Refusals.{numberOf}
 use Rattle.tables.specs.declared.storage.FileStorage.{FileStorage}
-use Rattle.storage.specs.Rules.{Rule}
+use Rattle.rules.specs.Rules.{Rule}
 use Rattle.layout.specs.declared.decide.Check.{Check}
 use Rattle.layout.specs.declared.decide.Check.the-variants.{Go, Stop}
 use Rattle.layout.specs.declared.file.Place.{Place}

@@ -8,7 +8,7 @@ use Rattle.lists.specs.Lists.{ceiling, equal}
 use Rattle.tables.specs.declared.storage.FileStorage.{FileStorage}
 use Rattle.tables.specs.Rows.{rowAt}
 use Rattle.answers.specs.Answers.{rootOf}
-use Rattle.storage.specs.Rules.{either}
+use Rattle.rules.specs.Rules.{either}
 use Rattle.layout.specs.Questions.{numPieces}
 use Rattle.layout.specs.Pieces.{blocksIn}
 use Rattle.layout.specs.Mapping.{Request}

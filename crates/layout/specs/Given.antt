@@ -5,7 +5,7 @@ use lib.IntN.{ℤ, pos}
 use Rattle.types.specs.Refusals.{Outcome}
 use Rattle.tables.specs.declared.storage.FileStorage.{FileStorage}
 use Rattle.tables.specs.Rows.{rowAt}
-use Rattle.storage.specs.Addition.{sizeOf}
+use Rattle.rules.specs.Bounds.{sizeOf}
 use Rattle.answers.specs.Answers.{indexOf, rowsHeld}
 use Rattle.layout.specs.Results.{Range}
 use Rattle.layout.specs.Search.{fileFound}

@@ -10,7 +10,7 @@ use lib.Seq.{sets}
 use Rattle.types.specs.Refusals.{Outcome, value, refused}
 use Rattle.tables.specs.declared.storage.FileStorage.{FileStorage}
 use Rattle.tables.specs.Rows.{filled}
-use Rattle.storage.specs.Addition.{sizeOf}
+use Rattle.rules.specs.Bounds.{sizeOf}
 use Rattle.layout.specs.Results.{Asked}
 use Rattle.layout.specs.Request.{fileMapped}
 

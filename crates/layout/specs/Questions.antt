@@ -10,8 +10,8 @@ use Rattle.types.specs.Refusals.{Outcome}
 use Rattle.tables.specs.declared.storage.FileStorage.{FileStorage}
 use Rattle.tables.specs.declared.rows.Row.{Row}
 use Rattle.tables.specs.Rows.{has}
-use Rattle.storage.specs.Rules.{Rule, when, firstOf, outcomeOf, both, either}
-use Rattle.storage.specs.Addition.{badLength, isNegative, sizeOf, limit}
+use Rattle.rules.specs.Rules.{Rule, when, firstOf, outcomeOf, both, either}
+use Rattle.rules.specs.Bounds.{badLength, isNegative, sizeOf, limit}
 use Rattle.answers.specs.Answers.{isBelow}
 
 abbrev pub asked : {A : Type 0} → List Rule → A → Outcome A

@@ -10,7 +10,7 @@ use lib.Seq.{sets}
 use Rattle.types.specs.Refusals.{Outcome, value, refused}
 use Rattle.types.specs.declared.index.FileSlice.{FileSlice}
 use Rattle.tables.specs.declared.storage.FileStorage.{FileStorage}
-use Rattle.storage.specs.Rules.{firstOf}
+use Rattle.rules.specs.Rules.{firstOf}
 use Rattle.layout.specs.Questions.{short}
 use Rattle.layout.specs.Mapping.{Slice}
 use Rattle.layout.specs.Block.{blockOf, blockRules}

@@ -7,7 +7,7 @@ ghost use lib.ListN.{length};
 ghost use lib.Seq.{sets};
 ghost use Rattle.types.specs.Refusals.{usizeSays};
 ghost use Rattle.tables.specs.Rows.{filled};
-ghost use Rattle.storage.specs.Addition.{sizeOf};
+ghost use Rattle.rules.specs.Bounds.{sizeOf};
 ghost use Rattle.layout.specs.Results.{requestSays};
 ghost use Rattle.layout.specs.List.{Listed, answerWords, answerAt, filesMapped};
 use crate::file::map_file;

@@ -8,7 +8,7 @@ ghost use lib.Dec.{eqb};
 ghost use lib.ListN.{length};
 ghost use lib.Seq.{sets};
 ghost use Rattle.types.specs.Refusals.{usizeSays};
-ghost use Rattle.storage.specs.Rules.{firstOf};
+ghost use Rattle.rules.specs.Rules.{firstOf};
 ghost use Rattle.layout.specs.Questions.{short};
 ghost use Rattle.layout.specs.Mapping.{Slice, before, walk, slicesOf};
 ghost use Rattle.layout.specs.Block.{filesOf, offsetsOf, sizesOf, Mapped, mapped, hasPlaces, mapBlock};

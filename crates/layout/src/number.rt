@@ -5,7 +5,7 @@ ghost use Prim.Native.Nat.{_-_, _/_, _%_, min};
 ghost use mir.Syntax.{w64};
 ghost use mir.Val.{ofZ};
 ghost use Rattle.lists.specs.Lists.{ceiling};
-ghost use Rattle.storage.specs.Addition.{isNegative, sizeOf};
+ghost use Rattle.rules.specs.Bounds.{isNegative, sizeOf};
 ghost use Rattle.answers.specs.Answers.{indexOf};
 use types::FileIndex;
 use types::PieceIndex;

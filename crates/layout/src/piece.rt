@@ -5,7 +5,7 @@ ghost use mathlib.Core.List.{[], _∷_};
 ghost use Prim.Native.Nat.{_+_, _-_, _*_, _/_, _%_, _^_, _≤_, _<_};
 ghost use lib.IntN.{pos};
 ghost use lib.ListN.{length};
-ghost use Rattle.storage.specs.Addition.{sizeOf};
+ghost use Rattle.rules.specs.Bounds.{sizeOf};
 ghost use Rattle.answers.specs.Answers.{indexOf, rowsHeld};
 ghost use Rattle.answers.specs.Results.{i32Says};
 ghost use Rattle.layout.specs.Results.{Range, pieceSays, fileSays, pieceRangeSays, fileRangeSays};

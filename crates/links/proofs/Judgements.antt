@@ -16,9 +16,9 @@ use Rattle.types.specs.declared.refusal.UsizeResult.{UsizeResult}
 use Rattle.types.specs.declared.refusal.UsizeResult.the-variants as usize
 use Rattle.types.proofs.Refusals.{numbered}
 use Rattle.tables.specs.Model.{Store}
-use Rattle.storage.specs.Rules.{Rule, when, outcomeOf, both, either}
-use Rattle.storage.specs.Addition.{badLength}
-use Rattle.storage.proofs.Rules.{passed, either-false, outcome-value, outcome-refused}
+use Rattle.rules.specs.Rules.{Rule, when, outcomeOf, both, either}
+use Rattle.rules.specs.Bounds.{badLength}
+use Rattle.rules.proofs.Rules.{passed, either-false, outcome-value, outcome-refused}
 use Rattle.answers.specs.Answers.{rowsHeld, dirsHeld, textHeld}
 use Rattle.links.specs.Clean.{Entry, space, linkCount}
 use Rattle.links.specs.Judging.{entriesOf, directoriesOf, verdictOf, verdictsFor, verdicts, lacksSpace, judgingNumber, cleared, Judged, judged}

@@ -15,7 +15,7 @@ use Rattle.tables.specs.declared.rows.Row.{Row}
 use Rattle.tables.specs.Span.{textAt}
 use Rattle.tables.specs.Rows.{dirAt, has}
 use Rattle.tables.specs.Model.{single, absolute, stored, Store, directoryOf}
-use Rattle.storage.specs.Rules.{both}
+use Rattle.rules.specs.Rules.{both}
 use Rattle.answers.specs.Answers.{isInside}
 use Rattle.links.specs.Clean.{Entry, Seen, nothing, file, link, fileAt, isDirectory, linkCount}
 use Rattle.links.specs.Judging.{settledMark, relativeMark, firstMark}

@@ -15,7 +15,7 @@ use Rattle.tables.specs.Span.{textAt}
 use Rattle.tables.specs.Rows.{rowAt, dirAt, has}
 use Rattle.tables.specs.Model.{single, absolute, stored, presentIf, Store, directoryText, directoryOf, tabled}
 use Rattle.tables.proofs.Tabled.{tabled-same}
-use Rattle.storage.specs.Rules.{both}
+use Rattle.rules.specs.Rules.{both}
 use Rattle.answers.specs.Answers.{isInside, internalPath}
 use Rattle.links.specs.Clean.{Entry, pathIn, own, isHeld, heldText, covers, isDirectory, Seen, nothing, file, link, orHere, fileAt, isThere, directoryLength}
 use Rattle.links.specs.Judging.{isFlagged, entriesOf, directoriesOf, besideText}

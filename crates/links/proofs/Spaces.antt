@@ -13,7 +13,7 @@ use Rattle.lists.proofs.Orders.{le-or-lt}
 use Rattle.tables.specs.Span.{textAt}
 use Rattle.tables.specs.Rows.{rowAt, has}
 use Rattle.tables.specs.Model.{Store}
-use Rattle.storage.specs.Rules.{either}
+use Rattle.rules.specs.Rules.{either}
 use Rattle.links.specs.Clean.{Entry, directoryLength, space, linkCount}
 use Rattle.links.specs.Judging.{isFlagged, entriesOf, lacksSpace}
 use Rattle.links.specs.Walking.{entryAt, entriesFrom}

@@ -13,8 +13,8 @@ use Rattle.path.specs.Join.{appended}
 use Rattle.tables.specs.declared.storage.FileStorage.{FileStorage}
 use Rattle.tables.specs.Rows.{has}
 use Rattle.tables.specs.Model.{Directory, single, absolute, stored, Store, fileOf, directoryText, tabled}
-use Rattle.storage.specs.Rules.{when, firstOf, both, either}
-use Rattle.storage.specs.Addition.{badLength}
+use Rattle.rules.specs.Rules.{when, firstOf, both, either}
+use Rattle.rules.specs.Bounds.{badLength}
 use Rattle.answers.specs.Answers.{rowsHeld, dirsHeld, textHeld}
 use Rattle.links.specs.Clean.{Entry, entryOf, own, Seen, nothing, file, link, isDirectory, fileAt, linksOf, resolves, space, linkCount}
 

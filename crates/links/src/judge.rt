@@ -6,7 +6,7 @@ ghost use mathlib.Core.List.{map};
 ghost use Prim.Native.Nat.{_*_, _≤_};
 ghost use lib.ListN.{length};
 ghost use Rattle.types.specs.Refusals.{usizeSays};
-ghost use Rattle.storage.specs.Rules.{both, outcomeOf};
+ghost use Rattle.rules.specs.Rules.{both, outcomeOf};
 ghost use Rattle.answers.specs.Answers.{rowsHeld, dirsHeld, textHeld};
 ghost use Rattle.links.specs.Clean.{space, linkCount};
 ghost use Rattle.links.specs.Judging.{lent, entriesOf, verdicts, judgingNumber, cleared, Judged, judged};
@@ -44,7 +44,7 @@ fn links_in(
 ) -> UsizeResult
     ensures { λ r. ⌜ usizeSays r ≡ outcomeOf (judgingNumber (lent fs (now (rows .entry)) (now (dirs .entry)) (now (text .entry))) marks stage path) (linkCount (entriesOf (lent fs (now (rows .entry)) (now (dirs .entry)) (now (text .entry))))) ⌝ }
 {
-    if storage::is_bad_length(fs.piece_length) {
+    if rules::is_bad_length(fs.piece_length) {
         return UsizeResult::Err(Refusal::InvalidPieceLength);
     }
     if !is_held(fs, rows, dirs, text) {

@@ -14,9 +14,9 @@ use borrow.Author.Tests.{eq-eqb, ne-eqb, leb-true}
 use Rattle.lists.specs.Lists.{partOf}
 use Rattle.lists.specs.Decimal.{valueFrom}
 use Rattle.path.specs.Join.{isEmpty}
-use Rattle.storage.specs.Rules.{both, either}
+use Rattle.rules.specs.Rules.{both, either}
 use Rattle.tables.specs.Model.{Optional, absent, present, presentIf}
-use Rattle.model.proofs.Common.{both-first, both-second}
+use Rattle.sound.proofs.Common.{both-first, both-second}
 use Rattle.listing.specs.Form.{linesFrom, lines, unblanked, isDigit, areDigits, isNumber, numberIn, onlyIf}
 use Rattle.listing.specs.Answers.{firstLine, behindLine}
 

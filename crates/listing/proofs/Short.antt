@@ -17,8 +17,9 @@ use Rattle.types.specs.Refusals.{Outcome, value, refused}
 use Rattle.path.specs.Split.{isSeparator, isComplete, trimmedFrom, trimmed, beforeLast, behindLast, behindFirst, rsplitBranch, rsplitLeaf, lsplitFirst, lsplitRest, hasParent}
 use Rattle.path.specs.Join.{isEmpty, Joined, joinedIf, fits}
 use Rattle.tables.specs.Model.{Optional, absent, present, Directory, single, absolute, stored, File, Model}
-use Rattle.storage.specs.Rules.{firstOf, both, either}
-use Rattle.storage.specs.Addition.{Addition, limit, isNegative, limitedName, badName, badLength, disagree, filesOf, unled, under, pathName, storedName, placeFor, newName, fileAdded, padAdded, padDirectory, padOf, sizeAdded, added, lacks, textOf, addingRules, addedTo}
+use Rattle.rules.specs.Rules.{firstOf, both, either}
+use Rattle.rules.specs.Bounds.{limit, isNegative, badLength}
+use Rattle.storage.specs.Addition.{Addition, limitedName, badName, disagree, filesOf, unled, under, pathName, storedName, placeFor, newName, fileAdded, padAdded, padDirectory, padOf, sizeAdded, added, lacks, textOf, addingRules, addedTo}
 use Rattle.storage.specs.Opening.{fresh}
 use Rattle.listing.specs.Form.{linesFrom, lines, pieceLengthIn, fileIn}
 use Rattle.listing.specs.Run.{Run, listed, stopped, goOn, readAs, runFrom, openedAs, runLines, run, places, pieces, internalPath, fileLine, fileLines, totalsLine, printed, listing}

@@ -17,15 +17,16 @@ use Rattle.types.specs.Refusals.{Outcome, value, refused}
 use Rattle.tables.specs.declared.storage.FileStorage.{FileStorage}
 use Rattle.tables.specs.Entry.{presenceIf}
 use Rattle.tables.specs.Model.{Optional, absent, present, presentIf, Model, Store, viewOf}
-use Rattle.storage.specs.Rules.{outcomeOf, both}
-use Rattle.storage.specs.Addition.{Addition, Rooms, sizeOf, added, addedTo}
+use Rattle.rules.specs.Rules.{outcomeOf, both}
+use Rattle.rules.specs.Bounds.{sizeOf}
+use Rattle.storage.specs.Addition.{Addition, Rooms, added, addedTo}
 use Rattle.storage.specs.Write.{storeAdded}
 use Rattle.storage.specs.Outcomes.{Changed, roomsOf, addingNumber, optionalOf}
 use Rattle.storage.specs.Opening.{empty}
 use Rattle.storage.specs.Opening.{fresh}
-use Rattle.model.specs.Sound.{Sound}
-use Rattle.model.proofs.Adding.{adding}
-use Rattle.model.proofs.Added.{view-added, sound-added}
+use Rattle.sound.specs.Sound.{Sound}
+use Rattle.sound.proofs.Adding.{adding}
+use Rattle.sound.proofs.Added.{view-added, sound-added}
 use Rattle.listing.specs.Form.{lines, provided, onlyIf, numberIn, pieceLengthIn, areFlags, additionOf, additionIn, fileIn}
 use Rattle.listing.specs.Run.{Run, listed, stopped, counted, goOn, openedAs, readAs, runFrom, run, places}
 use Rattle.listing.specs.Answers.{firstLine}

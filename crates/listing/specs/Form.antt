@@ -9,7 +9,7 @@ use Rattle.lists.specs.Lists.{partOf}
 use Rattle.lists.specs.Decimal.{valueFrom}
 use Rattle.path.specs.Join.{isEmpty}
 use Rattle.tables.specs.Model.{Optional, absent, present, presentIf}
-use Rattle.storage.specs.Rules.{both, either}
+use Rattle.rules.specs.Rules.{both, either}
 use Rattle.storage.specs.Addition.{Addition}
 
 -- 'Lines end in a line feed, which the last may lack': the lines of an input, `line` being what stands before it in its

@@ -9,7 +9,7 @@ ghost use Rattle.path.specs.Join.{Joined, joinedIf, fits};
 ghost use Rattle.tables.specs.Entry.{presenceIf};
 ghost use Rattle.tables.specs.Model.{viewOf};
 ghost use Rattle.storage.specs.Outcomes.{Changed, storageSays};
-ghost use Rattle.model.specs.Sound.{Sound};
+ghost use Rattle.sound.specs.Sound.{Sound};
 ghost use Rattle.listing.specs.Form.{lines, pieceLengthIn, fileIn};
 ghost use Rattle.listing.specs.Run.{run, runFrom, places, listing};
 ghost use Rattle.storage.specs.Plan.{storeOf};

@@ -19,8 +19,8 @@ use Rattle.types.specs.declared.refusal.Refusal.{Refusal}
 use Rattle.types.specs.declared.refusal.UsizeResult.{UsizeResult}
 use Rattle.types.specs.declared.refusal.UsizeResult.the-variants.{Ok, Err}
 use Rattle.tables.specs.declared.storage.FileStorage.{FileStorage}
-use Rattle.storage.specs.Rules.{Rule, firstOf}
-use Rattle.storage.specs.Addition.{sizeOf}
+use Rattle.rules.specs.Rules.{Rule, firstOf}
+use Rattle.rules.specs.Bounds.{sizeOf}
 use Rattle.answers.specs.Answers.{indexOf, rowsHeld}
 use Rattle.layout.specs.declared.start.Cursor.{Cursor}
 use Rattle.layout.specs.Questions.{opened, manyPieces, noPiece, badRange, short}

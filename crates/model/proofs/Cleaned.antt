@@ -19,10 +19,10 @@ use Rattle.storage.specs.Addition.{fileText, textOf}
 use Rattle.links.specs.Clean.{Entry, entryOf, isHeld, linkedTo, cleanFile, cleanedOf, space}
 use Rattle.links.specs.Judging.{entriesOf, directoriesOf, verdictOf, textBy}
 use Rattle.cleaning.specs.Cleaning.{fileVerdicts, emptied, cleanedStore, textNeeded}
-use Rattle.model.specs.Sound.{sumTo, Sound}
-use Rattle.model.proofs.Common.{sum-tabled}
-use Rattle.model.proofs.Files.{map-tabled}
-use Rattle.model.proofs.Texts.{text-is}
+use Rattle.sound.specs.Sound.{sumTo, Sound}
+use Rattle.sound.proofs.Common.{sum-tabled}
+use Rattle.sound.proofs.Files.{map-tabled}
+use Rattle.sound.proofs.Texts.{text-is}
 use Rattle.model.proofs.CleanedFiles.{held-flagged}
 use Rattle.model.proofs.CleanedText.{Turned, turned-then, turned-view}
 use Rattle.model.proofs.CleanedRun.{verdictIn, textLength, amount, amount-same, emptiedFile, freed, Passed, emptied-turned, rewrittenFile, grown, rewritten-turned}

@@ -21,8 +21,8 @@ use Rattle.tables.specs.Model.{present, presentIf, Directory, single, absolute,
 use Rattle.links.specs.Clean.{Entry, entryOf, isHeld, heldText, linkedTo}
 use Rattle.links.specs.Judging.{besideText, textBy}
 use Rattle.cleaning.specs.Cleaning.{goneAt, linked, relinked, emptied, writtenAt, ownFits, besideFits, hasPlace, rewrittenAt, rewritten}
-use Rattle.model.specs.Sound.{dirName, fileName, linkText, Sound}
-use Rattle.model.proofs.Texts.{dir-span, name-span, link-span, text-length}
+use Rattle.sound.specs.Sound.{dirName, fileName, linkText, Sound}
+use Rattle.sound.proofs.Texts.{dir-span, name-span, link-span, text-length}
 use Rattle.model.proofs.CleanedText.{Turned, turned-self, turned-same, turned-then, atFile}
 use Rattle.model.proofs.CleanedStep.{gone-is, emptied-turn, linked-turn, relinked-turn}
 

@@ -25,9 +25,9 @@ use Rattle.tables.proofs.Words.{row-back, row-other, length-put-row}
 use Rattle.tables.proofs.Moves.{row-filled, dir-lowered, length-lowered}
 use Rattle.links.specs.Clean.{linkedTo}
 use Rattle.cleaning.specs.Cleaning.{storageWith, rowWith, rowLowered, rowsLowered, cutOut, goneAt, linked, relinked}
-use Rattle.model.specs.Sound.{Place, setName, dirName, fileName, linkText, nowhere, spanOf, Sound}
-use Rattle.model.proofs.Texts.{link-span}
-use Rattle.model.proofs.TrimmedSpans.{low-nowhere}
+use Rattle.sound.specs.Sound.{Place, setName, dirName, fileName, linkText, nowhere, spanOf, Sound}
+use Rattle.sound.proofs.Texts.{link-span}
+use Rattle.sound.proofs.TrimmedSpans.{low-nowhere}
 use Rattle.model.proofs.CleanedText.{isLink, link-is, link-not, Area, over, Relinks, Turned, turned-same, turned-then, atFile, turn}
 
 -- ---- rows once a span is removed

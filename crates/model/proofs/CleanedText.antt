@@ -20,11 +20,11 @@ use Rattle.tables.specs.Model.{present, presentIf, File, Model, Store, tabled, 
 use Rattle.tables.proofs.Tabled.{tabled-same}
 use Rattle.links.specs.Clean.{linkedTo}
 use Rattle.cleaning.specs.Cleaning.{storageWith, rowWith}
-use Rattle.model.specs.Sound.{Place, setName, dirName, fileName, linkText, spanOf, sumTo, textAtRow, lengths, sizeOfRow, padOfRow, Sound}
-use Rattle.model.proofs.Common.{sum-same}
-use Rattle.model.proofs.Files.{sum-skip}
-use Rattle.model.proofs.Texts.{link-span, directory-same}
-use Rattle.model.proofs.AddedTexts.{fileFrom, same-file}
+use Rattle.sound.specs.Sound.{Place, setName, dirName, fileName, linkText, spanOf, sumTo, textAtRow, lengths, sizeOfRow, padOfRow, Sound}
+use Rattle.sound.proofs.Common.{sum-same}
+use Rattle.sound.proofs.Files.{sum-skip}
+use Rattle.sound.proofs.Texts.{link-span, directory-same}
+use Rattle.sound.proofs.AddedTexts.{fileFrom, same-file}
 
 -- ---- places
 

@@ -19,9 +19,9 @@ use Rattle.links.specs.Judging.{verdictOf, besideText, textBy}
 use Rattle.links.proofs.Walk.{append-short}
 use Rattle.links.proofs.Verdicts.{verdict-text}
 use Rattle.cleaning.specs.Cleaning.{goneAt, fileVerdictsFor, keptAfter, newBytes}
-use Rattle.model.specs.Sound.{sumTo, textAtRow, Sound}
-use Rattle.model.proofs.Common.{sum-more}
-use Rattle.model.proofs.Texts.{link-span}
+use Rattle.sound.specs.Sound.{sumTo, textAtRow, Sound}
+use Rattle.sound.proofs.Common.{sum-more}
+use Rattle.sound.proofs.Texts.{link-span}
 use Rattle.model.proofs.CleanedFiles.{held-flagged}
 use Rattle.model.proofs.CleanedStep.{gone-is}
 use Rattle.model.proofs.CleanedRun.{verdictIn, verdict-here, verdict-behind, textLength, text-len, amount, emptiedFile, freed, rewrittenFile, text-longer}

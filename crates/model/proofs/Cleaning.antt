@@ -13,13 +13,13 @@ use lib.ListN.{length}
 use borrow.Author.Tests.{le-leb, le-ltb, ltb-false}
 use Rattle.types.specs.Refusals.{value, refused}
 use Rattle.tables.specs.Model.{Store}
-use Rattle.storage.specs.Rules.{both}
-use Rattle.storage.specs.Addition.{badLength}
+use Rattle.rules.specs.Rules.{both}
+use Rattle.rules.specs.Bounds.{badLength}
 use Rattle.links.specs.Clean.{space, linkCount}
 use Rattle.links.specs.Judging.{entriesOf, lacksSpace, judgingNumber, cleared}
 use Rattle.cleaning.specs.Cleaning.{cleanedStore, textNeeded, Cleaned, cleanedTo, cleanStored}
-use Rattle.model.specs.Sound.{Sound}
-use Rattle.model.proofs.Adding.{pass-one, neither}
+use Rattle.sound.specs.Sound.{Sound}
+use Rattle.sound.proofs.Adding.{pass-one, neither}
 
 module _ (s : Store) (marks stage path : ℕ) where
   abbrev held : Bool

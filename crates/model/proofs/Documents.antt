@@ -14,15 +14,15 @@ use Rattle.lists.specs.Lists.{sum}
 use Rattle.lists.proofs.Sums.{sum-append}
 use Rattle.tables.specs.Model.{Optional, absent, present, presentIf, File, Model}
 use Rattle.storage.specs.Addition.{Addition, added, fileAdded, padAdded, padOf, sizeAdded, flagsKept, keeps, isPresent, filesOf, isV2, isOpen, decides, padTo, padAfter}
-use Rattle.storage.specs.Rules.{both, either}
+use Rattle.rules.specs.Rules.{both, either}
 use Rattle.storage.specs.Trim.{tailPad, sizeAt, beginningAt, without, trimmedIf}
 use Rattle.links.specs.Clean.{cleanedOf}
-use Rattle.model.specs.Documents as documents
-use Rattle.model.specs.Documents.{sizes, EndToEnd, sizeOnDisk, OnDisk, Marked, OnPiece, Each, none, more, LinkEmpty}
+use Rattle.sound.specs.Documents as documents
+use Rattle.sound.specs.Documents.{sizes, EndToEnd, sizeOnDisk, OnDisk, Marked, OnPiece, Each, none, more, LinkEmpty}
 use Rattle.model.specs.Reached.{Reached, opened, addition, trim, cleaning}
-use Rattle.model.proofs.Common.{both-second}
-use Rattle.model.proofs.Trimming.{flagsAt, Last, TailPad, tail-pad}
-use Rattle.model.proofs.Files.{map-take, map-drop, each-append, each-front, each-take, each-drop, each-map, each-unmap, sum-zero, sum-except, sizesOf, Laid, done, next, laid-append, laid-take, laid-map, laid-empty, laid-offset}
+use Rattle.sound.proofs.Common.{both-second}
+use Rattle.sound.proofs.Trimming.{flagsAt, Last, TailPad, tail-pad}
+use Rattle.sound.proofs.Files.{map-take, map-drop, each-append, each-front, each-take, each-drop, each-map, each-unmap, sum-zero, sum-except, sizesOf, Laid, done, next, laid-append, laid-take, laid-map, laid-empty, laid-offset}
 use Rattle.model.proofs.CleanedFiles.{cleanedIn, clean-same, clean-held, clean-map, clean-map-same}
 
 -- the pad that an addition makes, where it makes one

@@ -12,9 +12,9 @@ use borrow.Author.Tests.{eqb-true, not-false}
 use Rattle.types.specs.Refusals.{value, refused}
 use Rattle.types.specs.Signed.{clampedOf}
 use Rattle.tables.specs.declared.storage.FileStorage.{FileStorage}
-use Rattle.storage.specs.Rules.{Rule, when, firstOf, outcomeOf, both}
-use Rattle.storage.specs.Addition.{badLength}
-use Rattle.storage.proofs.Rules.{Numbered, Passed, passed}
+use Rattle.rules.specs.Rules.{Rule, when, firstOf, outcomeOf, both}
+use Rattle.rules.specs.Bounds.{badLength}
+use Rattle.rules.proofs.Rules.{Numbered, Passed, passed}
 use Rattle.answers.specs.Answers.{indexOf, isBelow, askedFile}
 use Rattle.answers.proofs.Deciding.{allowed}
 

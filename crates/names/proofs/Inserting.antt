@@ -20,7 +20,7 @@ use Rattle.lists.specs.Lists.{partOf}
 use Rattle.lists.proofs.Parts.{drop-take, part-length}
 use Rattle.lists.proofs.Orders.{le-or-lt}
 use Rattle.lists.proofs.Runs.{sets-append, sets-cut, sets-over, part-sets}
-use Rattle.storage.specs.Rules.{both}
+use Rattle.rules.specs.Rules.{both}
 use Rattle.names.specs.Hashes.{inserted, ascending}
 use Rattle.names.specs.Gathering.{above, gathered, belowCount, Rising, Begun, Holds}
 

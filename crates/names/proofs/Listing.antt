@@ -11,8 +11,8 @@ use Rattle.types.specs.declared.refusal.Refusal.{Refusal}
 use Rattle.tables.specs.declared.storage.FileStorage.{FileStorage}
 use Rattle.tables.specs.declared.span.Span.{Span}
 use Rattle.tables.specs.Span.{textAt}
-use Rattle.storage.specs.Rules.{when, firstOf, both}
-use Rattle.storage.specs.Addition.{badLength}
+use Rattle.rules.specs.Rules.{when, firstOf, both}
+use Rattle.rules.specs.Bounds.{badLength}
 use Rattle.answers.specs.declared.result.SpanResult.{SpanResult}
 use Rattle.answers.specs.declared.result.SpanResult.the-variants.{Ok, Err}
 use Rattle.answers.specs.Results.{spanSays}

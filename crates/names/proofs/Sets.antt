@@ -9,7 +9,7 @@ use native.Mathlib.Omega.{arith}
 use borrow.Author.Tests.{eq-eqb, ne-eqb, not-true, not-false}
 use Rattle.lists.specs.Lists.{equal}
 use Rattle.types.specs.Refusals.{Outcome, value, refused}
-use Rattle.storage.specs.Rules.{when, firstOf, outcomeOf, both, either}
+use Rattle.rules.specs.Rules.{when, firstOf, outcomeOf, both, either}
 use Rattle.tables.specs.declared.rows.Row.{Row}
 use Rattle.tables.specs.Rows.{rowAt, has}
 use Rattle.names.specs.Compatible.{Names, pathIn, linkIn, sameNamed, sameFile, sameFrom, compatible}

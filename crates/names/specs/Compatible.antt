@@ -10,8 +10,8 @@ use Rattle.types.specs.Refusals.{Outcome}
 use Rattle.tables.specs.declared.storage.FileStorage.{FileStorage}
 use Rattle.tables.specs.declared.rows.Row.{Row}
 use Rattle.tables.specs.Rows.{rowAt, has}
-use Rattle.storage.specs.Rules.{when, firstOf, outcomeOf, both, either}
-use Rattle.storage.specs.Addition.{badLength}
+use Rattle.rules.specs.Rules.{when, firstOf, outcomeOf, both, either}
+use Rattle.rules.specs.Bounds.{badLength}
 use Rattle.answers.specs.Answers.{symlinkPath}
 use Rattle.names.specs.Paths.{filePath, namesHeld}
 

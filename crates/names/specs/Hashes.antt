@@ -13,8 +13,8 @@ use Rattle.tables.specs.declared.storage.FileStorage.{FileStorage}
 use Rattle.tables.specs.Span.{textAt}
 use Rattle.tables.specs.Rows.{dirAt}
 use Rattle.tables.specs.Model.{tabled}
-use Rattle.storage.specs.Rules.{when, firstOf, both}
-use Rattle.storage.specs.Addition.{badLength}
+use Rattle.rules.specs.Rules.{when, firstOf, both}
+use Rattle.rules.specs.Bounds.{badLength}
 use Rattle.answers.specs.Answers.{dirsHeld, textHeld}
 use Rattle.names.specs.Paths.{led, hashOf}
 

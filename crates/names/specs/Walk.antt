@@ -5,7 +5,7 @@ use mathlib.Core.Bool.{Bool, false, cond, not}
 use mathlib.Core.List.{List, [], _∷_, _++_}
 use lib.Dec.{eqb, ltb}
 use lib.ListN.{length, getD, drop}
-use Rattle.storage.specs.Rules.{both}
+use Rattle.rules.specs.Rules.{both}
 use Rattle.path.specs.Join.{isAlone, isEmpty, isClosed}
 use Rattle.names.specs.declared.walk.Place.{Place}
 use Rattle.names.specs.declared.walk.Step.{Step}

@@ -13,7 +13,7 @@ use crate::decide::are_held;
 use crate::decide::set_span;
 use crate::walk::same_composed;
 use answers::BoolResult;
-use storage::is_bad_length;
+use rules::is_bad_length;
 use tables::FileStorage;
 use tables::Row;
 use tables::Span;

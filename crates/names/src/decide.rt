@@ -6,7 +6,7 @@ ghost use mathlib.Core.Bool.{cond, not};
 ghost use Prim.Native.Nat.{_/_};
 ghost use lib.Dec.{leb};
 ghost use Rattle.types.specs.Refusals.{usizeSays};
-ghost use Rattle.storage.specs.Rules.{both};
+ghost use Rattle.rules.specs.Rules.{both};
 ghost use Rattle.tables.specs.Rows.{has, isInside};
 ghost use Rattle.answers.specs.Answers.{askedFile, rowsHeld};
 use answers::BoolResult;

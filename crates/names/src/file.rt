@@ -5,7 +5,7 @@ ghost use mathlib.Core.Bool.{cond, not};
 ghost use mathlib.Core.List.{[], _∷_, _++_, map};
 ghost use lib.Dec.{eqb};
 ghost use Rattle.types.specs.Refusals.{usizeSays};
-ghost use Rattle.storage.specs.Rules.{both};
+ghost use Rattle.rules.specs.Rules.{both};
 ghost use Rattle.path.specs.Join.{Joined};
 ghost use Rattle.crc32c.specs.Crc.{crcFrom, lower};
 ghost use Rattle.tables.specs.Rows.{has, pathIsAbsolute, isInside};

@@ -13,7 +13,7 @@ ghost use Rattle.lists.specs.Lists.{partOf};
 ghost use Rattle.path.specs.Split.{beforeFirst};
 ghost use Rattle.crc32c.specs.Crc.{crcFrom, lower};
 ghost use Rattle.types.specs.Refusals.{usizeSays};
-ghost use Rattle.storage.specs.Rules.{both, when, firstOf};
+ghost use Rattle.rules.specs.Rules.{both, when, firstOf};
 ghost use Rattle.names.specs.Paths.{led, hashOf};
 ghost use Rattle.names.specs.Hashes.{inserted, ascending, Listed, listed, allPathHashes};
 ghost use Rattle.names.specs.Gathering.{above, gathered, belowCount, Begun, Holds, hashesBehind, hashesWithin};

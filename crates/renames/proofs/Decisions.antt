@@ -15,9 +15,9 @@ use Rattle.lists.proofs.Orders.{le-or-lt}
 use Rattle.types.specs.Refusals.{Outcome, value, refused}
 use Rattle.types.specs.Signed.{belowOr}
 use Rattle.tables.specs.declared.storage.FileStorage.{FileStorage}
-use Rattle.storage.specs.Rules.{when, firstOf, outcomeOf, both}
-use Rattle.storage.specs.Addition.{badLength}
-use Rattle.storage.proofs.Rules.{either-false}
+use Rattle.rules.specs.Rules.{when, firstOf, outcomeOf, both}
+use Rattle.rules.specs.Bounds.{badLength}
+use Rattle.rules.proofs.Rules.{either-false}
 use Rattle.answers.specs.Answers.{indexOf, isBelow, askedSet, askedFile}
 use Rattle.answers.proofs.Deciding.{allowed, denied}
 use Rattle.names.proofs.Deciding.{passes, asked-good, asked-there, asked-own}

@@ -14,7 +14,7 @@ use lib.Seq.{sets, length-sets, length-take-le, drop-cons, drop-drop, getD-drop}
 use Rattle.lists.specs.Lists.{partOf}
 use Rattle.lists.proofs.Parts.{drop-clipped, part-length}
 use Rattle.lists.proofs.Runs.{sets-over}
-use Rattle.storage.specs.Rules.{both}
+use Rattle.rules.specs.Rules.{both}
 use Rattle.answers.specs.Answers.{indexOf, isBelow}
 use Rattle.renames.specs.declared.rename.RenamedFiles.{RenamedFiles}
 use Rattle.renames.specs.declared.rename.RenameMode.the-variants.{FullPath}

@@ -9,7 +9,7 @@ use borrow.Author.Tests.{eq-eqb, ne-eqb, eqb-true}
 use lib.Dec.{eqb}
 use lib.IntN.{ℤ}
 use lib.ListN.{length, getD, take, drop, length-append}
-use Rattle.storage.specs.Rules.{both}
+use Rattle.rules.specs.Rules.{both}
 use Rattle.answers.specs.Answers.{indexOf, isBelow}
 use Rattle.renames.specs.Renames.{Renamed, textsOf, withRename}
 use Rattle.renames.specs.Imports.{Naming, namings, fullPath, imported}

@@ -15,9 +15,9 @@ use Rattle.lists.specs.Lists.{any}
 use Rattle.lists.proofs.Runs.{sets-over}
 use Rattle.types.specs.Refusals.{value, refused}
 use Rattle.tables.specs.declared.storage.FileStorage.{FileStorage}
-use Rattle.storage.specs.Rules.{outcomeOf}
-use Rattle.storage.specs.Addition.{badLength, isNegative}
-use Rattle.storage.proofs.Rules.{either-false}
+use Rattle.rules.specs.Rules.{outcomeOf}
+use Rattle.rules.specs.Bounds.{badLength, isNegative}
+use Rattle.rules.proofs.Rules.{either-false}
 use Rattle.answers.specs.Answers.{askedSet}
 use Rattle.answers.proofs.Deciding.{denied}
 use Rattle.renames.specs.declared.rename.RenamedFiles.{RenamedFiles}

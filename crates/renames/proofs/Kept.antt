@@ -13,9 +13,9 @@ use lib.ListN.{length, getD, drop, length-append}
 use lib.Seq.{sets, sets-eq, length-sets, getD-drop, drop-drop, take-append-seam, drop-append-seam}
 use Rattle.types.specs.Refusals.{value, refused}
 use Rattle.tables.specs.declared.storage.FileStorage.{FileStorage}
-use Rattle.storage.specs.Rules.{outcomeOf}
-use Rattle.storage.specs.Addition.{badLength}
-use Rattle.storage.proofs.Rules.{either-false}
+use Rattle.rules.specs.Rules.{outcomeOf}
+use Rattle.rules.specs.Bounds.{badLength}
+use Rattle.rules.proofs.Rules.{either-false}
 use Rattle.answers.specs.Answers.{indexOf, isBelow}
 use Rattle.renames.specs.declared.rename.RenameMode.{RenameMode}
 use Rattle.renames.specs.declared.rename.RenameMode.the-variants.{FullPath, NoRootPath, AbsolutePath}

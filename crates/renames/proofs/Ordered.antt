@@ -10,7 +10,7 @@ use borrow.Author.Tests.{leb-true, eqb-true}
 use lib.Dec.{leb}
 use lib.ListN.{getD}
 use Rattle.lists.proofs.Orders.{le-or-lt}
-use Rattle.storage.specs.Rules.{both}
+use Rattle.rules.specs.Rules.{both}
 use Rattle.renames.specs.Renames.{orderedFrom}
 use Rattle.renames.specs.Places.{bytesFrom}
 

@@ -9,8 +9,8 @@ use lib.IntN.{ℤ}
 use Rattle.types.specs.Refusals.{value, refused}
 use Rattle.path.specs.Join.{Joined}
 use Rattle.tables.specs.declared.storage.FileStorage.{FileStorage}
-use Rattle.storage.specs.Rules.{both}
-use Rattle.storage.specs.Addition.{badLength}
+use Rattle.rules.specs.Rules.{both}
+use Rattle.rules.specs.Bounds.{badLength}
 use Rattle.answers.specs.Answers.{indexOf, isBelow, askedFile, composedIf, composedFile}
 use Rattle.answers.proofs.Deciding.{denied}
 use Rattle.names.proofs.Deciding.{asked-good, asked-there, asked-held, asked-own}

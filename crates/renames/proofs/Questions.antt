@@ -24,8 +24,8 @@ use Rattle.tables.specs.declared.span.Span.{Span}
 use Rattle.tables.specs.Span.{textAt}
 use Rattle.tables.specs.Rows.{rowAt}
 use Rattle.tables.specs.Model.{Optional, absent, present}
-use Rattle.storage.specs.Rules.{when, firstOf, outcomeOf, both}
-use Rattle.storage.specs.Addition.{badLength}
+use Rattle.rules.specs.Rules.{when, firstOf, outcomeOf, both}
+use Rattle.rules.specs.Bounds.{badLength}
 use Rattle.answers.specs.Answers.{indexOf, isBelow, askedFile, rowsHeld, textHeld}
 use Rattle.renames.specs.declared.rename.RenameMode.{RenameMode}
 use Rattle.renames.specs.declared.rename.RenameMode.the-variants.{FullPath}

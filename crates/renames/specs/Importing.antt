@@ -11,8 +11,8 @@ use lib.ListN.{length, getD, take, drop}
 use Rattle.types.specs.Refusals.{Outcome}
 use Rattle.lists.specs.Lists.{any}
 use Rattle.tables.specs.declared.storage.FileStorage.{FileStorage}
-use Rattle.storage.specs.Rules.{when, firstOf, outcomeOf, both, either}
-use Rattle.storage.specs.Addition.{badLength, isNegative}
+use Rattle.rules.specs.Rules.{when, firstOf, outcomeOf, both, either}
+use Rattle.rules.specs.Bounds.{badLength, isNegative}
 use Rattle.answers.specs.Answers.{indexOf, isBelow}
 use Rattle.renames.specs.declared.rename.RenamedFiles.{RenamedFiles}
 use Rattle.renames.specs.Renames.{Renamed, withRename}

@@ -6,8 +6,8 @@ use lib.IntN.{ℤ}
 use lib.ListN.{getD, take, drop}
 use Rattle.lists.specs.Lists.{any}
 use Rattle.tables.specs.declared.storage.FileStorage.{FileStorage}
-use Rattle.storage.specs.Rules.{when, firstOf}
-use Rattle.storage.specs.Addition.{badLength, isNegative}
+use Rattle.rules.specs.Rules.{when, firstOf}
+use Rattle.rules.specs.Bounds.{badLength, isNegative}
 use Rattle.answers.specs.Answers.{indexOf, isBelow}
 use Rattle.renames.specs.declared.rename.RenameMode.the-variants.{FullPath}
 use Rattle.renames.specs.declared.rename.RenamedFiles.{RenamedFiles}

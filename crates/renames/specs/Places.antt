@@ -6,7 +6,7 @@ use mathlib.Core.List.{List, _++_}
 use lib.Dec.{eqb, ltb}
 use lib.ListN.{getD, take, drop}
 use lib.Seq.{sets}
-use Rattle.storage.specs.Rules.{both}
+use Rattle.rules.specs.Rules.{both}
 use Rattle.renames.specs.declared.place.Place.{Place}
 
 -- how many of the n entries from entry i on stand before the first whose number is k or above

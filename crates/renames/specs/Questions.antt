@@ -15,7 +15,7 @@ use Rattle.tables.specs.declared.span.Span.{Span}
 use Rattle.tables.specs.Span.{textAt}
 use Rattle.tables.specs.Rows.{rowAt, isAbsolute}
 use Rattle.tables.specs.Model.{Optional, absent, present}
-use Rattle.storage.specs.Rules.{when, firstOf, outcomeOf, both}
+use Rattle.rules.specs.Rules.{when, firstOf, outcomeOf, both}
 use Rattle.answers.specs.Answers.{askedFile, composedFile, rowsHeld, textHeld}
 use Rattle.names.specs.Paths.{filePath, namesHeld}
 use Rattle.renames.specs.declared.rename.RenameMode.{RenameMode}

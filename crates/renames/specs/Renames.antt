@@ -11,8 +11,8 @@ use lib.Seq.{sets}
 use Rattle.types.specs.Refusals.{Outcome, value, refused}
 use Rattle.path.specs.Split.{isComplete}
 use Rattle.tables.specs.declared.storage.FileStorage.{FileStorage}
-use Rattle.storage.specs.Rules.{when, firstOf, both, either}
-use Rattle.storage.specs.Addition.{badLength}
+use Rattle.rules.specs.Rules.{when, firstOf, both, either}
+use Rattle.rules.specs.Bounds.{badLength}
 use Rattle.answers.specs.Answers.{indexOf, isBelow}
 use Rattle.renames.specs.declared.rename.RenameMode.{RenameMode}
 use Rattle.renames.specs.declared.rename.RenameMode.the-variants.{FullPath, NoRootPath, AbsolutePath}

@@ -4,7 +4,7 @@ ghost use mathlib.Core.Path.{_≡_};
 ghost use Prim.Native.Nat.{_*_, _≤_};
 ghost use lib.Dec.{leb};
 ghost use lib.ListN.{length};
-ghost use Rattle.storage.specs.Rules.{both};
+ghost use Rattle.rules.specs.Rules.{both};
 ghost use Rattle.renames.specs.Changing.{inOrderIn};
 ghost use Rattle.renames.specs.Renames.{orderedFrom};
 use crate::rename::RenamedFiles;

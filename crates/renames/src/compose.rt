@@ -2,7 +2,7 @@
 // `answers` for the set's refusals, on `names` and `path` for joins and on the laws of proofs/Questions.antt.
 ghost use mathlib.Core.Path.{_≡_};
 ghost use Rattle.types.specs.Refusals.{usizeSays};
-ghost use Rattle.storage.specs.Rules.{both};
+ghost use Rattle.rules.specs.Rules.{both};
 ghost use Rattle.path.specs.Join.{Joined};
 ghost use Rattle.answers.specs.Answers.{askedFile, composedIf};
 ghost use Rattle.names.specs.Paths.{namesHeld};

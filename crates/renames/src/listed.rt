@@ -5,7 +5,7 @@ ghost use Prim.Native.Nat.{_+_, _≤_, _<_};
 ghost use lib.IntN.{pos};
 ghost use lib.ListN.{length, getD, drop};
 ghost use Rattle.lists.specs.Lists.{any};
-ghost use Rattle.storage.specs.Addition.{isNegative};
+ghost use Rattle.rules.specs.Bounds.{isNegative};
 ghost use Rattle.answers.specs.Answers.{indexOf};
 ghost use Rattle.renames.specs.Importing.{isOf, isListed, counts};
 use types::FileIndex;

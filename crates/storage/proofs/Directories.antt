@@ -17,7 +17,7 @@ use Rattle.tables.specs.Rows.{dirAt}
 use Rattle.tables.specs.Model.{tabled, stored}
 use Rattle.tables.proofs.Tabled.{length-tabled, tabled-more}
 use Rattle.storage.specs.declared.dirs.DirPlan.{DirPlan}
-use Rattle.storage.specs.Rules.{both}
+use Rattle.rules.specs.Rules.{both}
 use Rattle.storage.specs.Addition.{isAmong, padDirectory}
 use Rattle.storage.specs.Write.{placeFrom, placeOf}
 use Rattle.storage.specs.Plan.{dirTexts, dirPlanOf, dirsWith, countWith, padDirPlanOf}

@@ -26,7 +26,7 @@ use Rattle.storage.specs.declared.dirs.DirPlan.{DirPlan}
 use Rattle.storage.specs.declared.counts.Counts.{Counts}
 use Rattle.storage.specs.declared.plan.Places.{Places}
 use Rattle.storage.specs.declared.plan.AddPlan.{AddPlan}
-use Rattle.storage.specs.Rules.{when, firstOf, outcomeOf, either}
+use Rattle.rules.specs.Rules.{when, firstOf, outcomeOf, either}
 use Rattle.storage.specs.Addition.{Addition, Rooms, isPresent, isZero, keeps, isV2, withTime, withPlace, padAdded, placeFor, added, lacks, addingRules, filesOf, padOf, fileAdded, sizeAdded}
 use Rattle.storage.specs.Write.{setText, nameText, linkNew, isNewPlace, isOutside, oldName, textAfter}
 use Rattle.storage.specs.Outcomes.{optionalOf, roomsOf, holds, addingNumber}
@@ -34,7 +34,8 @@ use Rattle.storage.specs.Parts.{isHere, directoryAt, isOut}
 use Rattle.storage.specs.Checks.{sizesFor, numberRules, filesRoom, dirsRoom}
 use Rattle.storage.specs.Plan.{dirPlanOf, dirsWith, padDirPlanOf, rowFlags, countsOf, shortOf, placesFor, planFrom, planOf, dirTexts, plannedIn, TextsOf}
 use Rattle.types.proofs.Refusals.{numbered}
-use Rattle.storage.proofs.Rules.{orElse, first-append, outcome-refused, either-false, passed, Held, held}
+use Rattle.rules.proofs.Rules.{orElse, first-append, outcome-refused, either-false, passed}
+use Rattle.storage.proofs.Rules.{Held, held}
 
 -- a model whose counts and sums are those of a set's record
 abbrev pub seen : FileStorage → List ℕ → List File → List (List ℕ) → List ℤ → Model

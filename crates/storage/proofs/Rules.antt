@@ -17,70 +17,13 @@ use Rattle.types.proofs.Refusals.{numbered}
 use Rattle.tables.specs.declared.storage.FileStorage.{FileStorage}
 use Rattle.tables.specs.Model.{Optional}
 use Rattle.storage.specs.declared.checks.Sizes.{Sizes}
-use Rattle.storage.specs.Rules.{Rule, firstOf, outcomeOf, both, either}
-use Rattle.storage.specs.Addition.{limit, badLength, isNegative, sizeOf, decides, isOpen, padTo, keepsLink}
+use Rattle.rules.specs.Rules.{Rule, firstOf, outcomeOf, both, either}
+use Rattle.rules.specs.Bounds.{limit, badLength, isNegative, sizeOf}
+use Rattle.storage.specs.Addition.{decides, isOpen, padTo, keepsLink}
 use Rattle.storage.specs.Checks.{sizeRules, nameRules, kindRules, padRules, sizesFor, numberRules, filesRoom, dirsRoom, holdsIn}
-
--- rules whose numbers are above 0
-abbrev pub Numbered : List Rule → Type 0
-Numbered [] = Unit
-Numbered (r ∷ rs) = (eqb (r .number) 0 ≡ false) × Numbered rs
-
--- none of the tests holds
-abbrev pub Passed : List Rule → Type 0
-Passed [] = Unit
-Passed (r ∷ rs) = (r .test ≡ false) × Passed rs
-
--- the first number, or the second where that is 0
-abbrev pub orElse : ℕ → ℕ → ℕ
-orElse n m = cond (eqb n 0) m n
-
--- two lists of rules in a row
-pub first-append : (rs ss : List Rule) → Numbered rs → firstOf (rs ++ ss) ≡ orElse (firstOf rs) (firstOf ss)
-first-append [] ss h = refl
-first-append (r ∷ rs) ss h = at (r .test) (first-append rs ss (h .1))
-  where
-    at : (t : Bool) → firstOf (rs ++ ss) ≡ orElse (firstOf rs) (firstOf ss)
-        → cond t (r .number) (firstOf (rs ++ ss)) ≡ orElse (cond t (r .number) (firstOf rs)) (firstOf ss)
-    at true e = rw (h .0)
-    at false e = e
-
-passed-one : (t : Bool) (k n : ℕ) → eqb k 0 ≡ false → 0 ≡ cond t k n → (t ≡ false) × (0 ≡ n)
-passed-one true k n h e = absurd (eqb-false k 0 h (sym e))
-passed-one false k n h e = (refl, e)
-
-pub passed : (rs : List Rule) → Numbered rs → 0 ≡ firstOf rs → Passed rs
-passed [] h e = tt
-passed (r ∷ rs) h e = let p = passed-one (r .test) (r .number) (firstOf rs) (h .0) e in (p .0, passed rs (h .1) (p .1))
-
--- a rule of the first list stops a call, or none does and the second list decides
-pub stopped : {A : Type 0} (rs ss : List Rule) (e : Refusal) (a : A) → Numbered rs → numberOf e ≡ firstOf rs
-    → refused (numberOf e) ≡ outcomeOf (firstOf (rs ++ ss)) a
-stopped rs ss e a h k = rw (first-append rs ss h, ← k, numbered e, numbered e)
-
-pub after : (rs ss : List Rule) → Numbered rs → 0 ≡ firstOf rs → firstOf (rs ++ ss) ≡ firstOf ss
-after rs ss h k = rw (first-append rs ss h, ← k)
-
--- what an outcome says of the number behind it
-pub outcome-value : {A : Type 0} (n : ℕ) (a b : A) → value a ≡ outcomeOf n b → (n ≡ 0) × (a ≡ b)
-outcome-value n a b e = at (eqb n 0) refl e
-  where
-    at : (t : Bool) → eqb n 0 ≡ t → value a ≡ cond t (value b) (refused n) → (n ≡ 0) × (a ≡ b)
-    at true q e = (eqb-true n 0 q, cc)
-    at false q e = absurd (let z : _≡_ {A = ℕ} 0 1 = cc in omega arith)
-
-pub outcome-refused : {A : Type 0} (n k : ℕ) (b : A) → refused k ≡ outcomeOf n b → n ≡ k
-outcome-refused n k b e = at (eqb n 0) e
-  where
-    at : (t : Bool) → refused k ≡ cond t (value b) (refused n) → n ≡ k
-    at true e = absurd (let z : _≡_ {A = ℕ} 0 1 = cc in omega arith)
-    at false e = cc
+use Rattle.rules.proofs.Rules.{Numbered, Passed, after, either-false, first-append, orElse, outcome-refused, outcome-value, passed, stopped}
 
 -- ---- the rules of an addition on numbers
-
-pub either-false : (a b : Bool) → either a b ≡ false → (a ≡ false) × (b ≡ false)
-either-false true b e = absurd (true≢false e)
-either-false false b e = (refl, e)
 
 both-true : (a b : Bool) → both a b ≡ true → (a ≡ true) × (b ≡ true)
 both-true true b e = (refl, e)

@@ -17,7 +17,7 @@ use Rattle.path.proofs.Splits.{last-parts, leaf-all, branch-none, first-parts, 
 use Rattle.path.proofs.Ends.{trim-yes, trim-no}
 use Rattle.tables.specs.declared.rows.Presence.{Presence}
 use Rattle.tables.specs.declared.rows.Presence.the-variants.{Absent, Present}
-use Rattle.storage.specs.Rules.{both}
+use Rattle.rules.specs.Rules.{both}
 use Rattle.storage.specs.Addition.{unled, pathName, storedName, limitedName, badName}
 use Rattle.storage.specs.Outcomes.{optionalOf}
 use Rattle.storage.specs.Parts.{isHere}

@@ -18,8 +18,8 @@ use Rattle.tables.specs.declared.storage.FileStorage.{FileStorage}
 use Rattle.tables.specs.Span.{slid}
 use Rattle.tables.specs.Rows.{rowAt, has, dirsLowered, rowsWithout}
 use Rattle.tables.specs.Model.{Optional, absent, present, presentIf, File, Store, tabled, fileOf}
-use Rattle.storage.specs.Rules.{both}
-use Rattle.storage.specs.Addition.{badLength}
+use Rattle.rules.specs.Rules.{both}
+use Rattle.rules.specs.Bounds.{badLength}
 use Rattle.storage.specs.Write.{firstGone, secondGone, storageWithout, storeWithout, storeTrimmed}
 use Rattle.storage.specs.Outcomes.{Changed, roomsOf, holds, trimmedBy, trimStored}
 use Rattle.storage.specs.Trim.{tailPadFrom, tailPad}

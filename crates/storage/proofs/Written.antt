@@ -21,7 +21,7 @@ use Rattle.storage.specs.declared.parts.Lying.{Lying}
 use Rattle.storage.specs.declared.parts.Lying.the-variants.{Single, Absolute, Inside, Outside}
 use Rattle.storage.specs.Addition.{Addition, setNameOf, nameAfter, unled, directoryFor, storedName, padDirectory, padOf, isAmong, placeFor, newName, withPlace, filesOf}
 use Rattle.storage.specs.Write.{missingOf, isNewPlace, setText, directoryNew, nameText, linkNew, padDirectoryNew, padText, oldName, kept, directoryStart, nameStart, linkStart, padDirectoryStart, padNameStart, isNewPad, rowAdded, padRow, textAdded, rowsAdded, dirsAdded}
-use Rattle.storage.specs.Rules.{both}
+use Rattle.rules.specs.Rules.{both}
 use Rattle.storage.specs.Outcomes.{Changed, changedIf}
 use Rattle.storage.specs.Parts.{setTextOf, linkTextOf, lyingFor, textUnder, directoryAt}
 use Rattle.storage.specs.Plan.{TextsOf, planOf, renamed, textWritten, dirsWritten, rowsWritten}

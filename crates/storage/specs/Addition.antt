@@ -12,7 +12,8 @@ use Rattle.path.specs.Split.{isSeparator, rsplitBranch, rsplitLeaf, isComplete,
 use Rattle.path.specs.Join.{isEmpty}
 use Rattle.tables.specs.Model.{Optional, absent, present, Directory, single, absolute, stored, presentIf, File, Model}
 use Rattle.types.specs.Refusals.{Outcome}
-use Rattle.storage.specs.Rules.{Rule, when, firstOf, outcomeOf, both, either}
+use Rattle.rules.specs.Rules.{Rule, when, firstOf, outcomeOf, both, either}
+use Rattle.rules.specs.Bounds.{limit, isNegative, sizeOf, badLength}
 
 -- what an addition is given
 pub record Addition : Type 0 where
@@ -24,22 +25,9 @@ pub record Addition : Type 0 where
   pub link : List ℕ
   pub root : Optional (List ℕ)
 
--- 281474976710655
-abbrev pub limit : ℕ
-limit = 281474976710655
-
-abbrev pub isNegative : ℤ → Bool
-isNegative (pos n) = false
-isNegative (negsuc n) = true
-
 abbrev pub isZero : ℤ → Bool
 isZero (pos n) = eqb n 0
 isZero (negsuc n) = false
-
--- the number itself, 0 where it is negative
-abbrev pub sizeOf : ℤ → ℕ
-sizeOf (pos n) = n
-sizeOf (negsuc n) = 0
 
 abbrev pub isPresent : {A : Type 0} → Optional A → Bool
 isPresent absent = false
@@ -249,10 +237,6 @@ lacks rooms m text =
     (either (ltb (rooms .times) (length (m .times))) (ltb (rooms .text) text)))
 
 -- ---- refusals
-
--- a piece length is from 1 to 2147483647, as an i32 holds it
-abbrev pub badLength : ℕ → Bool
-badLength n = either (ltb n 1) (ltb 2147483647 n)
 
 abbrev pub disagree : Model → Addition → Bool
 disagree m a = disagrees (m .v2) (m .total) (m .links) (filesOf m) (sizeAdded a) (a .link) (isPresent (a .root))

@@ -17,8 +17,9 @@ use Rattle.storage.specs.declared.checks.Check.the-variants.{Go, Stop}
 use Rattle.storage.specs.declared.checks.Sizes.{Sizes}
 use Rattle.storage.specs.declared.checks.SizesResult.{SizesResult}
 use Rattle.storage.specs.declared.checks.SizesResult.the-variants.{Ok, Err}
-use Rattle.storage.specs.Rules.{Rule, when, both}
-use Rattle.storage.specs.Addition.{limit, isNegative, sizeOf, limitedName, badName, decides, isOpen, kindAfter, disagreesIn, padAfter, badLength}
+use Rattle.rules.specs.Rules.{Rule, when, both}
+use Rattle.rules.specs.Bounds.{limit, isNegative, sizeOf, badLength}
+use Rattle.storage.specs.Addition.{limitedName, badName, decides, isOpen, kindAfter, disagreesIn, padAfter}
 
 -- the number of the rule that stops a call, 0 where none does
 abbrev pub checkSays : Check → ℕ

@@ -1,6 +1,5 @@
 -- The definitions that the contracts of `storage` cite: what an addition and a trim mean, and what they write; then those
 -- of its private functions.
-pub mod Rules
 pub mod Addition
 pub mod Write
 pub mod Trim

@@ -13,8 +13,9 @@ use Rattle.tables.specs.declared.storage.FileStorage.{FileStorage}
 use Rattle.tables.specs.Model.{Optional, absent, present, Model, Store, viewOf}
 use Rattle.storage.specs.declared.answer.StorageResult.{StorageResult}
 use Rattle.storage.specs.declared.answer.StorageResult.the-variants.{Ok, Err}
-use Rattle.storage.specs.Rules.{when, firstOf, both, either}
-use Rattle.storage.specs.Addition.{Addition, Rooms, added, lacks, badLength, addingRules}
+use Rattle.rules.specs.Rules.{when, firstOf, both, either}
+use Rattle.rules.specs.Bounds.{badLength}
+use Rattle.storage.specs.Addition.{Addition, Rooms, added, lacks, addingRules}
 use Rattle.storage.specs.Trim.{tailPad}
 use Rattle.storage.specs.Write.{storeAdded, storeTrimmed, textAfter}
 

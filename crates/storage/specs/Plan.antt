@@ -26,8 +26,9 @@ use Rattle.storage.specs.declared.plan.NewDir.{NewDir}
 use Rattle.storage.specs.declared.plan.AddPlan.{AddPlan}
 use Rattle.storage.specs.declared.plan.PlanResult.{PlanResult}
 use Rattle.storage.specs.declared.plan.PlanResult.the-variants.{Ok, Err}
-use Rattle.storage.specs.Rules.{both, either, outcomeOf}
-use Rattle.storage.specs.Addition.{Addition, limit, flagsKept, padDirectory, withPlace, withDirectory, sizeAdded, padOf, placeFor}
+use Rattle.rules.specs.Rules.{both, either, outcomeOf}
+use Rattle.rules.specs.Bounds.{limit}
+use Rattle.storage.specs.Addition.{Addition, flagsKept, padDirectory, withPlace, withDirectory, sizeAdded, padOf, placeFor}
 use Rattle.storage.specs.Write.{placeOf, indexOf, missing, missingOf, isNew, isNewPlace, isNewPad, setText, directoryNew, nameText, linkNew, padDigits, padText, oldName, kept, directoryStart, padDirectoryStart, padNameStart, textAfter, storageAdded, rowAdded, putDirIf}
 use Rattle.storage.specs.Outcomes.{optionalOf}
 use Rattle.storage.specs.Parts.{directoryAt}

@@ -15,7 +15,7 @@ use Rattle.tables.specs.declared.storage.FileStorage.{FileStorage}
 use Rattle.tables.specs.Span.{clip, slid, low}
 use Rattle.tables.specs.Rows.{rowAt, putRow, putDir, noPath, pathIsAbsolute, putRoot, dirsLowered, rowsWithout}
 use Rattle.tables.specs.Model.{Optional, absent, present, Directory, single, absolute, stored, Model, Store}
-use Rattle.storage.specs.Rules.{both}
+use Rattle.rules.specs.Rules.{both}
 use Rattle.storage.specs.Addition.{Addition, filesOf, sizeAdded, keeps, isV2, padOf, placeFor, storedName, setNameOf, flagsKept, padDirectory, isAmong, withPlace, added, isPresent, isZero}
 
 -- ---- where texts and rows go

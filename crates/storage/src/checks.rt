@@ -4,8 +4,9 @@ ghost use mathlib.Core.Path.{_≡_};
 ghost use Prim.Native.Nat.{_≤_};
 ghost use lib.ListN.{length};
 ghost use Rattle.path.specs.Split.{rsplitLeaf};
-ghost use Rattle.storage.specs.Rules.{firstOf, outcomeOf};
-ghost use Rattle.storage.specs.Addition.{badLength, isNegative, sizeOf, isZero, badName, decides, isOpen, kindAfter, padAfter};
+ghost use Rattle.rules.specs.Rules.{firstOf, outcomeOf};
+ghost use Rattle.rules.specs.Bounds.{badLength, isNegative, sizeOf};
+ghost use Rattle.storage.specs.Addition.{isZero, badName, decides, isOpen, kindAfter, padAfter};
 ghost use Rattle.storage.specs.Outcomes.{optionalOf};
 ghost use Rattle.storage.specs.Parts.{isHere};
 ghost use Rattle.storage.specs.Checks.{limitedLength, checkSays, sizesSays, sizeRules, nameRules, kindRules, sizesFor, numberRules, filesRoom, dirsRoom, holdsIn};
@@ -37,16 +38,6 @@ pub(crate) struct Sizes {
 pub(crate) enum SizesResult {
     Ok(Sizes),
     Err(Refusal),
-}
-
-// Whether a piece length is out of range.
-pub fn is_bad_length(piece_length: u64) -> bool
-    ensures { λ r. ⌜ r ≡ badLength «piece_length» ⌝ }
-{
-    if piece_length < 1 {
-        return true;
-    }
-    2147483647 < piece_length
 }
 
 // Whether a number is below 0.
@@ -83,7 +74,7 @@ pub(crate) fn is_zero(x: i64) -> bool
 fn check_size(piece_length: u64, total: u64, negative: bool, size: u64) -> Check
     ensures { λ r. ⌜ checkSays r ≡ firstOf (sizeRules «piece_length» total negative size) ⌝ }
 {
-    if is_bad_length(piece_length) {
+    if rules::is_bad_length(piece_length) {
         return Check::Stop(Refusal::InvalidPieceLength);
     }
     if negative {

@@ -6,7 +6,7 @@ ghost use lib.ListN.{length};
 ghost use Rattle.lists.specs.Lists.{equal};
 ghost use Rattle.tables.specs.Span.{textAt};
 ghost use Rattle.tables.specs.Rows.{dirAt};
-ghost use Rattle.storage.specs.Rules.{both};
+ghost use Rattle.rules.specs.Rules.{both};
 ghost use Rattle.storage.specs.Addition.{padDirectory};
 ghost use Rattle.storage.specs.Write.{placeFrom, placeOf};
 ghost use Rattle.storage.specs.Parts.{directoryAt};

@@ -13,5 +13,4 @@ mod write;
 pub use add::add_file;
 pub use answer::StorageResult;
 pub use answer::open;
-pub use checks::is_bad_length;
 pub use trim::remove_tail_padding;

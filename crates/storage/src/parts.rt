@@ -10,7 +10,7 @@ ghost use Rattle.path.specs.Split.{isSeparator, trimmed, rsplitBranch, rsplitLe
 ghost use Rattle.path.specs.Join.{isEmpty};
 ghost use Rattle.tables.specs.Span.{textAt};
 ghost use Rattle.storage.specs.Addition.{unled, pathName, keepsLink};
-ghost use Rattle.storage.specs.Rules.{both};
+ghost use Rattle.rules.specs.Rules.{both};
 ghost use Rattle.storage.specs.Parts.{isHere, setTextOf, linkTextOf, lyingFor, textUnder, isOut};
 use tables::Presence;
 use tables::Span;

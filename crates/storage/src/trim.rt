@@ -11,7 +11,6 @@ ghost use Rattle.storage.specs.Outcomes.{Changed, storageSays, trimStore
 ghost use Rattle.storage.specs.Trims.{foundSays, tailPadIn};
 use crate::answer::StorageResult;
 use crate::checks::holds;
-use crate::checks::is_bad_length;
 use lists::minus;
 use tables::FileStorage;
 use tables::Row;
@@ -154,7 +153,7 @@ pub fn remove_tail_padding(
 ) -> StorageResult
     ensures { λ r. ⌜ _≡_ {A = Changed} (record { says = storageSays r; rows = now (rows .exit); roots = now (roots .exit); times = now (times .exit); dirs = now (dirs .exit); text = now (text .exit) }) (trimStored (record { fs = fs; rows = now (rows .entry); roots = now (roots .entry); times = now (times .entry); dirs = now (dirs .entry); text = now (text .entry) })) ⌝ }
 {
-    if is_bad_length(fs.piece_length) {
+    if rules::is_bad_length(fs.piece_length) {
         return StorageResult::Err(Refusal::InvalidPieceLength);
     }
     if !holds(

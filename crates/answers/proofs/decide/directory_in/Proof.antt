@@ -3,7 +3,7 @@ use mathlib.Core.Path.{_≡_, sym, _∙_}
 use mathlib.Core.Bool.{true, false}
 use borrow.Author.Needs.{needs}
 use borrow.Author.Tests.{le-leb, lt-leb}
-use Rattle.storage.specs.Addition.{badLength}
+use Rattle.rules.specs.Bounds.{badLength}
 use Rattle.answers.proofs.decide.directory_in.Statement.{statement}
 use Rattle.answers.proofs.decide.directory_in.Tie as tie
 

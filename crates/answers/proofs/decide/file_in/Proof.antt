@@ -8,7 +8,7 @@ use lib.Dec.{ltb}
 use borrow.Author.Needs.{needs}
 use Rattle.types.specs.Signed.{belowOr}
 use Rattle.types.specs.Refusals.{numberOf, value, refused, usizeSays}
-use Rattle.storage.specs.Addition.{badLength}
+use Rattle.rules.specs.Bounds.{badLength}
 use Rattle.answers.specs.Answers.{isBelow, indexOf}
 use Rattle.answers.proofs.Deciding.{allowed, denied}
 use Rattle.answers.proofs.decide.file_in.Statement.{statement}

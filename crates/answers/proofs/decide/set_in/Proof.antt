@@ -2,7 +2,7 @@
 use mathlib.Core.Path.{_≡_, sym, _∙_}
 use mathlib.Core.Bool.{true, false}
 use borrow.Author.Needs.{needs}
-use Rattle.storage.specs.Addition.{badLength}
+use Rattle.rules.specs.Bounds.{badLength}
 use Rattle.answers.proofs.decide.set_in.Statement.{statement}
 use Rattle.answers.proofs.decide.set_in.Tie as tie
 

@@ -1,7 +1,7 @@
 -- `answers::file::root` meets its contract.
 use mathlib.Core.Path.{_≡_, refl}
 use borrow.Author.Needs.{needs}
-use Rattle.storage.specs.Rules.{both}
+use Rattle.rules.specs.Rules.{both}
 use Rattle.answers.specs.Answers.{rowsHeld, rootsHeld, rootOf}
 use Rattle.answers.proofs.Deciding.{both-is, file-value, file-refused}
 use Rattle.answers.proofs.file.root.Statement.{statement}

@@ -2,7 +2,7 @@
 use mathlib.Core.Path.{_≡_}
 use borrow.Author.Needs.{needs}
 use Rattle.tables.specs.Rows.{dirAt}
-use Rattle.storage.specs.Rules.{both}
+use Rattle.rules.specs.Rules.{both}
 use Rattle.answers.specs.Answers.{dirsHeld, textHeld}
 use Rattle.answers.proofs.Deciding.{both-is, directory-value, directory-refused}
 use Rattle.answers.proofs.set.path_at.Statement.{statement}

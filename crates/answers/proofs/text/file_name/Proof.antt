@@ -1,7 +1,7 @@
 -- `answers::text::file_name` meets its contract.
 use borrow.Author.Needs.{needs}
 use Rattle.tables.specs.Rows.{rowAt}
-use Rattle.storage.specs.Rules.{both}
+use Rattle.rules.specs.Rules.{both}
 use Rattle.answers.specs.Answers.{rowsHeld, textHeld}
 use Rattle.answers.proofs.Deciding.{file-value, file-refused}
 use Rattle.answers.proofs.text.file_name.Statement.{statement}

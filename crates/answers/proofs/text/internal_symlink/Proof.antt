@@ -1,7 +1,7 @@
 -- `answers::text::internal_symlink` meets its contract.
 use borrow.Author.Needs.{needs}
 use Rattle.tables.specs.Rows.{rowAt, has}
-use Rattle.storage.specs.Rules.{both}
+use Rattle.rules.specs.Rules.{both}
 use Rattle.answers.specs.Answers.{rowsHeld, textHeld}
 use Rattle.answers.proofs.Deciding.{link-value, link-refused}
 use Rattle.answers.proofs.text.internal_symlink.Statement.{statement}

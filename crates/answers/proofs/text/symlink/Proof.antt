@@ -2,7 +2,7 @@
 use mathlib.Core.Path.{ap}
 use borrow.Author.Needs.{needs}
 use Rattle.tables.specs.Rows.{rowAt}
-use Rattle.storage.specs.Rules.{both}
+use Rattle.rules.specs.Rules.{both}
 use Rattle.answers.specs.Answers.{rowsHeld, textHeld, symlinkPath}
 use Rattle.answers.proofs.Deciding.{composed-value, composed-refused}
 use Rattle.answers.proofs.text.symlink.Statement.{statement}

@@ -8,7 +8,7 @@ use lib.Dec.{leb}
 use lib.ListN.{length}
 use borrow.Author.Tests.{not-true, not-false}
 use Rattle.path.specs.Join.{appended}
-use Rattle.storage.specs.Rules.{both}
+use Rattle.rules.specs.Rules.{both}
 use Rattle.tables.specs.Span.{textAt}
 use Rattle.cleaning.specs.Cleaning.{isWithin}
 use Rattle.cleaning.proofs.put.own_fits.Statement.{statement}

@@ -5,7 +5,7 @@ use mathlib.Core.Bool.{true, false}
 use mir.Syntax.{w64}
 use mir.Val.{SFits}
 use mir.Facts.{toZ-ofZ}
-use Rattle.storage.specs.Addition.{isNegative, sizeOf}
+use Rattle.rules.specs.Bounds.{isNegative, sizeOf}
 use Rattle.layout.proofs.decide.is_bad_offset.Statement.{statement}
 use Rattle.layout.proofs.decide.is_bad_offset.Tie as tie
 

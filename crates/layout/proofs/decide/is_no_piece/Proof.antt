@@ -4,7 +4,7 @@ use mathlib.Core.Bool.{true, false}
 use mir.Syntax.{w32}
 use mir.Val.{SFits}
 use mir.Facts.{toZ-ofZ}
-use Rattle.storage.specs.Addition.{isNegative}
+use Rattle.rules.specs.Bounds.{isNegative}
 use Rattle.layout.specs.Questions.{numPieces}
 use Rattle.layout.proofs.Deciding.{below-not, below-as, index-low}
 use borrow.Author.Needs.{needs}

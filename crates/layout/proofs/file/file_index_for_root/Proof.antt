@@ -1,7 +1,7 @@
 -- `layout::file::file_index_for_root` meets its contract.
 use borrow.Author.Needs.{needs}
 use mathlib.Core.Path.{_≡_, ap₂, _∙_}
-use Rattle.storage.specs.Rules.{both}
+use Rattle.rules.specs.Rules.{both}
 use Rattle.answers.specs.Answers.{rowsHeld, rootsHeld}
 use Rattle.layout.proofs.Deciding.{go, stop}
 use Rattle.layout.proofs.file.file_index_for_root.Statement.{statement}

@@ -6,7 +6,7 @@ use Prim.Native.Nat.{_-_}
 use borrow.Author.Tests.{not-false}
 use Rattle.tables.specs.Rows.{rowAt, has}
 use Rattle.merkle.specs.Width.{hasTree}
-use Rattle.storage.specs.Rules.{either}
+use Rattle.rules.specs.Rules.{either}
 use Rattle.answers.specs.Answers.{indexOf, rowsHeld}
 use Rattle.layout.specs.Questions.{opened, noFile, noTree, short}
 use Rattle.layout.proofs.Deciding.{go, stop, neither, file-known, either-rule}

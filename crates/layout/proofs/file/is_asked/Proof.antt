@@ -6,8 +6,8 @@ use lib.Dec.{eqb}
 use mir.Syntax.{w32, w64}
 use mir.Val.{SFits}
 use mir.Facts.{toZ-ofZ}
-use Rattle.storage.specs.Addition.{isNegative}
-use Rattle.storage.specs.Rules.{when, firstOf}
+use Rattle.rules.specs.Bounds.{isNegative}
+use Rattle.rules.specs.Rules.{when, firstOf}
 use Rattle.layout.specs.Questions.{badRange}
 use borrow.Author.Tests.{lt-ltb, le-ltb}
 use borrow.Author.Needs.{needs}

@@ -3,7 +3,7 @@ use mathlib.Core.Path.{_≡_, sym, _∙_}
 use mathlib.Core.Bool.{Bool, true, false}
 use mathlib.Core.List.{[], _∷_}
 use lib.Dec.{eqb}
-use Rattle.storage.specs.Rules.{firstOf}
+use Rattle.rules.specs.Rules.{firstOf}
 use Rattle.layout.specs.Questions.{short}
 use borrow.Author.Needs.{needs}
 use Rattle.layout.proofs.file.is_fit.Statement.{statement}

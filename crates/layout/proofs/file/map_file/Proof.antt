@@ -11,8 +11,8 @@ use mir.Val.{SFits, ofZ}
 use mir.Facts.{toZ-ofZ}
 use borrow.Author.Tests.{eqb-true, leb-true, not-false}
 use Rattle.types.specs.Refusals.{value, refused}
-use Rattle.storage.specs.Rules.{firstOf}
-use Rattle.storage.specs.Addition.{sizeOf}
+use Rattle.rules.specs.Rules.{firstOf}
+use Rattle.rules.specs.Bounds.{sizeOf}
 use Rattle.answers.specs.Answers.{indexOf, isBelow}
 use Rattle.layout.specs.Mapping.{Request, mapFile}
 use Rattle.layout.specs.Deciding.{requestOf, bytesAsked, placeAsked}

@@ -4,8 +4,8 @@ use mathlib.Core.Bool.{true≢false}
 use mir.Syntax.{w32, w64}
 use mir.Val.{SFits}
 use mir.Facts.{toZ-ofZ}
-use Rattle.storage.specs.Addition.{isNegative}
-use Rattle.storage.specs.Rules.{firstOf}
+use Rattle.rules.specs.Bounds.{isNegative}
+use Rattle.rules.specs.Rules.{firstOf}
 use Rattle.layout.specs.Questions.{badRange}
 use Rattle.layout.specs.Deciding.{checkNumber, bytesAsked}
 use borrow.Author.Needs.{needs}

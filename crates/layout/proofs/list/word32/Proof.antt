@@ -5,7 +5,7 @@ use mir.Syntax.{w32}
 use mir.Val.{SFits}
 use mir.Facts.{toZ-ofZ}
 use borrow.Author.Needs.{needs}
-use Rattle.storage.specs.Addition.{sizeOf}
+use Rattle.rules.specs.Bounds.{sizeOf}
 use Rattle.layout.proofs.Deciding.{index-low}
 use Rattle.layout.proofs.list.word32.Statement.{statement}
 use Rattle.layout.proofs.list.word32.Tie as tie

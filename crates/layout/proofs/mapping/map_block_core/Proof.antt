@@ -7,8 +7,8 @@ use mir.Syntax.{w64}
 use mir.Val.{SFits}
 use mir.Facts.{toZ-ofZ}
 use mathlib.Core.List.{[], _∷_}
-use Rattle.storage.specs.Rules.{firstOf}
-use Rattle.storage.specs.Addition.{sizeOf, isNegative}
+use Rattle.rules.specs.Rules.{firstOf}
+use Rattle.rules.specs.Bounds.{sizeOf, isNegative}
 use Rattle.answers.specs.Answers.{indexOf, rowsHeld}
 use Rattle.layout.specs.Questions.{opened, manyPieces, noPiece, badRange, short}
 use Rattle.layout.specs.Pieces.{startOf}

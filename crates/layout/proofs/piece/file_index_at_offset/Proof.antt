@@ -5,7 +5,7 @@ use mir.Syntax.{w64}
 use mir.Val.{SFits}
 use mir.Facts.{toZ-ofZ}
 use Rattle.layout.proofs.Deciding.{go, stop, set-held}
-use Rattle.storage.specs.Addition.{sizeOf}
+use Rattle.rules.specs.Bounds.{sizeOf}
 use Rattle.layout.specs.Questions.{badOffset}
 use Rattle.layout.proofs.piece.file_index_at_offset.Statement.{statement}
 use Rattle.layout.proofs.piece.file_index_at_offset.Tie as tie

@@ -5,8 +5,8 @@ use mathlib.Core.Bool.{false, true}
 use mathlib.Core.List.{[]}
 use borrow.Author.Tests.{not-true, not-false}
 use Rattle.tables.specs.Model.{Store}
-use Rattle.storage.specs.Rules.{both}
-use Rattle.storage.specs.Addition.{badLength}
+use Rattle.rules.specs.Rules.{both}
+use Rattle.rules.specs.Bounds.{badLength}
 use Rattle.answers.specs.Answers.{rowsHeld, dirsHeld, textHeld}
 use Rattle.links.specs.Judging.{lent}
 use Rattle.links.proofs.Spaces.{count-rows}

@@ -10,9 +10,9 @@ use Rattle.tables.specs.Model.{Model, viewOf}
 use Rattle.storage.specs.declared.answer.StorageResult.{StorageResult}
 use Rattle.storage.specs.Outcomes.{storageSays}
 use Rattle.storage.specs.Opening.{empty}
-use Rattle.model.specs.Sound.{Sound}
+use Rattle.sound.specs.Sound.{Sound}
 use Rattle.storage.specs.Opening.{fresh}
-use Rattle.model.proofs.Opened.{sound-opened, view-opened}
+use Rattle.sound.proofs.Opened.{sound-opened, view-opened}
 use Rattle.listing.specs.Form.{lines, pieceLengthIn}
 use Rattle.listing.specs.Run.{run, runFrom, places}
 use Rattle.listing.specs.declared.run.RunResult.{RunResult}

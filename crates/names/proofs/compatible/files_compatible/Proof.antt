@@ -2,7 +2,7 @@
 use mathlib.Core.Path.{_≡_, sym, _∙_}
 use mathlib.Core.Bool.{true, false}
 use borrow.Author.Tests.{not-true, not-false}
-use Rattle.storage.specs.Addition.{badLength}
+use Rattle.rules.specs.Bounds.{badLength}
 use Rattle.names.specs.Compatible.{Names, heldIn, compatible}
 use Rattle.names.proofs.Sets.{first-bad, second-bad, first-short, second-short, answered}
 use borrow.Author.Needs.{needs}

@@ -2,7 +2,7 @@
 use mathlib.Core.Path.{_≡_, sym, _∙_}
 use mathlib.Core.Bool.{Bool, true, false, cond, not}
 use borrow.Author.Tests.{not-true, not-false}
-use Rattle.storage.specs.Rules.{both}
+use Rattle.rules.specs.Rules.{both}
 use borrow.Author.Needs.{needs}
 use Rattle.names.proofs.compatible.same_file.Statement.{statement}
 use Rattle.names.proofs.compatible.same_file.Tie as tie

@@ -1,7 +1,7 @@
 -- `names::decide::set_span` meets its contract.
 use mathlib.Core.Path.{_≡_, sym, _∙_}
 use mathlib.Core.Bool.{true, false, not}
-use Rattle.storage.specs.Rules.{both}
+use Rattle.rules.specs.Rules.{both}
 use Rattle.tables.specs.Rows.{has}
 use Rattle.answers.specs.Answers.{isInside}
 use borrow.Author.Needs.{needs}

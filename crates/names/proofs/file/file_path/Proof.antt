@@ -1,6 +1,6 @@
 -- `names::file::file_path` meets its contract.
 use mathlib.Core.Path.{_≡_, ap}
-use Rattle.storage.specs.Rules.{both}
+use Rattle.rules.specs.Rules.{both}
 use Rattle.tables.specs.Rows.{rowAt}
 use Rattle.answers.specs.Answers.{rowsHeld}
 use Rattle.answers.proofs.Deciding.{composed-value, composed-refused}

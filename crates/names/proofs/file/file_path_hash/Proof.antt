@@ -1,7 +1,7 @@
 -- `names::file::file_path_hash` meets its contract.
 use Prim.Native.Nat.{ℕ}
 use mathlib.Core.Path.{_≡_, ap, _∙_}
-use Rattle.storage.specs.Rules.{both}
+use Rattle.rules.specs.Rules.{both}
 use Rattle.tables.specs.declared.rows.Row.{Row}
 use Rattle.tables.specs.Rows.{rowAt}
 use Rattle.answers.specs.Answers.{rowsHeld}

@@ -2,7 +2,7 @@
 use mathlib.Core.Path.{_≡_, refl}
 use mathlib.Core.Bool.{Bool, true, false}
 use borrow.Author.Tests.{lt-leb, le-leb}
-use Rattle.storage.specs.Rules.{both}
+use Rattle.rules.specs.Rules.{both}
 use Rattle.renames.proofs.check.is_entry_in_order.Statement.{statement}
 use Rattle.renames.proofs.check.is_entry_in_order.Tie as tie
 

@@ -5,7 +5,7 @@ use mathlib.Core.Bool.{Bool, true}
 use mathlib.Core.List.{List}
 use native.Mathlib.Omega.{arith}
 use lib.ListN.{length}
-use Rattle.storage.specs.Rules.{both}
+use Rattle.rules.specs.Rules.{both}
 use Rattle.types.specs.Refusals.{numberOf, value}
 use Rattle.tables.specs.Rows.{rowAt}
 use Rattle.tables.specs.Span.{textAt}

@@ -8,7 +8,7 @@ use lib.IntN.{ℤ, pos}
 use lib.ListN.{length}
 use Rattle.lists.specs.Lists.{any}
 use Rattle.types.specs.Refusals.{numberOf, value}
-use Rattle.storage.specs.Addition.{isNegative}
+use Rattle.rules.specs.Bounds.{isNegative}
 use Rattle.answers.specs.Answers.{askedSet}
 use Rattle.answers.specs.Results.{i32Says}
 use Rattle.renames.specs.declared.rename.RenamedFiles.{RenamedFiles}

@@ -6,7 +6,7 @@ use lib.ListN.{length, drop}
 use borrow.Author.Needs.{needs}
 use Rattle.lists.proofs.Tests.{any-turn, any-stop, any-end}
 use Rattle.lists.specs.Lists.{any}
-use Rattle.storage.specs.Addition.{isNegative}
+use Rattle.rules.specs.Bounds.{isNegative}
 use Rattle.renames.proofs.listed.has_negative.Statement.{statement}
 use Rattle.renames.proofs.listed.has_negative.Tie as tie
 

@@ -9,7 +9,7 @@ use mir.Facts.{toZ-ofZ}
 use Rattle.types.specs.Signed.{unsignedOf}
 use Rattle.types.specs.declared.signed.Unsigned.{Unsigned}
 use Rattle.types.specs.declared.signed.Unsigned.the-variants.{Of, Negative}
-use Rattle.storage.specs.Addition.{isNegative}
+use Rattle.rules.specs.Bounds.{isNegative}
 use borrow.Author.Needs.{needs}
 use Rattle.renames.proofs.listed.is_negative.Statement.{statement}
 use Rattle.renames.proofs.listed.is_negative.Tie as tie

@@ -5,7 +5,7 @@ use mathlib.Core.Bool.{Bool, true}
 use native.Mathlib.Omega.{arith}
 use borrow.Author.Tests.{not-true, not-false}
 use lib.ListN.{length}
-use Rattle.storage.specs.Rules.{both}
+use Rattle.rules.specs.Rules.{both}
 use Rattle.types.specs.Refusals.{numberOf, value}
 use Rattle.tables.specs.Rows.{rowAt}
 use Rattle.tables.specs.declared.span.Span.{Span}

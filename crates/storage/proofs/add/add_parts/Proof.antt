@@ -13,13 +13,13 @@ use Rattle.types.specs.declared.refusal.Refusal.{Refusal}
 use Rattle.tables.specs.Model.{Store, viewOf}
 use Rattle.storage.specs.declared.plan.AddPlan.{AddPlan}
 use Rattle.storage.specs.declared.plan.PlanResult.the-variants.{Ok, Err}
-use Rattle.storage.specs.Rules.{outcomeOf}
+use Rattle.rules.specs.Rules.{outcomeOf}
 use Rattle.storage.specs.Addition.{Addition}
 use Rattle.storage.specs.Write.{storeAdded, timesAdded}
 use Rattle.storage.specs.Outcomes.{addingNumber}
 use Rattle.storage.specs.Plan.{storeOf, additionOf, TextsOf, planOf, planSays, rowsWritten, dirsWritten, textWritten}
 use Rattle.types.proofs.Refusals.{numbered}
-use Rattle.storage.proofs.Rules.{outcome-value, outcome-refused}
+use Rattle.rules.proofs.Rules.{outcome-value, outcome-refused}
 use Rattle.storage.proofs.Plans.{add-held}
 use Rattle.storage.proofs.Written.{text-is, rows-are, dirs-are, kept-all, wrote-all}
 use borrow.Author.Needs.{needs}

@@ -3,7 +3,7 @@ use mathlib.Core.Path.{_≡_, refl}
 use mathlib.Core.Bool.{Bool}
 use borrow.Author.Tests.{not-true, not-false}
 use Prim.Native.Nat.{ℕ}
-use Rattle.storage.specs.Rules.{firstOf}
+use Rattle.rules.specs.Rules.{firstOf}
 use Rattle.storage.specs.Checks.{kindRules}
 use Rattle.storage.proofs.checks.check_kind.Statement.{statement}
 use Rattle.storage.proofs.checks.check_kind.Tie as tie

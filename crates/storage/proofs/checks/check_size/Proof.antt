@@ -3,7 +3,7 @@ use mathlib.Core.Path.{sym, _∙_}
 use Prim.Native.Nat.{_+_}
 use native.Mathlib.Omega.{arith}
 use borrow.Author.Tests.{lt-ltb, le-ltb}
-use Rattle.storage.specs.Addition.{limit}
+use Rattle.rules.specs.Bounds.{limit}
 use borrow.Author.Needs.{needs}
 use Rattle.storage.proofs.checks.check_size.Statement.{statement}
 use Rattle.storage.proofs.checks.check_size.Tie as tie

@@ -7,8 +7,9 @@ use mir.Facts.{toZ-ofZ}
 use Rattle.types.specs.Refusals.{value}
 use Rattle.storage.specs.declared.checks.Check.the-variants.{Go}
 use Rattle.storage.specs.declared.checks.Sizes.{Sizes}
-use Rattle.storage.specs.Rules.{firstOf}
-use Rattle.storage.specs.Addition.{isNegative, sizeOf, decides, isOpen}
+use Rattle.rules.specs.Rules.{firstOf}
+use Rattle.rules.specs.Bounds.{isNegative, sizeOf}
+use Rattle.storage.specs.Addition.{decides, isOpen}
 use Rattle.storage.specs.Outcomes.{optionalOf}
 use Rattle.storage.specs.Parts.{isHere}
 use Rattle.storage.specs.Checks.{checkSays, sizeRules, kindRules, sizesFor}

@@ -10,12 +10,13 @@ use borrow.Author.Tests.{not-true, not-false}
 use Rattle.tables.specs.Model.{Store}
 use Rattle.storage.specs.declared.checks.Sizes.{Sizes}
 use Rattle.storage.specs.declared.checks.SizesResult.the-variants.{Ok}
-use Rattle.storage.specs.Rules.{firstOf, outcomeOf}
+use Rattle.rules.specs.Rules.{firstOf, outcomeOf}
 use Rattle.storage.specs.Addition.{Addition, isPresent, isZero}
 use Rattle.storage.specs.Outcomes.{holds}
 use Rattle.storage.specs.Checks.{sizesSays, sizesFor, numberRules}
 use Rattle.storage.specs.Plan.{storeOf, additionOf}
-use Rattle.storage.proofs.Rules.{outcome-value, sum-in, link-in}
+use Rattle.rules.proofs.Rules.{outcome-value}
+use Rattle.storage.proofs.Rules.{sum-in, link-in}
 use Rattle.storage.proofs.Plans.{here-is, add-stopped, add-unheld, add-planned}
 use Rattle.storage.proofs.plan.plan_add.Statement.{statement}
 use Rattle.storage.proofs.plan.plan_add.Tie as tie

@@ -8,7 +8,7 @@ use Rattle.tables.specs.declared.span.Span.{Span}
 use Rattle.tables.specs.Model.{absent, present}
 use Rattle.storage.specs.declared.plan.Places.{Places}
 use Rattle.storage.specs.declared.plan.AddPlan.{AddPlan}
-use Rattle.storage.specs.Rules.{either, outcomeOf}
+use Rattle.rules.specs.Rules.{either, outcomeOf}
 use Rattle.storage.specs.Write.{kept}
 use Rattle.storage.specs.Checks.{filesRoom, dirsRoom}
 use Rattle.storage.specs.Plan.{shortOf, placesSays, placedOf, placesFor}

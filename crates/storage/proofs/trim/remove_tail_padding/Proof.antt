@@ -5,7 +5,7 @@ use mathlib.Core.List.{[]}
 use borrow.Author.Needs.{needs}
 use borrow.Author.Tests.{not-true, not-false}
 use Rattle.tables.specs.Model.{Store}
-use Rattle.storage.specs.Addition.{badLength}
+use Rattle.rules.specs.Bounds.{badLength}
 use Rattle.storage.specs.Outcomes.{holds}
 use Rattle.storage.specs.Trims.{foundSays}
 use Rattle.storage.proofs.Trims.{found-below, few-files, trim-refused, trim-roomless, trim-none, trim-done}

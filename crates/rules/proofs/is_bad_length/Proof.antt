@@ -1,7 +1,7 @@
--- `storage::checks::is_bad_length` meets its contract.
+-- `rules::is_bad_length` meets its contract.
 use borrow.Author.Tests.{lt-ltb, le-ltb}
-use Rattle.storage.proofs.checks.is_bad_length.Statement.{statement}
-use Rattle.storage.proofs.checks.is_bad_length.Tie as tie
+use Rattle.rules.proofs.is_bad_length.Statement.{statement}
+use Rattle.rules.proofs.is_bad_length.Tie as tie
 
 returns : tie.Need-returns
 returns c = rw (lt-ltb (c .before .args .piece-length) 1 (c .if1 .taken))

@@ -10,7 +10,7 @@ use Rattle.tables.specs.declared.span.Span.{Span}
 use Rattle.tables.specs.Span.{endOf, Apart}
 use Rattle.tables.specs.Rows.{rowAt, dirAt, has}
 use Rattle.tables.specs.Model.{Store}
-use Rattle.storage.specs.Addition.{limit}
+use Rattle.rules.specs.Bounds.{limit}
 
 -- what a text is
 pub data Place : Type 0 where

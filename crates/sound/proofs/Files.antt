@@ -14,9 +14,9 @@ use Rattle.tables.specs.Rows.{skip}
 use Rattle.tables.specs.Model.{File, tabled}
 use Rattle.tables.proofs.Tabled.{getD-tabled, tabled-same}
 use Rattle.storage.specs.Trim.{beginningAt, sizeAt}
-use Rattle.model.specs.Sound.{sumTo}
-use Rattle.model.specs.Documents.{Each, none, more}
-use Rattle.model.proofs.Common.{sum-same}
+use Rattle.sound.specs.Sound.{sumTo}
+use Rattle.sound.specs.Documents.{Each, none, more}
+use Rattle.sound.proofs.Common.{sum-same}
 
 module _ {A B : Type 0} (g : A → B) where
   pub map-take : (n : ℕ) (l : List A) → map g (take n l) ≡ take n (map g l)

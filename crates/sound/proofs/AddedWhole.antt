@@ -13,15 +13,15 @@ use Rattle.tables.specs.declared.storage.FileStorage.{FileStorage}
 use Rattle.tables.specs.Span.{slid}
 use Rattle.tables.specs.Rows.{has}
 use Rattle.tables.specs.Model.{absent, Directory, single, absolute, stored, Model, Store}
-use Rattle.storage.specs.Rules.{both}
+use Rattle.rules.specs.Rules.{both}
 use Rattle.storage.specs.Addition.{Addition, added, filesOf, sizeAdded, keeps, isV2, padOf, placeFor, fileAdded, padAdded, padDirectory, flagsKept, isAmong, withDirectory, withPlace, isPresent, isZero}
 use Rattle.storage.specs.Write.{placeOf, indexOf, isOutside, missing, setText, directoryNew, nameText, linkNew, padDirectoryNew, padText, oldName, kept, putDirIf, isNew, isNewPlace, isNewPad, rootsAdded, timesAdded, storageAdded, storeAdded}
-use Rattle.model.proofs.AddedName.{nameStage}
-use Rattle.model.proofs.AddedDirectory.{dirStage}
-use Rattle.model.proofs.AddedFile.{NewFile, withFile, padStage}
-use Rattle.model.proofs.AddedStages.{settled}
-use Rattle.model.proofs.AddedPlaces.{flagsOf, flags-one, kept-small, kept-one}
-use Rattle.model.proofs.AddedTimes.{heldAfter}
+use Rattle.sound.proofs.AddedName.{nameStage}
+use Rattle.sound.proofs.AddedDirectory.{dirStage}
+use Rattle.sound.proofs.AddedFile.{NewFile, withFile, padStage}
+use Rattle.sound.proofs.AddedStages.{settled}
+use Rattle.sound.proofs.AddedPlaces.{flagsOf, flags-one, kept-small, kept-one}
+use Rattle.sound.proofs.AddedTimes.{heldAfter}
 
 -- ---- the stages
 

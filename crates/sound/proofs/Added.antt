@@ -17,17 +17,17 @@ use Rattle.tables.specs.Rows.{has, rootAt, dirWords, dirsLowered}
 use Rattle.tables.specs.Model.{Optional, absent, present, presentIf, Directory, single, absolute, stored, File, Model, Store, fileOf, directoryText, viewOf}
 use Rattle.tables.proofs.Spans.{clip-same, length-slid}
 use Rattle.tables.proofs.Tabled.{length-tabled}
-use Rattle.storage.specs.Rules.{both}
+use Rattle.rules.specs.Rules.{both}
 use Rattle.storage.specs.Addition.{Addition, added, filesOf, sizeAdded, keeps, padOf, newName, placeFor, fileAdded, padAdded, padDirectory, flagsKept, isAmong, withDirectory, withPlace, directoriesAfter, isPresent, withTime}
 use Rattle.storage.specs.Write.{isOutside, missing, missingOf, setText, directoryNew, nameText, linkNew, padDirectoryNew, oldName, kept, putDirIf, isNew, isNewPlace, isNewPad, rootsAdded, storeAdded}
 use Rattle.storage.specs.Outcomes.{addingNumber}
-use Rattle.model.specs.Sound.{setName, Sound}
-use Rattle.model.proofs.Adding.{Fits, fits}
-use Rattle.model.proofs.AddedFile.{rowFor, Fitting, length-roots, sound-file, file-name, file-directories, file-files, file-root}
-use Rattle.model.proofs.AddedStages.{Named, again, stays, sound-name-stage, name-stage-name, name-stage-directories, name-stage-files, sound-dir-stage, dir-stage-name, dir-stage-directories, dir-stage-files, Padded, none, some, fileIn, sound-pad-stage, pad-stage-name, pad-stage-directories, pad-stage-files, sound-settled}
-use Rattle.model.proofs.AddedPlaces.{leads, index-placed, index-small, place-at, flags-low, flags-link, flags-outside, flags-made, flags-root, kept-small}
-use Rattle.model.proofs.AddedTimes.{times-after, times-fit}
-use Rattle.model.proofs.AddedWhole.{newFile, newPad, stage1, stage2, stage3, stage4, stage5, stage6, count-place, count-pad, count-files, on-disk-is, whole}
+use Rattle.sound.specs.Sound.{setName, Sound}
+use Rattle.sound.proofs.Adding.{Fits, fits}
+use Rattle.sound.proofs.AddedFile.{rowFor, Fitting, length-roots, sound-file, file-name, file-directories, file-files, file-root}
+use Rattle.sound.proofs.AddedStages.{Named, again, stays, sound-name-stage, name-stage-name, name-stage-directories, name-stage-files, sound-dir-stage, dir-stage-name, dir-stage-directories, dir-stage-files, Padded, none, some, fileIn, sound-pad-stage, pad-stage-name, pad-stage-directories, pad-stage-files, sound-settled}
+use Rattle.sound.proofs.AddedPlaces.{leads, index-placed, index-small, place-at, flags-low, flags-link, flags-outside, flags-made, flags-root, kept-small}
+use Rattle.sound.proofs.AddedTimes.{times-after, times-fit}
+use Rattle.sound.proofs.AddedWhole.{newFile, newPad, stage1, stage2, stage3, stage4, stage5, stage6, count-place, count-pad, count-files, on-disk-is, whole}
 
 -- ---- what is not put is empty
 

@@ -19,9 +19,9 @@ use Rattle.tables.specs.Model.{Optional, presentIf, Directory, single, absolute
 use Rattle.tables.proofs.Spans.{read-kept, length-slid}
 use Rattle.tables.proofs.Tabled.{tabled-same}
 use Rattle.storage.specs.Trim.{beginningAt, without}
-use Rattle.model.specs.Sound.{setName, dirName, fileName, linkText, Sound}
-use Rattle.model.proofs.Files.{number-tabled, tabled-except}
-use Rattle.model.proofs.TrimmedTexts.{c, l, new, row-is, text-after}
+use Rattle.sound.specs.Sound.{setName, dirName, fileName, linkText, Sound}
+use Rattle.sound.proofs.Files.{number-tabled, tabled-except}
+use Rattle.sound.proofs.TrimmedTexts.{c, l, new, row-is, text-after}
 
 -- ---- roots
 

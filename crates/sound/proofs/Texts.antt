@@ -15,8 +15,8 @@ use Rattle.tables.specs.Span.{textAt}
 use Rattle.tables.specs.Rows.{rowAt, dirAt, has}
 use Rattle.tables.specs.Model.{Store, stored, presentIf, directoryText, directoryOf, fileOf, viewOf}
 use Rattle.storage.specs.Addition.{linkLength, fileText, textOf}
-use Rattle.model.specs.Sound.{Place, setName, dirName, fileName, linkText, spanOf, textAtRow, Sound}
-use Rattle.model.proofs.Common.{sum-same, sum-tabled}
+use Rattle.sound.specs.Sound.{Place, setName, dirName, fileName, linkText, spanOf, textAtRow, Sound}
+use Rattle.sound.proofs.Common.{sum-same, sum-tabled}
 
 link-length : (b : Bool) (t : List ℕ) → (b ≡ false → length t ≡ 0) → linkLength (presentIf b t) ≡ length t
 link-length true t e = refl

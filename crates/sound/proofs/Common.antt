@@ -9,8 +9,8 @@ use Rattle.lists.specs.Lists.{sum}
 use Rattle.lists.proofs.Sums.{sum-append}
 use Rattle.tables.specs.Model.{tabled}
 use Rattle.tables.proofs.Tabled.{tabled-more}
-use Rattle.storage.specs.Rules.{both}
-use Rattle.model.specs.Sound.{sumTo}
+use Rattle.rules.specs.Rules.{both}
+use Rattle.sound.specs.Sound.{sumTo}
 
 -- two tests hold, so each does
 pub both-first : (a b : Bool) → both a b ≡ true → a ≡ true

@@ -19,12 +19,12 @@ use Rattle.tables.proofs.Tabled.{length-tabled}
 use Rattle.storage.specs.Trim.{tailPad, trimmedIf, trimmedOf}
 use Rattle.storage.specs.Write.{storeTrimmed}
 use Rattle.storage.specs.Outcomes.{trimmedBy}
-use Rattle.model.specs.Sound.{sumTo, sizeOfRow, padOfRow, Sound}
-use Rattle.model.proofs.Trimming.{TailPad, tail-pad}
-use Rattle.model.proofs.Common.{sum-same}
-use Rattle.model.proofs.Files.{sum-skip, sum-tail, number-tabled}
-use Rattle.model.proofs.TrimmedTexts.{c, l, new, removed-is, row-is, within-after, apart-after, full-after}
-use Rattle.model.proofs.TrimmedView.{view-after}
+use Rattle.sound.specs.Sound.{sumTo, sizeOfRow, padOfRow, Sound}
+use Rattle.sound.proofs.Trimming.{TailPad, tail-pad}
+use Rattle.sound.proofs.Common.{sum-same}
+use Rattle.sound.proofs.Files.{sum-skip, sum-tail, number-tabled}
+use Rattle.sound.proofs.TrimmedTexts.{c, l, new, removed-is, row-is, within-after, apart-after, full-after}
+use Rattle.sound.proofs.TrimmedView.{view-after}
 
 -- ---- what the search on a store's files says of its rows
 

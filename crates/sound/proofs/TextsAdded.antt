@@ -17,9 +17,9 @@ use Rattle.tables.proofs.Spans.{clip-same}
 use Rattle.tables.proofs.Tabled.{length-tabled}
 use Rattle.storage.specs.Addition.{Addition, filesOf, sizeAdded, keeps, padOf, newName, placeFor, fileAdded, padAdded, padDirectory, isAmong, withDirectory, withPlace, added, linkLength, fileText, textOf}
 use Rattle.storage.specs.Write.{missing, missingOf, setText, kept, textAfter}
-use Rattle.model.specs.Sound.{setName, Sound}
-use Rattle.model.proofs.Common.{sum-map-append}
-use Rattle.model.proofs.Texts.{text-is, text-length}
+use Rattle.sound.specs.Sound.{setName, Sound}
+use Rattle.sound.proofs.Common.{sum-map-append}
+use Rattle.sound.proofs.Texts.{text-is, text-length}
 
 -- ---- each text by itself
 

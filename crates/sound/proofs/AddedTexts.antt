@@ -11,8 +11,8 @@ use Rattle.tables.specs.Rows.{rowAt, dirAt, rootAt, has}
 use Rattle.tables.specs.Model.{Store, Directory, presentIf, File, directoryText, directoryOf, fileOf, tabled}
 use Rattle.tables.proofs.Spans.{apart-before, apart-sym}
 use Rattle.tables.proofs.Tabled.{tabled-same}
-use Rattle.model.specs.Sound.{Place, setName, dirName, fileName, linkText, Sound}
-use Rattle.model.proofs.Texts.{dir-span, name-span, link-span, directory-same}
+use Rattle.sound.specs.Sound.{Place, setName, dirName, fileName, linkText, Sound}
+use Rattle.sound.proofs.Texts.{dir-span, name-span, link-span, directory-same}
 
 -- two texts put behind the used part, one after the other: a place holds what it held, or is that of a new one
 pub data Put (s t : Place → Span) (u n k : ℕ) (x y : Place) (p : Place) : Type 0 where

@@ -17,10 +17,10 @@ use Rattle.tables.specs.Model.{Store}
 use Rattle.tables.proofs.Spans.{clip-same}
 use Rattle.tables.proofs.Moves.{row-moved, dir-lowered, length-lowered}
 use Rattle.storage.specs.Write.{firstGone, secondGone, storeWithout, storeTrimmed}
-use Rattle.model.specs.Sound.{Place, setName, dirName, fileName, linkText, nowhere, spanOf, sumTo, textAtRow, lengths, Sound}
-use Rattle.model.proofs.Common.{sum-same}
-use Rattle.model.proofs.Files.{sum-skip}
-use Rattle.model.proofs.TrimmedSpans.{lowTwice, low-twice-nowhere, next-in, two-within, two-read, two-apart}
+use Rattle.sound.specs.Sound.{Place, setName, dirName, fileName, linkText, nowhere, spanOf, sumTo, textAtRow, lengths, Sound}
+use Rattle.sound.proofs.Common.{sum-same}
+use Rattle.sound.proofs.Files.{sum-skip}
+use Rattle.sound.proofs.TrimmedSpans.{lowTwice, low-twice-nowhere, next-in, two-within, two-read, two-apart}
 
 -- ---- places
 

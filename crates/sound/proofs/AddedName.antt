@@ -18,9 +18,9 @@ use Rattle.tables.proofs.Spans.{apart-before, apart-sym, apart-kept, within-kep
 use Rattle.tables.proofs.Words.{dir-words}
 use Rattle.tables.proofs.Filled.{word-filled}
 use Rattle.tables.proofs.Tabled.{tabled-same}
-use Rattle.model.specs.Sound.{Place, setName, dirName, fileName, linkText, nowhere, spanOf, sumTo, textAtRow, Sound}
-use Rattle.model.proofs.Common.{sum-same}
-use Rattle.model.proofs.Texts.{dir-span}
+use Rattle.sound.specs.Sound.{Place, setName, dirName, fileName, linkText, nowhere, spanOf, sumTo, textAtRow, Sound}
+use Rattle.sound.proofs.Common.{sum-same}
+use Rattle.sound.proofs.Texts.{dir-span}
 
 -- the set with the name t in place of the one at span c, or as it was
 abbrev pub nameStage : Bool → Store → Span → List ℕ → Store

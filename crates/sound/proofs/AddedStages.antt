@@ -12,11 +12,11 @@ use Rattle.tables.specs.declared.span.Span.{Span}
 use Rattle.tables.specs.Rows.{rootAt, has}
 use Rattle.tables.specs.Model.{File, Store, directoryOf, viewOf}
 use Rattle.storage.specs.Write.{rootsAdded}
-use Rattle.model.specs.Sound.{Place, setName, dirName, fileName, linkText, nowhere, spanOf, Sound}
-use Rattle.model.proofs.AddedTexts.{fileFrom}
-use Rattle.model.proofs.AddedName.{nameStage, sound-named, named-name, named-directories, named-files}
-use Rattle.model.proofs.AddedDirectory.{dirStage, sound-dir, dir-name, dir-directories, dir-files}
-use Rattle.model.proofs.AddedFile.{NewFile, rowFor, padStage, Fitting, sound-file, file-name, file-directories, file-files}
+use Rattle.sound.specs.Sound.{Place, setName, dirName, fileName, linkText, nowhere, spanOf, Sound}
+use Rattle.sound.proofs.AddedTexts.{fileFrom}
+use Rattle.sound.proofs.AddedName.{nameStage, sound-named, named-name, named-directories, named-files}
+use Rattle.sound.proofs.AddedDirectory.{dirStage, sound-dir, dir-name, dir-directories, dir-files}
+use Rattle.sound.proofs.AddedFile.{NewFile, rowFor, padStage, Fitting, sound-file, file-name, file-directories, file-files}
 
 -- ---- the set's name
 

@@ -8,7 +8,7 @@ use lib.ListN.{length}
 use Rattle.tables.specs.declared.span.Span.{Span}
 use Rattle.tables.specs.Span.{endOf, textAt, Apart, low, slid}
 use Rattle.tables.proofs.Spans.{apart-kept, within-kept, read-kept, length-slid}
-use Rattle.model.specs.Sound.{nowhere}
+use Rattle.sound.specs.Sound.{nowhere}
 
 -- after the removal of span c, and then of d
 abbrev pub lowTwice : Span → Span → Span → Span

@@ -8,13 +8,14 @@ use lib.Dec.{leb, ltb}
 use lib.ListN.{length}
 use borrow.Author.Tests.{le-leb, ltb-false}
 use Rattle.tables.specs.Model.{Model, Store, viewOf}
-use Rattle.storage.specs.Rules.{firstOf, outcomeOf, both, either}
+use Rattle.rules.specs.Rules.{firstOf, outcomeOf, both, either}
 use Rattle.path.specs.Split.{hasParent}
-use Rattle.storage.specs.Addition.{Addition, added, addedTo, addingRules, badLength, badName, disagree, filesOf, isNegative, lacks, limit, limitedName, padOf, sizeAdded, textOf}
+use Rattle.rules.specs.Bounds.{badLength, isNegative, limit}
+use Rattle.storage.specs.Addition.{Addition, added, addedTo, addingRules, badName, disagree, filesOf, lacks, limitedName, padOf, sizeAdded, textOf}
 use Rattle.storage.specs.Write.{textAfter}
 use Rattle.storage.specs.Outcomes.{roomsOf, holds, addingNumber}
-use Rattle.model.specs.Sound.{Sound}
-use Rattle.model.proofs.TextsAdded.{text-after}
+use Rattle.sound.specs.Sound.{Sound}
+use Rattle.sound.proofs.TextsAdded.{text-after}
 
 module _ (s : Store) (ok : Sound s) where
   -- the tables hold what the set's record counts

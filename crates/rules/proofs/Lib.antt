@@ -1,0 +1,2 @@
+-- Laws of rules in order.
+pub mod Rules

@@ -1,0 +1,71 @@
+-- Rules in order: two lists of them in a row, and what is known where none stops a call.
+use Prim.Native.Nat.{ℕ}
+use mathlib.Core.Path.{_≡_, refl, sym}
+use mathlib.Core.Bool.{Bool, true, false, cond, true≢false}
+use mathlib.Core.List.{List, [], _∷_, _++_}
+use native.Mathlib.Omega.{arith}
+use lib.Dec.{eqb}
+use borrow.Author.Tests.{eqb-true, eqb-false}
+use Rattle.types.specs.Refusals.{numberOf, Outcome, value, refused}
+use Rattle.types.specs.declared.refusal.Refusal.{Refusal}
+use Rattle.types.proofs.Refusals.{numbered}
+use Rattle.rules.specs.Rules.{Rule, firstOf, outcomeOf, both, either}
+
+-- rules whose numbers are above 0
+abbrev pub Numbered : List Rule → Type 0
+Numbered [] = Unit
+Numbered (r ∷ rs) = (eqb (r .number) 0 ≡ false) × Numbered rs
+
+-- none of the tests holds
+abbrev pub Passed : List Rule → Type 0
+Passed [] = Unit
+Passed (r ∷ rs) = (r .test ≡ false) × Passed rs
+
+-- the first number, or the second where that is 0
+abbrev pub orElse : ℕ → ℕ → ℕ
+orElse n m = cond (eqb n 0) m n
+
+-- two lists of rules in a row
+pub first-append : (rs ss : List Rule) → Numbered rs → firstOf (rs ++ ss) ≡ orElse (firstOf rs) (firstOf ss)
+first-append [] ss h = refl
+first-append (r ∷ rs) ss h = at (r .test) (first-append rs ss (h .1))
+  where
+    at : (t : Bool) → firstOf (rs ++ ss) ≡ orElse (firstOf rs) (firstOf ss)
+        → cond t (r .number) (firstOf (rs ++ ss)) ≡ orElse (cond t (r .number) (firstOf rs)) (firstOf ss)
+    at true e = rw (h .0)
+    at false e = e
+
+passed-one : (t : Bool) (k n : ℕ) → eqb k 0 ≡ false → 0 ≡ cond t k n → (t ≡ false) × (0 ≡ n)
+passed-one true k n h e = absurd (eqb-false k 0 h (sym e))
+passed-one false k n h e = (refl, e)
+
+pub passed : (rs : List Rule) → Numbered rs → 0 ≡ firstOf rs → Passed rs
+passed [] h e = tt
+passed (r ∷ rs) h e = let p = passed-one (r .test) (r .number) (firstOf rs) (h .0) e in (p .0, passed rs (h .1) (p .1))
+
+-- a rule of the first list stops a call, or none does and the second list decides
+pub stopped : {A : Type 0} (rs ss : List Rule) (e : Refusal) (a : A) → Numbered rs → numberOf e ≡ firstOf rs
+    → refused (numberOf e) ≡ outcomeOf (firstOf (rs ++ ss)) a
+stopped rs ss e a h k = rw (first-append rs ss h, ← k, numbered e, numbered e)
+
+pub after : (rs ss : List Rule) → Numbered rs → 0 ≡ firstOf rs → firstOf (rs ++ ss) ≡ firstOf ss
+after rs ss h k = rw (first-append rs ss h, ← k)
+
+-- what an outcome says of the number behind it
+pub outcome-value : {A : Type 0} (n : ℕ) (a b : A) → value a ≡ outcomeOf n b → (n ≡ 0) × (a ≡ b)
+outcome-value n a b e = at (eqb n 0) refl e
+  where
+    at : (t : Bool) → eqb n 0 ≡ t → value a ≡ cond t (value b) (refused n) → (n ≡ 0) × (a ≡ b)
+    at true q e = (eqb-true n 0 q, cc)
+    at false q e = absurd (let z : _≡_ {A = ℕ} 0 1 = cc in omega arith)
+
+pub outcome-refused : {A : Type 0} (n k : ℕ) (b : A) → refused k ≡ outcomeOf n b → n ≡ k
+outcome-refused n k b e = at (eqb n 0) e
+  where
+    at : (t : Bool) → refused k ≡ cond t (value b) (refused n) → n ≡ k
+    at true e = absurd (let z : _≡_ {A = ℕ} 0 1 = cc in omega arith)
+    at false e = cc
+
+pub either-false : (a b : Bool) → either a b ≡ false → (a ≡ false) × (b ≡ false)
+either-false true b e = absurd (true≢false e)
+either-false false b e = (refl, e)

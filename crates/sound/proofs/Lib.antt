@@ -1,0 +1,21 @@
+-- Theorems on tables in order.
+pub mod Common
+pub mod Files
+pub mod Texts
+pub mod Opened
+pub mod TextsAdded
+pub mod Adding
+pub mod AddedTexts
+pub mod AddedDirectory
+pub mod AddedFile
+pub mod AddedName
+pub mod AddedStages
+pub mod AddedPlaces
+pub mod AddedTimes
+pub mod AddedWhole
+pub mod Added
+pub mod Trimming
+pub mod TrimmedSpans
+pub mod TrimmedTexts
+pub mod TrimmedView
+pub mod Trimmed

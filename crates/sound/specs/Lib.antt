@@ -1,0 +1,3 @@
+-- Tables in order.
+pub mod Sound
+pub mod Documents
