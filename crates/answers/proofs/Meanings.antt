@@ -4,7 +4,7 @@
 use Prim.Native.Nat.{ℕ, _%_, _/_, _<_}
 use mathlib.Core.Path.{_≡_, refl, ap}
 use mathlib.Core.Bool.{Bool, true, false, cond, not}
-use mathlib.Core.List.{List, []}
+use mathlib.Core.List.{List, [], _∷_}
 use native.Mathlib.Omega.{arith}
 use lib.Dec.{eqb}
 use lib.IntN.{ℤ, pos}
@@ -18,10 +18,11 @@ use Rattle.tables.specs.Span.{textAt}
 use Rattle.tables.specs.Rows.{rowAt, dirAt, noPath, rootAt, has}
 use Rattle.tables.specs.Model.{Optional, absent, present, presentIf, Directory, single, absolute, stored, File, Store, directoryText, fileOf, viewOf}
 use Rattle.tables.proofs.Tabled.{length-tabled, getD-tabled}
-use Rattle.rules.specs.Rules.{both, outcomeOf}
-use Rattle.rules.specs.Bounds.{badLength}
-use Rattle.answers.specs.Answers.{indexOf, askedHeld, askedDirectory, askedFile, askedLink, timeOf, rootOf, isAbsolute, internalPath, symlinkPath}
-use Rattle.answers.proofs.Deciding.{setNumber, directoryNumber, fileNumber, linkNumber}
+use Rattle.rules.specs.Rules.{firstOf, both, outcomeOf}
+use Rattle.rules.specs.Bounds.{badLength, indexOf}
+use Rattle.rules.specs.Questions.{badPieceLength, noDirectory, short, askedHeld, askedDirectory, askedFile, askedLink}
+use Rattle.answers.specs.Answers.{timeOf, rootOf, isAbsolute, internalPath, symlinkPath}
+use Rattle.rules.proofs.Deciding.{fileNumber, linkNumber}
 
 -- something that may be missing, or what stands for it
 abbrev pub orElse : {A : Type 0} → Optional A → A → A
@@ -64,10 +65,10 @@ said n text s = text-if (eqb n 0) n text s
 -- a question whose answer is a place is the same question for the text there: of the set, a directory, a file, a link
 module _ (fs : FileStorage) (held : Bool) (text : List ℕ) where
   pub set-text : (s : Span) → textSaid text (askedHeld fs held s) ≡ askedHeld fs held (textAt text s)
-  set-text s = said (setNumber fs held) text s
+  set-text s = said (firstOf (badPieceLength fs ∷ short held ∷ [])) text s
 
   pub directory-text : (i : ℕ) (s : Span) → textSaid text (askedDirectory fs i held s) ≡ askedDirectory fs i held (textAt text s)
-  directory-text i s = said (directoryNumber fs i held) text s
+  directory-text i s = said (firstOf (badPieceLength fs ∷ noDirectory fs i ∷ short held ∷ [])) text s
 
   pub file-text : (z : ℤ) (a : ℕ → Span) → textSaid text (askedFile fs z held a) ≡ askedFile fs z held (λ k. textAt text (a k))
   file-text z a = said (fileNumber fs z held) text (a (indexOf z))

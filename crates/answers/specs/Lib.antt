@@ -1,3 +1,2 @@
--- The definitions that the contracts of `answers` cite. They rely on `tables`, `storage`, `path` and `types`.
-pub mod Results
+-- The definitions that the contracts of `answers` cite. They rely on `tables` and `path`.
 pub mod Answers

@@ -1,13 +1,10 @@
 // Plain answers about a set and its files, from file_storage.rs. A text is given as its place in the
-// text area, or composed into a lent buffer. Relies on `tables`, `storage`, `path`, `lists` and `types`.
-mod decide;
+// text area, or composed into a lent buffer. Relies on `rules` for the
+// refusals, and on `tables`, `path` and `types`.
 mod file;
-mod result;
 mod set;
 mod text;
 
-pub use decide::are_both;
-pub use decide::is_held;
 pub use file::file_absolute_path;
 pub use file::file_flags;
 pub use file::file_offset;
@@ -16,13 +13,6 @@ pub use file::mtime;
 pub use file::pad_file_at;
 pub use file::root;
 pub use file::root_of;
-pub use result::BoolResult;
-pub use result::I32Result;
-pub use result::I64Result;
-pub use result::RootResult;
-pub use result::SpanResult;
-pub use result::U8Result;
-pub use result::UnitResult;
 pub use set::name;
 pub use set::num_files;
 pub use set::num_paths;

@@ -4,26 +4,26 @@ ghost use Prim.Native.Nat.{_%_, _^_};
 ghost use lib.IntN.{pos};
 ghost use Rattle.rules.specs.Rules.{both};
 ghost use Rattle.tables.specs.Rows.{dirAt};
-ghost use Rattle.answers.specs.Results.{i32Says, i64Says, boolSays, spanSays};
-ghost use Rattle.answers.specs.Answers.{askedSet, askedHeld, askedDirectory, dirsHeld, textHeld};
-use crate::decide::are_both;
-use crate::decide::directory_in;
-use crate::decide::is_held;
-use crate::decide::set_in;
-use crate::result::BoolResult;
-use crate::result::I32Result;
-use crate::result::I64Result;
-use crate::result::SpanResult;
-use crate::result::UnitResult;
+ghost use Rattle.rules.specs.Results.{i32Says, i64Says, boolSays, spanSays};
+ghost use Rattle.rules.specs.Questions.{askedSet, askedHeld, askedDirectory, dirsHeld, textHeld};
+use rules::BoolResult;
+use rules::Check;
+use rules::I32Result;
+use rules::I64Result;
+use rules::SpanResult;
+use rules::are_both;
+use rules::ask_directory;
+use rules::ask_set;
+use rules::is_held;
 use tables::FileStorage;
 
 // How many files the set has.
 pub fn num_files(fs: FileStorage) -> I32Result
     ensures { λ r. ⌜ i32Says r ≡ askedSet fs (pos (fs .«num_files» % 2 ^ 31)) ⌝ }
 {
-    match set_in(fs, true) {
-        UnitResult::Ok => I32Result::Ok(types::signed32(fs.num_files as u64)),
-        UnitResult::Err(e) => I32Result::Err(e),
+    match ask_set(fs, false, true) {
+        Check::Go => I32Result::Ok(types::signed32(fs.num_files as u64)),
+        Check::Stop(e) => I32Result::Err(e),
     }
 }
 
@@ -31,9 +31,9 @@ pub fn num_files(fs: FileStorage) -> I32Result
 pub fn total_size(fs: FileStorage) -> I64Result
     ensures { λ r. ⌜ i64Says r ≡ askedSet fs (pos (fs .«total_size» % 2 ^ 63)) ⌝ }
 {
-    match set_in(fs, true) {
-        UnitResult::Ok => I64Result::Ok(types::signed64(fs.total_size)),
-        UnitResult::Err(e) => I64Result::Err(e),
+    match ask_set(fs, false, true) {
+        Check::Go => I64Result::Ok(types::signed64(fs.total_size)),
+        Check::Stop(e) => I64Result::Err(e),
     }
 }
 
@@ -41,9 +41,9 @@ pub fn total_size(fs: FileStorage) -> I64Result
 pub fn size_on_disk(fs: FileStorage) -> I64Result
     ensures { λ r. ⌜ i64Says r ≡ askedSet fs (pos (fs .«size_on_disk» % 2 ^ 63)) ⌝ }
 {
-    match set_in(fs, true) {
-        UnitResult::Ok => I64Result::Ok(types::signed64(fs.size_on_disk)),
-        UnitResult::Err(e) => I64Result::Err(e),
+    match ask_set(fs, false, true) {
+        Check::Go => I64Result::Ok(types::signed64(fs.size_on_disk)),
+        Check::Stop(e) => I64Result::Err(e),
     }
 }
 
@@ -51,9 +51,9 @@ pub fn size_on_disk(fs: FileStorage) -> I64Result
 pub fn piece_length(fs: FileStorage) -> I32Result
     ensures { λ r. ⌜ i32Says r ≡ askedSet fs (pos (fs .«piece_length» % 2 ^ 31)) ⌝ }
 {
-    match set_in(fs, true) {
-        UnitResult::Ok => I32Result::Ok(types::signed32(fs.piece_length)),
-        UnitResult::Err(e) => I32Result::Err(e),
+    match ask_set(fs, false, true) {
+        Check::Go => I32Result::Ok(types::signed32(fs.piece_length)),
+        Check::Stop(e) => I32Result::Err(e),
     }
 }
 
@@ -61,9 +61,9 @@ pub fn piece_length(fs: FileStorage) -> I32Result
 pub fn v2(fs: FileStorage) -> BoolResult
     ensures { λ r. ⌜ boolSays r ≡ askedSet fs (fs .v2) ⌝ }
 {
-    match set_in(fs, true) {
-        UnitResult::Ok => BoolResult::Ok(fs.v2),
-        UnitResult::Err(e) => BoolResult::Err(e),
+    match ask_set(fs, false, true) {
+        Check::Go => BoolResult::Ok(fs.v2),
+        Check::Stop(e) => BoolResult::Err(e),
     }
 }
 
@@ -72,9 +72,9 @@ pub fn name(fs: FileStorage, text: &[u8]) -> SpanResult
     ensures { λ r. ⌜ spanSays r ≡ askedHeld fs (textHeld fs (now (text .entry))) (fs .name) ⌝ }
 {
     let place = fs.name;
-    match set_in(fs, is_held(fs.text_len, text.len())) {
-        UnitResult::Ok => SpanResult::Ok(place),
-        UnitResult::Err(e) => SpanResult::Err(e),
+    match ask_set(fs, false, is_held(fs.text_len, text.len())) {
+        Check::Go => SpanResult::Ok(place),
+        Check::Stop(e) => SpanResult::Err(e),
     }
 }
 
@@ -82,9 +82,9 @@ pub fn name(fs: FileStorage, text: &[u8]) -> SpanResult
 pub fn num_paths(fs: FileStorage) -> I32Result
     ensures { λ r. ⌜ i32Says r ≡ askedSet fs (pos (fs .«num_paths» % 2 ^ 31)) ⌝ }
 {
-    match set_in(fs, true) {
-        UnitResult::Ok => I32Result::Ok(types::signed32(fs.num_paths as u64)),
-        UnitResult::Err(e) => I32Result::Err(e),
+    match ask_set(fs, false, true) {
+        Check::Go => I32Result::Ok(types::signed32(fs.num_paths as u64)),
+        Check::Stop(e) => I32Result::Err(e),
     }
 }
 
@@ -96,8 +96,8 @@ pub fn path_at(fs: FileStorage, dirs: &[u64], text: &[u8], i: usize) -> SpanResu
         is_held(fs.num_paths, dirs.len() / 2),
         is_held(fs.text_len, text.len()),
     );
-    match directory_in(fs, i, held) {
-        UnitResult::Ok => SpanResult::Ok(tables::dir_at(dirs, i)),
-        UnitResult::Err(e) => SpanResult::Err(e),
+    match ask_directory(fs, i, held) {
+        Check::Go => SpanResult::Ok(tables::dir_at(dirs, i)),
+        Check::Stop(e) => SpanResult::Err(e),
     }
 }

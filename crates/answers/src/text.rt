@@ -1,22 +1,35 @@
 // Answers about one file that are texts: a place in the text area, or a path composed into a lent buffer.
 // They rely on decide.rt, on the total accessors of `tables` and on the joins of `path`.
 ghost use mathlib.Core.Path.{_≡_};
+ghost use Prim.Native.Nat.{_/_};
+ghost use lib.Dec.{leb};
 ghost use Rattle.types.specs.Refusals.{usizeSays};
 ghost use Rattle.rules.specs.Rules.{both};
 ghost use Rattle.tables.specs.Rows.{rowAt, has};
 ghost use Rattle.path.specs.Join.{Joined};
-ghost use Rattle.answers.specs.Results.{spanSays};
-ghost use Rattle.answers.specs.Answers.{askedFile, askedLink, rowsHeld, dirsHeld, textHeld, composedIf, composedFile, internalPath, symlinkPath};
-use crate::decide::are_both;
-use crate::decide::are_held;
-use crate::decide::file_in;
-use crate::decide::is_held;
-use crate::result::SpanResult;
+ghost use Rattle.rules.specs.Results.{spanSays};
+ghost use Rattle.rules.specs.Questions.{askedFile, askedLink, rowsHeld, dirsHeld, textHeld};
+ghost use Rattle.rules.specs.Composed.{composedIf, composedFile};
+ghost use Rattle.answers.specs.Answers.{internalPath, symlinkPath};
+use rules::SpanResult;
+use rules::are_both;
+use rules::file_in;
+use rules::is_held;
 use tables::FileStorage;
 use tables::Row;
 use types::FileIndex;
 use types::Refusal;
 use types::UsizeResult;
+
+// Whether so many words of rows and so many bytes of text hold the set's files and texts.
+fn are_held(fs: FileStorage, words: usize, bytes: usize) -> bool
+    ensures { λ r. ⌜ r ≡ both (leb (fs .«num_files») (words / 8)) (leb (fs .«text_len») bytes) ⌝ }
+{
+    are_both(
+        is_held(fs.num_files, words / 8),
+        is_held(fs.text_len, bytes),
+    )
+}
 
 // The number of a file whose link text a question is about, or why the question isn't answered.
 fn link_in(fs: FileStorage, rows: &[u64], index: FileIndex, held: bool) -> UsizeResult

@@ -10,7 +10,7 @@ use lib.ListN.{replicate, length-replicate}
 use Rattle.lists.specs.Lists.{sum}
 use Rattle.types.specs.declared.index.FileSlice.{FileSlice}
 use Rattle.tables.specs.Model.{Store}
-use Rattle.layout.specs.Table.{Filled, recordOf, blockMapped}
+use Rattle.mapping.specs.Table.{Filled, recordOf, blockMapped}
 use Rattle.book.specs.Slices.{slice, meets}
 use Rattle.book.specs.Demand.{Asking, Asks}
 

@@ -26,15 +26,15 @@ use Rattle.tables.specs.Rows.{rowAt}
 use Rattle.tables.specs.Model.{File, Store, viewOf}
 use Rattle.rules.specs.Rules.{Rule, firstOf}
 use Rattle.rules.specs.Bounds.{badLength, limit}
-use Rattle.answers.specs.Answers.{rowsHeld}
+use Rattle.rules.specs.Questions.{rowsHeld}
 use Rattle.sound.specs.Sound.{Sound}
-use Rattle.layout.specs.Questions.{opened, manyPieces, noPiece, noFile, badRange, short}
-use Rattle.layout.specs.Results.{Asked}
+use Rattle.rules.specs.Questions.{badPieceLength, manyPieces, noPiece, noFile, badRange, short}
+use Rattle.rules.specs.Results.{Asked}
 use Rattle.layout.specs.Mapping.{Slice}
-use Rattle.layout.specs.Block.{blockOf}
-use Rattle.layout.specs.Table.{Filled, filled, recordOf, blockMapped}
-use Rattle.layout.specs.Request.{fileMapped}
-use Rattle.layout.proofs.Deciding.{Passed}
+use Rattle.layout.specs.Mapping.{blockOf}
+use Rattle.mapping.specs.Table.{Filled, filled, recordOf, blockMapped}
+use Rattle.files.specs.Request.{fileMapped}
+use Rattle.rules.proofs.Rules.{Passed}
 use Rattle.book.specs.Slices.{joined, bytesIn, meets}
 use Rattle.book.specs.Demand.{Asking, counted, sliceOf, given, Ask, Asks, Back, Block, Blocks, allGiven, Demand3}
 use Rattle.book.proofs.Walks.{walk, walk-ascends, cut, join-blocks}
@@ -51,7 +51,7 @@ length-good : (n : ℕ) → 0 < n → n ≤ 2147483647 → badLength n ≡ false
 length-good n h k = rw (le-ltb n 1 h, le-ltb 2147483647 n k)
 
 module _ {n : ℕ} {xs : List ℕ} {fs : FileStorage} {rows : List ℕ} (h : Holds n xs fs rows) where
-  is-open : opened fs .test ≡ false
+  is-open : badPieceLength fs .test ≡ false
   is-open = rw (h .long) (length-good n (h .some) (h .signed))
 
   all-held : short (rowsHeld fs rows) .test ≡ false
@@ -98,14 +98,14 @@ module _ {n : ℕ} {xs : List ℕ} {fs : FileStorage} {rows : List ℕ} (h : Hol
         rw (d, le-leb (meets xs (p * n + o) m) (length out) room) in
         let none =
         first-none
-        (opened fs ∷ manyPieces fs ∷ noPiece fs (pos p) ∷ badRange (pos o) (pos m) ∷ short (rowsHeld fs rows) ∷
+        (badPieceLength fs ∷ manyPieces fs ∷ noPiece fs (pos p) ∷ badRange (pos o) (pos m) ∷ short (rowsHeld fs rows) ∷
         short (leb (length (walk 0 xs (p * n + o) m)) (length out)) ∷ [])
         (is-open, (not-many, (piece-there p o l, (low-place o (omega (arith, h .limited)) m, (all-held, (places, tt)))))) in
         ap
         (λ (b : List Slice).
         filled
         (firstOf
-        (opened fs ∷ manyPieces fs ∷ noPiece fs (pos p) ∷ badRange (pos o) (pos m) ∷ short (rowsHeld fs rows) ∷
+        (badPieceLength fs ∷ manyPieces fs ∷ noPiece fs (pos p) ∷ badRange (pos o) (pos m) ∷ short (rowsHeld fs rows) ∷
         short (leb (length b) (length out)) ∷ []))
         b
         out)
@@ -133,7 +133,7 @@ module _ {n : ℕ} {xs : List ℕ} {fs : FileStorage} {rows : List ℕ} (h : Hol
         let r = low-bits (t % n) (omega (arith, mod-lt t (h .some), h .signed)) in
         let none =
         first-none
-        (opened fs ∷ noFile fs (pos (p .file)) ∷ manyPieces fs ∷ badRange (pos (p .offset)) (pos m) ∷ short (rowsHeld fs rows) ∷ [])
+        (badPieceLength fs ∷ noFile fs (pos (p .file)) ∷ manyPieces fs ∷ badRange (pos (p .offset)) (pos m) ∷ short (rowsHeld fs rows) ∷ [])
         (is-open, (file-there (p .file) (w .known), (not-many, (low-place (p .offset) (omega (arith, h .limited, w .within)) m, (all-held, tt))))) in
         rw (none, e, h .total, h .long, c, q, r)
 

@@ -18,7 +18,7 @@ use Rattle.tables.specs.Model.{Store, fileOf, viewOf}
 use Rattle.tables.proofs.Tabled.{length-tabled}
 use Rattle.rules.specs.Rules.{Rule, when, firstOf, both}
 use Rattle.rules.specs.Bounds.{badLength}
-use Rattle.answers.specs.Answers.{isBelow, indexOf}
+use Rattle.rules.specs.Bounds.{isBelow, indexOf}
 use Rattle.renames.specs.declared.rename.RenamedFiles.{RenamedFiles}
 use Rattle.renames.specs.Renames.{Renamed, renamesOf, orderedFrom, inOrder, withRename, renamedTo, lacksRoom, stateOf, wordsOf, textsOf, modeFor, renameFile}
 use Rattle.renames.specs.Renames as renames

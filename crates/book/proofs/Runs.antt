@@ -27,7 +27,7 @@ use Rattle.cleaning.specs.Cleaning.{cleanedStore, Cleaned, cleanedTo, cleanStor
 use lib.Seq.{sets}
 use Rattle.renames.specs.Renames.{Renamed, inOrder, lacksRoom, renameFile, renamedTo, renamesOf, stateOf, wordsOf, textsOf}
 use Rattle.renames.specs.Renames as renames
-use Rattle.answers.specs.Answers.{isBelow}
+use Rattle.rules.specs.Bounds.{isBelow}
 use Rattle.renames.specs.Imports.{Naming, hasNegative, imported, importFilenames}
 use Rattle.sound.proofs.Adding.{sound-holds, adding-number}
 use Rattle.model.proofs.Cleaning.{judging-is, space-enough}

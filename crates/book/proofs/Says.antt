@@ -31,9 +31,9 @@ use Rattle.renames.specs.Renames.{renameFile}
 use Rattle.renames.specs.Renames as renames
 use Rattle.renames.specs.Results.{renamesSays}
 use Rattle.renames.specs.Imports.{Naming, namings, importFilenames}
-use Rattle.layout.specs.Results.{requestSays}
-use Rattle.layout.specs.Request.{fileMapped}
-use Rattle.layout.specs.Table.{Filled, blockMapped}
+use Rattle.rules.specs.Results.{requestSays}
+use Rattle.files.specs.Request.{fileMapped}
+use Rattle.mapping.specs.Table.{Filled, blockMapped}
 use Rattle.storage.proofs.open
 use Rattle.storage.proofs.open.Kinds as open-kinds
 use Rattle.storage.proofs.open.Reads as open-reads

@@ -25,7 +25,7 @@ use Rattle.sound.proofs.Files.{map-tabled}
 use Rattle.layout.specs.Search.{fileFound}
 use Rattle.layout.specs.Mapping.{Slice, before, slicesOf}
 use Rattle.layout.specs.Mapping as layout
-use Rattle.layout.specs.Table.{recordOf}
+use Rattle.mapping.specs.Table.{recordOf}
 use Rattle.layout.proofs.Halving.{Ascending, Last, found-last}
 use Rattle.book.specs.Slices.{slice}
 use Rattle.book.specs.Demand.{sliceOf}

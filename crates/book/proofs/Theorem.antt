@@ -11,8 +11,8 @@ use Rattle.lists.specs.Lists.{ceiling}
 use Rattle.types.specs.Refusals.{refused}
 use Rattle.types.specs.declared.index.FileSlice.{FileSlice}
 use Rattle.tables.specs.Model.{Store}
-use Rattle.layout.specs.Table.{blockMapped}
-use Rattle.layout.specs.Request.{fileMapped}
+use Rattle.mapping.specs.Table.{blockMapped}
+use Rattle.files.specs.Request.{fileMapped}
 use Rattle.book.specs.Book.{Made, sizesOf, bytesOf, book}
 use Rattle.book.specs.Calls.{Renames, Leads}
 use Rattle.book.specs.Demand.{Asking, Asks, Demand3}

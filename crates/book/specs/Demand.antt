@@ -10,10 +10,10 @@ use Rattle.types.specs.Refusals.{Outcome, value, refused}
 use Rattle.types.specs.declared.index.FileSlice.{FileSlice}
 use Rattle.tables.specs.Model.{Store}
 use Rattle.rules.specs.Bounds.{sizeOf}
-use Rattle.layout.specs.Results.{Asked}
+use Rattle.rules.specs.Results.{Asked}
 use Rattle.layout.specs.Mapping.{Slice}
-use Rattle.layout.specs.Request.{fileMapped}
-use Rattle.layout.specs.Table.{Filled, recordOf, blockMapped}
+use Rattle.files.specs.Request.{fileMapped}
+use Rattle.mapping.specs.Table.{Filled, recordOf, blockMapped}
 use Rattle.book.specs.Slices.{slice, joined, whole as wholeFiles, bytesIn, AscendingFrom, meets, endToEnd, contentOf}
 
 -- a call of `map_block`: what it was asked, the table lent to it, and what came of it

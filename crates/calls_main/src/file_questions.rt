@@ -6,8 +6,8 @@ use crate::numbers;
 use crate::numbers::Short;
 use crate::output;
 use crate::output::Buffer;
-use answers::RootResult;
-use answers::UnitResult;
+use rules::RootResult;
+use rules::UnitResult;
 use tables::FileStorage;
 use types::FileIndex;
 

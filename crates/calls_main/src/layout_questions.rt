@@ -57,23 +57,23 @@ fn on_number(call: usize, line: &[u8], fs: FileStorage, rows: &[u64]) -> Answer 
 // The answer to a question on the pieces of a file.
 fn range_of(call: usize, index: FileIndex, fs: FileStorage, rows: &[u64]) -> Answer {
     match call {
-        kinds::EXCLUSIVE => answer::pieces(layout::file_piece_range_exclusive(fs, rows, index)),
-        kinds::INCLUSIVE => answer::pieces(layout::file_piece_range_inclusive(fs, rows, index)),
-        kinds::FILE_PIECE_RANGE => answer::range(layout::file_piece_range(fs, rows, index)),
-        kinds::PIECE_INDEX_AT_FILE => answer::piece(layout::piece_index_at_file(fs, rows, index)),
-        _ => answer::piece(layout::last_piece_index_at_file(fs, rows, index)),
+        kinds::EXCLUSIVE => answer::pieces(files::file_piece_range_exclusive(fs, rows, index)),
+        kinds::INCLUSIVE => answer::pieces(files::file_piece_range_inclusive(fs, rows, index)),
+        kinds::FILE_PIECE_RANGE => answer::range(files::file_piece_range(fs, rows, index)),
+        kinds::PIECE_INDEX_AT_FILE => answer::piece(files::piece_index_at_file(fs, rows, index)),
+        _ => answer::piece(files::last_piece_index_at_file(fs, rows, index)),
     }
 }
 
 // The answer to a question on the tree of a file.
 fn tree_of(call: usize, index: FileIndex, fs: FileStorage, rows: &[u64]) -> Answer {
     match call {
-        kinds::FILE_NUM_PIECES => answer::short(layout::file_num_pieces(fs, rows, index)),
-        kinds::FILE_NUM_BLOCKS => answer::long(layout::file_num_blocks(fs, rows, index)),
+        kinds::FILE_NUM_PIECES => answer::short(files::file_num_pieces(fs, rows, index)),
+        kinds::FILE_NUM_BLOCKS => answer::long(files::file_num_blocks(fs, rows, index)),
         kinds::FILE_FIRST_PIECE_NODE => {
-            answer::count(layout::file_first_piece_node(fs, rows, index))
+            answer::count(files::file_first_piece_node(fs, rows, index))
         }
-        _ => answer::count(layout::file_first_block_node(fs, rows, index)),
+        _ => answer::count(files::file_first_block_node(fs, rows, index)),
     }
 }
 
@@ -106,7 +106,7 @@ fn for_root(line: &[u8], fs: FileStorage, rows: &[u64], hashes: &[u8]) -> Answer
     let root = word.root;
     match presence {
         Presence::Absent => Answer::BadCall,
-        Presence::Present => answer::file(layout::file_index_for_root(fs, rows, hashes, root)),
+        Presence::Present => answer::file(files::file_index_for_root(fs, rows, hashes, root)),
     }
 }
 
@@ -121,7 +121,7 @@ fn map_file(line: &[u8], fs: FileStorage, rows: &[u64]) -> Answer {
     let Short::Is(size) = numbers::short_word(line, 3) else {
         return Answer::BadCall;
     };
-    answer::request(layout::map_file(fs, rows, FileIndex(n), offset, size))
+    answer::request(files::map_file(fs, rows, FileIndex(n), offset, size))
 }
 
 // `map_block PIECE OFFSET SIZE`.
@@ -169,7 +169,7 @@ fn map(block: Block, fs: FileStorage, rows: &[u64], out: &mut Buffer, used: usiz
     let mut files = column();
     let mut offsets = column();
     let mut sizes = column();
-    let result = layout::map_block_core(
+    let result = blocks::map_block_core(
         fs,
         rows,
         PieceIndex(block.piece),

@@ -5,8 +5,8 @@ use crate::answer::Answer;
 use crate::kinds;
 use crate::output;
 use crate::output::Buffer;
-use answers::I32Result;
-use answers::SpanResult;
+use rules::I32Result;
+use rules::SpanResult;
 use tables::FileStorage;
 
 // The answer to a question on a set.

@@ -16,13 +16,14 @@ use Rattle.storage.specs.Addition.{Addition}
 use Rattle.storage.specs.Opening.{empty}
 use Rattle.storage.specs.Outcomes.{Changed, addStored}
 use Rattle.rules.specs.Rules.{both}
-use Rattle.answers.specs.Answers.{askedFile, askedLink, rowsHeld, textHeld}
+use Rattle.rules.specs.Questions.{askedFile, askedLink, rowsHeld, textHeld}
 use Rattle.links.specs.Judging.{lent}
 use Rattle.cleaning.specs.Cleaning.{Cleaned, cleanStored}
-use Rattle.layout.specs.Results.{Range, Asked}
-use Rattle.layout.specs.Request.{fileMapped}
-use Rattle.layout.specs.Table.{Filled, recordOf, blockMapped}
-use Rattle.layout.specs.Given.{numPiecesGiven, pieceSize2Given, fileAtOffsetGiven, exclusiveGiven, inclusiveGiven}
+use Rattle.rules.specs.Results.{Range, Asked}
+use Rattle.files.specs.Request.{fileMapped}
+use Rattle.mapping.specs.Table.{Filled, recordOf, blockMapped}
+use Rattle.layout.specs.Given.{numPiecesGiven, pieceSize2Given, fileAtOffsetGiven}
+use Rattle.files.specs.Given.{exclusiveGiven, inclusiveGiven}
 
 -- tables with places for 4 files, 2 directories and 14 bytes of text, and a table for 4 slices: enough for the sets below
 abbrev pub newStore : ℕ → Store

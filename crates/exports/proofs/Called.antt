@@ -43,7 +43,7 @@ use Rattle.types.proofs.refusal.UsizeResult.Laws as UR′
 use Rattle.tables.specs.declared.storage.FileStorage.{FileStorage}
 use Rattle.tables.proofs.storage.FileStorage as FS
 use Rattle.tables.proofs.storage.FileStorage.Laws as FS′
-use Rattle.layout.specs.Table.{Filled, blockMapped}
+use Rattle.mapping.specs.Table.{Filled, blockMapped}
 use Rattle.mapping.proofs.map_block as map-block
 use Rattle.exports.specs.State.{storageOf}
 use Rattle.exports.specs.Layout.{countSaid}

@@ -4,10 +4,10 @@ use mathlib.Core.List.{List}
 use lib.IntN.{ℤ, pos, negℤ}
 use Rattle.types.specs.Refusals.{Outcome, value, refused}
 use Rattle.types.specs.declared.index.FileSlice.{FileSlice}
-use Rattle.layout.specs.Results.{Asked}
-use Rattle.layout.specs.Block.{Mapped}
-use Rattle.layout.specs.Table.{Filled}
-use Rattle.layout.specs.List.{Listed}
+use Rattle.rules.specs.Results.{Asked}
+use Rattle.blocks.specs.Block.{Mapped}
+use Rattle.mapping.specs.Table.{Filled}
+use Rattle.files.specs.List.{Listed}
 use Rattle.exports.specs.declared.questions.FileRequest.{FileRequest}
 
 -- a count, which is below 2^63 wherever a table holds so many

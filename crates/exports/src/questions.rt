@@ -3,16 +3,16 @@
 ghost use mathlib.Core.Path.{_≡_};
 ghost use lib.IntN.{pos, negℤ};
 ghost use Rattle.types.specs.Refusals.{usizeSays};
-ghost use Rattle.layout.specs.Results.{fileSays, requestSays};
-ghost use Rattle.layout.specs.Block.{mapBlock};
-ghost use Rattle.layout.specs.Request.{fileMapped};
-ghost use Rattle.layout.specs.List.{filesMapped};
+ghost use Rattle.rules.specs.Results.{fileSays, requestSays};
+ghost use Rattle.blocks.specs.Block.{mapBlock};
+ghost use Rattle.files.specs.Request.{fileMapped};
+ghost use Rattle.files.specs.List.{filesMapped};
 ghost use Rattle.layout.specs.Given.{fileAtOffsetGiven};
 ghost use Rattle.exports.specs.State.{storageOf};
 ghost use Rattle.exports.specs.Layout.{countSaid, placeSaid, BlockSaid, blockSaid, requestSaid, ListSaid, listSaid};
 use crate::storage_at;
-use layout::FileResult;
-use layout::RequestResult;
+use rules::FileResult;
+use rules::RequestResult;
 use types::FileIndex;
 use types::PieceIndex;
 use types::UsizeResult;
@@ -80,7 +80,7 @@ fn request_in(answer: RequestResult) -> FileRequest
     }
 }
 
-// `layout::map_block_core`: the number of slices, or minus the number of the refusal.
+// `blocks::map_block_core`: the number of slices, or minus the number of the refusal.
 #[no_mangle]
 pub extern "C" fn niflathen_map_block(
     state: &[u64],
@@ -94,7 +94,7 @@ pub extern "C" fn niflathen_map_block(
 ) -> i64
     ensures { λ r. ⌜ _≡_ {A = BlockSaid} (record { answer = r; file = now («out_file» .exit); offset = now («out_offset» .exit); size = now («out_size» .exit) }) (blockSaid (mapBlock (storageOf (now (state .entry))) (now (rows .entry)) piece offset size (now («out_file» .entry)) (now («out_offset» .entry)) (now («out_size» .entry)))) ⌝ }
 {
-    count_in(layout::map_block_core(
+    count_in(blocks::map_block_core(
         storage_at(state),
         rows,
         PieceIndex(piece),
@@ -114,7 +114,7 @@ pub extern "C" fn niflathen_file_index_at_offset(state: &[u64], rows: &[u64], of
     file_in(layout::file_index_at_offset(storage_at(state), rows, offset))
 }
 
-// `layout::map_file`. Words and answer have their sizes in their types, so that arguments and answer go in registers.
+// `files::map_file`. Words and answer have their sizes in their types, so that arguments and answer go in registers.
 #[no_mangle]
 pub extern "C" fn niflathen_map_file(
     state: &[u64; 12],
@@ -125,10 +125,10 @@ pub extern "C" fn niflathen_map_file(
 ) -> FileRequest
     ensures { λ r. ⌜ r ≡ requestSaid (fileMapped (storageOf (now (state .entry))) (now (rows .entry)) index offset size) ⌝ }
 {
-    request_in(layout::map_file(storage_at(state), rows, FileIndex(index), offset, size))
+    request_in(files::map_file(storage_at(state), rows, FileIndex(index), offset, size))
 }
 
-// `layout::map_files`: the number of questions, or minus the number of the refusal.
+// `files::map_files`: the number of questions, or minus the number of the refusal.
 #[no_mangle]
 pub extern "C" fn niflathen_map_files(
     state: &[u64],
@@ -140,5 +140,5 @@ pub extern "C" fn niflathen_map_files(
 ) -> i64
     ensures { λ r. ⌜ _≡_ {A = ListSaid} (record { answer = r; answers = now (answers .exit) }) (listSaid (filesMapped (storageOf (now (state .entry))) (now (rows .entry)) (now (files .entry)) (now (offsets .entry)) (now (sizes .entry)) (now (answers .entry)))) ⌝ }
 {
-    count_in(layout::map_files(storage_at(state), rows, files, offsets, sizes, answers))
+    count_in(files::map_files(storage_at(state), rows, files, offsets, sizes, answers))
 }

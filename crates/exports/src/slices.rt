@@ -1,7 +1,7 @@
 // The mapping of a block into a lent slice of records, which lie as C lays them: the file's number, four
 // bytes that nothing reads, offset and size. Relies on `mapping`.
 ghost use mathlib.Core.Path.{_≡_};
-ghost use Rattle.layout.specs.Table.{blockMapped};
+ghost use Rattle.mapping.specs.Table.{blockMapped};
 ghost use Rattle.exports.specs.State.{storageOf};
 ghost use Rattle.exports.specs.Layout.{SlicesSaid, slicesSaid};
 use crate::questions::count_in;

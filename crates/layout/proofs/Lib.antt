@@ -1,8 +1,8 @@
--- Laws of deciding before an answer, of the search, of requests, and of slices and their sums.
+-- Laws of the search, of decisions about pieces, and of slices, their sums and the plan of a block.
 pub mod Deciding
 pub mod Halving
 pub mod Levels
-pub mod Requests
 pub mod Slices
 pub mod Starts
+pub mod Plans
 pub mod Sums

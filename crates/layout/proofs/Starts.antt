@@ -11,17 +11,15 @@ use Rattle.types.specs.declared.refusal.Refusal.{Refusal}
 use Rattle.tables.specs.declared.storage.FileStorage.{FileStorage}
 use Rattle.tables.specs.Rows.{rowAt}
 use Rattle.rules.specs.Rules.{firstOf}
-use Rattle.rules.specs.Bounds.{sizeOf}
-use Rattle.answers.specs.Answers.{indexOf, rowsHeld}
-use Rattle.layout.specs.declared.decide.Check.{Check}
-use Rattle.layout.specs.declared.decide.Check.the-variants.{Go, Stop}
+use Rattle.rules.specs.Bounds.{sizeOf, indexOf}
+use Rattle.rules.specs.Questions.{rowsHeld, badPieceLength, manyPieces, noPiece, badRange, short}
+use Rattle.rules.specs.declared.decide.Check.{Check}
+use Rattle.rules.specs.declared.decide.Check.the-variants.{Go, Stop}
 use Rattle.layout.specs.declared.start.Cursor.{Cursor}
-use Rattle.layout.specs.Questions.{opened, manyPieces, noPiece, badRange, short}
 use Rattle.layout.specs.Pieces.{startOf}
 use Rattle.layout.specs.Search.{fileFound}
-use Rattle.layout.specs.Mapping.{slicesOf}
-use Rattle.layout.specs.Deciding.{checkNumber}
-use Rattle.layout.specs.Block.{blockOf}
+use Rattle.layout.specs.Mapping.{slicesOf, blockOf}
+use Rattle.rules.specs.Results.{checkNumber}
 use Rattle.layout.specs.Start.{cursorAt, Started, all, none, started, blockStart}
 use Rattle.types.proofs.Refusals.{numbered}
 
@@ -32,7 +30,7 @@ cursor-is fs rows target size ek eo es er el = rw (el, er, es, eo, ek)
 
 -- a decision d on the refusals
 module _ (fs : FileStorage) (rows : List ℕ) (z offset size : ℤ) (d : Check)
-    (p : checkNumber d ≡ firstOf (opened fs ∷ manyPieces fs ∷ noPiece fs z ∷ badRange offset size ∷ short (rowsHeld fs rows) ∷ [])) where
+    (p : checkNumber d ≡ firstOf (badPieceLength fs ∷ manyPieces fs ∷ noPiece fs z ∷ badRange offset size ∷ short (rowsHeld fs rows) ∷ [])) where
   decided : (n : ℕ) → checkNumber d ≡ n
       → blockStart fs rows z offset size ≡ started n (blockOf fs rows z offset size) (cursorAt fs rows (startOf fs (indexOf z) + sizeOf offset) (sizeOf size))
   decided n q =

@@ -16,8 +16,7 @@ use Rattle.lists.proofs.Orders.{le-or-lt}
 use Rattle.tables.specs.Rows.{rowAt}
 use Rattle.tables.specs.declared.storage.FileStorage.{FileStorage}
 use Rattle.layout.specs.Search.{fileFound}
-use Rattle.layout.specs.Mapping.{Slice, before, walk, cut, slicesOf}
-use Rattle.layout.specs.Block.{sizesOf}
+use Rattle.layout.specs.Mapping.{Slice, before, walk, cut, slicesOf, sizesOf}
 use Rattle.layout.proofs.Halving.{Ascending, found-last}
 
 -- none is empty, and each is of a later file than the one before it, the first of file k at the earliest

@@ -1,11 +1,15 @@
--- Document 01, 'Layout answers': `map_block` and `map_file`.
-use Prim.Native.Nat.{ℕ, zero, suc, _+_, _-_, _/_, _%_, min}
+-- Document 01, 'Layout answers': the slices of a block, and `map_block`'s refusals before that of room.
+use Prim.Native.Nat.{ℕ, zero, suc, _+_, _-_, min}
 use mathlib.Core.Bool.{cond}
-use mathlib.Core.List.{List, [], _∷_}
-use lib.Dec.{eqb, leb}
+use mathlib.Core.List.{List, [], _∷_, map}
+use lib.Dec.{eqb}
+use lib.IntN.{ℤ}
 use Rattle.tables.specs.declared.storage.FileStorage.{FileStorage}
 use Rattle.tables.specs.Rows.{rowAt}
-use Rattle.layout.specs.Questions.{numPieces}
+use Rattle.rules.specs.Rules.{Rule}
+use Rattle.rules.specs.Bounds.{sizeOf, indexOf}
+use Rattle.rules.specs.Questions.{rowsHeld, badPieceLength, manyPieces, noPiece, badRange, short}
+use Rattle.layout.specs.Pieces.{startOf}
 use Rattle.layout.specs.Search.{fileFound}
 
 -- a window of a file: file, offset within it, size
@@ -37,17 +41,21 @@ slicesAt fs rows k target size =
 abbrev pub slicesOf : FileStorage → List ℕ → ℕ → ℕ → List Slice
 slicesOf fs rows target size = slicesAt fs rows (fileFound rows (fs .«num_files») target) target size
 
--- a piece, a start within it, and a length
-pub record Request : Type 0 where
-  pub piece : ℕ
-  pub start : ℕ
-  pub length : ℕ
+-- 'target is piece × length + offset'
+abbrev pub blockOf : FileStorage → List ℕ → ℤ → ℤ → ℤ → List Slice
+blockOf fs rows z offset size = slicesOf fs rows (startOf fs (indexOf z) + sizeOf offset) (sizeOf size)
 
--- `map_file` 'does not stop at the file's end; at or past the total it gives the piece count, 0, 0'
-abbrev pub requestAt : FileStorage → ℕ → ℕ → Request
-requestAt fs at size =
-    cond (leb (fs .«total_size») at) (record { piece = numPieces fs; start = 0; length = 0 })
-    (record { piece = at / fs .«piece_length»; start = at % fs .«piece_length»; length = min size (fs .«total_size» - at) })
+-- `map_block`'s refusals, in order, in front of the last, which is for room
+abbrev pub blockRules : FileStorage → List ℕ → ℤ → ℤ → ℤ → List Rule → List Rule
+blockRules fs rows z offset size last =
+    badPieceLength fs ∷ manyPieces fs ∷ noPiece fs z ∷ badRange offset size ∷ short (rowsHeld fs rows) ∷ last
 
-abbrev pub mapFile : FileStorage → List ℕ → ℕ → ℕ → ℕ → Request
-mapFile fs rows k offset size = requestAt fs (rowAt rows k .offset + offset) size
+-- the columns of slices
+abbrev pub filesOf : List Slice → List ℕ
+filesOf ss = map (λ s. s .file) ss
+
+abbrev pub offsetsOf : List Slice → List ℕ
+offsetsOf ss = map (λ s. s .offset) ss
+
+abbrev pub sizesOf : List Slice → List ℕ
+sizesOf ss = map (λ s. s .size) ss

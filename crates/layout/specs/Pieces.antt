@@ -7,7 +7,7 @@ use lib.IntN.{ℤ, pos, negsuc}
 use Rattle.lists.specs.Lists.{ceiling}
 use Rattle.tables.specs.declared.storage.FileStorage.{FileStorage}
 use Rattle.tables.specs.Rows.{rowAt}
-use Rattle.layout.specs.Questions.{numPieces}
+use Rattle.rules.specs.Questions.{numPieces}
 use Rattle.layout.specs.Search.{partitionPoint, fileFound}
 
 -- n less 1, which is −1 for 0

@@ -10,13 +10,11 @@ use Rattle.types.specs.Refusals.{Outcome, value, refused}
 use Rattle.tables.specs.declared.storage.FileStorage.{FileStorage}
 use Rattle.tables.specs.Rows.{rowAt}
 use Rattle.rules.specs.Rules.{firstOf}
-use Rattle.rules.specs.Bounds.{sizeOf}
-use Rattle.answers.specs.Answers.{indexOf}
+use Rattle.rules.specs.Bounds.{sizeOf, indexOf}
 use Rattle.layout.specs.declared.start.Cursor.{Cursor}
 use Rattle.layout.specs.Pieces.{startOf}
 use Rattle.layout.specs.Search.{fileFound}
-use Rattle.layout.specs.Mapping.{Slice, walk, cut}
-use Rattle.layout.specs.Block.{blockOf, blockRules}
+use Rattle.layout.specs.Mapping.{Slice, walk, cut, blockOf, blockRules}
 
 -- the slices from a cursor on
 abbrev pub slicesFrom : List ℕ → Cursor → List Slice

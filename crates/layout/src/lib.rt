@@ -1,29 +1,10 @@
-// Layout answers, from file_storage.rs: pieces, files at offsets, and both mappings. Every answer tests document 01's
-// refusals first, in its order; a list of questions first that its tables have the places. Relies on `tables`, `types`,
-// `lists`, `merkle`, `storage` and `answers`.
-mod decide;
-mod file;
-mod list;
-mod mapping;
-mod number;
+// Layout answers, from file_storage.rs: pieces, files at offsets, and the plan of a block. Every answer tests document 01's refusals
+// first, in its order. Relies on `rules` for the refusals, and on `tables`, `types` and `lists`.
 mod piece;
-mod result;
+mod plan;
 mod search;
 mod start;
 
-pub use file::file_first_block_node;
-pub use file::file_first_piece_node;
-pub use file::file_index_for_root;
-pub use file::file_num_blocks;
-pub use file::file_num_pieces;
-pub use file::file_piece_range;
-pub use file::file_piece_range_exclusive;
-pub use file::file_piece_range_inclusive;
-pub use file::last_piece_index_at_file;
-pub use file::map_file;
-pub use file::piece_index_at_file;
-pub use list::map_files;
-pub use mapping::map_block_core;
 pub use piece::blocks_in_piece2;
 pub use piece::blocks_per_piece;
 pub use piece::file_index_at_offset;
@@ -35,12 +16,9 @@ pub use piece::num_pieces;
 pub use piece::piece_range;
 pub use piece::piece_size;
 pub use piece::piece_size2;
-pub use result::FileRangeResult;
-pub use result::FileResult;
-pub use result::I32RangeResult;
-pub use result::PieceRangeResult;
-pub use result::PieceResult;
-pub use result::RequestResult;
+pub use plan::Plan;
+pub use plan::plan_block;
 pub use start::Cursor;
 pub use start::Start;
+pub use start::slice_count;
 pub use start::start_block;

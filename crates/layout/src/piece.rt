@@ -5,39 +5,35 @@ ghost use mathlib.Core.List.{[], _∷_};
 ghost use Prim.Native.Nat.{_+_, _-_, _*_, _/_, _%_, _^_, _≤_, _<_};
 ghost use lib.IntN.{pos};
 ghost use lib.ListN.{length};
-ghost use Rattle.rules.specs.Bounds.{sizeOf};
-ghost use Rattle.answers.specs.Answers.{indexOf, rowsHeld};
-ghost use Rattle.answers.specs.Results.{i32Says};
-ghost use Rattle.layout.specs.Results.{Range, pieceSays, fileSays, pieceRangeSays, fileRangeSays};
-ghost use Rattle.layout.specs.Questions.{asked, numPieces, opened, manyPieces, noPiece, badOffset, short};
-ghost use Rattle.layout.specs.Search.{fileFound};
+ghost use Rattle.rules.specs.Bounds.{indexOf};
+ghost use Rattle.rules.specs.Questions.{rowsHeld, asked, numPieces, badPieceLength, manyPieces, noPiece, short};
+ghost use Rattle.rules.specs.Results.{i32Says, pieceSays, fileSays, pieceRangeSays, fileRangeSays};
 ghost use Rattle.layout.specs.Pieces.{lessOne, startOf, pieceSize, pieceSize2, blocksIn, fileAtPiece, lastFileAtPiece};
 ghost use Rattle.layout.specs.Given.{numPiecesGiven, pieceSize2Given, fileAtOffsetGiven};
-use crate::decide::Check;
-use crate::decide::ask_piece;
-use crate::decide::ask_pieces;
-use crate::decide::ask_set;
-use crate::decide::count_pieces;
-use crate::decide::is_bad_offset;
-use crate::number::ceil;
-use crate::number::less;
-use crate::number::piece_number;
-use crate::number::size64;
-use crate::number::smaller;
-use crate::result::FileRangeResult;
-use crate::result::FileResult;
-use crate::result::PieceRangeResult;
-use crate::result::PieceResult;
 use crate::search::find;
 use crate::search::find_near;
 use crate::search::partition_point;
-use answers::I32Result;
-use answers::is_held;
+use lists::div_ceil;
+use lists::min;
+use lists::saturating_sub;
+use rules::Check;
+use rules::FileRangeResult;
+use rules::FileResult;
+use rules::I32Result;
+use rules::PieceRangeResult;
+use rules::PieceResult;
+use rules::ask_piece;
+use rules::ask_pieces;
+use rules::ask_set;
+use rules::count_pieces;
+use rules::is_bad_offset;
+use rules::is_held;
 use tables::FileStorage;
 use types::FileIndex;
 use types::FileIndexRange;
 use types::PieceIndex;
 use types::PieceIndexRange;
+use types::clamped64;
 
 // The last of n pieces, −1 where there is none.
 fn last_of(n: u64) -> PieceIndex
@@ -64,7 +60,7 @@ fn size_of(fs: FileStorage, p: u64) -> u64
     ensures { λ r. ⌜ r ≡ pieceSize fs p ⌝ }
 {
     if p + 1 == count_pieces(fs) {
-        return less(fs.total_size, start_of(fs, p));
+        return saturating_sub(fs.total_size, start_of(fs, p));
     }
     fs.piece_length
 }
@@ -79,7 +75,10 @@ fn size2_of(fs: FileStorage, rows: &[u64], p: u64) -> u64
     if fs.num_files <= next {
         return size_of(fs, p);
     }
-    smaller(less(tables::offset_at(rows, next), start), fs.piece_length)
+    min(
+        saturating_sub(tables::offset_at(rows, next), start),
+        fs.piece_length,
+    )
 }
 
 // The last byte's place of piece p.
@@ -87,7 +86,7 @@ fn last_byte(fs: FileStorage, p: u64) -> u64
     requires { ⌜ (p < 2 ^ 32) × (p * fs .«piece_length» + pieceSize fs p < 2 ^ 64) ⌝ }
     ensures { λ r. ⌜ r ≡ startOf fs p + pieceSize fs p - 1 ⌝ }
 {
-    less(start_of(fs, p) + size_of(fs, p), 1)
+    saturating_sub(start_of(fs, p) + size_of(fs, p), 1)
 }
 
 // How many pieces the set has.
@@ -102,7 +101,7 @@ pub fn num_pieces(fs: FileStorage) -> I32Result
 
 // The last piece, −1 where there is none.
 pub fn last_piece(fs: FileStorage) -> PieceResult
-    ensures { λ r. ⌜ pieceSays r ≡ asked (opened fs ∷ manyPieces fs ∷ []) (lessOne (numPieces fs)) ⌝ }
+    ensures { λ r. ⌜ pieceSays r ≡ asked (badPieceLength fs ∷ manyPieces fs ∷ []) (lessOne (numPieces fs)) ⌝ }
 {
     match ask_pieces(fs) {
         Check::Go => PieceResult::Ok(last_of(count_pieces(fs))),
@@ -112,7 +111,7 @@ pub fn last_piece(fs: FileStorage) -> PieceResult
 
 // All pieces.
 pub fn piece_range(fs: FileStorage) -> PieceRangeResult
-    ensures { λ r. ⌜ pieceRangeSays r ≡ asked (opened fs ∷ manyPieces fs ∷ []) (record { begin = pos 0; end = pos (numPieces fs) }) ⌝ }
+    ensures { λ r. ⌜ pieceRangeSays r ≡ asked (badPieceLength fs ∷ manyPieces fs ∷ []) (record { begin = pos 0; end = pos (numPieces fs) }) ⌝ }
 {
     match ask_pieces(fs) {
         Check::Go => PieceRangeResult::Ok(PieceIndexRange {
@@ -125,7 +124,7 @@ pub fn piece_range(fs: FileStorage) -> PieceRangeResult
 
 // All files.
 pub fn file_range(fs: FileStorage) -> FileRangeResult
-    ensures { λ r. ⌜ fileRangeSays r ≡ asked (opened fs ∷ []) (record { begin = pos 0; end = pos (fs .«num_files» % 2 ^ 31) }) ⌝ }
+    ensures { λ r. ⌜ fileRangeSays r ≡ asked (badPieceLength fs ∷ []) (record { begin = pos 0; end = pos (fs .«num_files» % 2 ^ 31) }) ⌝ }
 {
     match ask_set(fs, false, true) {
         Check::Go => FileRangeResult::Ok(FileIndexRange {
@@ -138,10 +137,10 @@ pub fn file_range(fs: FileStorage) -> FileRangeResult
 
 // The size of a piece: the piece length, but for the last.
 pub fn piece_size(fs: FileStorage, piece: PieceIndex) -> I32Result
-    ensures { λ r. ⌜ i32Says r ≡ asked (opened fs ∷ manyPieces fs ∷ noPiece fs (piece .0) ∷ []) (pos (pieceSize fs (indexOf (piece .0)) % 2 ^ 31)) ⌝ }
+    ensures { λ r. ⌜ i32Says r ≡ asked (badPieceLength fs ∷ manyPieces fs ∷ noPiece fs (piece .0) ∷ []) (pos (pieceSize fs (indexOf (piece .0)) % 2 ^ 31)) ⌝ }
 {
     match ask_piece(fs, piece, false, true) {
-        Check::Go => I32Result::Ok(types::signed32(size_of(fs, piece_number(piece)))),
+        Check::Go => I32Result::Ok(types::signed32(size_of(fs, piece.get() as u64))),
         Check::Stop(e) => I32Result::Err(e),
     }
 }
@@ -151,18 +150,18 @@ pub fn piece_size2(fs: FileStorage, rows: &[u64], piece: PieceIndex) -> I32Resul
     ensures { λ r. ⌜ i32Says r ≡ pieceSize2Given fs (now (rows .entry)) (piece .0) ⌝ }
 {
     match ask_piece(fs, piece, false, is_held(fs.num_files, rows.len() / 8)) {
-        Check::Go => I32Result::Ok(types::signed32(size2_of(fs, rows, piece_number(piece)))),
+        Check::Go => I32Result::Ok(types::signed32(size2_of(fs, rows, piece.get() as u64))),
         Check::Stop(e) => I32Result::Err(e),
     }
 }
 
 // How many blocks such a cut piece has.
 pub fn blocks_in_piece2(fs: FileStorage, rows: &[u64], piece: PieceIndex) -> I32Result
-    ensures { λ r. ⌜ i32Says r ≡ asked (opened fs ∷ manyPieces fs ∷ noPiece fs (piece .0) ∷ short (rowsHeld fs (now (rows .entry))) ∷ []) (pos (blocksIn (pieceSize2 fs (now (rows .entry)) (indexOf (piece .0))) % 2 ^ 31)) ⌝ }
+    ensures { λ r. ⌜ i32Says r ≡ asked (badPieceLength fs ∷ manyPieces fs ∷ noPiece fs (piece .0) ∷ short (rowsHeld fs (now (rows .entry))) ∷ []) (pos (blocksIn (pieceSize2 fs (now (rows .entry)) (indexOf (piece .0))) % 2 ^ 31)) ⌝ }
 {
     match ask_piece(fs, piece, false, is_held(fs.num_files, rows.len() / 8)) {
-        Check::Go => I32Result::Ok(types::signed32(ceil(
-            size2_of(fs, rows, piece_number(piece)),
+        Check::Go => I32Result::Ok(types::signed32(div_ceil(
+            size2_of(fs, rows, piece.get() as u64),
             16384,
         ))),
         Check::Stop(e) => I32Result::Err(e),
@@ -171,10 +170,10 @@ pub fn blocks_in_piece2(fs: FileStorage, rows: &[u64], piece: PieceIndex) -> I32
 
 // How many blocks a piece of full length has.
 pub fn blocks_per_piece(fs: FileStorage) -> I32Result
-    ensures { λ r. ⌜ i32Says r ≡ asked (opened fs ∷ []) (pos (blocksIn (fs .«piece_length») % 2 ^ 31)) ⌝ }
+    ensures { λ r. ⌜ i32Says r ≡ asked (badPieceLength fs ∷ []) (pos (blocksIn (fs .«piece_length») % 2 ^ 31)) ⌝ }
 {
     match ask_set(fs, false, true) {
-        Check::Go => I32Result::Ok(types::signed32(ceil(fs.piece_length, 16384))),
+        Check::Go => I32Result::Ok(types::signed32(div_ceil(fs.piece_length, 16384))),
         Check::Stop(e) => I32Result::Err(e),
     }
 }
@@ -189,7 +188,7 @@ pub fn file_index_at_offset(fs: FileStorage, rows: &[u64], offset: i64) -> FileR
         is_held(fs.num_files, rows.len() / 8),
     ) {
         Check::Go => FileResult::Ok(FileIndex::new(
-            find_near(rows, fs.num_files, size64(offset)) as u64,
+            find_near(rows, fs.num_files, clamped64(offset)) as u64,
         )),
         Check::Stop(e) => FileResult::Err(e),
     }
@@ -197,11 +196,11 @@ pub fn file_index_at_offset(fs: FileStorage, rows: &[u64], offset: i64) -> FileR
 
 // The file at the start of a piece.
 pub fn file_index_at_piece(fs: FileStorage, rows: &[u64], piece: PieceIndex) -> FileResult
-    ensures { λ r. ⌜ fileSays r ≡ asked (opened fs ∷ manyPieces fs ∷ noPiece fs (piece .0) ∷ short (rowsHeld fs (now (rows .entry))) ∷ []) (pos (fileAtPiece fs (now (rows .entry)) (indexOf (piece .0)) % 2 ^ 31)) ⌝ }
+    ensures { λ r. ⌜ fileSays r ≡ asked (badPieceLength fs ∷ manyPieces fs ∷ noPiece fs (piece .0) ∷ short (rowsHeld fs (now (rows .entry))) ∷ []) (pos (fileAtPiece fs (now (rows .entry)) (indexOf (piece .0)) % 2 ^ 31)) ⌝ }
 {
     match ask_piece(fs, piece, false, is_held(fs.num_files, rows.len() / 8)) {
         Check::Go => FileResult::Ok(FileIndex::new(
-            find(rows, fs.num_files, start_of(fs, piece_number(piece))) as u64,
+            find(rows, fs.num_files, start_of(fs, piece.get() as u64)) as u64,
         )),
         Check::Stop(e) => FileResult::Err(e),
     }
@@ -209,11 +208,11 @@ pub fn file_index_at_piece(fs: FileStorage, rows: &[u64], piece: PieceIndex) -> 
 
 // The file at the last byte of a piece.
 pub fn last_file_index_at_piece(fs: FileStorage, rows: &[u64], piece: PieceIndex) -> FileResult
-    ensures { λ r. ⌜ fileSays r ≡ asked (opened fs ∷ manyPieces fs ∷ noPiece fs (piece .0) ∷ short (rowsHeld fs (now (rows .entry))) ∷ []) (pos (lastFileAtPiece fs (now (rows .entry)) (indexOf (piece .0)) % 2 ^ 31)) ⌝ }
+    ensures { λ r. ⌜ fileSays r ≡ asked (badPieceLength fs ∷ manyPieces fs ∷ noPiece fs (piece .0) ∷ short (rowsHeld fs (now (rows .entry))) ∷ []) (pos (lastFileAtPiece fs (now (rows .entry)) (indexOf (piece .0)) % 2 ^ 31)) ⌝ }
 {
     match ask_piece(fs, piece, false, is_held(fs.num_files, rows.len() / 8)) {
         Check::Go => FileResult::Ok(FileIndex::new(
-            find(rows, fs.num_files, last_byte(fs, piece_number(piece))) as u64,
+            find(rows, fs.num_files, last_byte(fs, piece.get() as u64)) as u64,
         )),
         Check::Stop(e) => FileResult::Err(e),
     }

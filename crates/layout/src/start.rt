@@ -1,27 +1,27 @@
 // How many slices a block has, or why it is refused, and where the first begins: what a caller needs to
 // make the slices one by one. It relies on the search and on the count of the slices.
 ghost use mathlib.Core.Path.{_≡_};
-ghost use Prim.Native.Nat.{_/_, _≤_};
+ghost use mathlib.Core.Bool.{cond};
+ghost use Prim.Native.Nat.{_-_, _/_, _≤_};
+ghost use lib.Dec.{eqb};
 ghost use lib.ListN.{length};
 ghost use Rattle.types.specs.Refusals.{numberOf, usizeSays};
-ghost use Rattle.layout.specs.Mapping.{slicesOf};
+ghost use Rattle.layout.specs.Mapping.{walk, slicesOf};
 ghost use Rattle.layout.specs.Start.{cursorAt, Started, all, none, blockStart};
-use crate::decide::Check;
-use crate::decide::ask_piece;
-use crate::decide::is_bad_range;
-use crate::mapping::count_slices;
-use crate::number::is_negative64;
-use crate::number::less;
-use crate::number::piece_number;
-use crate::number::size64;
-use crate::number::smaller;
 use crate::piece::start_of;
 use crate::search::find;
-use answers::is_held;
+use lists::min;
+use lists::saturating_sub;
+use rules::Check;
+use rules::ask_piece;
+use rules::is_bad_range;
+use rules::is_held;
 use tables::FileStorage;
 use types::PieceIndex;
 use types::Refusal;
 use types::UsizeResult;
+use types::clamped64;
+use types::is_negative64;
 
 // Where the bytes still to map begin: place `skip` of file `file` of `files`; `left` is how many they are.
 pub struct Cursor {
@@ -35,6 +35,38 @@ pub struct Cursor {
 pub struct Start {
     pub count: UsizeResult,
     pub from: Cursor,
+}
+
+// How many slices a run of `size` bytes is: 1, or 0 where it has none.
+pub fn slice_count(size: u64) -> usize
+    ensures { λ r. ⌜ r ≡ cond (eqb size 0) 0 1 ⌝ }
+{
+    if size == 0 {
+        return 0;
+    }
+    1
+}
+
+// How many slices `want` bytes from place `skip` of file `from` on have.
+fn count_slices(rows: &[u64], files: usize, from: usize, skip: u64, want: u64) -> usize
+    ensures { λ r. ⌜ r ≡ length (walk (files - from) (now (rows .entry)) from skip want) ⌝ }
+{
+    let mut n = 0;
+    let mut k = from;
+    let mut s = skip;
+    let mut left = want;
+    while k < files {
+        if left == 0 {
+            return n;
+        }
+        let size = tables::size_at(rows, k);
+        let here = saturating_sub(size, s);
+        n += slice_count(min(here, left));
+        left = saturating_sub(left, here);
+        s = saturating_sub(s, size);
+        k += 1;
+    }
+    n
 }
 
 // The start of a block that is refused.
@@ -59,8 +91,8 @@ fn start_at(fs: FileStorage, rows: &[u64], target: u64, size: u64) -> Start
 {
     let files = fs.num_files;
     let file = find(rows, files, target);
-    let skip = less(target, tables::offset_at(rows, file));
-    let left = smaller(size, less(fs.total_size, target));
+    let skip = saturating_sub(target, tables::offset_at(rows, file));
+    let left = min(size, saturating_sub(fs.total_size, target));
     Start {
         count: UsizeResult::Ok(count_slices(rows, files, file, skip, left)),
         from: Cursor {
@@ -91,6 +123,6 @@ pub fn start_block(
     if let Check::Stop(e) = check {
         return refuse(e);
     }
-    let target = start_of(fs, piece_number(piece)) + size64(offset);
-    start_at(fs, rows, target, size64(size))
+    let target = start_of(fs, piece.get() as u64) + clamped64(offset);
+    start_at(fs, rows, target, clamped64(size))
 }

@@ -19,7 +19,7 @@ use Rattle.tables.specs.Model.{Store}
 use Rattle.rules.specs.Rules.{Rule, when, outcomeOf, both, either}
 use Rattle.rules.specs.Bounds.{badLength}
 use Rattle.rules.proofs.Rules.{passed, either-false, outcome-value, outcome-refused}
-use Rattle.answers.specs.Answers.{rowsHeld, dirsHeld, textHeld}
+use Rattle.rules.specs.Questions.{rowsHeld, dirsHeld, textHeld}
 use Rattle.links.specs.Clean.{Entry, space, linkCount}
 use Rattle.links.specs.Judging.{entriesOf, directoriesOf, verdictOf, verdictsFor, verdicts, lacksSpace, judgingNumber, cleared, Judged, judged}
 use Rattle.links.specs.Walking.{firstMarks}

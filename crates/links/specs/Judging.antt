@@ -15,7 +15,7 @@ use Rattle.tables.specs.Rows.{has}
 use Rattle.tables.specs.Model.{Directory, single, absolute, stored, Store, fileOf, directoryText, tabled}
 use Rattle.rules.specs.Rules.{when, firstOf, both, either}
 use Rattle.rules.specs.Bounds.{badLength}
-use Rattle.answers.specs.Answers.{rowsHeld, dirsHeld, textHeld}
+use Rattle.rules.specs.Questions.{rowsHeld, dirsHeld, textHeld}
 use Rattle.links.specs.Clean.{Entry, entryOf, own, Seen, nothing, file, link, isDirectory, fileAt, linksOf, resolves, space, linkCount}
 
 -- ---- the set that the lent tables hold

@@ -7,7 +7,7 @@ ghost use Prim.Native.Nat.{_*_, _≤_};
 ghost use lib.ListN.{length};
 ghost use Rattle.types.specs.Refusals.{usizeSays};
 ghost use Rattle.rules.specs.Rules.{both, outcomeOf};
-ghost use Rattle.answers.specs.Answers.{rowsHeld, dirsHeld, textHeld};
+ghost use Rattle.rules.specs.Questions.{rowsHeld, dirsHeld, textHeld};
 ghost use Rattle.links.specs.Clean.{space, linkCount};
 ghost use Rattle.links.specs.Judging.{lent, entriesOf, verdicts, judgingNumber, cleared, Judged, judged};
 ghost use Rattle.links.specs.Walking.{verdict};

@@ -13,7 +13,7 @@ use Rattle.types.specs.declared.index.FileSlice.{FileSlice}
 use Rattle.layout.specs.declared.start.Cursor.{Cursor}
 use Rattle.layout.specs.Mapping.{Slice}
 use Rattle.layout.specs.Start.{slicesFrom}
-use Rattle.layout.specs.Table.{recordOf}
+use Rattle.mapping.specs.Table.{recordOf}
 use Rattle.mapping.specs.Records.{recordsFrom}
 
 -- `ys` is the table at entry, and the slices to put into it are `count` from the cursor `from` on

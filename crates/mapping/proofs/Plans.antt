@@ -1,144 +1,21 @@
--- Laws of the plan of a block: how it follows from the block's start and from the room, what it says of its slices, and the
--- outcome once they are in the table. They rely on the laws of decisions in `layout`.
---     plan-refused, plan-short, plan-whole     the plan of a start that is refused, of one without room, and of one with room
---     plan-counts, plan-fits                   what a plan says of its slices
---     plan-done                                the outcome of `map_block` once they are in the table
-use mathlib.Core.Path.{_≡_, refl, sym, ap, _∙_}
-use mathlib.Core.Bool.{Bool, true, false, cond}
-use mathlib.Core.List.{List, [], _∷_, map}
-use Prim.Native.Nat.{ℕ, _+_, _≤_, _<_}
-use native.Mathlib.Omega.{arith}
-use lib.Dec.{eqb, leb}
-use borrow.Author.Tests.{le-leb, lt-leb, leb-true}
+-- The outcome of `map_block` once the slices of the plan are in the table. It relies on the plan of `layout`.
+use mathlib.Core.Path.{_≡_}
+use mathlib.Core.List.{List, map}
+use Prim.Native.Nat.{ℕ}
 use lib.IntN.{ℤ}
 use lib.ListN.{length}
 use lib.Seq.{sets}
-use Rattle.types.specs.Refusals.{numberOf, Outcome, value, refused, usizeSays}
+use Rattle.types.specs.Refusals.{Outcome}
 use Rattle.types.specs.declared.index.FileSlice.{FileSlice}
-use Rattle.types.specs.declared.refusal.Refusal.{Refusal}
-use Rattle.types.specs.declared.refusal.UsizeResult.{UsizeResult}
-use Rattle.types.specs.declared.refusal.UsizeResult.the-variants.{Ok, Err}
 use Rattle.tables.specs.declared.storage.FileStorage.{FileStorage}
-use Rattle.rules.specs.Rules.{Rule, firstOf}
-use Rattle.rules.specs.Bounds.{sizeOf}
-use Rattle.answers.specs.Answers.{indexOf, rowsHeld}
-use Rattle.layout.specs.declared.start.Cursor.{Cursor}
-use Rattle.layout.specs.Questions.{opened, manyPieces, noPiece, badRange, short}
-use Rattle.layout.specs.Pieces.{startOf}
-use Rattle.layout.specs.Mapping.{Slice, walk}
-use Rattle.layout.specs.Block.{blockOf}
-use Rattle.layout.specs.Start.{slicesFrom, cursorAt, Started, all, none, started, blockStart}
-use Rattle.layout.specs.Table.{recordOf, Filled, filled, blockMapped}
-use Rattle.layout.proofs.Deciding.{first-append}
-use Rattle.mapping.specs.Plan.{Planned, stayed, whole, planned, blockPlan}
+use Rattle.layout.specs.Mapping.{Slice}
+use Rattle.layout.specs.Start.{slicesFrom}
+use Rattle.layout.specs.Plan.{Planned, blockPlan}
+use Rattle.mapping.specs.Table.{recordOf, Filled, blockMapped}
+use Rattle.layout.proofs.Plans.{plan-written}
 
--- the number of the first refusal: k before the room is looked at, then 10 where there is none
-abbrev number : ℕ → Bool → ℕ
-number k held = cond (eqb k 0) (firstOf (short held ∷ [])) k
-
--- what is known of a start that is not refused
-record Open (k : ℕ) (ss : List Slice) (c from : Cursor) (n : ℕ) : Type 0 where
-  none-yet : eqb k 0 ≡ true
-  many : n ≡ length ss
-  begins : from ≡ c
-
--- a start by its number k, its slices, and the cursor at which they begin
-module _ (k : ℕ) (ss : List Slice) (c : Cursor) {o : Outcome ℕ} {from : Cursor} (h : _≡_ {A = Started} (record { says = o; from = from }) (started k ss c)) (room : ℕ) where
-  refusing : (j : ℕ) → o ≡ refused j → stayed j ≡ planned (number k (leb (length ss) room)) ss c
-  refusing j q = at (eqb k 0) refl (rw q at h)
-    where
-      at : (b : Bool) → eqb k 0 ≡ b → _≡_ {A = Started} (record { says = refused j; from = from }) (cond b (all ss c) (none k)) → stayed j ≡ planned (number k (leb (length ss) room)) ss c
-      at true p h′ =
-          let u : _≡_ {A = Outcome ℕ} (refused j) (value (length ss)) = ap (λ (x : Started). x .says) h′ in
-          absurd (let z : _≡_ {A = ℕ} 0 1 = cc in omega arith)
-      at false p h′ =
-          let u : _≡_ {A = Outcome ℕ} (refused j) (refused k) = ap (λ (x : Started). x .says) h′ in
-          let n : j ≡ k = cc in
-          rw (n, p, p)
-
-  open-is : (n : ℕ) → o ≡ value n → Open k ss c from n
-  open-is n q = at (eqb k 0) refl (rw q at h)
-    where
-      at : (b : Bool) → eqb k 0 ≡ b → _≡_ {A = Started} (record { says = value n; from = from }) (cond b (all ss c) (none k)) → Open k ss c from n
-      at true p h′ =
-          let u : value n ≡ value (length ss) = ap (λ (x : Started). x .says) h′ in
-          record { none-yet = p; many = cc; begins = ap (λ (x : Started). x .from) h′ }
-      at false p h′ =
-          let u : _≡_ {A = Outcome ℕ} (value n) (refused k) = ap (λ (x : Started). x .says) h′ in
-          absurd (let z : _≡_ {A = ℕ} 0 1 = cc in omega arith)
-
-  no-room : (n : ℕ) → o ≡ value n → room < n → stayed 10 ≡ planned (number k (leb (length ss) room)) ss c
-  no-room n q l =
-      let i = open-is n q in
-      let m : room < length ss = omega arith in
-      let b : leb (length ss) room ≡ false = lt-leb (length ss) room m in
-      rw (i .none-yet, b)
-
-  enough : (n : ℕ) → o ≡ value n → n ≤ room → _≡_ {A = Planned} (record { says = value n; count = n; from = from }) (planned (number k (leb (length ss) room)) ss c)
-  enough n q l =
-      let i = open-is n q in
-      let m : length ss ≤ room = omega arith in
-      let b : leb (length ss) room ≡ true = le-leb (length ss) room m in
-      rw (i .none-yet, b, i .many, i .begins)
-
--- a plan by its refusal k, 0 for none, and its slices, which begin at a cursor
-module _ (rows : List ℕ) (ss : List Slice) (c : Cursor) (e : slicesFrom rows c ≡ ss) (k : ℕ) where
-  counts : planned k ss c .count ≡ length (slicesFrom rows (planned k ss c .from))
-  unfolding walk
-  counts = at (eqb k 0)
-    where
-      at : (b : Bool) → cond b (whole ss c) (stayed k) .count ≡ length (slicesFrom rows (cond b (whole ss c) (stayed k) .from))
-      at true = ap length (sym e)
-      at false = refl
-
-  done : (ys : List FileSlice) → _≡_ {A = Filled} (record { says = planned k ss c .says; table = sets ys 0 (map recordOf (slicesFrom rows (planned k ss c .from))) }) (filled k ss ys)
-  unfolding walk
-  done ys = at (eqb k 0)
-    where
-      at : (b : Bool) → _≡_ {A = Filled} (record { says = cond b (whole ss c) (stayed k) .says; table = sets ys 0 (map recordOf (slicesFrom rows (cond b (whole ss c) (stayed k) .from))) }) (cond b (record { says = value (length ss); table = sets ys 0 (map recordOf ss) }) (record { says = refused k; table = ys }))
-      at true = rw e
-      at false = refl
-
--- where no refusal is left there is room
-fits : (k : ℕ) (ss : List Slice) (c : Cursor) (room : ℕ) → planned (number k (leb (length ss) room)) ss c .count ≤ room
-fits k ss c room = at (eqb k 0) (leb (length ss) room) refl refl
-  where
-    at : (a b : Bool) → eqb k 0 ≡ a → leb (length ss) room ≡ b → planned (cond a (firstOf (short b ∷ [])) k) ss c .count ≤ room
-    at true true p q = leb-true (length ss) room q
-    at true false p q = omega arith
-    at false b p q = rw p (omega arith)
-
--- a block
-module _ (fs : FileStorage) (rows : List ℕ) (z offset size : ℤ) where
-  abbrev block : List Slice
-  block = blockOf fs rows z offset size
-
-  abbrev start : Cursor
-  start = cursorAt fs rows (startOf fs (indexOf z) + sizeOf offset) (sizeOf size)
-
-  abbrev rules : List Rule
-  rules = opened fs ∷ manyPieces fs ∷ noPiece fs z ∷ badRange offset size ∷ short (rowsHeld fs rows) ∷ []
-
-  plan-is : (room : ℕ) → blockPlan fs rows z offset size room ≡ planned (number (firstOf rules) (leb (length block) room)) block start
-  plan-is room = ap (λ (k : ℕ). planned k block start) (first-append rules (short (leb (length block) room) ∷ []) refl)
-
-  module _ (count : UsizeResult) {from : Cursor} (h : _≡_ {A = Started} (record { says = usizeSays count; from = from }) (blockStart fs rows z offset size)) (room : ℕ) where
-    pub plan-refused : (e : Refusal) → count ≡ Err e → stayed (numberOf e) ≡ blockPlan fs rows z offset size room
-    plan-refused e q = refusing (firstOf rules) block start h room (numberOf e) (ap usizeSays q) ∙ sym (plan-is room)
-
-    pub plan-short : (n : ℕ) → count ≡ Ok n → room < n → stayed 10 ≡ blockPlan fs rows z offset size room
-    plan-short n q l = no-room (firstOf rules) block start h room n (ap usizeSays q) l ∙ sym (plan-is room)
-
-    pub plan-whole : (n : ℕ) → count ≡ Ok n → n ≤ room → _≡_ {A = Planned} (record { says = value n; count = n; from = from }) (blockPlan fs rows z offset size room)
-    plan-whole n q l = enough (firstOf rules) block start h room n (ap usizeSays q) l ∙ sym (plan-is room)
-
-  pub plan-counts : (room : ℕ) {p : Planned} → p ≡ blockPlan fs rows z offset size room → p .count ≡ length (slicesFrom rows (p .from))
-  plan-counts room h = rw (h, plan-is room) (counts rows block start refl (number (firstOf rules) (leb (length block) room)))
-
-  pub plan-fits : (room : ℕ) {p : Planned} → p ≡ blockPlan fs rows z offset size room → p .count ≤ room
-  plan-fits room h = rw (h, plan-is room) (fits (firstOf rules) block start room)
-
-  pub plan-done : (ys l : List FileSlice) {p : Planned} → p ≡ blockPlan fs rows z offset size (length ys) → l ≡ sets ys 0 (map recordOf (slicesFrom rows (p .from)))
-      → _≡_ {A = Filled} (record { says = p .says; table = l }) (blockMapped fs rows z offset size ys)
-  plan-done ys l h e =
-      rw (e, h) (done rows block start refl (firstOf (opened fs ∷ manyPieces fs ∷ noPiece fs z ∷ badRange offset size ∷ short (rowsHeld fs rows) ∷ short (leb (length block) (length ys)) ∷ [])) ys)
+pub plan-done : (fs : FileStorage) (rows : List ℕ) (z offset size : ℤ) (ys l : List FileSlice) {p : Planned} → p ≡ blockPlan fs rows z offset size (length ys)
+    → l ≡ sets ys 0 (map recordOf (slicesFrom rows (p .from)))
+    → _≡_ {A = Filled} (record { says = p .says; table = l }) (blockMapped fs rows z offset size ys)
+plan-done fs rows z offset size ys l h e =
+    rw e (plan-written fs rows z offset size (λ (o : Outcome ℕ) (ss : List Slice). record { says = o; table = sets ys 0 (map recordOf ss) }) (length ys) h)

@@ -20,7 +20,7 @@ use Rattle.tables.specs.Rows.{rowAt}
 use Rattle.layout.specs.Mapping.{Slice, walk}
 use Rattle.layout.specs.declared.start.Cursor.{Cursor}
 use Rattle.layout.specs.Start.{slicesFrom}
-use Rattle.layout.specs.Table.{recordOf}
+use Rattle.mapping.specs.Table.{recordOf}
 use Rattle.mapping.specs.Records.{recordsFrom}
 use Rattle.layout.proofs.Slices.{walk-none, walk-end, walk-turn}
 

@@ -1,3 +1,3 @@
--- The definitions that the contracts of `mapping` cite, besides those of `layout`.
-pub mod Plan
+-- The definitions that the contracts of `mapping` cite. They rely on the slices of `layout`.
+pub mod Table
 pub mod Records

@@ -4,7 +4,7 @@ use mathlib.Core.List.{List, map}
 use Rattle.types.specs.declared.index.FileSlice.{FileSlice}
 use Rattle.layout.specs.declared.start.Cursor.{Cursor}
 use Rattle.layout.specs.Start.{slicesFrom}
-use Rattle.layout.specs.Table.{recordOf}
+use Rattle.mapping.specs.Table.{recordOf}
 
 abbrev pub recordsFrom : List ℕ → Cursor → List FileSlice
 recordsFrom rows c = map recordOf (slicesFrom rows c)

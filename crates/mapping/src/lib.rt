@@ -1,79 +1,24 @@
 // `map_block`, from file_storage.rs: the slices of files that a block covers, put into a lent slice of
-// `FileSlice`. `layout` counts them and says where they begin; the code here looks whether there is room,
-// makes one slice after another and stores it.
+// `FileSlice`. `layout` plans the block; the code here makes one slice after another and stores it.
 ghost use mathlib.Core.Path.{_≡_};
 ghost use mathlib.Core.List.{_∷_};
 ghost use Prim.Native.Nat.{_+_, _-_, _<_, _^_, min};
 ghost use lib.ListN.{length, set};
-ghost use Rattle.types.specs.Refusals.{numberOf, usizeSays};
+ghost use Rattle.types.specs.Refusals.{usizeSays};
 ghost use Rattle.layout.specs.Start.{slicesFrom};
-ghost use Rattle.layout.specs.Table.{recordOf, Filled, blockMapped};
-ghost use Rattle.mapping.specs.Plan.{Planned, stayed, blockPlan};
+ghost use Rattle.mapping.specs.Table.{recordOf, Filled, blockMapped};
 ghost use Rattle.mapping.specs.Records.{recordsFrom};
 use layout::Cursor;
 use tables::FileStorage;
 use types::FileIndex;
 use types::FileSlice;
 use types::PieceIndex;
-use types::Refusal;
 use types::UsizeResult;
-
-// The answer of `map_block`, how many slices it writes, and where the first begins.
-struct Plan {
-    answer: UsizeResult,
-    count: usize,
-    from: Cursor,
-}
 
 // A slice, and where the bytes behind it begin.
 struct Step {
     slice: FileSlice,
     rest: Cursor,
-}
-
-// The plan of a refusal, which writes nothing.
-fn refuse(e: Refusal) -> Plan
-    ensures { λ r. ⌜ _≡_ {A = Planned} (record { says = usizeSays (r .answer); count = r .count; from = r .from }) (stayed (numberOf e)) ⌝ }
-{
-    Plan {
-        answer: UsizeResult::Err(e),
-        count: 0,
-        from: Cursor {
-            file: 0,
-            files: 0,
-            skip: 0,
-            left: 0,
-        },
-    }
-}
-
-// The plan for a block of a piece, into a table with `room` places.
-fn plan_block(
-    fs: FileStorage,
-    rows: &[u64],
-    piece: PieceIndex,
-    offset: i64,
-    size: i64,
-    room: usize,
-) -> Plan
-    ensures { λ r. ⌜ _≡_ {A = Planned} (record { says = usizeSays (r .answer); count = r .count; from = r .from }) (blockPlan fs (now (rows .entry)) (piece .0) offset size room) ⌝ }
-{
-    let start = layout::start_block(fs, rows, piece, offset, size);
-    let from = start.from;
-    let found = start.count;
-    match found {
-        UsizeResult::Ok(count) => {
-            if room < count {
-                return refuse(Refusal::NoRoom);
-            }
-            Plan {
-                answer: UsizeResult::Ok(count),
-                count,
-                from,
-            }
-        }
-        UsizeResult::Err(e) => refuse(e),
-    }
 }
 
 // The slice of `size` bytes from place `offset` of a file on.
@@ -152,7 +97,7 @@ pub fn map_block(
 ) -> UsizeResult
     ensures { λ r. ⌜ _≡_ {A = Filled} (record { says = usizeSays r; table = now (out .exit) }) (blockMapped fs (now (rows .entry)) (piece .0) offset size (now (out .entry))) ⌝ }
 {
-    let plan = plan_block(fs, rows, piece, offset, size, out.len());
+    let plan = layout::plan_block(fs, rows, piece, offset, size, out.len());
     let mut at = plan.from;
     let mut n = 0;
     while n < plan.count {

@@ -13,10 +13,10 @@ use Rattle.types.specs.Refusals.{value, refused}
 use Rattle.types.specs.Signed.{clampedOf}
 use Rattle.tables.specs.declared.storage.FileStorage.{FileStorage}
 use Rattle.rules.specs.Rules.{Rule, when, firstOf, outcomeOf, both}
-use Rattle.rules.specs.Bounds.{badLength}
+use Rattle.rules.specs.Bounds.{badLength, indexOf, isBelow}
 use Rattle.rules.proofs.Rules.{Numbered, Passed, passed}
-use Rattle.answers.specs.Answers.{indexOf, isBelow, askedFile}
-use Rattle.answers.proofs.Deciding.{allowed}
+use Rattle.rules.specs.Questions.{askedFile}
+use Rattle.rules.proofs.Deciding.{allowed}
 
 -- the number of a file as the code takes it
 pub index-is : (z : ℤ) → clampedOf z ≡ indexOf z

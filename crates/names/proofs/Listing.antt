@@ -13,11 +13,11 @@ use Rattle.tables.specs.declared.span.Span.{Span}
 use Rattle.tables.specs.Span.{textAt}
 use Rattle.rules.specs.Rules.{when, firstOf, both}
 use Rattle.rules.specs.Bounds.{badLength}
-use Rattle.answers.specs.declared.result.SpanResult.{SpanResult}
-use Rattle.answers.specs.declared.result.SpanResult.the-variants.{Ok, Err}
-use Rattle.answers.specs.Results.{spanSays}
-use Rattle.answers.specs.Answers.{askedHeld, dirsHeld, textHeld}
-use Rattle.answers.proofs.Deciding.{allowed, denied}
+use Rattle.rules.specs.declared.result.SpanResult.{SpanResult}
+use Rattle.rules.specs.declared.result.SpanResult.the-variants.{Ok, Err}
+use Rattle.rules.specs.Results.{spanSays}
+use Rattle.rules.specs.Questions.{askedHeld, dirsHeld, textHeld}
+use Rattle.rules.proofs.Deciding.{allowed, denied}
 use Rattle.names.specs.Paths.{led, hashOf}
 use Rattle.names.specs.Hashes.{hashesOf, ascending, Listed, listed, allPathHashes}
 use Rattle.names.specs.Gathering.{above, Holds, hashesWithin}

@@ -15,7 +15,7 @@ use Rattle.tables.specs.Rows.{dirAt}
 use Rattle.tables.specs.Model.{tabled}
 use Rattle.rules.specs.Rules.{when, firstOf, both}
 use Rattle.rules.specs.Bounds.{badLength}
-use Rattle.answers.specs.Answers.{dirsHeld, textHeld}
+use Rattle.rules.specs.Questions.{dirsHeld, textHeld}
 use Rattle.names.specs.Paths.{led, hashOf}
 
 -- what stands before each separator of a directory, and all of it; `seen` are the bytes before

@@ -1,6 +1,5 @@
 -- The definitions that the contracts of `names` cite. They rely on those of `path`, `crc32c`, `tables`, `storage` and
 -- `answers`.
-pub mod Results
 pub mod Paths
 pub mod Hashes
 pub mod Gathering

@@ -14,7 +14,8 @@ use Rattle.tables.specs.declared.rows.Row.{Row}
 use Rattle.tables.specs.Span.{textAt}
 use Rattle.tables.specs.Rows.{rowAt, dirAt, noPath, isAbsolute, has}
 use Rattle.rules.specs.Rules.{both}
-use Rattle.answers.specs.Answers.{askedFile, composedFile, rowsHeld, dirsHeld, textHeld}
+use Rattle.rules.specs.Questions.{askedFile, rowsHeld, dirsHeld, textHeld}
+use Rattle.rules.specs.Composed.{composedFile}
 
 -- a single name has no directory
 abbrev pub isSingle : Row → Bool

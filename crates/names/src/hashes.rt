@@ -18,7 +18,7 @@ ghost use Rattle.names.specs.Paths.{led, hashOf};
 ghost use Rattle.names.specs.Hashes.{inserted, ascending, Listed, listed, allPathHashes};
 ghost use Rattle.names.specs.Gathering.{above, gathered, belowCount, Begun, Holds, hashesBehind, hashesWithin};
 use crate::file::hash_led;
-use answers::SpanResult;
+use rules::SpanResult;
 use tables::FileStorage;
 use types::Refusal;
 use types::UsizeResult;

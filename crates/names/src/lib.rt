@@ -5,7 +5,6 @@ mod compose;
 mod decide;
 mod file;
 mod hashes;
-mod result;
 mod walk;
 
 pub use compatible::files_compatible;
@@ -13,4 +12,3 @@ pub use compose::compose_path;
 pub use file::file_path;
 pub use file::file_path_hash;
 pub use hashes::all_path_hashes;
-pub use result::U32Result;

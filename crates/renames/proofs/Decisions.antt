@@ -18,8 +18,9 @@ use Rattle.tables.specs.declared.storage.FileStorage.{FileStorage}
 use Rattle.rules.specs.Rules.{when, firstOf, outcomeOf, both}
 use Rattle.rules.specs.Bounds.{badLength}
 use Rattle.rules.proofs.Rules.{either-false}
-use Rattle.answers.specs.Answers.{indexOf, isBelow, askedSet, askedFile}
-use Rattle.answers.proofs.Deciding.{allowed, denied}
+use Rattle.rules.specs.Questions.{askedSet, askedFile}
+use Rattle.rules.specs.Bounds.{indexOf, isBelow}
+use Rattle.rules.proofs.Deciding.{allowed, denied}
 use Rattle.names.proofs.Deciding.{passes, asked-good, asked-there, asked-own}
 use Rattle.renames.specs.declared.rename.RenamedFiles.{RenamedFiles}
 use Rattle.renames.specs.declared.place.Place.{Place}

@@ -15,7 +15,7 @@ use Rattle.lists.specs.Lists.{partOf}
 use Rattle.lists.proofs.Parts.{drop-clipped, part-length}
 use Rattle.lists.proofs.Runs.{sets-over}
 use Rattle.rules.specs.Rules.{both}
-use Rattle.answers.specs.Answers.{indexOf, isBelow}
+use Rattle.rules.specs.Bounds.{indexOf, isBelow}
 use Rattle.renames.specs.declared.rename.RenamedFiles.{RenamedFiles}
 use Rattle.renames.specs.declared.rename.RenameMode.the-variants.{FullPath}
 use Rattle.renames.specs.declared.place.Place.{Place}

@@ -10,7 +10,7 @@ use lib.Dec.{eqb}
 use lib.IntN.{ℤ}
 use lib.ListN.{length, getD, take, drop, length-append}
 use Rattle.rules.specs.Rules.{both}
-use Rattle.answers.specs.Answers.{indexOf, isBelow}
+use Rattle.rules.specs.Bounds.{indexOf, isBelow}
 use Rattle.renames.specs.Renames.{Renamed, textsOf, withRename}
 use Rattle.renames.specs.Imports.{Naming, namings, fullPath, imported}
 use Rattle.renames.specs.Importing.{isOf, isListed, kept, given, withAll, Fresh}

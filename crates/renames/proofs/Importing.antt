@@ -18,8 +18,8 @@ use Rattle.tables.specs.declared.storage.FileStorage.{FileStorage}
 use Rattle.rules.specs.Rules.{outcomeOf}
 use Rattle.rules.specs.Bounds.{badLength, isNegative}
 use Rattle.rules.proofs.Rules.{either-false}
-use Rattle.answers.specs.Answers.{askedSet}
-use Rattle.answers.proofs.Deciding.{denied}
+use Rattle.rules.specs.Questions.{askedSet}
+use Rattle.rules.proofs.Deciding.{denied}
 use Rattle.renames.specs.declared.rename.RenamedFiles.{RenamedFiles}
 use Rattle.renames.specs.Renames.{Renamed, Changed, renamesOf, orderedFrom, inOrder, lacksRoom, stateOf, wordsOf, textsOf}
 use Rattle.renames.specs.Places.{bytesFrom}

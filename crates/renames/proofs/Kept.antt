@@ -16,7 +16,7 @@ use Rattle.tables.specs.declared.storage.FileStorage.{FileStorage}
 use Rattle.rules.specs.Rules.{outcomeOf}
 use Rattle.rules.specs.Bounds.{badLength}
 use Rattle.rules.proofs.Rules.{either-false}
-use Rattle.answers.specs.Answers.{indexOf, isBelow}
+use Rattle.rules.specs.Bounds.{indexOf, isBelow}
 use Rattle.renames.specs.declared.rename.RenameMode.{RenameMode}
 use Rattle.renames.specs.declared.rename.RenameMode.the-variants.{FullPath, NoRootPath, AbsolutePath}
 use Rattle.renames.specs.declared.rename.RenamedFiles.{RenamedFiles}

@@ -9,7 +9,7 @@ use mir.Syntax.{w32}
 use mir.Val.{SFits}
 use Rattle.types.specs.Refusals.{value, refused}
 use Rattle.types.specs.Signed.{belowOr}
-use Rattle.answers.specs.Answers.{indexOf, isBelow}
+use Rattle.rules.specs.Bounds.{indexOf, isBelow}
 
 -- one of so many, and its number
 pub within-yes : (files : ℕ) (z : ℤ) (k : ℕ) → value k ≡ belowOr 11 files z → (isBelow files z ≡ true) × (k ≡ indexOf z)

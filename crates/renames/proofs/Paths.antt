@@ -11,8 +11,10 @@ use Rattle.path.specs.Join.{Joined}
 use Rattle.tables.specs.declared.storage.FileStorage.{FileStorage}
 use Rattle.rules.specs.Rules.{both}
 use Rattle.rules.specs.Bounds.{badLength}
-use Rattle.answers.specs.Answers.{indexOf, isBelow, askedFile, composedIf, composedFile}
-use Rattle.answers.proofs.Deciding.{denied}
+use Rattle.rules.specs.Questions.{askedFile}
+use Rattle.rules.specs.Bounds.{indexOf, isBelow}
+use Rattle.rules.specs.Composed.{composedIf, composedFile}
+use Rattle.rules.proofs.Deciding.{denied}
 use Rattle.names.proofs.Deciding.{asked-good, asked-there, asked-held, asked-own}
 use Rattle.renames.proofs.Ordered.{both-true}
 

@@ -26,7 +26,8 @@ use Rattle.tables.specs.Rows.{rowAt}
 use Rattle.tables.specs.Model.{Optional, absent, present}
 use Rattle.rules.specs.Rules.{when, firstOf, outcomeOf, both}
 use Rattle.rules.specs.Bounds.{badLength}
-use Rattle.answers.specs.Answers.{indexOf, isBelow, askedFile, rowsHeld, textHeld}
+use Rattle.rules.specs.Questions.{askedFile, rowsHeld, textHeld}
+use Rattle.rules.specs.Bounds.{indexOf, isBelow}
 use Rattle.renames.specs.declared.rename.RenameMode.{RenameMode}
 use Rattle.renames.specs.declared.rename.RenameMode.the-variants.{FullPath}
 use Rattle.renames.specs.declared.rename.Rename.{Rename}

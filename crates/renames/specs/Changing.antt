@@ -10,7 +10,7 @@ use Rattle.types.specs.Refusals.{numberOf, Outcome, value, refused}
 use Rattle.tables.specs.declared.storage.FileStorage.{FileStorage}
 use Rattle.rules.specs.Rules.{when, firstOf, outcomeOf, both, either}
 use Rattle.rules.specs.Bounds.{badLength}
-use Rattle.answers.specs.Answers.{indexOf, isBelow}
+use Rattle.rules.specs.Bounds.{indexOf, isBelow}
 use Rattle.renames.specs.declared.rename.RenamedFiles.{RenamedFiles}
 use Rattle.renames.specs.declared.place.Place.{Place}
 use Rattle.renames.specs.declared.place.PlaceResult.{PlaceResult}

@@ -16,7 +16,8 @@ use Rattle.tables.specs.Span.{textAt}
 use Rattle.tables.specs.Rows.{rowAt, isAbsolute}
 use Rattle.tables.specs.Model.{Optional, absent, present}
 use Rattle.rules.specs.Rules.{when, firstOf, outcomeOf, both}
-use Rattle.answers.specs.Answers.{askedFile, composedFile, rowsHeld, textHeld}
+use Rattle.rules.specs.Questions.{askedFile, rowsHeld, textHeld}
+use Rattle.rules.specs.Composed.{composedFile}
 use Rattle.names.specs.Paths.{filePath, namesHeld}
 use Rattle.renames.specs.declared.rename.RenameMode.{RenameMode}
 use Rattle.renames.specs.declared.rename.RenameMode.the-variants.{FullPath, NoRootPath, AbsolutePath}

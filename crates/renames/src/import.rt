@@ -16,7 +16,7 @@ use crate::keep::keep_texts;
 use crate::listed::has_negative;
 use crate::rename::RenamedFiles;
 use crate::rename::RenamesResult;
-use answers::I32Result;
+use rules::I32Result;
 use tables::FileStorage;
 use types::Refusal;
 

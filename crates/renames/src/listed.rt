@@ -6,7 +6,7 @@ ghost use lib.IntN.{pos};
 ghost use lib.ListN.{length, getD, drop};
 ghost use Rattle.lists.specs.Lists.{any};
 ghost use Rattle.rules.specs.Bounds.{isNegative};
-ghost use Rattle.answers.specs.Answers.{indexOf};
+ghost use Rattle.rules.specs.Bounds.{indexOf};
 ghost use Rattle.renames.specs.Importing.{isOf, isListed, counts};
 use types::FileIndex;
 use types::Unsigned;

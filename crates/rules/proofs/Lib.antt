@@ -1,2 +1,3 @@
--- Laws of rules in order.
+-- Laws of rules in order, and of deciding by them.
 pub mod Rules
+pub mod Deciding

@@ -1,22 +1,24 @@
--- Numbers that document 01's refusals speak of: signed numbers read as unsigned ones, the largest size and the range of piece lengths.
+-- Numbers that document 01's refusals speak of: the largest size and the range of piece lengths. Signed numbers are read by
+-- the definitions of `types`, which are passed on.
 use Prim.Native.Nat.{ℕ}
-use mathlib.Core.Bool.{Bool, true, false}
-use lib.Dec.{eqb, ltb}
-use lib.IntN.{ℤ, pos, negsuc}
+use mathlib.Core.Bool.{Bool}
+use lib.Dec.{ltb}
+use lib.IntN.{ℤ}
+pub use Rattle.types.specs.Signed.{isNegative, isBelow}
+use Rattle.types.specs.Signed.{clampedOf}
 use Rattle.rules.specs.Rules.{either}
 
--- 281474976710655
+-- the largest size, offset and total
 abbrev pub limit : ℕ
 limit = 281474976710655
 
-abbrev pub isNegative : ℤ → Bool
-isNegative (pos n) = false
-isNegative (negsuc n) = true
-
--- the number itself, 0 where it is negative
+-- a size or an offset, 0 where it is negative
 abbrev pub sizeOf : ℤ → ℕ
-sizeOf (pos n) = n
-sizeOf (negsuc n) = 0
+sizeOf z = clampedOf z
+
+-- the number of a file or a piece, 0 where it is negative
+abbrev pub indexOf : ℤ → ℕ
+indexOf z = clampedOf z
 
 -- a piece length is from 1 to 2147483647, as an i32 holds it
 abbrev pub badLength : ℕ → Bool

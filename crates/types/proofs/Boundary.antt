@@ -3,6 +3,7 @@
 --     up               a number that is not negative can be cast to an unsigned type
 --     back             what that cast gives
 --     low              a number below 2 ^ k is its own low k bits
+--     unsigned-of, unsigned-negative   what a signed number is, by its unsigned reading
 -- Assumes nothing.
 use mathlib.Core.Path.{_≡_, refl, ap}
 use mathlib.Core.Bool.{true, false}
@@ -16,6 +17,8 @@ use mir.Syntax.{Width}
 use mir.Val.{SFits, Fits, toZ, ofZ, bits, hbits}
 use mir.Facts.{toZ-ofZ, fits-natAbs}
 use borrow.Author.Tests.{ltb-true}
+use Rattle.types.specs.Signed.{unsignedOf, isNegative, clampedOf}
+use Rattle.types.specs.declared.signed.Unsigned.the-variants.{Of, Negative}
 
 neg : (z : ℤ) → ltZ z (pos 0) ≡ true → z ≡ negsuc (mag z)
 neg (pos n) e = absurd (omega (arith, ltb-true n 0 e))
@@ -44,3 +47,11 @@ module _ (w : Width) (z : ℤ) (fits : SFits w z) where
 
 pub low : (k n : ℕ) → n < 2 ^ k → pos (n % 2 ^ k) ≡ pos n
 low k n h = ap pos (mod-eq-of-lt h)
+
+pub unsigned-of : (z : ℤ) (n : ℕ) → unsignedOf z ≡ Of n → (isNegative z ≡ false) × (clampedOf z ≡ n)
+unsigned-of (pos m) n e = (refl, cc)
+unsigned-of (negsuc m) n e = absurd (let z : _≡_ {A = ℕ} 0 1 = cc in omega arith)
+
+pub unsigned-negative : (z : ℤ) → unsignedOf z ≡ Negative → (isNegative z ≡ true) × (clampedOf z ≡ 0)
+unsigned-negative (pos m) e = absurd (let z : _≡_ {A = ℕ} 0 1 = cc in omega arith)
+unsigned-negative (negsuc m) e = (refl, refl)

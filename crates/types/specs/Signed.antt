@@ -1,6 +1,6 @@
 -- Signed numbers at the boundary, as the Rust's signatures have them: `pos n` is n, `negsuc n` is −(n + 1).
 use Prim.Native.Nat.{ℕ}
-use mathlib.Core.Bool.{cond}
+use mathlib.Core.Bool.{Bool, true, false, cond}
 use lib.IntN.{ℤ, pos, negsuc}
 use lib.Dec.{ltb}
 use Rattle.types.specs.Refusals.{Outcome, value, refused}
@@ -12,10 +12,19 @@ abbrev pub unsignedOf : ℤ → Unsigned
 unsignedOf (pos n) = Of n
 unsignedOf (negsuc n) = Negative
 
--- types.rs, `get`: a negative number is 0 in the release build
+abbrev pub isNegative : ℤ → Bool
+isNegative (pos n) = false
+isNegative (negsuc n) = true
+
+-- the number itself, 0 where it is negative: types.rs, `get` in the release build
 abbrev pub clampedOf : ℤ → ℕ
 clampedOf (pos n) = n
 clampedOf (negsuc n) = 0
+
+-- whether a number is from 0 to count − 1
+abbrev pub isBelow : ℕ → ℤ → Bool
+isBelow count (pos n) = ltb n count
+isBelow count (negsuc n) = false
 
 -- a number from 0 to count − 1, or the refusal of that number
 abbrev pub belowOr : ℕ → ℕ → ℤ → Outcome ℕ

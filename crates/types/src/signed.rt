@@ -4,7 +4,7 @@ ghost use mathlib.Core.Path.{_≡_};
 ghost use Prim.Native.Nat.{_%_, _^_};
 ghost use lib.IntN.{pos, negsuc};
 ghost use Rattle.types.specs.Refusals.{numberOf, usizeSays};
-ghost use Rattle.types.specs.Signed.{unsignedOf, clampedOf, belowOr};
+ghost use Rattle.types.specs.Signed.{unsignedOf, isNegative, clampedOf, belowOr};
 use crate::index::FileIndex;
 use crate::index::PieceIndex;
 use crate::refusal::Refusal;
@@ -34,6 +34,46 @@ pub fn unsigned32(x: i32) -> Unsigned
         return Unsigned::Negative;
     }
     Unsigned::Of(x as u64)
+}
+
+// Whether an `i64` is negative.
+pub fn is_negative64(x: i64) -> bool
+    ensures { λ r. ⌜ r ≡ isNegative x ⌝ }
+{
+    match unsigned64(x) {
+        Unsigned::Of(_) => false,
+        Unsigned::Negative => true,
+    }
+}
+
+// Whether an `i32` is negative.
+pub fn is_negative32(x: i32) -> bool
+    ensures { λ r. ⌜ r ≡ isNegative x ⌝ }
+{
+    match unsigned32(x) {
+        Unsigned::Of(_) => false,
+        Unsigned::Negative => true,
+    }
+}
+
+// An `i64` as an unsigned number, 0 where it is negative.
+pub fn clamped64(x: i64) -> u64
+    ensures { λ r. ⌜ r ≡ clampedOf x ⌝ }
+{
+    match unsigned64(x) {
+        Unsigned::Of(n) => n,
+        Unsigned::Negative => 0,
+    }
+}
+
+// An `i32` as an unsigned number, 0 where it is negative.
+pub fn clamped32(x: i32) -> u64
+    ensures { λ r. ⌜ r ≡ clampedOf x ⌝ }
+{
+    match unsigned32(x) {
+        Unsigned::Of(n) => n,
+        Unsigned::Negative => 0,
+    }
 }
 
 // The low 63 bits of a number as an `i64`: the number itself below 2^63.

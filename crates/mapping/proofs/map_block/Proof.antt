@@ -60,16 +60,17 @@ use Rattle.tables.specs.declared.storage.FileStorage.{FileStorage}
 use Rattle.tables.proofs.storage.FileStorage as FS
 use Rattle.tables.proofs.storage.FileStorage.Laws as FS′
 use Rattle.layout.specs.declared.start.Cursor.{Cursor}
-use Rattle.mapping.specs.declared.Plan.{Plan}
-use Rattle.mapping.specs.Plan.{blockPlan}
-use Rattle.mapping.proofs.Plans.{plan-counts, plan-fits, plan-done}
+use Rattle.layout.specs.declared.plan.Plan.{Plan}
+use Rattle.layout.specs.Plan.{blockPlan}
+use Rattle.layout.proofs.Plans.{plan-counts, plan-fits}
+use Rattle.mapping.proofs.Plans.{plan-done}
 use Rattle.layout.proofs.start.Cursor as CU
 use Rattle.layout.proofs.start.Cursor.Laws as CU′
-use Rattle.mapping.proofs.Plan as PL
-use Rattle.mapping.proofs.Plan.Laws as PL′
-use Rattle.mapping.proofs.plan_block.Symbol as plan-block-def
-use Rattle.mapping.proofs.plan_block.Symbol.{name as #mapping·plan-block}
-use Rattle.mapping.proofs.plan_block.Met as plan-block-thm
+use Rattle.layout.proofs.plan.Plan as PL
+use Rattle.layout.proofs.plan.Plan.Laws as PL′
+use Rattle.layout.proofs.plan_block.Symbol as plan-block-def
+use Rattle.layout.proofs.plan_block.Symbol.{name as #layout·plan-block}
+use Rattle.layout.proofs.plan_block.Met as plan-block-thm
 use Rattle.mapping.specs.declared.Step.{Step}
 use Rattle.mapping.specs.Records.{recordsFrom}
 use Rattle.mapping.proofs.Step as ST
@@ -307,7 +308,7 @@ module _ {M : Type 1} (𝓤 : URA M) (H : Heap 𝓤) (A : Atoms 𝓤) (W : Given
           assigns ! (of-opd ! (lit ! tt)) (from ! (stop !)) (init ! 16 refl (tt, record { fits = lit< tt })) $ forget ! 12 refl $
           first ! $ blocks ! $ loops ! 𝓣 Nearer Nearer-wf At turns (0, ys, p .from, filling.begin (x .now) ys (p .count) (p .from) (plan-counts fs (x .now) (piece .0) offset size n planned), plan-from p w is)
 
-  module _ (𝓣 : Tables 𝓤 H) (known-plan : Triple 𝓤 (𝓣 .C #mapping·plan-block) (PlanBlock 𝓤 H A mem run)) (known-next : Triple 𝓤 (𝓣 .C #mapping·next-slice) (NextSlice 𝓤 H A mem run)) (known-store : Triple 𝓤 (𝓣 .C #mapping·store) (Store 𝓤 H A mem run)) (l₀ l₁ l₂ l₃ l₄ l₅ l₆ l₇ l₈ l₉ l₁₀ l₁₁ l₁₂ l₁₃ l₁₄ l₁₅ : ℕ) where
+  module _ (𝓣 : Tables 𝓤 H) (known-plan : Triple 𝓤 (𝓣 .C #layout·plan-block) (PlanBlock 𝓤 H A mem run)) (known-next : Triple 𝓤 (𝓣 .C #mapping·next-slice) (NextSlice 𝓤 H A mem run)) (known-store : Triple 𝓤 (𝓣 .C #mapping·store) (Store 𝓤 H A mem run)) (l₀ l₁ l₂ l₃ l₄ l₅ l₆ l₇ l₈ l₉ l₁₀ l₁₁ l₁₂ l₁₃ l₁₄ l₁₅ : ℕ) where
     -- up to the plan
     plans : Sq W (Begun l₀ l₁ l₂ l₃ l₄ l₅ l₆ l₇ l₈ l₉ l₁₀ l₁₁ l₁₂ l₁₃ l₁₄ l₁₅) (runs (𝓣 .C) (𝓣 .Λ) (En l₀ l₁ l₂ l₃ l₄ l₅ l₆ l₇ l₈ l₉ l₁₀ l₁₁ l₁₂ l₁₃ l₁₄ l₁₅) mir′.t-1 (atRet (En l₀ l₁ l₂ l₃ l₄ l₅ l₆ l₇ l₈ l₉ l₁₀ l₁₁ l₁₂ l₁₃ l₁₄ l₁₅) Post))
     plans =
@@ -323,7 +324,7 @@ module _ {M : Type 1} (𝓤 : URA M) (H : Heap 𝓤) (A : Atoms 𝓤) (W : Given
         move ! (2 ∷ 3 ∷ []) $
         starts p w (made .0) (made .1) 𝓣 known-next known-store l₀ l₁ l₂ l₃ l₄ l₅ l₆ l₇ l₈ l₉ l₁₀ l₁₁ l₁₂ l₁₃ l₁₄ l₁₅)))
 
-  walk : (𝓣 : Tables 𝓤 H) → Triple 𝓤 (𝓣 .C #mapping·plan-block) (PlanBlock 𝓤 H A mem run) → Triple 𝓤 (𝓣 .C #mapping·next-slice) (NextSlice 𝓤 H A mem run) → Triple 𝓤 (𝓣 .C #mapping·store) (Store 𝓤 H A mem run)
+  walk : (𝓣 : Tables 𝓤 H) → Triple 𝓤 (𝓣 .C #layout·plan-block) (PlanBlock 𝓤 H A mem run) → Triple 𝓤 (𝓣 .C #mapping·next-slice) (NextSlice 𝓤 H A mem run) → Triple 𝓤 (𝓣 .C #mapping·store) (Store 𝓤 H A mem run)
       → ent 𝓤 (onEntry 𝓤 H A map-block.signature (κ₀, (κ₁, tt)) (q₀, (q₁, tt)) a vals) (WpFn 𝓤 H (𝓣 .C) (𝓣 .Λ) code.function (FS′.lowered fs ∷ s x (length (x .now)) ∷ PI′.lowered piece ∷ vint w64 (ofZ w64 offset) ∷ vint w64 (ofZ w64 size) ∷ s y n ∷ []) Post)
   walk 𝓣 known-plan known-next known-store =
       qed W ((‵ (flft κ₀ q₀) ⊛ ‵ (flft κ₁ q₁) ⊛ ‵ ftrue) ∷ ‵ (owns (FS.the-row ∷ ShrSlice (named 0) κ₀ u64 ∷ PI.the-row ∷ i64 ∷ i64 ∷ MutSlice (named 1) κ₁ T.the-row ∷ []) a vals) ∷ []) ∵
@@ -340,7 +341,7 @@ module _ {M : Type 1} (𝓤 : URA M) (H : Heap 𝓤) (A : Atoms 𝓤) (W : Given
       plans 𝓣 known-plan known-next known-store l₀ l₁ l₂ l₃ l₄ l₅ l₆ l₇ l₈ l₉ l₁₀ l₁₁ l₁₂ l₁₃ l₁₄ l₁₅))))))))))))))))
 
 module _ {M : Type 1} (𝓤 : URA M) (H : Heap 𝓤) (A : Atoms 𝓤) (W : Given 𝓤 H A) (mem : Memory → SProp 𝓤) (run : Routine → Fun 𝓤) (𝓣 : Tables 𝓤 H)
-    (known-plan : Triple 𝓤 (𝓣 .C #mapping·plan-block) (PlanBlock 𝓤 H A mem run)) (known-next : Triple 𝓤 (𝓣 .C #mapping·next-slice) (NextSlice 𝓤 H A mem run)) (known-store : Triple 𝓤 (𝓣 .C #mapping·store) (Store 𝓤 H A mem run)) where
+    (known-plan : Triple 𝓤 (𝓣 .C #layout·plan-block) (PlanBlock 𝓤 H A mem run)) (known-next : Triple 𝓤 (𝓣 .C #mapping·next-slice) (NextSlice 𝓤 H A mem run)) (known-store : Triple 𝓤 (𝓣 .C #mapping·store) (Store 𝓤 H A mem run)) where
   map-block-walks : Walks 𝓤 H A map-block.ended stayed (WpFn 𝓤 H (𝓣 .C) (𝓣 .Λ) code.function) (map-block.clauses 𝓤 H A mem run)
   map-block-walks = walked 𝓤 H A map-block.ended stayed (map-block.clauses 𝓤 H A mem run) (WpFn 𝓤 H (𝓣 .C) (𝓣 .Λ) code.function)
       (λ κs. (LL.vals FS.the-type FS′.the-laws, (slice-vals, (LL.vals PI.the-type PI′.the-laws, (sint-vals w64, (sint-vals w64, (slice-vals, tt)))))))
@@ -361,6 +362,6 @@ map-block-spec 𝓤 H 𝓜 𝓖 𝓡 =
     entered 𝓤 H (tripleOf 𝓤 H (𝓖 .A) map-block.signature (map-block.spec 𝓤 H (𝓖 .A) (𝓜 .mem) (𝓡 .run)))
     (tables 𝓤 H 𝓜 𝓡 code.env .C) (tables 𝓤 H 𝓜 𝓡 code.env .Λ) #mapping·map-block code.function (code.unfolded 𝓤 H 𝓜 𝓡)
     (map-block-meets 𝓤 H (𝓖 .A) (givenOf 𝓤 H 𝓜 𝓖) (𝓜 .mem) (𝓡 .run) (tablesOf 𝓤 H 𝓜 (tables 𝓤 H 𝓜 𝓡 code.env))
-    (cited 𝓤 H (PlanBlock 𝓤 H (𝓖 .A) (𝓜 .mem) (𝓡 .run)) 𝓜 𝓡 code.env #mapping·plan-block plan-block-def.routine code.calls-mapping·plan-block (plan-block-thm.met 𝓤 H 𝓜 𝓖 𝓡))
+    (cited 𝓤 H (PlanBlock 𝓤 H (𝓖 .A) (𝓜 .mem) (𝓡 .run)) 𝓜 𝓡 code.env #layout·plan-block plan-block-def.routine code.calls-layout·plan-block (plan-block-thm.met 𝓤 H 𝓜 𝓖 𝓡))
     (cited 𝓤 H (NextSlice 𝓤 H (𝓖 .A) (𝓜 .mem) (𝓡 .run)) 𝓜 𝓡 code.env #mapping·next-slice next-slice-def.routine code.calls-mapping·next-slice (next-slice-thm.met 𝓤 H 𝓜 𝓖 𝓡))
     (cited 𝓤 H (Store 𝓤 H (𝓖 .A) (𝓜 .mem) (𝓡 .run)) 𝓜 𝓡 code.env #mapping·store store-def.routine code.calls-mapping·store (store-thm.met 𝓤 H 𝓜 𝓖 𝓡)))

@@ -2,8 +2,9 @@
 use mathlib.Core.Path.{ap}
 use borrow.Author.Needs.{needs}
 use Rattle.tables.specs.Rows.{rowAt}
-use Rattle.answers.specs.Answers.{rowsHeld, isAbsolute}
-use Rattle.answers.proofs.Deciding.{file-value, file-refused}
+use Rattle.rules.specs.Questions.{rowsHeld}
+use Rattle.answers.specs.Answers.{isAbsolute}
+use Rattle.rules.proofs.Deciding.{file-value, file-refused}
 use Rattle.answers.proofs.file.file_absolute_path.Statement.{statement}
 use Rattle.answers.proofs.file.file_absolute_path.Tie as tie
 

@@ -3,8 +3,8 @@ use Prim.Native.Nat.{ℕ, _%_}
 use mathlib.Core.Path.{ap}
 use borrow.Author.Needs.{needs}
 use Rattle.tables.specs.Rows.{rowAt}
-use Rattle.answers.specs.Answers.{rowsHeld}
-use Rattle.answers.proofs.Deciding.{file-value, file-refused}
+use Rattle.rules.specs.Questions.{rowsHeld}
+use Rattle.rules.proofs.Deciding.{file-value, file-refused}
 use Rattle.answers.proofs.file.file_flags.Statement.{statement}
 use Rattle.answers.proofs.file.file_flags.Tie as tie
 

@@ -6,8 +6,8 @@ use mir.Val.{SFits}
 use mir.Facts.{toZ-ofZ}
 use borrow.Author.Needs.{needs}
 use Rattle.tables.specs.Rows.{rowAt}
-use Rattle.answers.specs.Answers.{rowsHeld}
-use Rattle.answers.proofs.Deciding.{file-value, file-refused}
+use Rattle.rules.specs.Questions.{rowsHeld}
+use Rattle.rules.proofs.Deciding.{file-value, file-refused}
 use Rattle.answers.proofs.Numbers.{below-48}
 use Rattle.answers.proofs.file.file_size.Statement.{statement}
 use Rattle.answers.proofs.file.file_size.Tie as tie

@@ -4,8 +4,9 @@ use mir.Syntax.{w64}
 use mir.Val.{SFits}
 use mir.Facts.{toZ-ofZ}
 use borrow.Author.Needs.{needs}
-use Rattle.answers.specs.Answers.{timesHeld, timeOf}
-use Rattle.answers.proofs.Deciding.{file-value, file-refused}
+use Rattle.rules.specs.Questions.{timesHeld}
+use Rattle.answers.specs.Answers.{timeOf}
+use Rattle.rules.proofs.Deciding.{file-value, file-refused}
 use Rattle.answers.proofs.file.mtime.Statement.{statement}
 use Rattle.answers.proofs.file.mtime.Tie as tie
 

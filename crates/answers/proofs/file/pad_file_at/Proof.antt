@@ -3,8 +3,8 @@ use Prim.Native.Nat.{ℕ}
 use mathlib.Core.Path.{ap, _∙_}
 use borrow.Author.Needs.{needs}
 use Rattle.tables.specs.Rows.{rowAt, has}
-use Rattle.answers.specs.Answers.{rowsHeld}
-use Rattle.answers.proofs.Deciding.{file-value, file-refused}
+use Rattle.rules.specs.Questions.{rowsHeld}
+use Rattle.rules.proofs.Deciding.{file-value, file-refused}
 use Rattle.answers.proofs.file.pad_file_at.Statement.{statement}
 use Rattle.answers.proofs.file.pad_file_at.Tie as tie
 

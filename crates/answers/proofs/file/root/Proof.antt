@@ -2,8 +2,9 @@
 use mathlib.Core.Path.{_≡_, refl}
 use borrow.Author.Needs.{needs}
 use Rattle.rules.specs.Rules.{both}
-use Rattle.answers.specs.Answers.{rowsHeld, rootsHeld, rootOf}
-use Rattle.answers.proofs.Deciding.{both-is, file-value, file-refused}
+use Rattle.rules.specs.Questions.{rowsHeld, rootsHeld}
+use Rattle.answers.specs.Answers.{rootOf}
+use Rattle.rules.proofs.Deciding.{both-is, file-value, file-refused}
 use Rattle.answers.proofs.file.root.Statement.{statement}
 use Rattle.answers.proofs.file.root.Tie as tie
 

@@ -3,8 +3,8 @@ use mathlib.Core.Path.{_≡_}
 use borrow.Author.Needs.{needs}
 use Rattle.tables.specs.Rows.{dirAt}
 use Rattle.rules.specs.Rules.{both}
-use Rattle.answers.specs.Answers.{dirsHeld, textHeld}
-use Rattle.answers.proofs.Deciding.{both-is, directory-value, directory-refused}
+use Rattle.rules.specs.Questions.{dirsHeld, textHeld}
+use Rattle.rules.proofs.Deciding.{both-is, directory-value, directory-refused}
 use Rattle.answers.proofs.set.path_at.Statement.{statement}
 use Rattle.answers.proofs.set.path_at.Tie as tie
 
@@ -20,8 +20,8 @@ is-held-requires-2 c κs = search needs
 are-both-requires : tie.Need-are-both-requires
 are-both-requires c κs = search needs
 
-directory-in-requires : tie.Need-directory-in-requires
-directory-in-requires c κs = search needs
+ask-directory-requires : tie.Need-ask-directory-requires
+ask-directory-requires c κs = search needs
 
 enum-told : tie.Need-enum-told
 enum-told c = search needs
@@ -36,7 +36,7 @@ returns : tie.Need-returns
 returns c =
     let a = c .before .before .before .before .before .before .before .before .before .args in
     let h = c .before .before .before .before in
-    let d = c .before .before .before .directory-in in
+    let d = c .before .before .before .ask-directory in
     directory-value (a .fs) (a .i) (dirAt (a .dirs .now) (a .i)) (h .are-both .result) _ (d .result) (d .ensures) (held-is h) (c .before .enum-told .given .1)
     _ (c .dir-at .ensures)
 
@@ -44,7 +44,7 @@ returns-2 : tie.Need-returns-2
 returns-2 c =
     let a = c .before .before .before .before .before .before .before .before .before .args in
     let h = c .before .before .before .before in
-    let d = c .before .before .before .directory-in in
+    let d = c .before .before .before .ask-directory in
     directory-refused (a .fs) (a .i) (dirAt (a .dirs .now) (a .i)) (h .are-both .result) _ (d .result) (d .ensures) (held-is h) _ (c .before .e .given .1)
 
 pub path-at-spec : {M : Type 1} → statement M
@@ -54,7 +54,7 @@ path-at-spec =
     is-held-requires
     is-held-requires-2
     are-both-requires
-    directory-in-requires
+    ask-directory-requires
     enum-told
     dir-at-requires
     enum-known-e

@@ -7,12 +7,12 @@ use mir.Syntax.{w32}
 use mir.Val.{SFits}
 use mir.Facts.{toZ-ofZ}
 use borrow.Author.Needs.{needs}
-use Rattle.answers.proofs.Deciding.{set-value, set-refused}
+use Rattle.rules.proofs.Deciding.{set-value, set-refused}
 use Rattle.answers.proofs.set.piece_length.Statement.{statement}
 use Rattle.answers.proofs.set.piece_length.Tie as tie
 
-set-in-requires : tie.Need-set-in-requires
-set-in-requires c κs = search needs
+ask-set-requires : tie.Need-ask-set-requires
+ask-set-requires c κs = search needs
 
 enum-told : tie.Need-enum-told
 enum-told c = search needs
@@ -26,16 +26,16 @@ enum-known-e c = search needs
 returns : tie.Need-returns
 returns c =
     let a = c .before .before .before .before .args in
-    let d = c .before .before .before .set-in in
+    let d = c .before .before .before .ask-set in
     let fits : SFits w32 (c .signed32 .result) = search needs in
     set-value (a .fs) (pos (a .fs .«piece_length» % 2 ^ 31)) true true (d .result) (d .ensures) refl (c .before .enum-told .given .1) _ (toZ-ofZ fits ∙ c .signed32 .ensures)
 
 returns-2 : tie.Need-returns-2
 returns-2 c =
     let a = c .before .before .before .before .args in
-    let d = c .before .before .before .set-in in
+    let d = c .before .before .before .ask-set in
     set-refused (a .fs) (pos (a .fs .«piece_length» % 2 ^ 31)) true true (d .result) (d .ensures) refl _ (c .before .e .given .1)
 
 pub piece-length-spec : {M : Type 1} → statement M
 piece-length-spec =
-    tie.close (tie.spec set-in-requires enum-told signed32-requires enum-known-e returns returns-2)
+    tie.close (tie.spec ask-set-requires enum-told signed32-requires enum-known-e returns returns-2)

@@ -2,8 +2,8 @@
 use borrow.Author.Needs.{needs}
 use Rattle.tables.specs.Rows.{rowAt}
 use Rattle.rules.specs.Rules.{both}
-use Rattle.answers.specs.Answers.{rowsHeld, textHeld}
-use Rattle.answers.proofs.Deciding.{file-value, file-refused}
+use Rattle.rules.specs.Questions.{rowsHeld, textHeld}
+use Rattle.rules.proofs.Deciding.{file-value, file-refused}
 use Rattle.answers.proofs.text.file_name.Statement.{statement}
 use Rattle.answers.proofs.text.file_name.Tie as tie
 

@@ -3,8 +3,9 @@ use mathlib.Core.Path.{_≡_, ap}
 use borrow.Author.Needs.{needs}
 use Rattle.tables.specs.Rows.{rowAt}
 use Rattle.rules.specs.Rules.{both}
-use Rattle.answers.specs.Answers.{rowsHeld, dirsHeld, textHeld, internalPath}
-use Rattle.answers.proofs.Deciding.{both-is, composed-value, composed-refused}
+use Rattle.rules.specs.Questions.{rowsHeld, dirsHeld, textHeld}
+use Rattle.answers.specs.Answers.{internalPath}
+use Rattle.rules.proofs.Deciding.{both-is, composed-value, composed-refused}
 use Rattle.answers.proofs.text.internal_file_path.Statement.{statement}
 use Rattle.answers.proofs.text.internal_file_path.Tie as tie
 

@@ -2,8 +2,8 @@
 use borrow.Author.Needs.{needs}
 use Rattle.tables.specs.Rows.{rowAt, has}
 use Rattle.rules.specs.Rules.{both}
-use Rattle.answers.specs.Answers.{rowsHeld, textHeld}
-use Rattle.answers.proofs.Deciding.{link-value, link-refused}
+use Rattle.rules.specs.Questions.{rowsHeld, textHeld}
+use Rattle.rules.proofs.Deciding.{link-value, link-refused}
 use Rattle.answers.proofs.text.internal_symlink.Statement.{statement}
 use Rattle.answers.proofs.text.internal_symlink.Tie as tie
 

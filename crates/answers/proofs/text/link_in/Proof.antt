@@ -6,7 +6,7 @@ use borrow.Author.Needs.{needs}
 use borrow.Author.Tests.{not-true, not-false}
 use Rattle.types.specs.Refusals.{value, refused, usizeSays}
 use Rattle.tables.specs.Rows.{rowAt, has}
-use Rattle.answers.proofs.Deciding.{link-goes, link-stops}
+use Rattle.rules.proofs.Deciding.{link-goes, link-stops}
 use Rattle.answers.proofs.text.link_in.Statement.{statement}
 use Rattle.answers.proofs.text.link_in.Tie as tie
 

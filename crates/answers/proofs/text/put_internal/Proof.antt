@@ -9,7 +9,7 @@ use Rattle.tables.specs.Rows.{dirAt}
 use Rattle.tables.specs.Span.{textAt}
 use Rattle.tables.specs.declared.span.Span.{Span}
 use Rattle.answers.specs.Answers.{internalPath, isInside}
-use Rattle.answers.proofs.Deciding.{joined-is}
+use Rattle.rules.proofs.Deciding.{joined-is}
 use Rattle.answers.proofs.text.put_internal.Statement.{statement}
 use Rattle.answers.proofs.text.put_internal.Tie as tie
 

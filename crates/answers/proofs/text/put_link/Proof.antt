@@ -7,7 +7,7 @@ use borrow.Author.Needs.{needs}
 use borrow.Author.Tests.{le-leb, not-true, not-false}
 use Rattle.tables.specs.Rows.{has}
 use Rattle.answers.specs.Answers.{symlinkPath}
-use Rattle.answers.proofs.Deciding.{joined-is}
+use Rattle.rules.proofs.Deciding.{joined-is}
 use Rattle.answers.proofs.text.put_link.Statement.{statement}
 use Rattle.answers.proofs.text.put_link.Tie as tie
 

@@ -3,8 +3,9 @@ use mathlib.Core.Path.{ap}
 use borrow.Author.Needs.{needs}
 use Rattle.tables.specs.Rows.{rowAt}
 use Rattle.rules.specs.Rules.{both}
-use Rattle.answers.specs.Answers.{rowsHeld, textHeld, symlinkPath}
-use Rattle.answers.proofs.Deciding.{composed-value, composed-refused}
+use Rattle.rules.specs.Questions.{rowsHeld, textHeld}
+use Rattle.answers.specs.Answers.{symlinkPath}
+use Rattle.rules.proofs.Deciding.{composed-value, composed-refused}
 use Rattle.answers.proofs.text.symlink.Statement.{statement}
 use Rattle.answers.proofs.text.symlink.Tie as tie
 

@@ -5,7 +5,7 @@ use mir.Syntax.{w32, w64}
 use mir.Val.{SFits}
 use mir.Facts.{toZ-ofZ}
 use Rattle.types.specs.Refusals.{usizeSays}
-use Rattle.layout.specs.Block.{Mapped, mapBlock}
+use Rattle.blocks.specs.Block.{Mapped, mapBlock}
 use Rattle.exports.specs.State.{storageOf}
 use Rattle.exports.specs.Layout.{BlockSaid, blockSaid, countSaid}
 use borrow.Author.Needs.{needs}

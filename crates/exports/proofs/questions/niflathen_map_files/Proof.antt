@@ -7,7 +7,7 @@ use mir.Syntax.{w64}
 use mir.Val.{SFits}
 use mir.Facts.{toZ-ofZ}
 use Rattle.types.specs.Refusals.{usizeSays}
-use Rattle.layout.specs.List.{Listed}
+use Rattle.files.specs.List.{Listed}
 use Rattle.exports.specs.Layout.{ListSaid, listSaid, countSaid}
 use borrow.Author.Needs.{needs}
 use Rattle.exports.proofs.questions.niflathen_map_files.Statement.{statement}

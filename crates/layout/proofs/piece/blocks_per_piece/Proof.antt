@@ -4,7 +4,7 @@ use mathlib.Core.Path.{_∙_}
 use mir.Syntax.{w32}
 use mir.Val.{SFits}
 use mir.Facts.{toZ-ofZ}
-use Rattle.layout.proofs.Deciding.{go, stop}
+use Rattle.rules.proofs.Deciding.{go, stop}
 use Rattle.layout.proofs.piece.blocks_per_piece.Statement.{statement}
 use Rattle.layout.proofs.piece.blocks_per_piece.Tie as tie
 
@@ -14,8 +14,8 @@ ask-set-requires c κs = search needs
 enum-told : tie.Need-enum-told
 enum-told c = search needs
 
-ceil-requires : tie.Need-ceil-requires
-ceil-requires c κs = search needs
+div-ceil-requires : tie.Need-div-ceil-requires
+div-ceil-requires c κs = search needs
 
 signed32-requires : tie.Need-signed32-requires
 signed32-requires c κs = search needs
@@ -27,7 +27,7 @@ returns : tie.Need-returns
 returns c =
     let fits : SFits w32 (c .signed32 .result) = search needs in
     go _ (c .before .before .before .before .ask-set .ensures) (c .before .before .enum-told .given .1) _
-    (toZ-ofZ fits ∙ (rw (c .before .ceil .ensures) at (c .signed32 .ensures)))
+    (toZ-ofZ fits ∙ (rw (c .before .div-ceil .ensures) at (c .signed32 .ensures)))
 
 returns-2 : tie.Need-returns-2
 returns-2 c = stop _ (c .before .before .before .ask-set .ensures) _ (c .before .e .given .1)
@@ -38,7 +38,7 @@ blocks-per-piece-spec =
     (tie.spec
     ask-set-requires
     enum-told
-    ceil-requires
+    div-ceil-requires
     signed32-requires
     enum-known-e
     returns

@@ -4,9 +4,10 @@ use mathlib.Core.Path.{_≡_}
 use mir.Syntax.{w64}
 use mir.Val.{SFits}
 use mir.Facts.{toZ-ofZ}
-use Rattle.layout.proofs.Deciding.{go, stop, set-held}
+use Rattle.layout.proofs.Deciding.{set-held}
+use Rattle.rules.proofs.Deciding.{go, stop}
 use Rattle.rules.specs.Bounds.{sizeOf}
-use Rattle.layout.specs.Questions.{badOffset}
+use Rattle.rules.specs.Questions.{badOffset}
 use Rattle.layout.proofs.piece.file_index_at_offset.Statement.{statement}
 use Rattle.layout.proofs.piece.file_index_at_offset.Tie as tie
 
@@ -22,8 +23,8 @@ ask-set-requires c κs = search needs
 enum-told : tie.Need-enum-told
 enum-told c = search needs
 
-size64-requires : tie.Need-size64-requires
-size64-requires c κs = search needs
+clamped64-requires : tie.Need-clamped64-requires
+clamped64-requires c κs = search needs
 
 find-near-requires : tie.Need-find-near-requires
 find-near-requires c κs =
@@ -41,7 +42,7 @@ returns c =
     let a = c .before .before .before .before .before .before .before .before .before .args in
     let fits : SFits w64 (a .offset) = search needs in
     let z = toZ-ofZ fits in
-    let s : c .before .before .size64 .result ≡ sizeOf (a .offset) = rw z at (c .before .before .size64 .ensures) in
+    let s : c .before .before .clamped64 .result ≡ sizeOf (a .offset) = rw z at (c .before .before .clamped64 .ensures) in
     let b : c .before .before .before .before .before .before .before .is-bad-offset .result ≡ badOffset (a .fs) (a .offset) .test = rw z at (c .before .before .before .before .before .before .before .is-bad-offset .ensures) in
     go _ (rw (b, c .before .before .before .before .before .before .is-held .ensures) at (c .before .before .before .before .before .ask-set .ensures)) (c .before .before .before .enum-told .given .1) _
     (rw (c .before .find-near .ensures, s) at (c .new .ensures))
@@ -61,7 +62,7 @@ file-index-at-offset-spec =
     is-held-requires
     ask-set-requires
     enum-told
-    size64-requires
+    clamped64-requires
     find-near-requires
     new-requires
     enum-known-e

@@ -1,6 +1,6 @@
 -- `layout::piece::file_range` meets its contract.
 use borrow.Author.Needs.{needs}
-use Rattle.layout.proofs.Deciding.{go, stop}
+use Rattle.rules.proofs.Deciding.{go, stop}
 use Rattle.layout.proofs.piece.file_range.Statement.{statement}
 use Rattle.layout.proofs.piece.file_range.Tie as tie
 

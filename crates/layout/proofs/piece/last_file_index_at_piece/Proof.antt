@@ -2,7 +2,8 @@
 use borrow.Author.Needs.{needs}
 use mathlib.Core.Bool.{false}
 use native.Mathlib.Omega.{arith}
-use Rattle.layout.proofs.Deciding.{go, stop, piece-known, piece-held}
+use Rattle.layout.proofs.Deciding.{piece-known, piece-held}
+use Rattle.rules.proofs.Deciding.{go, stop}
 use Rattle.layout.proofs.piece.last_file_index_at_piece.Statement.{statement}
 use Rattle.layout.proofs.piece.last_file_index_at_piece.Tie as tie
 
@@ -15,13 +16,13 @@ ask-piece-requires c κs = search needs
 enum-told : tie.Need-enum-told
 enum-told c = search needs
 
-piece-number-requires : tie.Need-piece-number-requires
-piece-number-requires c κs = search needs
+get-requires : tie.Need-get-requires
+get-requires c κs = search needs
 
 last-byte-requires : tie.Need-last-byte-requires
 last-byte-requires c κs =
     let a = c .before .before .before .before .before .before .args in
-    let k = piece-known (a .fs) (a .piece .0) false (c .before .before .before .before .is-held .result) _ (c .piece-number .ensures) (c .before .before .before .ask-piece .ensures) (c .before .enum-told .given .1) in
+    let k = piece-known (a .fs) (a .piece .0) false (c .before .before .before .before .is-held .result) _ (c .get .ensures) (c .before .before .before .ask-piece .ensures) (c .before .enum-told .given .1) in
     omega arith
 
 find-requires : tie.Need-find-requires
@@ -38,7 +39,7 @@ enum-known-e c = search needs
 returns : tie.Need-returns
 returns c =
     go _ (rw (c .before .before .before .before .before .before .before .is-held .ensures) at (c .before .before .before .before .before .before .ask-piece .ensures)) (c .before .before .before .before .enum-told .given .1) _
-    (rw (c .before .find .ensures, c .before .before .last-byte .ensures, c .before .before .before .piece-number .ensures) at (c .new .ensures))
+    (rw (c .before .find .ensures, c .before .before .last-byte .ensures, c .before .before .before .get .ensures) at (c .new .ensures))
 
 returns-2 : tie.Need-returns-2
 returns-2 c = stop _ (rw (c .before .before .before .before .is-held .ensures) at (c .before .before .before .ask-piece .ensures)) _ (c .before .e .given .1)
@@ -50,7 +51,7 @@ last-file-index-at-piece-spec =
     is-held-requires
     ask-piece-requires
     enum-told
-    piece-number-requires
+    get-requires
     last-byte-requires
     find-requires
     new-requires

@@ -1,7 +1,8 @@
 -- `layout::piece::last_piece` meets its contract.
 use borrow.Author.Needs.{needs}
 use native.Mathlib.Omega.{arith}
-use Rattle.layout.proofs.Deciding.{go, stop, pieces-known}
+use Rattle.layout.proofs.Deciding.{pieces-known}
+use Rattle.rules.proofs.Deciding.{go, stop}
 use Rattle.layout.proofs.piece.last_piece.Statement.{statement}
 use Rattle.layout.proofs.piece.last_piece.Tie as tie
 

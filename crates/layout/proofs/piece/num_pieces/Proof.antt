@@ -6,8 +6,9 @@ use mir.Syntax.{w32}
 use mir.Val.{SFits}
 use mir.Facts.{toZ-ofZ}
 use Rattle.types.proofs.Boundary.{low}
-use Rattle.layout.proofs.Deciding.{go, stop, pieces-known}
-use Rattle.layout.specs.Questions.{numPieces}
+use Rattle.layout.proofs.Deciding.{pieces-known}
+use Rattle.rules.proofs.Deciding.{go, stop}
+use Rattle.rules.specs.Questions.{numPieces}
 use Rattle.layout.proofs.piece.num_pieces.Statement.{statement}
 use Rattle.layout.proofs.piece.num_pieces.Tie as tie
 

@@ -3,8 +3,9 @@ use borrow.Author.Needs.{needs}
 use mathlib.Core.Path.{_∙_}
 use native.Mathlib.Omega.{arith}
 use Rattle.types.proofs.Boundary.{low}
-use Rattle.layout.proofs.Deciding.{go, stop, pieces-known}
-use Rattle.layout.specs.Questions.{numPieces}
+use Rattle.layout.proofs.Deciding.{pieces-known}
+use Rattle.rules.proofs.Deciding.{go, stop}
+use Rattle.rules.specs.Questions.{numPieces}
 use Rattle.layout.proofs.piece.piece_range.Statement.{statement}
 use Rattle.layout.proofs.piece.piece_range.Tie as tie
 

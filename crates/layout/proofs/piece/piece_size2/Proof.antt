@@ -6,7 +6,8 @@ use native.Mathlib.Omega.{arith}
 use mir.Syntax.{w32}
 use mir.Val.{SFits}
 use mir.Facts.{toZ-ofZ}
-use Rattle.layout.proofs.Deciding.{go, stop, piece-known, piece-held}
+use Rattle.layout.proofs.Deciding.{piece-known, piece-held}
+use Rattle.rules.proofs.Deciding.{go, stop}
 use Rattle.layout.proofs.piece.piece_size2.Statement.{statement}
 use Rattle.layout.proofs.piece.piece_size2.Tie as tie
 
@@ -19,13 +20,13 @@ ask-piece-requires c κs = search needs
 enum-told : tie.Need-enum-told
 enum-told c = search needs
 
-piece-number-requires : tie.Need-piece-number-requires
-piece-number-requires c κs = search needs
+get-requires : tie.Need-get-requires
+get-requires c κs = search needs
 
 size2-of-requires : tie.Need-size2-of-requires
 size2-of-requires c κs =
     let a = c .before .before .before .before .before .before .args in
-    let k = piece-known (a .fs) (a .piece .0) false (c .before .before .before .before .is-held .result) _ (c .piece-number .ensures) (c .before .before .before .ask-piece .ensures) (c .before .enum-told .given .1) in
+    let k = piece-known (a .fs) (a .piece .0) false (c .before .before .before .before .is-held .result) _ (c .get .ensures) (c .before .before .before .ask-piece .ensures) (c .before .enum-told .given .1) in
     let h = piece-held (a .fs) (a .piece .0) false _ _ (c .before .before .before .before .is-held .ensures) (c .before .before .before .ask-piece .ensures) (c .before .enum-told .given .1) in
     (omega arith, omega arith, h)
 
@@ -39,7 +40,7 @@ returns : tie.Need-returns
 returns c =
     let fits : SFits w32 (c .signed32 .result) = search needs in
     go _ (rw (c .before .before .before .before .before .before .is-held .ensures) at (c .before .before .before .before .before .ask-piece .ensures)) (c .before .before .before .enum-told .given .1) _
-    (toZ-ofZ fits ∙ (rw (c .before .size2-of .ensures, c .before .before .piece-number .ensures) at (c .signed32 .ensures)))
+    (toZ-ofZ fits ∙ (rw (c .before .size2-of .ensures, c .before .before .get .ensures) at (c .signed32 .ensures)))
 
 returns-2 : tie.Need-returns-2
 returns-2 c = stop _ (rw (c .before .before .before .before .is-held .ensures) at (c .before .before .before .ask-piece .ensures)) _ (c .before .e .given .1)
@@ -51,7 +52,7 @@ piece-size2-spec =
     is-held-requires
     ask-piece-requires
     enum-told
-    piece-number-requires
+    get-requires
     size2-of-requires
     signed32-requires
     enum-known-e

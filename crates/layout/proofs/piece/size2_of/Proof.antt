@@ -27,17 +27,17 @@ returns c =
 offset-at-requires : tie.Need-offset-at-requires
 offset-at-requires c κs = search needs
 
-less-requires : tie.Need-less-requires
-less-requires c κs = search needs
+saturating-sub-requires : tie.Need-saturating-sub-requires
+saturating-sub-requires c κs = search needs
 
-smaller-requires : tie.Need-smaller-requires
-smaller-requires c κs = search needs
+min-requires : tie.Need-min-requires
+min-requires c κs = search needs
 
 returns-2 : tie.Need-returns-2
 returns-2 c =
     let a = c .before .before .before .before .before .before .before .before .args in
     let e : leb (a .fs .«num_files») (partitionPoint (a .rows .now) (a .fs .«num_files») (startOf (a .fs) (a .p))) ≡ false = rw (c .before .before .before .before .before .partition-point .ensures, c .before .before .before .before .before .before .start-of .ensures) at (lt-leb _ _ (c .before .before .before .if1 .left)) in
-    rw (e, c .smaller .ensures, c .before .less .ensures, c .before .before .offset-at .ensures, c .before .before .before .before .before .partition-point .ensures, c .before .before .before .before .before .before .start-of .ensures)
+    rw (e, c .min .ensures, c .before .saturating-sub .ensures, c .before .before .offset-at .ensures, c .before .before .before .before .before .partition-point .ensures, c .before .before .before .before .before .before .start-of .ensures)
 
 pub size2-of-spec : {M : Type 1} → statement M
 size2-of-spec =
@@ -48,6 +48,6 @@ size2-of-spec =
     size-of-requires
     returns
     offset-at-requires
-    less-requires
-    smaller-requires
+    saturating-sub-requires
+    min-requires
     returns-2)

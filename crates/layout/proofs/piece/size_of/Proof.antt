@@ -5,7 +5,7 @@ use mathlib.Core.Bool.{true, false}
 use lib.Dec.{eqb}
 use Prim.Native.Nat.{_+_}
 use borrow.Author.Tests.{eq-eqb, ne-eqb}
-use Rattle.layout.specs.Questions.{numPieces}
+use Rattle.rules.specs.Questions.{numPieces}
 use Rattle.layout.proofs.piece.size_of.Statement.{statement}
 use Rattle.layout.proofs.piece.size_of.Tie as tie
 
@@ -18,14 +18,14 @@ count-pieces-requires c κs = search needs
 start-of-requires : tie.Need-start-of-requires
 start-of-requires c κs = search needs
 
-less-requires : tie.Need-less-requires
-less-requires c κs = search needs
+saturating-sub-requires : tie.Need-saturating-sub-requires
+saturating-sub-requires c κs = search needs
 
 returns : tie.Need-returns
 returns c =
     let a = c .before .before .before .before .args in
     let e : eqb (a .p + 1) (numPieces (a .fs)) ≡ true = rw (c .before .before .before .count-pieces .ensures) at (eq-eqb _ _ (c .before .before .if1 .taken)) in
-    rw (e, c .less .ensures, c .before .start-of .ensures)
+    rw (e, c .saturating-sub .ensures, c .before .start-of .ensures)
 
 returns-2 : tie.Need-returns-2
 returns-2 c =
@@ -36,4 +36,4 @@ returns-2 c =
 pub size-of-spec : {M : Type 1} → statement M
 size-of-spec =
     tie.close
-    (tie.spec add-if1 count-pieces-requires start-of-requires less-requires returns returns-2)
+    (tie.spec add-if1 count-pieces-requires start-of-requires saturating-sub-requires returns returns-2)

@@ -12,10 +12,10 @@ use Rattle.layout.proofs.start.start_at.Tie as tie
 
 -- the cursor that the code makes is that of the block, and the slices that it counts are the block's
 from-is : (c : tie.After-count-slices)
-    → record { file = c .before .before .before .before .before .find .result; files = c .before .before .before .before .before .before .before .args .fs .«num_files»; skip = c .before .before .before .less .result; left = c .before .smaller .result } ≡ cursorAt (c .before .before .before .before .before .before .before .args .fs) (c .before .before .before .before .before .before .before .args .rows .now) (c .before .before .before .before .before .before .before .args .target) (c .before .before .before .before .before .before .before .args .size)
+    → record { file = c .before .before .before .before .before .find .result; files = c .before .before .before .before .before .before .before .args .fs .«num_files»; skip = c .before .before .before .saturating-sub .result; left = c .before .min .result } ≡ cursorAt (c .before .before .before .before .before .before .before .args .fs) (c .before .before .before .before .before .before .before .args .rows .now) (c .before .before .before .before .before .before .before .args .target) (c .before .before .before .before .before .before .before .args .size)
 from-is c =
     let a = c .before .before .before .before .before .before .before .args in
-    cursor-is (a .fs) (a .rows .now) (a .target) (a .size) (c .before .before .before .before .before .find .ensures) (c .before .before .before .before .offset-at .ensures) (c .before .before .before .less .ensures) (c .before .before .less2 .ensures) (c .before .smaller .ensures)
+    cursor-is (a .fs) (a .rows .now) (a .target) (a .size) (c .before .before .before .before .before .find .ensures) (c .before .before .before .before .offset-at .ensures) (c .before .before .before .saturating-sub .ensures) (c .before .before .saturating-sub2 .ensures) (c .before .min .ensures)
 
 count-is : (c : tie.After-count-slices) → c .count-slices .result ≡ length (slicesOf (c .before .before .before .before .before .before .before .args .fs) (c .before .before .before .before .before .before .before .args .rows .now) (c .before .before .before .before .before .before .before .args .target) (c .before .before .before .before .before .before .before .args .size))
 count-is c = c .count-slices .ensures ∙ ap (λ (k : Cursor). length (slicesFrom (c .before .before .before .before .before .before .before .args .rows .now) k)) (from-is c)
@@ -26,14 +26,14 @@ find-requires c κs = c .before .pre
 offset-at-requires : tie.Need-offset-at-requires
 offset-at-requires c κs = search needs
 
-less-requires : tie.Need-less-requires
-less-requires c κs = search needs
+saturating-sub-requires : tie.Need-saturating-sub-requires
+saturating-sub-requires c κs = search needs
 
-less-requires-2 : tie.Need-less-requires-2
-less-requires-2 c κs = search needs
+saturating-sub-requires-2 : tie.Need-saturating-sub-requires-2
+saturating-sub-requires-2 c κs = search needs
 
-smaller-requires : tie.Need-smaller-requires
-smaller-requires c κs = search needs
+min-requires : tie.Need-min-requires
+min-requires c κs = search needs
 
 count-slices-requires : tie.Need-count-slices-requires
 count-slices-requires c κs = search needs
@@ -50,8 +50,8 @@ start-at-spec =
     (tie.spec
     find-requires
     offset-at-requires
-    less-requires
-    less-requires-2
-    smaller-requires
+    saturating-sub-requires
+    saturating-sub-requires-2
+    min-requires
     count-slices-requires
     returns)

@@ -8,12 +8,12 @@ use mir.Val.{SFits}
 use mir.Facts.{toZ-ofZ}
 use mathlib.Core.List.{[], _∷_}
 use Rattle.rules.specs.Rules.{firstOf}
-use Rattle.rules.specs.Bounds.{sizeOf, isNegative}
-use Rattle.answers.specs.Answers.{indexOf, rowsHeld}
-use Rattle.layout.specs.Questions.{opened, manyPieces, noPiece, badRange, short}
+use Rattle.rules.specs.Bounds.{sizeOf, isNegative, indexOf}
+use Rattle.rules.specs.Questions.{rowsHeld, badPieceLength, manyPieces, noPiece, badRange, short}
 use Rattle.layout.specs.Pieces.{startOf}
-use Rattle.layout.specs.Deciding.{checkNumber}
-use Rattle.layout.proofs.Deciding.{piece-known, piece-held, piece-range-good, offset-low}
+use Rattle.rules.specs.Results.{checkNumber}
+use Rattle.layout.proofs.Deciding.{piece-known, piece-held, piece-range-good}
+use Rattle.rules.proofs.Deciding.{offset-low}
 use Rattle.layout.proofs.Starts.{start-stopped, start-answered}
 use Rattle.layout.proofs.start.start_block.Statement.{statement}
 use Rattle.layout.proofs.start.start_block.Tie as tie
@@ -29,7 +29,7 @@ range-of c =
 
 decided : (c : tie.After-ask-piece)
     → checkNumber (c .ask-piece .result)
-    ≡ firstOf (opened (c .before .before .before .before .before .args .fs) ∷ manyPieces (c .before .before .before .before .before .args .fs) ∷ noPiece (c .before .before .before .before .before .args .fs) (c .before .before .before .before .before .args .piece .0) ∷ badRange (c .before .before .before .before .before .args .offset) (c .before .before .before .before .before .args .size) ∷ short (rowsHeld (c .before .before .before .before .before .args .fs) (c .before .before .before .before .before .args .rows .now)) ∷ [])
+    ≡ firstOf (badPieceLength (c .before .before .before .before .before .args .fs) ∷ manyPieces (c .before .before .before .before .before .args .fs) ∷ noPiece (c .before .before .before .before .before .args .fs) (c .before .before .before .before .before .args .piece .0) ∷ badRange (c .before .before .before .before .before .args .offset) (c .before .before .before .before .before .args .size) ∷ short (rowsHeld (c .before .before .before .before .before .args .fs) (c .before .before .before .before .before .args .rows .now)) ∷ [])
 decided c = rw (range-of (c .before .before), c .before .is-held .ensures) at (c .ask-piece .ensures)
 
 is-negative64-requires : tie.Need-is-negative64-requires
@@ -58,30 +58,30 @@ returns c =
 enum-told : tie.Need-enum-told
 enum-told c = search needs
 
-piece-number-requires : tie.Need-piece-number-requires
-piece-number-requires c κs = search needs
+get-requires : tie.Need-get-requires
+get-requires c κs = search needs
 
 start-of-requires : tie.Need-start-of-requires
 start-of-requires c κs =
     let a = c .before .before .before .before .before .before .before .before .args in
-    let k = piece-known (a .fs) (a .piece .0) (c .before .before .before .before .before .is-bad-range .result) (c .before .before .before .before .is-held .result) _ (c .piece-number .ensures) (c .before .before .before .ask-piece .ensures) (c .before .enum-told .given .1) in
+    let k = piece-known (a .fs) (a .piece .0) (c .before .before .before .before .before .is-bad-range .result) (c .before .before .before .before .is-held .result) _ (c .get .ensures) (c .before .before .before .ask-piece .ensures) (c .before .enum-told .given .1) in
     omega arith
 
-size64-requires : tie.Need-size64-requires
-size64-requires c κs = search needs
+clamped64-requires : tie.Need-clamped64-requires
+clamped64-requires c κs = search needs
 
 add-target : tie.Need-add-target
 add-target c =
     let a = c .before .before .before .before .before .before .before .before .before .before .args in
-    let k = piece-known (a .fs) (a .piece .0) (c .before .before .before .before .before .before .before .is-bad-range .result) (c .before .before .before .before .before .before .is-held .result) _ (c .before .before .piece-number .ensures) (c .before .before .before .before .before .ask-piece .ensures) (c .before .before .before .enum-told .given .1) in
+    let k = piece-known (a .fs) (a .piece .0) (c .before .before .before .before .before .before .before .is-bad-range .result) (c .before .before .before .before .before .before .is-held .result) _ (c .before .before .get .ensures) (c .before .before .before .before .before .ask-piece .ensures) (c .before .before .before .enum-told .given .1) in
     let b = piece-range-good (a .fs) (a .piece .0) (c .before .before .before .before .before .before .before .is-bad-range .result) (c .before .before .before .before .before .before .is-held .result) (c .before .before .before .before .before .ask-piece .ensures) (c .before .before .before .enum-told .given .1) in
     let fits : SFits w64 (a .offset) = search needs in
-    let s : c .size64 .result ≡ sizeOf (a .offset) = rw (toZ-ofZ fits) at (c .size64 .ensures) in
+    let s : c .clamped64 .result ≡ sizeOf (a .offset) = rw (toZ-ofZ fits) at (c .clamped64 .ensures) in
     let l = offset-low (a .offset) (a .size) (sym (range-of (c .before .before .before .before .before .before .before)) ∙ b) in
     omega (arith, c .before .start-of .ensures)
 
-size64-requires-2 : tie.Need-size64-requires-2
-size64-requires-2 c κs = search needs
+clamped64-requires-2 : tie.Need-clamped64-requires-2
+clamped64-requires-2 c κs = search needs
 
 start-at-requires : tie.Need-start-at-requires
 start-at-requires c κs =
@@ -93,11 +93,11 @@ returns-2 c =
     let a = c .before .before .before .before .before .before .before .before .before .before .before .before .args in
     let offset-fits : SFits w64 (a .offset) = search needs in
     let size-fits : SFits w64 (a .size) = search needs in
-    let p : c .before .before .before .start-of .result ≡ startOf (a .fs) (indexOf (a .piece .0)) = rw (c .before .before .before .before .piece-number .ensures) at (c .before .before .before .start-of .ensures) in
-    let o : c .before .before .size64 .result ≡ sizeOf (a .offset) = rw (toZ-ofZ offset-fits) at (c .before .before .size64 .ensures) in
-    let n : c .before .size642 .result ≡ sizeOf (a .size) = rw (toZ-ofZ size-fits) at (c .before .size642 .ensures) in
+    let p : c .before .before .before .start-of .result ≡ startOf (a .fs) (indexOf (a .piece .0)) = rw (c .before .before .before .before .get .ensures) at (c .before .before .before .start-of .ensures) in
+    let o : c .before .before .clamped64 .result ≡ sizeOf (a .offset) = rw (toZ-ofZ offset-fits) at (c .before .before .clamped64 .ensures) in
+    let n : c .before .clamped642 .result ≡ sizeOf (a .size) = rw (toZ-ofZ size-fits) at (c .before .clamped642 .ensures) in
     start-answered (a .fs) (a .rows .now) (a .piece .0) (a .offset) (a .size) _ (decided (c .before .before .before .before .before .before .before))
-    (c .before .before .before .start-of .result + c .before .before .size64 .result) (c .before .size642 .result) (ap₂ _+_ p o) n (c .before .before .before .before .before .enum-told .given .1) (c .start-at .ensures)
+    (c .before .before .before .start-of .result + c .before .before .clamped64 .result) (c .before .clamped642 .result) (ap₂ _+_ p o) n (c .before .before .before .before .before .enum-told .given .1) (c .start-at .ensures)
 
 pub start-block-spec : {M : Type 1} → statement M
 start-block-spec =
@@ -111,10 +111,10 @@ start-block-spec =
     refuse-requires
     returns
     enum-told
-    piece-number-requires
+    get-requires
     start-of-requires
-    size64-requires
+    clamped64-requires
     add-target
-    size64-requires-2
+    clamped64-requires-2
     start-at-requires
     returns-2)

@@ -7,7 +7,7 @@ use borrow.Author.Tests.{not-true, not-false}
 use Rattle.tables.specs.Model.{Store}
 use Rattle.rules.specs.Rules.{both}
 use Rattle.rules.specs.Bounds.{badLength}
-use Rattle.answers.specs.Answers.{rowsHeld, dirsHeld, textHeld}
+use Rattle.rules.specs.Questions.{rowsHeld, dirsHeld, textHeld}
 use Rattle.links.specs.Judging.{lent}
 use Rattle.links.proofs.Spaces.{count-rows}
 use Rattle.links.proofs.judge.links_in.Statement.{statement}

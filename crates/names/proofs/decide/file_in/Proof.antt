@@ -1,8 +1,8 @@
 -- `names::decide::file_in` meets its contract.
 use mathlib.Core.Path.{sym, ap, _∙_}
 use Rattle.tables.specs.Rows.{rowAt, has}
-use Rattle.answers.specs.Answers.{rowsHeld}
-use Rattle.answers.specs.Results.{boolSays}
+use Rattle.rules.specs.Questions.{rowsHeld}
+use Rattle.rules.specs.Results.{boolSays}
 use Rattle.names.proofs.Deciding.{index-is, asked-refused, asked-disorder, asked-value}
 use borrow.Author.Needs.{needs}
 use Rattle.names.proofs.decide.file_in.Statement.{statement}

@@ -2,8 +2,8 @@
 use mathlib.Core.Path.{_≡_, ap}
 use Rattle.rules.specs.Rules.{both}
 use Rattle.tables.specs.Rows.{rowAt}
-use Rattle.answers.specs.Answers.{rowsHeld}
-use Rattle.answers.proofs.Deciding.{composed-value, composed-refused}
+use Rattle.rules.specs.Questions.{rowsHeld}
+use Rattle.rules.proofs.Deciding.{composed-value, composed-refused}
 use Rattle.names.specs.Paths.{namesHeld, filePath}
 use borrow.Author.Needs.{needs}
 use Rattle.names.proofs.file.file_path.Statement.{statement}

@@ -4,8 +4,8 @@ use mathlib.Core.Path.{_≡_, ap, _∙_}
 use Rattle.rules.specs.Rules.{both}
 use Rattle.tables.specs.declared.rows.Row.{Row}
 use Rattle.tables.specs.Rows.{rowAt}
-use Rattle.answers.specs.Answers.{rowsHeld}
-use Rattle.answers.proofs.Deciding.{file-value, file-refused}
+use Rattle.rules.specs.Questions.{rowsHeld}
+use Rattle.rules.proofs.Deciding.{file-value, file-refused}
 use Rattle.names.specs.Paths.{namesHeld, hashedPath, hashOf}
 use borrow.Author.Needs.{needs}
 use Rattle.names.proofs.file.file_path_hash.Statement.{statement}

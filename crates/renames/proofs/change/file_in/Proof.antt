@@ -3,7 +3,7 @@ use Prim.Native.Nat.{_%_, _^_}
 use mathlib.Core.Path.{sym, ap, _∙_}
 use lib.IntN.{pos}
 use Rattle.types.specs.Refusals.{numberOf}
-use Rattle.answers.specs.Results.{i32Says}
+use Rattle.rules.specs.Results.{i32Says}
 use Rattle.renames.proofs.Decisions.{file-below, file-ill}
 use borrow.Author.Needs.{needs}
 use Rattle.renames.proofs.change.file_in.Statement.{statement}

@@ -6,7 +6,8 @@ use native.Mathlib.Omega.{arith}
 use borrow.Author.Tests.{not-true, not-false}
 use lib.ListN.{length}
 use Rattle.types.specs.Refusals.{numberOf, value, usizeSays}
-use Rattle.answers.specs.Answers.{indexOf, askedFile}
+use Rattle.rules.specs.Questions.{askedFile}
+use Rattle.rules.specs.Bounds.{indexOf}
 use Rattle.renames.specs.declared.place.Place.{Place}
 use Rattle.renames.specs.Places.{placeOf}
 use Rattle.renames.specs.Changing.{inOrderIn, isShort}

@@ -5,7 +5,7 @@ use mathlib.Core.List.{List}
 use lib.Seq.{sets}
 use lib.ListN.{length}
 use Rattle.types.specs.Refusals.{numberOf, value}
-use Rattle.answers.specs.Answers.{indexOf}
+use Rattle.rules.specs.Bounds.{indexOf}
 use Rattle.renames.specs.declared.rename.RenameMode.{RenameMode}
 use Rattle.renames.specs.Renames.{Renamed, stateOf, wordsOf, textsOf, withRename, renamesOf}
 use Rattle.renames.specs.Changing.{placeSays, placeAsked}

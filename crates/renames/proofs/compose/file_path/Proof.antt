@@ -9,7 +9,8 @@ use Rattle.rules.specs.Rules.{both}
 use Rattle.types.specs.Refusals.{numberOf, value}
 use Rattle.tables.specs.Rows.{rowAt}
 use Rattle.tables.specs.Span.{textAt}
-use Rattle.answers.specs.Answers.{indexOf, askedFile}
+use Rattle.rules.specs.Questions.{askedFile}
+use Rattle.rules.specs.Bounds.{indexOf}
 use Rattle.names.specs.Paths.{filePath, namesHeld}
 use Rattle.renames.specs.declared.place.Place.{Place}
 use Rattle.renames.specs.Renames.{renamesOf, inOrder}

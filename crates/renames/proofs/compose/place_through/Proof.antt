@@ -9,8 +9,8 @@ use Rattle.rules.specs.Rules.{both}
 use Rattle.types.specs.Refusals.{Outcome, numberOf, value}
 use Rattle.tables.specs.Rows.{rowAt}
 use Rattle.tables.specs.declared.span.Span.{Span}
-use Rattle.answers.specs.Answers.{askedFile, rowsHeld, dirsHeld, textHeld}
-use Rattle.answers.specs.Results.{spanSays}
+use Rattle.rules.specs.Questions.{askedFile, rowsHeld, dirsHeld, textHeld}
+use Rattle.rules.specs.Results.{spanSays}
 use Rattle.names.proofs.Deciding.{index-is, asked-refused, asked-disorder, asked-value}
 use Rattle.renames.specs.declared.place.Place.{Place}
 use Rattle.renames.specs.Renames.{inOrder}

@@ -9,8 +9,8 @@ use lib.ListN.{length}
 use Rattle.lists.specs.Lists.{any}
 use Rattle.types.specs.Refusals.{numberOf, value}
 use Rattle.rules.specs.Bounds.{isNegative}
-use Rattle.answers.specs.Answers.{askedSet}
-use Rattle.answers.specs.Results.{i32Says}
+use Rattle.rules.specs.Questions.{askedSet}
+use Rattle.rules.specs.Results.{i32Says}
 use Rattle.renames.specs.declared.rename.RenamedFiles.{RenamedFiles}
 use Rattle.renames.specs.Renames.{stateOf}
 use Rattle.renames.specs.Changing.{inOrderIn}

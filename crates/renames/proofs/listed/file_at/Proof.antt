@@ -1,7 +1,7 @@
 -- `renames::listed::file_at` meets its contract.
 use mathlib.Core.Path.{_≡_, ap, _∙_}
 use native.Mathlib.Omega.{arith}
-use Rattle.answers.specs.Answers.{indexOf}
+use Rattle.rules.specs.Bounds.{indexOf}
 use Rattle.names.proofs.Deciding.{index-is}
 use borrow.Author.Needs.{needs}
 use Rattle.renames.proofs.listed.file_at.Statement.{statement}

@@ -7,8 +7,9 @@ use borrow.Author.Tests.{not-true, not-false}
 use lib.ListN.{length}
 use Rattle.types.specs.Refusals.{numberOf, value}
 use Rattle.tables.specs.Rows.{rowAt, isAbsolute}
-use Rattle.answers.specs.Answers.{indexOf, askedFile, rowsHeld}
-use Rattle.answers.specs.Results.{boolSays}
+use Rattle.rules.specs.Questions.{askedFile, rowsHeld}
+use Rattle.rules.specs.Bounds.{indexOf}
+use Rattle.rules.specs.Results.{boolSays}
 use Rattle.renames.specs.Renames.{renamesOf, inOrder}
 use Rattle.renames.specs.Questions.{renameFor, isByItself, renamedAbsolute}
 use Rattle.renames.specs.Places.{placeOf}

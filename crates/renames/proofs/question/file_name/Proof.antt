@@ -9,8 +9,9 @@ use Rattle.rules.specs.Rules.{both}
 use Rattle.types.specs.Refusals.{numberOf, value}
 use Rattle.tables.specs.Rows.{rowAt}
 use Rattle.tables.specs.declared.span.Span.{Span}
-use Rattle.answers.specs.Answers.{indexOf, askedFile, rowsHeld, textHeld}
-use Rattle.answers.specs.Results.{spanSays}
+use Rattle.rules.specs.Questions.{askedFile, rowsHeld, textHeld}
+use Rattle.rules.specs.Bounds.{indexOf}
+use Rattle.rules.specs.Results.{spanSays}
 use Rattle.renames.specs.Renames.{inOrder}
 use Rattle.renames.specs.Questions.{NamePlace, inSet, inRenames, leafSpan, namePlace}
 use Rattle.renames.specs.Places.{placeOf}

@@ -1,0 +1,2 @@
+-- Laws of the columns of slices.
+pub mod Columns

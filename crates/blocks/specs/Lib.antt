@@ -1,0 +1,2 @@
+-- The definitions that the contracts of `blocks` cite. They rely on the slices of `layout`.
+pub mod Block

@@ -1,0 +1,3 @@
+-- Laws of decisions about a file, and of requests.
+pub mod Deciding
+pub mod Requests

@@ -1,0 +1,143 @@
+-- `files::file::map_file` meets its contract.
+use mathlib.Core.Path.{_≡_, refl, sym, ap, _∙_}
+use mathlib.Core.Bool.{true, false}
+use native.Mathlib.Omega.{arith}
+use Prim.Native.Nat.{_/_, _^_, _<_}
+use lib.Dec.{eqb, leb}
+use lib.IntN.{pos}
+use lib.ListN.{length}
+use mir.Syntax.{w32, w64}
+use mir.Val.{SFits, ofZ}
+use mir.Facts.{toZ-ofZ}
+use borrow.Author.Tests.{eqb-true, leb-true, not-false}
+use Rattle.types.specs.Refusals.{value, refused}
+use Rattle.rules.specs.Rules.{firstOf}
+use Rattle.rules.specs.Bounds.{sizeOf, indexOf, isBelow}
+use Rattle.files.specs.Request.{Request, mapFile}
+use Rattle.files.specs.Deciding.{requestOf, bytesAsked, placeAsked}
+use Rattle.rules.proofs.Rules.{Passed}
+use Rattle.files.proofs.Deciding.{low-as, past-index, asked-past}
+use Rattle.rules.proofs.Deciding.{none, below-is, offset-low, length-good}
+use borrow.Author.Needs.{needs}
+use Rattle.files.proofs.file.map_file.Statement.{statement}
+use Rattle.files.proofs.file.map_file.Tie as tie
+
+-- whether the question is answered: the set passes its tests, and the question its own
+answered-is : (c : tie.After-are-both) → c .are-both .result ≡ eqb (firstOf (bytesAsked (c .before .before .before .before .before .args .fs) (c .before .before .before .before .before .args .index .0) (c .before .before .before .before .before .args .offset) (c .before .before .before .before .before .args .size) (length (c .before .before .before .before .before .args .rows .now) / 8))) 0
+answered-is c =
+    let a = c .before .before .before .before .before .args in
+    let i : SFits w32 (a .index .0) = search needs in
+    let o : SFits w64 (a .offset) = search needs in
+    let s : SFits w32 (a .size) = search needs in
+    let r : length (a .rows .now) / 8 < 2 ^ 63 = search needs in
+    let q : c .before .is-asked .result ≡ eqb (firstOf (placeAsked (a .fs) (pos (ofZ w64 (a .index .0))) (a .offset) (a .size))) 0 = rw (c .before .before .before .file-or-past .ensures, toZ-ofZ o, toZ-ofZ s) at (c .before .is-asked .ensures) in
+    (rw (q, c .before .before .is-fit .ensures) at (c .are-both .ensures)) ∙ asked-past (a .fs) (a .index .0) (a .offset) (a .size) (length (a .rows .now) / 8) i r
+
+-- where it is, no refusal's test holds
+answered : (c : tie.Then1) → eqb (firstOf (bytesAsked (c .before .before .before .before .before .before .args .fs) (c .before .before .before .before .before .before .args .index .0) (c .before .before .before .before .before .before .args .offset) (c .before .before .before .before .before .before .args .size) (length (c .before .before .before .before .before .before .args .rows .now) / 8))) 0 ≡ true
+answered c = sym (answered-is (c .before)) ∙ c .if1 .taken
+
+passes : (c : tie.Then1) → Passed (bytesAsked (c .before .before .before .before .before .before .args .fs) (c .before .before .before .before .before .before .args .index .0) (c .before .before .before .before .before .before .args .offset) (c .before .before .before .before .before .before .args .size) (length (c .before .before .before .before .before .before .args .rows .now) / 8))
+passes c = none (bytesAsked (c .before .before .before .before .before .before .args .fs) (c .before .before .before .before .before .before .args .index .0) (c .before .before .before .before .before .before .args .offset) (c .before .before .before .before .before .before .args .size) (length (c .before .before .before .before .before .before .args .rows .now) / 8)) refl (eqb-true _ 0 (answered c))
+
+-- there the number is the file's own
+number-is : (c : tie.Then1) → c .before .before .before .before .file-or-past .result ≡ indexOf (c .before .before .before .before .before .before .args .index .0)
+number-is c =
+    let a = c .before .before .before .before .before .before .args in
+    c .before .before .before .before .file-or-past .ensures ∙ past-index (a .index .0) (a .fs .«num_files») (not-false (isBelow (a .fs .«num_files») (a .index .0)) (passes c .1 .0))
+
+file-or-past-requires : tie.Need-file-or-past-requires
+file-or-past-requires c κs = search needs
+
+is-fit-requires : tie.Need-is-fit-requires
+is-fit-requires c κs = search needs
+
+is-asked-requires : tie.Need-is-asked-requires
+is-asked-requires c κs = search needs
+
+are-both-requires : tie.Need-are-both-requires
+are-both-requires c κs = search needs
+
+offset-of-requires : tie.Need-offset-of-requires
+offset-of-requires c κs =
+    let a = c .before .before .before .before .before .before .args in
+    let q = passes c in
+    let k = below-is (a .fs .«num_files») (a .index .0) (not-false (isBelow (a .fs .«num_files») (a .index .0)) (q .1 .0)) in
+    let r = length (a .rows .now) / 8 in
+    let h = leb-true (a .fs .«num_files») r (not-false (leb (a .fs .«num_files») r) (q .1 .1 .1 .1 .0)) in
+    omega (arith, number-is c, k, h)
+
+clamped64-requires : tie.Need-clamped64-requires
+clamped64-requires c κs = search needs
+
+add-request-at : tie.Need-add-request-at
+add-request-at c =
+    let a = c .before .before .before .before .before .before .before .before .args in
+    let f : SFits w64 (a .offset) = search needs in
+    let s : c .clamped64 .result ≡ sizeOf (a .offset) = rw (toZ-ofZ f) at (c .clamped64 .ensures) in
+    let l = offset-low (a .offset) (a .size) (passes (c .before .before) .1 .1 .1 .0) in
+    omega (arith, c .before .offset-of .ensures)
+
+clamped32-requires : tie.Need-clamped32-requires
+clamped32-requires c κs = search needs
+
+request-at-requires : tie.Need-request-at-requires
+request-at-requires c κs =
+    let g = length-good (c .before .before .before .before .before .before .before .before .before .args .fs .«piece_length») (passes (c .before .before .before) .0) in
+    g .0
+
+signed-request-requires : tie.Need-signed-request-requires
+signed-request-requires c κs = search needs
+
+returns : tie.Need-returns
+returns c =
+    let a = c .before .before .before .before .before .before .before .before .before .before .before .args in
+    let offset-fits : SFits w64 (a .offset) = search needs in
+    let size-fits : SFits w32 (a .size) = search needs in
+    let s : c .before .before .before .clamped64 .result ≡ sizeOf (a .offset) = rw (toZ-ofZ offset-fits) at (c .before .before .before .clamped64 .ensures) in
+    let n : c .before .before .clamped32 .result ≡ sizeOf (a .size) = rw (toZ-ofZ size-fits) at (c .before .before .clamped32 .ensures) in
+    let e : requestOf (c .before .request-at .result) ≡ mapFile (a .fs) (a .rows .now) (indexOf (a .index .0)) (sizeOf (a .offset)) (sizeOf (a .size)) = rw (c .before .before .before .before .offset-of .ensures, number-is (c .before .before .before .before .before), s, n) at (c .before .request-at .ensures) in
+    let h = c .signed-request .ensures in
+    rw (answered (c .before .before .before .before .before))
+    (ap value
+    (cc (
+      low-as (h .0) (ap (λ (r : Request). r .piece) e),
+      low-as (h .1) (ap (λ (r : Request). r .start) e),
+      low-as (h .2) (ap (λ (r : Request). r .length) e),
+    )))
+
+-- where the question is not answered, a refusal's test holds
+refused-is : (c : tie.Else1) → eqb (firstOf (bytesAsked (c .before .before .before .before .before .before .args .fs) (c .before .before .before .before .before .before .args .index .0) (c .before .before .before .before .before .before .args .offset) (c .before .before .before .before .before .before .args .size) (length (c .before .before .before .before .before .before .args .rows .now) / 8))) 0 ≡ false
+refused-is c = sym (answered-is (c .before)) ∙ c .if1 .left
+
+refused-bytes-requires : tie.Need-refused-bytes-requires
+refused-bytes-requires c κs =
+    let a = c .before .before .before .before .before .before .args in
+    let o : SFits w64 (a .offset) = search needs in
+    let s : SFits w32 (a .size) = search needs in
+    rw (toZ-ofZ o, toZ-ofZ s) (refused-is c)
+
+returns-2 : tie.Need-returns-2
+returns-2 c =
+    let a = c .before .before .before .before .before .before .before .args in
+    let o : SFits w64 (a .offset) = search needs in
+    let s : SFits w32 (a .size) = search needs in
+    rw (refused-is (c .before)) (ap refused (rw (toZ-ofZ o, toZ-ofZ s) at (c .refused-bytes .ensures)))
+
+pub map-file-spec : {M : Type 1} → statement M
+map-file-spec =
+    tie.close
+    (tie.spec
+    file-or-past-requires
+    is-fit-requires
+    is-asked-requires
+    are-both-requires
+    offset-of-requires
+    clamped64-requires
+    add-request-at
+    clamped32-requires
+    request-at-requires
+    signed-request-requires
+    returns
+    refused-bytes-requires
+    returns-2)

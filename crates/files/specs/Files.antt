@@ -1,0 +1,68 @@
+-- Document 01, 'Layout answers': answers about files' pieces, blocks and trees.
+use Prim.Native.Nat.{ℕ, zero, suc, _+_, _-_, _*_, _/_, _%_, _^_}
+use mathlib.Core.Bool.{cond}
+use mathlib.Core.List.{List}
+use lib.Dec.{eqb, ltb}
+use lib.IntN.{ℤ, pos, negsuc}
+use Rattle.lists.specs.Lists.{ceiling, equal}
+use Rattle.tables.specs.declared.storage.FileStorage.{FileStorage}
+use Rattle.tables.specs.Rows.{rowAt}
+use Rattle.answers.specs.Answers.{rootOf}
+use Rattle.rules.specs.Rules.{either}
+use Rattle.rules.specs.Questions.{numPieces}
+use Rattle.layout.specs.Pieces.{blocksIn}
+use Rattle.files.specs.Request.{Request}
+
+-- 'Quotients here go toward zero': (n − 1) / d, where n may be 0: then 0, or −1 at d 1
+abbrev pub lastQuotient : ℕ → ℕ → ℤ
+lastQuotient n d = cond (eqb n 0) (cond (eqb d 1) (negsuc 0) (pos 0)) (pos ((n - 1) / d))
+
+-- the low 31 bits of a number that is not negative
+abbrev pub low31 : ℤ → ℤ
+low31 (pos n) = pos (n % 2 ^ 31)
+low31 (negsuc n) = negsuc n
+
+-- one more than `lastQuotient`
+abbrev pub afterQuotient : ℕ → ℕ → ℕ
+afterQuotient n d = cond (eqb n 0) (cond (eqb d 1) 0 1) ((n - 1) / d + 1)
+
+abbrev pub firstPiece : FileStorage → List ℕ → ℕ → ℕ
+firstPiece fs rows k = rowAt rows k .offset / fs .«piece_length»
+
+abbrev pub lastPiece : FileStorage → List ℕ → ℕ → ℤ
+lastPiece fs rows k = lastQuotient (rowAt rows k .offset + rowAt rows k .size) (fs .«piece_length»)
+
+-- where a request begins in the set's bytes
+abbrev pub placeOf : FileStorage → Request → ℕ
+placeOf fs r = r .piece * fs .«piece_length» + r .start
+
+abbrev pub exclusiveBegin : Request → ℕ
+exclusiveBegin r = cond (eqb (r .start) 0) (r .piece) (r .piece + 1)
+
+-- 'an end below the begin, or of 2147483648 (negative by the Rust's cast), becomes the begin'
+abbrev pub clamped : ℕ → ℕ → ℕ
+clamped begin end = cond (either (ltb end begin) (eqb end 2147483648)) begin end
+
+-- '(piece × length + start + size + 1) / length as its end'; 'the last file ends at the piece count'
+abbrev pub exclusiveEnd : FileStorage → ℕ → ℕ → Request → ℕ
+exclusiveEnd fs k size r =
+    cond (eqb (k + 1) (fs .«num_files»)) (numPieces fs)
+    (clamped (exclusiveBegin r) ((placeOf fs r + size + 1) / fs .«piece_length»))
+
+abbrev pub inclusiveEnd : FileStorage → ℕ → Request → ℕ
+inclusiveEnd fs size r = afterQuotient (placeOf fs r + size) (fs .«piece_length»)
+
+-- the first file whose root, 32 zeros where it has none, is the one asked for; −1 where none is
+unfoldable pub rootFrom : ℕ → ℕ → List ℕ → List ℕ → List ℕ → ℤ
+rootFrom zero k rows roots root = negsuc 0
+rootFrom (suc n) k rows roots root = cond (equal (rootOf rows roots k) root) (pos k) (rootFrom n (k + 1) rows roots root)
+
+abbrev pub fileForRoot : FileStorage → List ℕ → List ℕ → List ℕ → ℤ
+fileForRoot fs rows roots root = rootFrom (fs .«num_files») 0 rows roots root
+
+-- pieces and blocks of a file
+abbrev pub piecesOf : FileStorage → List ℕ → ℕ → ℕ
+piecesOf fs rows k = ceiling (rowAt rows k .size) (fs .«piece_length»)
+
+abbrev pub blocksOf : List ℕ → ℕ → ℕ
+blocksOf rows k = blocksIn (rowAt rows k .size)

@@ -1,0 +1,6 @@
+-- The definitions that the contracts of `files` cite. They rely on those of `layout`, `rules` and `tables`.
+pub mod Request
+pub mod Files
+pub mod Given
+pub mod List
+pub mod Deciding

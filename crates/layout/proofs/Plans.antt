@@ -1,0 +1,144 @@
+-- Laws of the plan of a block: how it follows from the block's start and from the room, and what it says of its slices. They rely on
+-- the laws of decisions in `rules`.
+--     plan-refused, plan-short, plan-whole     the plan of a start that is refused, of one without room, and of one with room
+--     plan-counts, plan-fits                   what a plan says of its slices
+--     plan-written                             what stands in a table once they are put into it
+use mathlib.Core.Path.{_≡_, refl, sym, ap, _∙_}
+use mathlib.Core.Bool.{Bool, true, false, cond}
+use mathlib.Core.List.{List, [], _∷_, map}
+use Prim.Native.Nat.{ℕ, _+_, _≤_, _<_}
+use native.Mathlib.Omega.{arith}
+use lib.Dec.{eqb, leb}
+use borrow.Author.Tests.{le-leb, lt-leb, leb-true}
+use lib.IntN.{ℤ}
+use lib.ListN.{length}
+use lib.Seq.{sets}
+use Rattle.types.specs.Refusals.{numberOf, Outcome, value, refused, usizeSays}
+use Rattle.types.specs.declared.refusal.Refusal.{Refusal}
+use Rattle.types.specs.declared.refusal.UsizeResult.{UsizeResult}
+use Rattle.types.specs.declared.refusal.UsizeResult.the-variants.{Ok, Err}
+use Rattle.tables.specs.declared.storage.FileStorage.{FileStorage}
+use Rattle.rules.specs.Rules.{Rule, firstOf}
+use Rattle.rules.specs.Bounds.{sizeOf, indexOf}
+use Rattle.rules.specs.Questions.{rowsHeld, badPieceLength, manyPieces, noPiece, badRange, short}
+use Rattle.layout.specs.declared.start.Cursor.{Cursor}
+use Rattle.layout.specs.Pieces.{startOf}
+use Rattle.layout.specs.Mapping.{Slice, walk, blockOf, blockRules}
+use Rattle.layout.specs.Start.{slicesFrom, cursorAt, Started, all, none, started, blockStart}
+use Rattle.rules.proofs.Deciding.{first-append}
+use Rattle.layout.specs.Plan.{Planned, stayed, whole, planned, blockPlan}
+
+-- the number of the first refusal: k before the room is looked at, then 10 where there is none
+abbrev number : ℕ → Bool → ℕ
+number k held = cond (eqb k 0) (firstOf (short held ∷ [])) k
+
+-- what is known of a start that is not refused
+record Open (k : ℕ) (ss : List Slice) (c from : Cursor) (n : ℕ) : Type 0 where
+  none-yet : eqb k 0 ≡ true
+  many : n ≡ length ss
+  begins : from ≡ c
+
+-- a start by its number k, its slices, and the cursor at which they begin
+module _ (k : ℕ) (ss : List Slice) (c : Cursor) {o : Outcome ℕ} {from : Cursor} (h : _≡_ {A = Started} (record { says = o; from = from }) (started k ss c)) (room : ℕ) where
+  refusing : (j : ℕ) → o ≡ refused j → stayed j ≡ planned (number k (leb (length ss) room)) ss c
+  refusing j q = at (eqb k 0) refl (rw q at h)
+    where
+      at : (b : Bool) → eqb k 0 ≡ b → _≡_ {A = Started} (record { says = refused j; from = from }) (cond b (all ss c) (none k)) → stayed j ≡ planned (number k (leb (length ss) room)) ss c
+      at true p h′ =
+          let u : _≡_ {A = Outcome ℕ} (refused j) (value (length ss)) = ap (λ (x : Started). x .says) h′ in
+          absurd (let z : _≡_ {A = ℕ} 0 1 = cc in omega arith)
+      at false p h′ =
+          let u : _≡_ {A = Outcome ℕ} (refused j) (refused k) = ap (λ (x : Started). x .says) h′ in
+          let n : j ≡ k = cc in
+          rw (n, p, p)
+
+  open-is : (n : ℕ) → o ≡ value n → Open k ss c from n
+  open-is n q = at (eqb k 0) refl (rw q at h)
+    where
+      at : (b : Bool) → eqb k 0 ≡ b → _≡_ {A = Started} (record { says = value n; from = from }) (cond b (all ss c) (none k)) → Open k ss c from n
+      at true p h′ =
+          let u : value n ≡ value (length ss) = ap (λ (x : Started). x .says) h′ in
+          record { none-yet = p; many = cc; begins = ap (λ (x : Started). x .from) h′ }
+      at false p h′ =
+          let u : _≡_ {A = Outcome ℕ} (value n) (refused k) = ap (λ (x : Started). x .says) h′ in
+          absurd (let z : _≡_ {A = ℕ} 0 1 = cc in omega arith)
+
+  no-room : (n : ℕ) → o ≡ value n → room < n → stayed 10 ≡ planned (number k (leb (length ss) room)) ss c
+  no-room n q l =
+      let i = open-is n q in
+      let m : room < length ss = omega arith in
+      let b : leb (length ss) room ≡ false = lt-leb (length ss) room m in
+      rw (i .none-yet, b)
+
+  enough : (n : ℕ) → o ≡ value n → n ≤ room → _≡_ {A = Planned} (record { says = value n; count = n; from = from }) (planned (number k (leb (length ss) room)) ss c)
+  enough n q l =
+      let i = open-is n q in
+      let m : length ss ≤ room = omega arith in
+      let b : leb (length ss) room ≡ true = le-leb (length ss) room m in
+      rw (i .none-yet, b, i .many, i .begins)
+
+-- a plan by its refusal k, 0 for none, and its slices, which begin at a cursor
+module _ (rows : List ℕ) (ss : List Slice) (c : Cursor) (e : slicesFrom rows c ≡ ss) (k : ℕ) where
+  counts : planned k ss c .count ≡ length (slicesFrom rows (planned k ss c .from))
+  unfolding walk
+  counts = at (eqb k 0)
+    where
+      at : (b : Bool) → cond b (whole ss c) (stayed k) .count ≡ length (slicesFrom rows (cond b (whole ss c) (stayed k) .from))
+      at true = ap length (sym e)
+      at false = refl
+
+  written : {A : Type 0} (put : Outcome ℕ → List Slice → A)
+      → put (planned k ss c .says) (slicesFrom rows (planned k ss c .from)) ≡ cond (eqb k 0) (put (value (length ss)) ss) (put (refused k) [])
+  unfolding walk
+  written put = at (eqb k 0)
+    where
+      at : (b : Bool) → put (cond b (whole ss c) (stayed k) .says) (slicesFrom rows (cond b (whole ss c) (stayed k) .from)) ≡ cond b (put (value (length ss)) ss) (put (refused k) [])
+      at true = ap (put (value (length ss))) e
+      at false = refl
+
+-- where no refusal is left there is room
+fits : (k : ℕ) (ss : List Slice) (c : Cursor) (room : ℕ) → planned (number k (leb (length ss) room)) ss c .count ≤ room
+fits k ss c room = at (eqb k 0) (leb (length ss) room) refl refl
+  where
+    at : (a b : Bool) → eqb k 0 ≡ a → leb (length ss) room ≡ b → planned (cond a (firstOf (short b ∷ [])) k) ss c .count ≤ room
+    at true true p q = leb-true (length ss) room q
+    at true false p q = omega arith
+    at false b p q = rw p (omega arith)
+
+-- a block
+module _ (fs : FileStorage) (rows : List ℕ) (z offset size : ℤ) where
+  abbrev block : List Slice
+  block = blockOf fs rows z offset size
+
+  abbrev start : Cursor
+  start = cursorAt fs rows (startOf fs (indexOf z) + sizeOf offset) (sizeOf size)
+
+  abbrev rules : List Rule
+  rules = badPieceLength fs ∷ manyPieces fs ∷ noPiece fs z ∷ badRange offset size ∷ short (rowsHeld fs rows) ∷ []
+
+  plan-is : (room : ℕ) → blockPlan fs rows z offset size room ≡ planned (number (firstOf rules) (leb (length block) room)) block start
+  plan-is room = ap (λ (k : ℕ). planned k block start) (first-append rules (short (leb (length block) room) ∷ []) refl)
+
+  module _ (count : UsizeResult) {from : Cursor} (h : _≡_ {A = Started} (record { says = usizeSays count; from = from }) (blockStart fs rows z offset size)) (room : ℕ) where
+    pub plan-refused : (e : Refusal) → count ≡ Err e → stayed (numberOf e) ≡ blockPlan fs rows z offset size room
+    plan-refused e q = refusing (firstOf rules) block start h room (numberOf e) (ap usizeSays q) ∙ sym (plan-is room)
+
+    pub plan-short : (n : ℕ) → count ≡ Ok n → room < n → stayed 10 ≡ blockPlan fs rows z offset size room
+    plan-short n q l = no-room (firstOf rules) block start h room n (ap usizeSays q) l ∙ sym (plan-is room)
+
+    pub plan-whole : (n : ℕ) → count ≡ Ok n → n ≤ room → _≡_ {A = Planned} (record { says = value n; count = n; from = from }) (blockPlan fs rows z offset size room)
+    plan-whole n q l = enough (firstOf rules) block start h room n (ap usizeSays q) l ∙ sym (plan-is room)
+
+  pub plan-counts : (room : ℕ) {p : Planned} → p ≡ blockPlan fs rows z offset size room → p .count ≡ length (slicesFrom rows (p .from))
+  plan-counts room h = rw (h, plan-is room) (counts rows block start refl (number (firstOf rules) (leb (length block) room)))
+
+  pub plan-fits : (room : ℕ) {p : Planned} → p ≡ blockPlan fs rows z offset size room → p .count ≤ room
+  plan-fits room h = rw (h, plan-is room) (fits (firstOf rules) block start room)
+
+  -- what stands in a table once the plan's slices are put into it: the block's, or nothing for a refusal
+  pub plan-written : {A : Type 0} (put : Outcome ℕ → List Slice → A) (room : ℕ) {p : Planned} → p ≡ blockPlan fs rows z offset size room
+      → put (p .says) (slicesFrom rows (p .from))
+      ≡ cond (eqb (firstOf (blockRules fs rows z offset size (short (leb (length block) room) ∷ []))) 0) (put (value (length block)) block)
+      (put (refused (firstOf (blockRules fs rows z offset size (short (leb (length block) room) ∷ [])))) [])
+  plan-written put room h =
+      rw h (written rows block start refl (firstOf (blockRules fs rows z offset size (short (leb (length block) room) ∷ []))) put)

@@ -1,0 +1,63 @@
+-- `layout::plan::plan_block` meets its contract.
+use borrow.Author.Needs.{needs}
+use mathlib.Core.Path.{_≡_, _∙_}
+use mir.Syntax.{w64}
+use mir.Val.{SFits}
+use mir.Facts.{toZ-ofZ}
+use Rattle.types.specs.Refusals.{usizeSays}
+use Rattle.layout.specs.Start.{Started, blockStart}
+use Rattle.layout.proofs.Plans.{plan-refused, plan-short, plan-whole}
+use Rattle.layout.proofs.plan.plan_block.Statement.{statement}
+use Rattle.layout.proofs.plan.plan_block.Tie as tie
+
+-- the start, at the numbers that were passed
+started : (c : tie.After-start-block)
+    → _≡_ {A = Started} (record { says = usizeSays (c .start-block .result .count); from = c .start-block .result .from }) (blockStart (c .before .before .args .fs) (c .before .before .args .rows .now) (c .before .before .args .piece .0) (c .before .before .args .offset) (c .before .before .args .size))
+started c =
+    let a = c .before .before .args in
+    let offset-fits : SFits w64 (a .offset) = search needs in
+    let size-fits : SFits w64 (a .size) = search needs in
+    rw (toZ-ofZ offset-fits, toZ-ofZ size-fits) at (c .start-block .ensures)
+
+start-block-requires : tie.Need-start-block-requires
+start-block-requires c κs = search needs
+
+enum-known-found : tie.Need-enum-known-found
+enum-known-found c = search needs
+
+refuse-requires : tie.Need-refuse-requires
+refuse-requires c κs = search needs
+
+returns : tie.Need-returns
+returns c =
+    let a = c .before .before .before .before .before .before .before .before .args in
+    c .refuse .ensures ∙ plan-short (a .fs) (a .rows .now) (a .piece .0) (a .offset) (a .size) _ (started (c .before .before .before .before .before .before)) (a .room) _ (c .before .before .before .found .given .1) (c .before .if1 .taken)
+
+enum-known-found-2 : tie.Need-enum-known-found-2
+enum-known-found-2 c = search needs
+
+refuse-requires-2 : tie.Need-refuse-requires-2
+refuse-requires-2 c κs = search needs
+
+returns-2 : tie.Need-returns-2
+returns-2 c =
+    let a = c .before .before .before .before .before .before .before .args in
+    plan-whole (a .fs) (a .rows .now) (a .piece .0) (a .offset) (a .size) _ (started (c .before .before .before .before .before)) (a .room) _ (c .before .before .found .given .1) (c .if1 .left)
+
+returns-3 : tie.Need-returns-3
+returns-3 c =
+    let a = c .before .before .before .before .before .before .before .args in
+    c .refuse2 .ensures ∙ plan-refused (a .fs) (a .rows .now) (a .piece .0) (a .offset) (a .size) _ (started (c .before .before .before .before .before)) (a .room) _ (c .before .before .found2 .given .1)
+
+pub plan-block-spec : {M : Type 1} → statement M
+plan-block-spec =
+    tie.close
+    (tie.spec
+    start-block-requires
+    enum-known-found
+    refuse-requires
+    returns
+    enum-known-found-2
+    refuse-requires-2
+    returns-2
+    returns-3)

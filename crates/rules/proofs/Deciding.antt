@@ -1,0 +1,271 @@
+-- Deciding before an answer. A decision says the number of the first refusal, or 0; the answer that follows says its value,
+-- or that number. Stated once for every list of rules; they rely on the definitions of specs/Questions.antt.
+--     allowed, denied                     what the outcome of a number says of it
+--     go, stop                            the answer after a decision
+--     set-value, set-refused              an answer about the set
+--     directory-value, directory-refused  an answer about a directory
+--     file-value, file-refused            an answer about a file
+--     link-value, link-refused, link-goes, link-stops     an answer about a file's link text
+--     composed-value, composed-refused    a text composed into a lent buffer
+--     below-yes, below-no                 what `within` says of a number
+--     below-not, below-as, index-low      what its sign says of it
+--     over-is                             whether there are more than k pieces, by a product
+--     none, passed                        where no refusal is said, as after `Go`, no rule's test holds
+--     first-append                        two lists of rules in a row
+use Prim.Native.Nat.{ℕ, _*_, _≤_, _<_}
+use mathlib.Core.Path.{_≡_, refl, sym, ap, _∙_}
+use mathlib.Core.Bool.{Bool, true, false, cond, not, true≢false}
+use mathlib.Core.List.{List, [], _∷_, _++_}
+use native.Mathlib.Omega.{arith}
+use lib.Dec.{eqb, ltb, leb}
+use lib.IntN.{ℤ, pos, negsuc}
+use mir.Syntax.{w32}
+use mir.Val.{SFits}
+use borrow.Author.Tests.{lt-ltb, le-ltb, ltb-true, ltb-false, ne-eqb}
+use Rattle.lists.specs.Lists.{ceiling}
+use Rattle.lists.proofs.Quotients.{ceiling-above, ceiling-le}
+use Rattle.types.specs.Refusals.{numberOf, Outcome, value, refused, usizeSays}
+use Rattle.types.specs.Signed.{belowOr}
+use Rattle.types.specs.declared.refusal.Refusal.{Refusal}
+use Rattle.types.specs.declared.refusal.UsizeResult.{UsizeResult}
+use Rattle.types.specs.declared.refusal.UsizeResult.the-variants as usize
+use Rattle.types.proofs.Refusals.{numbered}
+use Rattle.path.specs.Join.{appended, Joined, joinedIf, fits}
+use Rattle.tables.specs.declared.storage.FileStorage.{FileStorage}
+use Rattle.rules.specs.declared.decide.Check.{Check}
+use Rattle.rules.specs.declared.decide.Check.the-variants.{Go, Stop}
+use Rattle.rules.specs.Rules.{Rule, when, firstOf, outcomeOf, both, either}
+use Rattle.rules.specs.Bounds.{badLength, isNegative, isBelow, sizeOf, indexOf, limit}
+use Rattle.rules.specs.Results.{checkNumber}
+use Rattle.rules.specs.Questions.{asked, badPieceLength, noFile, noDirectory, noLink, badRange, short, askedHeld, askedDirectory, askedFile, askedLink}
+use Rattle.rules.specs.Composed.{composedIf, composedFile}
+use Rattle.rules.proofs.Rules.{Passed, either-false}
+
+-- two tests, each known in other words
+pub both-is : {r x y a b : Bool} → r ≡ both x y → x ≡ a → y ≡ b → r ≡ both a b
+both-is e f g = e ∙ rw (f, g)
+
+-- what the outcome of a number says of it
+module _ {A : Type 0} (n : ℕ) (a : A) where
+  pub allowed : (b : Bool) (x : A) → value x ≡ cond b (value a) (refused n) → (b ≡ true) × (x ≡ a)
+  allowed true x e = (refl, cc)
+  allowed false x e = absurd (let z : _≡_ {A = ℕ} 0 1 = cc in omega arith)
+
+  pub denied : (b : Bool) (m : ℕ) → refused m ≡ cond b (value a) (refused n) → (b ≡ false) × (m ≡ n)
+  denied true m e = absurd (let z : _≡_ {A = ℕ} 0 1 = cc in omega arith)
+  denied false m e = (refl, cc)
+
+  is-value : (x : A) → value x ≡ outcomeOf n a → (eqb n 0 ≡ true) × (x ≡ a)
+  is-value x e = allowed (eqb n 0) x e
+
+  is-refused : (m : ℕ) → refused m ≡ outcomeOf n a → (eqb n 0 ≡ false) × (m ≡ n)
+  is-refused m e = denied (eqb n 0) m e
+
+-- two outcomes of one number: both are values, or both are its refusal
+module _ {A B : Type 0} (n : ℕ) (a : A) (f : A → B) where
+  also-value : (x : A) → value x ≡ outcomeOf n a → value (f x) ≡ outcomeOf n (f a)
+  also-value x e = let t = is-value n a x e in rw (t .0, t .1)
+
+  also-refused : (m : ℕ) → refused m ≡ outcomeOf n a → refused m ≡ outcomeOf n (f a)
+  also-refused m e = let t = is-refused n a m e in rw (t .0, t .1)
+
+-- an answer that follows a decision `d` of the same number
+module _ {A : Type 0} (n i : ℕ) (a : ℕ → A) (d : UsizeResult) (p : usizeSays d ≡ outcomeOf n i) where
+  found-value : (k : ℕ) → d ≡ usize.Ok k → (x : A) → x ≡ a k → value x ≡ outcomeOf n (a i)
+  found-value k e x h = ap value h ∙ also-value n i a k (ap usizeSays (sym e) ∙ p)
+
+  found-refused : (x : Refusal) → d ≡ usize.Err x → refused (numberOf x) ≡ outcomeOf n (a i)
+  found-refused x e = also-refused n i a (numberOf x) (ap usizeSays (sym e) ∙ p)
+
+-- the answer after a decision d that says n
+module _ {A : Type 0} (a : A) {n : ℕ} {d : Check} (p : checkNumber d ≡ n) where
+  pub go : d ≡ Go → (x : A) → x ≡ a → value x ≡ outcomeOf n a
+  go e x h = let z : n ≡ 0 = sym p ∙ ap checkNumber e in rw (h, z)
+
+  pub stop : (e : Refusal) → d ≡ Stop e → refused (numberOf e) ≡ outcomeOf n a
+  stop e q =
+      let z : n ≡ numberOf e = sym p ∙ ap checkNumber q in
+      let k : eqb (numberOf e) 0 ≡ false = numbered e in
+      rw (z, k)
+
+-- an answer after a decision by rules that the tests are another reading of
+module _ {A : Type 0} (a : A) (rules : Bool → List Rule) (held test : Bool) (d : Check) (p : checkNumber d ≡ firstOf (rules held)) (q : held ≡ test) where
+  held-value : d ≡ Go → (x : A) → x ≡ a → value x ≡ asked (rules test) a
+  held-value = go a (rw q at p)
+
+  held-refused : (x : Refusal) → d ≡ Stop x → refused (numberOf x) ≡ asked (rules test) a
+  held-refused = stop a (rw q at p)
+
+-- an answer about the set
+module _ {A : Type 0} (fs : FileStorage) (a : A) (held test : Bool) (d : Check) (p : checkNumber d ≡ firstOf (badPieceLength fs ∷ short held ∷ [])) (q : held ≡ test) where
+  pub set-value : d ≡ Go → (x : A) → x ≡ a → value x ≡ askedHeld fs test a
+  set-value = held-value a (λ t. badPieceLength fs ∷ short t ∷ []) held test d p q
+
+  pub set-refused : (x : Refusal) → d ≡ Stop x → refused (numberOf x) ≡ askedHeld fs test a
+  set-refused = held-refused a (λ t. badPieceLength fs ∷ short t ∷ []) held test d p q
+
+-- an answer about directory i
+module _ {A : Type 0} (fs : FileStorage) (i : ℕ) (a : A) (held test : Bool) (d : Check) (p : checkNumber d ≡ firstOf (badPieceLength fs ∷ noDirectory fs i ∷ short held ∷ [])) (q : held ≡ test) where
+  pub directory-value : d ≡ Go → (x : A) → x ≡ a → value x ≡ askedDirectory fs i test a
+  directory-value = held-value a (λ t. badPieceLength fs ∷ noDirectory fs i ∷ short t ∷ []) held test d p q
+
+  pub directory-refused : (x : Refusal) → d ≡ Stop x → refused (numberOf x) ≡ askedDirectory fs i test a
+  directory-refused = held-refused a (λ t. badPieceLength fs ∷ noDirectory fs i ∷ short t ∷ []) held test d p q
+
+-- the number of the first refusal of a question about a file or its link text, 0 for none
+abbrev pub fileNumber : FileStorage → ℤ → Bool → ℕ
+fileNumber fs z held = firstOf (badPieceLength fs ∷ noFile fs z ∷ short held ∷ [])
+
+abbrev pub linkNumber : FileStorage → ℤ → (ℕ → Bool) → Bool → ℕ
+linkNumber fs z linked held = firstOf (badPieceLength fs ∷ noFile fs z ∷ noLink (linked (indexOf z)) ∷ short held ∷ [])
+
+-- an answer about a file
+module _ {A : Type 0} (fs : FileStorage) (z : ℤ) (a : ℕ → A) (held test : Bool) (d : UsizeResult) (p : usizeSays d ≡ askedFile fs z held (λ k. k)) (q : held ≡ test) where
+  pub file-value : (k : ℕ) → d ≡ usize.Ok k → (x : A) → x ≡ a k → value x ≡ askedFile fs z test a
+  file-value = found-value (fileNumber fs z test) (indexOf z) a d (rw q at p)
+
+  pub file-refused : (x : Refusal) → d ≡ usize.Err x → refused (numberOf x) ≡ askedFile fs z test a
+  file-refused = found-refused (fileNumber fs z test) (indexOf z) a d (rw q at p)
+
+-- an answer about the link text of a file
+module _ {A : Type 0} (fs : FileStorage) (z : ℤ) (linked : ℕ → Bool) (a : ℕ → A) (held test : Bool) (d : UsizeResult) (p : usizeSays d ≡ askedLink fs z linked held (λ k. k)) (q : held ≡ test) where
+  pub link-value : (k : ℕ) → d ≡ usize.Ok k → (x : A) → x ≡ a k → value x ≡ askedLink fs z linked test a
+  link-value = found-value (linkNumber fs z linked test) (indexOf z) a d (rw q at p)
+
+  pub link-refused : (x : Refusal) → d ≡ usize.Err x → refused (numberOf x) ≡ askedLink fs z linked test a
+  link-refused = found-refused (linkNumber fs z linked test) (indexOf z) a d (rw q at p)
+
+-- the tests of a link come behind those of a file
+module _ (fs : FileStorage) (z : ℤ) (linked : ℕ → Bool) (held : Bool) where
+  behind : (bad missing : Bool) (r : ℕ) → cond bad 1 (cond missing 11 r) ≡ cond (eqb (cond bad 1 (cond missing 11 0)) 0) r (cond bad 1 (cond missing 11 0))
+  behind true missing r = refl
+  behind false true r = refl
+  behind false false r = refl
+
+  order : linkNumber fs z linked held
+      ≡ cond (eqb (fileNumber fs z true) 0) (cond (not (linked (indexOf z))) 15 (cond (not held) 10 0)) (fileNumber fs z true)
+  order = behind (badLength (fs .«piece_length»)) (not (isBelow (fs .«num_files») z)) (cond (not (linked (indexOf z))) 15 (cond (not held) 10 0))
+
+  pub link-goes : (k : ℕ) → value k ≡ askedFile fs z true (λ k. k)
+      → (o : Outcome ℕ) → o ≡ outcomeOf (cond (not (linked k)) 15 (cond (not held) 10 0)) k → o ≡ askedLink fs z linked held (λ k. k)
+  link-goes k e o h =
+      let v = is-value (fileNumber fs z true) (indexOf z) k e in
+      let n : linkNumber fs z linked held ≡ cond (not (linked k)) 15 (cond (not held) 10 0) = rw (order, v .0, v .1) in
+      h ∙ rw (n, v .1)
+
+  pub link-stops : (m : ℕ) → refused m ≡ askedFile fs z true (λ k. k) → refused m ≡ askedLink fs z linked held (λ k. k)
+  link-stops m e =
+      let v = is-refused (fileNumber fs z true) (indexOf z) m e in
+      let n : linkNumber fs z linked held ≡ fileNumber fs z true = order ∙ rw (v .0) in
+      rw (n, v .0, v .1)
+
+-- a join is a text composed
+pub joined-is : (j : Joined) (branch leaf text buf : List ℕ) → j ≡ joinedIf (fits (appended branch leaf) buf) (appended branch leaf) buf
+    → appended branch leaf ≡ text → j ≡ composedIf 0 text buf
+joined-is j branch leaf text buf e h = e ∙ rw h
+
+-- a text about a file, composed into a lent buffer
+module _ (fs : FileStorage) (z : ℤ) (t : ℕ → List ℕ) (buf : List ℕ) (held test : Bool) (d : UsizeResult) (p : usizeSays d ≡ askedFile fs z held (λ k. k)) (q : held ≡ test) where
+  pub composed-value : (k : ℕ) → d ≡ usize.Ok k → (j : Joined) (text : List ℕ) → j ≡ composedIf 0 text buf → text ≡ t k → j ≡ composedFile fs z test t buf
+  composed-value k e j text h w =
+      let v = is-value (fileNumber fs z test) (indexOf z) k (ap usizeSays (sym e) ∙ (rw q at p)) in
+      h ∙ rw (w, v .0, v .1)
+
+  pub composed-refused : (x : Refusal) → d ≡ usize.Err x → _≡_ {A = Joined} (record { says = refused (numberOf x); buf = buf }) (composedFile fs z test t buf)
+  composed-refused x e =
+      let v = is-refused (fileNumber fs z test) (indexOf z) (numberOf x) (ap usizeSays (sym e) ∙ (rw q at p)) in
+      rw (v .0, v .1)
+
+-- ---- what is known once no rule stopped a question
+
+-- one of so many
+module _ (r count : ℕ) where
+  low-side : (b : Bool) (n k : ℕ) → value k ≡ cond b (value n) (refused r) → b ≡ true
+  low-side true n k e = refl
+  low-side false n k e = absurd (let z : _≡_ {A = ℕ} 0 1 = cc in omega arith)
+
+  high-side : (b : Bool) (n m : ℕ) → refused m ≡ cond b (value n) (refused r) → b ≡ false
+  high-side true n m e = absurd (let z : _≡_ {A = ℕ} 0 1 = cc in omega arith)
+  high-side false n m e = refl
+
+  pub below-yes : (z : ℤ) (k : ℕ) → value k ≡ belowOr r count z → isBelow count z ≡ true
+  below-yes (pos n) k e = low-side (ltb n count) n k e
+  below-yes (negsuc n) k e = absurd (let z : _≡_ {A = ℕ} 0 1 = cc in omega arith)
+
+  pub below-no : (z : ℤ) (m : ℕ) → refused m ≡ belowOr r count z → isBelow count z ≡ false
+  below-no (pos n) m e = high-side (ltb n count) n m e
+  below-no (negsuc n) m e = refl
+
+pub below-is : (count : ℕ) (z : ℤ) → isBelow count z ≡ true → indexOf z < count
+below-is count (pos n) e = ltb-true n count e
+below-is count (negsuc n) e = absurd (true≢false (sym e))
+
+pub below-not : (count : ℕ) (z : ℤ) → isNegative z ≡ true → isBelow count z ≡ false
+below-not count (pos n) e = absurd (true≢false (sym e))
+below-not count (negsuc n) e = refl
+
+pub below-as : (count : ℕ) (z : ℤ) → isNegative z ≡ false → isBelow count z ≡ ltb (indexOf z) count
+below-as count (pos n) e = refl
+below-as count (negsuc n) e = absurd (true≢false e)
+
+pub index-low : (z : ℤ) → SFits w32 z → indexOf z < 2147483648
+index-low (pos n) f = f .sfits
+index-low (negsuc n) f = omega arith
+
+-- more than k pieces, by a product
+pub over-is : (t n k : ℕ) → 0 < n → ltb (k * n) t ≡ ltb k (ceiling t n)
+over-is t n k p = by (ltb (k * n) t) refl
+  where
+    by : (b : Bool) → ltb (k * n) t ≡ b → b ≡ ltb k (ceiling t n)
+    by true e = sym (lt-ltb k (ceiling t n) (ceiling-above t n p k (ltb-true (k * n) t e)))
+    by false e = sym (le-ltb k (ceiling t n) (ceiling-le t n p k (ltb-false (k * n) t e)))
+
+-- rules that all have numbers
+abbrev named : List Rule → Bool
+named [] = true
+named (r ∷ rs) = cond (ltb 0 (r .number)) (named rs) false
+
+pub each : (b c : Bool) → cond b c false ≡ true → (b ≡ true) × (c ≡ true)
+each true c e = (refl, e)
+each false c e = absurd (true≢false (sym e))
+
+passed-one : (t : Bool) (n m : ℕ) → 0 < n → cond t n m ≡ 0 → (t ≡ false) × (m ≡ 0)
+passed-one true n m h e = absurd (omega arith)
+passed-one false n m h e = (refl, e)
+
+pub none : (rs : List Rule) → named rs ≡ true → firstOf rs ≡ 0 → Passed rs
+none [] h e = tt
+none (r ∷ rs) h e =
+    let q = each (ltb 0 (r .number)) (named rs) h in
+    let p = passed-one (r .test) (r .number) (firstOf rs) (ltb-true 0 (r .number) (q .0)) e in
+    (p .0, none rs (q .1) (p .1))
+
+pub passed : (rs : List Rule) {d : Check} → named rs ≡ true → checkNumber d ≡ firstOf rs → d ≡ Go → Passed rs
+passed rs h p e = none rs h (sym p ∙ ap checkNumber e)
+
+-- what the tests mean where they fail
+pub offset-low : (o n : ℤ) → badRange o n .test ≡ false → sizeOf o ≤ limit
+offset-low o n e =
+    let q = either-false (isNegative o) (either (isNegative n) (ltb limit (sizeOf o))) e .1 in
+    ltb-false limit (sizeOf o) (either-false (isNegative n) (ltb limit (sizeOf o)) q .1)
+
+pub length-good : (n : ℕ) → badLength n ≡ false → (0 < n) × (n ≤ 2147483647)
+length-good n e =
+    let p = either-false (ltb n 1) (ltb 2147483647 n) e in
+    (omega (arith, ltb-false n 1 (p .0)), ltb-false 2147483647 n (p .1))
+
+-- two tests of one refusal
+pub either-rule : (o f s : Rule) (a b : Bool) → firstOf (o ∷ f ∷ when (either a b) 16 ∷ s ∷ []) ≡ firstOf (o ∷ f ∷ when a 16 ∷ when b 16 ∷ s ∷ [])
+either-rule o f s true b = refl
+either-rule o f s false b = refl
+
+-- rules behind rules that all have numbers
+first-behind : (t : Bool) (n a b : ℕ) → 0 < n → cond t n (cond (eqb a 0) b a) ≡ cond (eqb (cond t n a) 0) b (cond t n a)
+first-behind true n a b h = let e : eqb n 0 ≡ false = ne-eqb n 0 (λ q. omega arith) in rw e
+first-behind false n a b h = refl
+
+pub first-append : (rs qs : List Rule) → named rs ≡ true → firstOf (rs ++ qs) ≡ cond (eqb (firstOf rs) 0) (firstOf qs) (firstOf rs)
+first-append [] qs h = refl
+first-append (r ∷ rs) qs h =
+    let q = each (ltb 0 (r .number)) (named rs) h in
+    ap (cond (r .test) (r .number)) (first-append rs qs (q .1)) ∙ first-behind (r .test) (r .number) (firstOf rs) (firstOf qs) (ltb-true 0 (r .number) (q .0))

@@ -1,0 +1,21 @@
+-- A text composed into a lent buffer: its length and the text at the buffer's start, or the refusal and the buffer untouched; 10
+-- also where the buffer is too short. It relies on the joins of `path` and on the rules of Questions.antt.
+use Prim.Native.Nat.{ℕ}
+use mathlib.Core.Bool.{Bool, cond}
+use mathlib.Core.List.{List, [], _∷_}
+use lib.Dec.{eqb}
+use lib.IntN.{ℤ}
+use Rattle.types.specs.Refusals.{refused}
+use Rattle.path.specs.Join.{Joined, joinedIf, fits}
+use Rattle.tables.specs.declared.storage.FileStorage.{FileStorage}
+use Rattle.rules.specs.Rules.{firstOf}
+use Rattle.rules.specs.Bounds.{indexOf}
+use Rattle.rules.specs.Questions.{badPieceLength, noFile, short}
+
+abbrev pub composedIf : ℕ → List ℕ → List ℕ → Joined
+composedIf k t buf = cond (eqb k 0) (joinedIf (fits t buf) t buf) (record { says = refused k; buf = buf })
+
+-- a text about file z
+abbrev pub composedFile : FileStorage → ℤ → Bool → (ℕ → List ℕ) → List ℕ → Joined
+composedFile fs z held t buf =
+    composedIf (firstOf (badPieceLength fs ∷ noFile fs z ∷ short held ∷ [])) (t (indexOf z)) buf

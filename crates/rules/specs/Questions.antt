@@ -1,0 +1,104 @@
+-- Document 01's table of refusals, the rows for questions, each a rule: 'any question' 11, 13, 12, 14, 15, 16, and 10 last.
+-- 1 is asked of every set, first. An answer is its value where no rule of its list holds, else the number of the first
+-- that does. It relies on the rules in order of Rules.antt and on what the lent tables hold (`tables`).
+use Prim.Native.Nat.{ℕ, _/_, _%_}
+use mathlib.Core.Bool.{Bool, not}
+use mathlib.Core.List.{List, [], _∷_}
+use lib.Dec.{eqb, ltb, leb}
+use lib.IntN.{ℤ}
+use lib.ListN.{length}
+use Rattle.lists.specs.Lists.{ceiling}
+use Rattle.types.specs.Refusals.{Outcome}
+use Rattle.tables.specs.declared.storage.FileStorage.{FileStorage}
+use Rattle.tables.specs.declared.rows.Row.{Row}
+use Rattle.tables.specs.Rows.{has}
+use Rattle.rules.specs.Rules.{Rule, when, firstOf, outcomeOf, both, either}
+use Rattle.rules.specs.Bounds.{isNegative, isBelow, sizeOf, indexOf, limit, badLength}
+
+abbrev pub asked : {A : Type 0} → List Rule → A → Outcome A
+asked rules a = outcomeOf (firstOf rules) a
+
+-- BEP 3: pieces are of one length, the last may be shorter
+abbrev pub numPieces : FileStorage → ℕ
+numPieces fs = ceiling (fs .«total_size») (fs .«piece_length»)
+
+-- ---- the rules
+
+-- 'piece length below 1'
+abbrev pub badPieceLength : FileStorage → Rule
+badPieceLength fs = when (badLength (fs .«piece_length»)) 1
+
+-- 'no such file'
+abbrev pub noFile : FileStorage → ℤ → Rule
+noFile fs z = when (not (isBelow (fs .«num_files») z)) 11
+
+-- the same of a directory
+abbrev pub noDirectory : FileStorage → ℕ → Rule
+noDirectory fs i = when (leb (fs .«num_paths») i) 11
+
+-- 'over 2147483647 pieces, for questions that take or give a piece number or a count of pieces'
+abbrev pub manyPieces : FileStorage → Rule
+manyPieces fs = when (ltb 2147483647 (numPieces fs)) 13
+
+-- 'no such piece'
+abbrev pub noPiece : FileStorage → ℤ → Rule
+noPiece fs z = when (not (isBelow (numPieces fs) z)) 12
+
+-- 'offset or size below 0, or offset above 281474976710655'
+abbrev pub badRange : ℤ → ℤ → Rule
+badRange offset size = when (either (isNegative offset) (either (isNegative size) (ltb limit (sizeOf offset)))) 14
+
+-- 'for `file_index_at_offset`, not below the total'
+abbrev pub badOffset : FileStorage → ℤ → Rule
+badOffset fs offset = when (either (isNegative offset) (leb (fs .«total_size») (sizeOf offset))) 14
+
+-- '`internal_symlink` of a file without link text'
+abbrev pub noLink : Bool → Rule
+noLink linked = when (not linked) 15
+
+-- 'for a nonempty pad or a nonempty file off a piece start'
+abbrev pub noTree : FileStorage → Row → Rule
+noTree fs r = when (both (ltb 0 (r .size)) (either (has (r .flags) 1) (not (eqb (r .offset % fs .«piece_length») 0)))) 16
+
+-- 'a table, text area, output or work space shorter than the result needs'
+abbrev pub short : Bool → Rule
+short held = when (not held) 10
+
+-- ---- the lent tables hold what the set counts
+
+abbrev pub rowsHeld : FileStorage → List ℕ → Bool
+rowsHeld fs rows = leb (fs .«num_files») (length rows / 8)
+
+abbrev pub rootsHeld : FileStorage → List ℕ → Bool
+rootsHeld fs roots = leb (fs .«num_files») (length roots / 32)
+
+abbrev pub dirsHeld : FileStorage → List ℕ → Bool
+dirsHeld fs dirs = leb (fs .«num_paths») (length dirs / 2)
+
+abbrev pub textHeld : FileStorage → List ℕ → Bool
+textHeld fs text = leb (fs .«text_len») (length text)
+
+abbrev pub timesHeld : FileStorage → List ℤ → Bool
+timesHeld fs times = leb (fs .«num_mtimes») (length times)
+
+-- ---- answers
+
+-- an answer about the set
+abbrev pub askedSet : {A : Type 0} → FileStorage → A → Outcome A
+askedSet fs a = asked (badPieceLength fs ∷ []) a
+
+-- the same where tables are lent: `held` says whether they hold what the set counts
+abbrev pub askedHeld : {A : Type 0} → FileStorage → Bool → A → Outcome A
+askedHeld fs held a = asked (badPieceLength fs ∷ short held ∷ []) a
+
+-- an answer about directory i
+abbrev pub askedDirectory : {A : Type 0} → FileStorage → ℕ → Bool → A → Outcome A
+askedDirectory fs i held a = asked (badPieceLength fs ∷ noDirectory fs i ∷ short held ∷ []) a
+
+-- an answer about file z, by its number
+abbrev pub askedFile : {A : Type 0} → FileStorage → ℤ → Bool → (ℕ → A) → Outcome A
+askedFile fs z held a = asked (badPieceLength fs ∷ noFile fs z ∷ short held ∷ []) (a (indexOf z))
+
+-- the same where the file must hold a link text
+abbrev pub askedLink : {A : Type 0} → FileStorage → ℤ → (ℕ → Bool) → Bool → (ℕ → A) → Outcome A
+askedLink fs z linked held a = asked (badPieceLength fs ∷ noFile fs z ∷ noLink (linked (indexOf z)) ∷ short held ∷ []) (a (indexOf z))
