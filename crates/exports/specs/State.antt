@@ -11,7 +11,9 @@ use Rattle.types.specs.Refusals.{Outcome, value, refused}
 use Rattle.tables.specs.declared.storage.FileStorage.{FileStorage}
 use Rattle.tables.specs.declared.rows.Presence.{Presence}
 use Rattle.tables.specs.declared.rows.Presence.the-variants.{Absent, Present}
+use Rattle.tables.specs.Model.{Store}
 use Rattle.storage.specs.Opening.{empty}
+use Rattle.storage.specs.Plan.{storeOf}
 use Rattle.storage.specs.Outcomes.{Changed}
 
 -- the set that the words hold; where they are not all there, one of piece length 0, which every change and every question
@@ -53,6 +55,14 @@ wordsOf fs =
     bit (fs .trimmed) ∷
     []
 
+-- the words with a set's record in them; where they are not all there, they stay as they are
+abbrev pub stateWith : FileStorage → List ℕ → List ℕ
+stateWith fs state = cond (ltb (length state) 12) state (sets state 0 (wordsOf fs))
+
+-- the set that a record's words and the tables hold
+abbrev pub storeAt : List ℕ → List ℕ → List ℕ → List ℤ → List ℕ → List ℕ → Store
+storeAt state rows roots times dirs text = storeOf (storageOf state) rows roots times dirs text
+
 -- 0 is absent, any other number present
 abbrev pub presenceOf : ℕ → Presence
 presenceOf n = cond (eqb n 0) Absent Present
@@ -72,7 +82,7 @@ numberSaid (value fs) = 0
 numberSaid (refused k) = k
 
 abbrev pub stateSaid : Outcome FileStorage → List ℕ → List ℕ
-stateSaid (value fs) state = sets state 0 (wordsOf fs)
+stateSaid (value fs) state = stateWith fs state
 stateSaid (refused k) state = state
 
 abbrev pub exported : List ℕ → Changed → Exported

@@ -2,10 +2,9 @@
 // document 01's number; questions.rt and slices.rt say what a question returns. Relies on `storage`, `tables`,
 // `layout` and `mapping`.
 ghost use mathlib.Core.Path.{_≡_};
-ghost use lib.Seq.{sets};
 ghost use Rattle.tables.specs.Rows.{rootAt};
 ghost use Rattle.storage.specs.Outcomes.{storageSays, optionalOf, addStored, trimStored};
-ghost use Rattle.exports.specs.State.{Exported, exported, storageOf, wordsOf, bit, presenceOf, numberSaid, stateSaid};
+ghost use Rattle.exports.specs.State.{Exported, exported, storageOf, storeAt, stateWith, bit, presenceOf, numberSaid, stateSaid};
 
 mod questions;
 mod slices;
@@ -59,22 +58,24 @@ fn bit_of(on: bool) -> u64
     if on { 1 } else { 0 }
 }
 
-// Writes a set's record as its words, the last one first: where it has its place, all have.
+// Writes a set's record as its words; where there is no room for all of them, none is written.
 fn put_state(state: &mut [u64], fs: FileStorage)
-    ensures { λ _. ⌜ now (state .exit) ≡ sets (now (state .entry)) 0 (wordsOf fs) ⌝ }
+    ensures { λ _. ⌜ now (state .exit) ≡ stateWith fs (now (state .entry)) ⌝ }
 {
-    lists::put_word(state, 11, bit_of(fs.trimmed));
-    lists::put_word(state, 0, fs.piece_length);
-    lists::put_word(state, 1, bit_of(fs.v2));
-    lists::put_word(state, 2, fs.num_files as u64);
-    lists::put_word(state, 3, fs.num_paths as u64);
-    lists::put_word(state, 4, fs.num_symlinks as u64);
-    lists::put_word(state, 5, fs.num_mtimes as u64);
-    lists::put_word(state, 6, fs.name.at as u64);
-    lists::put_word(state, 7, fs.name.len as u64);
-    lists::put_word(state, 8, fs.text_len as u64);
-    lists::put_word(state, 9, fs.total_size);
-    lists::put_word(state, 10, fs.size_on_disk);
+    if 12 <= state.len() {
+        state[0] = fs.piece_length;
+        state[1] = bit_of(fs.v2);
+        state[2] = fs.num_files as u64;
+        state[3] = fs.num_paths as u64;
+        state[4] = fs.num_symlinks as u64;
+        state[5] = fs.num_mtimes as u64;
+        state[6] = fs.name.at as u64;
+        state[7] = fs.name.len as u64;
+        state[8] = fs.text_len as u64;
+        state[9] = fs.total_size;
+        state[10] = fs.size_on_disk;
+        state[11] = bit_of(fs.trimmed);
+    }
 }
 
 // 0 is absent, any other number present.
@@ -120,7 +121,29 @@ pub extern "C" fn niflathen_add_file(
     rooted: u8,
     root: &[u8],
 ) -> u32
-    ensures { λ r. ⌜ _≡_ {A = Exported} (record { number = r; state = now (state .exit); rows = now (rows .exit); roots = now (roots .exit); times = now (times .exit); dirs = now (dirs .exit); text = now (text .exit) }) (exported (now (state .entry)) (addStored (record { fs = storageOf (now (state .entry)); rows = now (rows .entry); roots = now (roots .entry); times = now (times .entry); dirs = now (dirs .entry); text = now (text .entry) }) (record { given = optionalOf (presenceOf given) (now (filename .entry)); path = now (path .entry); size = «file_size»; flags = «file_flags»; time = mtime; link = now («symlink_path» .entry); root = optionalOf (presenceOf rooted) (rootAt (now (root .entry)) 0) }))) ⌝ }
+    ensures { λ r. ⌜ _≡_ {A = Exported}
+        (record {
+          number = r;
+          state = now (state .exit);
+          rows = now (rows .exit);
+          roots = now (roots .exit);
+          times = now (times .exit);
+          dirs = now (dirs .exit);
+          text = now (text .exit);
+        })
+        (exported (now (state .entry))
+        (addStored
+        (storeAt (now (state .entry)) (now (rows .entry)) (now (roots .entry)) (now (times .entry))
+        (now (dirs .entry)) (now (text .entry)))
+        (record {
+          given = optionalOf (presenceOf given) (now (filename .entry));
+          path = now (path .entry);
+          size = «file_size»;
+          flags = «file_flags»;
+          time = mtime;
+          link = now («symlink_path» .entry);
+          root = optionalOf (presenceOf rooted) (rootAt (now (root .entry)) 0);
+        }))) ⌝ }
 {
     let answer = storage::add_file(
         storage_at(state),
@@ -152,7 +175,20 @@ pub extern "C" fn niflathen_remove_tail_padding(
     dirs: &mut [u64],
     text: &mut [u8],
 ) -> u32
-    ensures { λ r. ⌜ _≡_ {A = Exported} (record { number = r; state = now (state .exit); rows = now (rows .exit); roots = now (roots .exit); times = now (times .exit); dirs = now (dirs .exit); text = now (text .exit) }) (exported (now (state .entry)) (trimStored (record { fs = storageOf (now (state .entry)); rows = now (rows .entry); roots = now (roots .entry); times = now (times .entry); dirs = now (dirs .entry); text = now (text .entry) }))) ⌝ }
+    ensures { λ r. ⌜ _≡_ {A = Exported}
+        (record {
+          number = r;
+          state = now (state .exit);
+          rows = now (rows .exit);
+          roots = now (roots .exit);
+          times = now (times .exit);
+          dirs = now (dirs .exit);
+          text = now (text .exit);
+        })
+        (exported (now (state .entry))
+        (trimStored
+        (storeAt (now (state .entry)) (now (rows .entry)) (now (roots .entry)) (now (times .entry))
+        (now (dirs .entry)) (now (text .entry))))) ⌝ }
 {
     let answer = storage::remove_tail_padding(storage_at(state), rows, roots, times, dirs, text);
     put_answer(state, answer)

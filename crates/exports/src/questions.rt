@@ -1,5 +1,5 @@
-// The layout answers of the C interface: both mappings, `map_file` for a list, and the file at an offset. Relies on `layout`
-// and on the record that a set's words hold.
+// The layout answers of the C interface: both mappings, `map_file` for a list, and the file at an offset. Relies
+// on `layout` and on the record that a set's words hold.
 ghost use mathlib.Core.Path.{_≡_};
 ghost use lib.IntN.{pos, negℤ};
 ghost use Rattle.types.specs.Refusals.{usizeSays};
@@ -92,7 +92,16 @@ pub extern "C" fn niflathen_map_block(
     out_offset: &mut [u64],
     out_size: &mut [u64],
 ) -> i64
-    ensures { λ r. ⌜ _≡_ {A = BlockSaid} (record { answer = r; file = now («out_file» .exit); offset = now («out_offset» .exit); size = now («out_size» .exit) }) (blockSaid (mapBlock (storageOf (now (state .entry))) (now (rows .entry)) piece offset size (now («out_file» .entry)) (now («out_offset» .entry)) (now («out_size» .entry)))) ⌝ }
+    ensures { λ r. ⌜ _≡_ {A = BlockSaid}
+        (record {
+          answer = r;
+          file = now («out_file» .exit);
+          offset = now («out_offset» .exit);
+          size = now («out_size» .exit);
+        })
+        (blockSaid
+        (mapBlock (storageOf (now (state .entry))) (now (rows .entry)) piece offset size
+        (now («out_file» .entry)) (now («out_offset» .entry)) (now («out_size» .entry)))) ⌝ }
 {
     count_in(blocks::map_block_core(
         storage_at(state),
@@ -109,7 +118,8 @@ pub extern "C" fn niflathen_map_block(
 // `layout::file_index_at_offset`: the file's number, or minus the number of the refusal.
 #[no_mangle]
 pub extern "C" fn niflathen_file_index_at_offset(state: &[u64], rows: &[u64], offset: i64) -> i64
-    ensures { λ r. ⌜ r ≡ placeSaid (fileAtOffsetGiven (storageOf (now (state .entry))) (now (rows .entry)) offset) ⌝ }
+    ensures { λ r. ⌜ r ≡
+        placeSaid (fileAtOffsetGiven (storageOf (now (state .entry))) (now (rows .entry)) offset) ⌝ }
 {
     file_in(layout::file_index_at_offset(storage_at(state), rows, offset))
 }
@@ -123,7 +133,8 @@ pub extern "C" fn niflathen_map_file(
     offset: i64,
     size: i32,
 ) -> FileRequest
-    ensures { λ r. ⌜ r ≡ requestSaid (fileMapped (storageOf (now (state .entry))) (now (rows .entry)) index offset size) ⌝ }
+    ensures { λ r. ⌜ r ≡
+        requestSaid (fileMapped (storageOf (now (state .entry))) (now (rows .entry)) index offset size) ⌝ }
 {
     request_in(files::map_file(storage_at(state), rows, FileIndex(index), offset, size))
 }
@@ -138,7 +149,10 @@ pub extern "C" fn niflathen_map_files(
     sizes: &[i32],
     answers: &mut [u32],
 ) -> i64
-    ensures { λ r. ⌜ _≡_ {A = ListSaid} (record { answer = r; answers = now (answers .exit) }) (listSaid (filesMapped (storageOf (now (state .entry))) (now (rows .entry)) (now (files .entry)) (now (offsets .entry)) (now (sizes .entry)) (now (answers .entry)))) ⌝ }
+    ensures { λ r. ⌜ _≡_ {A = ListSaid} (record { answer = r; answers = now (answers .exit) })
+        (listSaid
+        (filesMapped (storageOf (now (state .entry))) (now (rows .entry)) (now (files .entry)) (now (offsets .entry))
+        (now (sizes .entry)) (now (answers .entry)))) ⌝ }
 {
     count_in(files::map_files(storage_at(state), rows, files, offsets, sizes, answers))
 }

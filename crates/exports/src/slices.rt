@@ -19,7 +19,9 @@ pub extern "C" fn niflathen_map_block_slices(
     size: i64,
     out: &mut [FileSlice],
 ) -> i64
-    ensures { λ r. ⌜ _≡_ {A = SlicesSaid} (record { answer = r; table = now (out .exit) }) (slicesSaid (blockMapped (storageOf (now (state .entry))) (now (rows .entry)) piece offset size (now (out .entry)))) ⌝ }
+    ensures { λ r. ⌜ _≡_ {A = SlicesSaid} (record { answer = r; table = now (out .exit) })
+        (slicesSaid
+        (blockMapped (storageOf (now (state .entry))) (now (rows .entry)) piece offset size (now (out .entry)))) ⌝ }
 {
     count_in(mapping::map_block(
         storage_at(state),

@@ -1,6 +1,4 @@
 -- The laws of the listing, and document 01's example.
-pub mod Reading
-pub mod Printed
 pub mod Steps
 pub mod Short
 pub mod Vectors

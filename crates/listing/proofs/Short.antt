@@ -21,10 +21,11 @@ use Rattle.rules.specs.Rules.{firstOf, both, either}
 use Rattle.rules.specs.Bounds.{limit, isNegative, badLength}
 use Rattle.storage.specs.Addition.{Addition, limitedName, badName, disagree, filesOf, unled, under, pathName, storedName, placeFor, newName, fileAdded, padAdded, padDirectory, padOf, sizeAdded, added, lacks, textOf, addingRules, addedTo}
 use Rattle.storage.specs.Opening.{fresh}
-use Rattle.listing.specs.Form.{linesFrom, lines, pieceLengthIn, fileIn}
-use Rattle.listing.specs.Run.{Run, listed, stopped, goOn, readAs, runFrom, openedAs, runLines, run, places, pieces, internalPath, fileLine, fileLines, totalsLine, printed, listing}
-use Rattle.listing.proofs.Printed.{joined-few, four-length, refusal-length, put-yes}
-use Rattle.listing.proofs.Steps.{file-is}
+use Rattle.listing_input.specs.Form.{FileEntry, linesFrom, lines, pieceLengthIn, fileIn}
+use Rattle.listing.specs.Run.{additionOf, goOn, readAs, runFrom, openedAs, runLines, run, places, listing}
+use Rattle.listing_output.specs.Output.{Run, listed, stopped, pieces, internalPath, fileLine, fileLines, totalsLine, printed}
+use Rattle.listing_output.proofs.Printed.{joined-few, four-length, refusal-length, put-yes}
+use Rattle.listing.proofs.Steps.{path-is}
 
 -- parts of a path are no longer than it
 cond-few : (b : Bool) (x y : List ℕ) (n : ℕ) → length x ≤ n → length y ≤ n → length (cond b x y) ≤ n
@@ -255,25 +256,25 @@ record Bounded (m n : Model) (bytes : ℕ) : Type 0 where
 -- one line of a run that ends with a set
 step-few : (l : List ℕ) (ls : List (List ℕ)) (line : ℕ) (m n : Model)
     → ((x : Model) → filesOf x ≤ 400 → runFrom places (line + 1) x ls ≡ listed n → Bounded x n (linesLength ls))
-    → readAs (fileIn l) (line + 1) (λ a. goOn (addedTo places m a) (line + 1) (λ x. runFrom places (line + 1) x ls)) ≡ listed n
+    → readAs (fileIn l) (line + 1) (λ f. goOn (addedTo places m (additionOf f)) (line + 1) (λ x. runFrom places (line + 1) x ls)) ≡ listed n
     → Bounded m n (length l + linesLength ls)
 step-few l ls line m n ih e = reads (fileIn l) refl e
   where
-    goes : (a : Addition) → fileIn l ≡ present a → (o : Outcome Model) → addedTo places m a ≡ o → goOn o (line + 1) (λ x. runFrom places (line + 1) x ls) ≡ listed n → Bounded m n (length l + linesLength ls)
-    goes a q (refused k) p r = let z : _≡_ {A = ℕ} 0 1 = cc in absurd (omega arith)
-    goes a q (value x) p r =
+    goes : (f : FileEntry) → fileIn l ≡ present f → (o : Outcome Model) → addedTo places m (additionOf f) ≡ o → goOn o (line + 1) (λ x. runFrom places (line + 1) x ls) ≡ listed n → Bounded m n (length l + linesLength ls)
+    goes f q (refused k) p r = let z : _≡_ {A = ℕ} 0 1 = cc in absurd (omega arith)
+    goes f q (value x) p r =
+        let a = additionOf f in
         let t = taken m x a p in
-        let f = file-is l a q in
         let b = ih (added m a) (t .1) (ap (λ (y : Model). runFrom places (line + 1) y ls) (sym (t .0)) ∙ r) in
-        let g = added-few m a (ap (λ (y : Addition). y .given) (f .2)) in
+        let g = added-few m a refl in
         record {
           few = b .few;
-          paths = omega (arith, b .paths, g, ap (λ (y : Addition). length (y .path)) (f .2), length-drop 19 l);
+          paths = omega (arith, b .paths, g, ap length (path-is l f q), length-drop 19 l);
         }
 
-    reads : (o : Optional Addition) → fileIn l ≡ o → readAs o (line + 1) (λ a. goOn (addedTo places m a) (line + 1) (λ x. runFrom places (line + 1) x ls)) ≡ listed n → Bounded m n (length l + linesLength ls)
+    reads : (o : Optional FileEntry) → fileIn l ≡ o → readAs o (line + 1) (λ f. goOn (addedTo places m (additionOf f)) (line + 1) (λ x. runFrom places (line + 1) x ls)) ≡ listed n → Bounded m n (length l + linesLength ls)
     reads absent q r = let z : _≡_ {A = ℕ} 0 1 = cc in absurd (omega arith)
-    reads (present a) q r = goes a q (addedTo places m a) refl r
+    reads (present f) q r = goes f q (addedTo places m (additionOf f)) refl r
 
 ends-few : (b : Bool) (line : ℕ) (m n : Model) → filesOf m ≤ 400 → cond b (stopped 13 line) (listed m) ≡ listed n → Bounded m n 0
 ends-few true line m n h e = let z : _≡_ {A = ℕ} 0 1 = cc in absurd (omega arith)

@@ -1,5 +1,5 @@
 -- Laws of the run: what a line's numbers are bounded by, and what a line that is obeyed or refused does to the rest of the
--- run. They rely on the laws of `model` for additions.
+-- run. They rely on the laws of `sound` for additions.
 use Prim.Native.Nat.{ℕ, _+_, _-_, _%_, _≤_, _<_, _^_}
 use mathlib.Core.Path.{_≡_, refl, sym, ap, subst, _∙_}
 use mathlib.Core.Bool.{Bool, true, false, cond}
@@ -18,22 +18,22 @@ use Rattle.tables.specs.declared.storage.FileStorage.{FileStorage}
 use Rattle.tables.specs.Entry.{presenceIf}
 use Rattle.tables.specs.Model.{Optional, absent, present, presentIf, Model, Store, viewOf}
 use Rattle.rules.specs.Rules.{outcomeOf, both}
-use Rattle.rules.specs.Bounds.{sizeOf}
 use Rattle.storage.specs.Addition.{Addition, Rooms, added, addedTo}
 use Rattle.storage.specs.Write.{storeAdded}
-use Rattle.storage.specs.Outcomes.{Changed, roomsOf, addingNumber, optionalOf}
+use Rattle.storage.specs.Outcomes.{Changed, roomsOf, addingNumber, addStored, optionalOf}
 use Rattle.storage.specs.Opening.{empty}
 use Rattle.storage.specs.Opening.{fresh}
 use Rattle.sound.specs.Sound.{Sound}
 use Rattle.sound.proofs.Adding.{adding}
 use Rattle.sound.proofs.Added.{view-added, sound-added}
-use Rattle.listing.specs.Form.{lines, provided, onlyIf, numberIn, pieceLengthIn, areFlags, additionOf, additionIn, fileIn}
-use Rattle.listing.specs.Run.{Run, listed, stopped, counted, goOn, openedAs, readAs, runFrom, run, places}
-use Rattle.listing.specs.Answers.{firstLine}
+use Rattle.listing_input.specs.Form.{FileEntry, lines, provided, onlyIf, numberIn, pieceLengthIn, areFlags, entryOf, fileIn}
+use Rattle.listing.specs.Run.{additionOf, counted, goOn, openedAs, readAs, runFrom, run, places}
+use Rattle.listing_output.specs.Output.{Run, listed, stopped}
+use Rattle.listing_input.specs.Answers.{firstLine}
 use Rattle.listing.specs.declared.run.RunResult.the-variants.{Listed, Stopped}
 use Rattle.storage.specs.Plan.{storeOf}
 use Rattle.listing.specs.Steps.{openedBy, obeyed, countedBy, runSays, Placed}
-use Rattle.listing.proofs.Reading.{number-small, first-take, lines-next}
+use Rattle.listing_input.proofs.Reading.{number-small, first-take, lines-next}
 
 -- a number that passed the test of the piece length
 length-small : (b : Bool) (o : Optional ℕ) (n : ℕ) → present n ≡ provided b (onlyIf (λ m. leb m 2147483647) o) → n ≤ 2147483647
@@ -49,17 +49,17 @@ pub piece-length-is : (line : List ℕ) (n : ℕ) → present n ≡ pieceLengthI
 piece-length-is line n e = mod-eq-of-lt (omega (arith, length-small (eqb (length line) 10) (numberIn line) n e))
 
 -- the size in a file line
-abbrev sizeIn : Optional Addition → ℕ
+abbrev sizeIn : Optional FileEntry → ℕ
 sizeIn absent = 0
-sizeIn (present a) = sizeOf (a .size)
+sizeIn (present e) = e .size
 
-size-small : (b : Bool) (o f : Optional ℕ) (path : List ℕ) → ((n : ℕ) → o ≡ present n → n < 1000000000000000) → sizeIn (provided b (additionIn o f path)) < 1000000000000000
+size-small : (b : Bool) (o f : Optional ℕ) (path : List ℕ) → ((n : ℕ) → o ≡ present n → n < 1000000000000000) → sizeIn (provided b (entryOf o f path)) < 1000000000000000
 size-small false o f path h = omega arith
 size-small true absent f path h = omega arith
 size-small true (present n) absent path h = omega arith
 size-small true (present n) (present m) path h = h n refl
 
-pub size-is : (line : List ℕ) (size flags : ℕ) → present (additionOf size flags (drop 19 line)) ≡ fileIn line → size % 2 ^ 63 ≡ size
+pub size-is : (line : List ℕ) (size flags : ℕ) → present (record { size = size; flags = flags; path = drop 19 line }) ≡ fileIn line → size % 2 ^ 63 ≡ size
 size-is line size flags e =
     let q : size ≡ sizeIn (fileIn line) = ap sizeIn e in
     let b =
@@ -68,33 +68,34 @@ size-is line size flags e =
     (λ n p. number-small (partOf line 0 15) n (omega (arith, part-length line 0 15)) p) in
     mod-eq-of-lt (omega (arith, q))
 
--- what a file line says is an addition of its numbers and its path
-in-form : (b : Bool) (o f : Optional ℕ) (path : List ℕ) (a : Addition) → provided b (additionIn o f path) ≡ present a → (n : ℕ) × (m : ℕ) × (a ≡ additionOf n m path)
-in-form false o f path a e = let z : _≡_ {A = ℕ} 0 1 = cc in absurd (omega arith)
-in-form true absent f path a e = let z : _≡_ {A = ℕ} 0 1 = cc in absurd (omega arith)
-in-form true (present n) absent path a e = let z : _≡_ {A = ℕ} 0 1 = cc in absurd (omega arith)
-in-form true (present n) (present m) path a e = (n, m, cc)
+-- the path of a file line stands from place 19 on
+path-at : (b : Bool) (o f : Optional ℕ) (path : List ℕ) (e : FileEntry) → provided b (entryOf o f path) ≡ present e → e .path ≡ path
+path-at false o f path e h = let z : _≡_ {A = ℕ} 0 1 = cc in absurd (omega arith)
+path-at true absent f path e h = let z : _≡_ {A = ℕ} 0 1 = cc in absurd (omega arith)
+path-at true (present n) absent path e h = let z : _≡_ {A = ℕ} 0 1 = cc in absurd (omega arith)
+path-at true (present n) (present m) path e h =
+    let z : record { size = n; flags = m; path = path } ≡ e = cc in
+    sym (ap (λ (x : FileEntry). x .path) z)
 
-pub file-is : (line : List ℕ) (a : Addition) → fileIn line ≡ present a → (n : ℕ) × (m : ℕ) × (a ≡ additionOf n m (drop 19 line))
-file-is line a e =
-    in-form (both (leb 19 (length line)) (both (eqb (getD line 15 0) 32) (eqb (getD line 18 0) 32)))
-    (numberIn (partOf line 0 15)) (onlyIf areFlags (numberIn (partOf line 16 2))) (drop 19 line) a e
+pub path-is : (line : List ℕ) (e : FileEntry) → fileIn line ≡ present e → e .path ≡ drop 19 line
+path-is line e h =
+    path-at (both (leb 19 (length line)) (both (eqb (getD line 15 0) 32) (eqb (getD line 18 0) 32)))
+    (numberIn (partOf line 0 15)) (onlyIf areFlags (numberIn (partOf line 16 2))) (drop 19 line) e h
 
--- a root in a file line has 32 bytes
-root-long : (b : Bool) (r : List ℕ) → presentIf b (replicate 32 1) ≡ present r → length r ≡ 32
-root-long true r e = let q : replicate 32 1 ≡ r = cc in sym (ap length q)
-root-long false r e = let z : _≡_ {A = ℕ} 0 1 = cc in absurd (omega arith)
+-- a root that flags give has 32 bytes
+root-at : (b : Bool) (r : List ℕ) → presentIf b (replicate 32 1) ≡ present r → length r ≡ 32
+root-at true r e = let q : replicate 32 1 ≡ r = cc in sym (ap length q)
+root-at false r e = let z : _≡_ {A = ℕ} 0 1 = cc in absurd (omega arith)
 
-root-is : (line : List ℕ) (a : Addition) → fileIn line ≡ present a → (r : List ℕ) → a .root ≡ present r → length r ≡ 32
-root-is line a e r p =
-    let f = file-is line a e in root-long (leb 16 (f .1)) r (sym (ap (λ (x : Addition). x .root) (f .2)) ∙ p)
+root-is : (e : FileEntry) (r : List ℕ) → additionOf e .root ≡ present r → length r ≡ 32
+root-is e r p = root-at (leb 16 (e .flags)) r p
 
 -- what flags say of a root, as a call brings it
 pub root-by : (b : Bool) (root : List ℕ) → optionalOf (presenceIf b) root ≡ presentIf b root
 root-by true root = refl
 root-by false root = refl
 
--- the run behind the last line
+-- the run after the last line
 pub counted-is : (fs : FileStorage) (rows roots : List ℕ) (times : List ℤ) (dirs text : List ℕ) (line : ℕ)
     → runSays (countedBy fs line) rows roots times dirs text ≡ counted line (viewOf (storeOf fs rows roots times dirs text))
 counted-is fs rows roots times dirs text line = at (ltb 2147483647 (ceiling (fs .«total_size») (fs .«piece_length»)))
@@ -121,44 +122,56 @@ module _ (s : Store) (p : Placed (s .rows) (s .roots) (s .times) (s .dirs) (s .t
   adding-is : (a : Addition) → addedTo places (viewOf s) a ≡ outcomeOf (addingNumber s (viewOf s) a) (added (viewOf s) a)
   adding-is a = ap (λ (r : Rooms). addedTo r (viewOf s) a) (sym (rooms-are s p)) ∙ adding s ok a
 
-  next-is : runFrom places line (viewOf s) (l ∷ ls) ≡ readAs (fileIn l) (line + 1) (λ a. goOn (addedTo places (viewOf s) a) (line + 1) (λ next. runFrom places (line + 1) next ls))
+  next-is : runFrom places line (viewOf s) (l ∷ ls) ≡ readAs (fileIn l) (line + 1) (λ e. goOn (addedTo places (viewOf s) (additionOf e)) (line + 1) (λ next. runFrom places (line + 1) next ls))
   unfolding runFrom
   next-is = refl
 
   -- the rest of the run, by what the line says
-  abbrev after : Optional Addition → Run
-  after o = readAs o (line + 1) (λ a. goOn (addedTo places (viewOf s) a) (line + 1) (λ next. runFrom places (line + 1) next ls))
+  abbrev after : Optional FileEntry → Run
+  after o = readAs o (line + 1) (λ e. goOn (addedTo places (viewOf s) (additionOf e)) (line + 1) (λ next. runFrom places (line + 1) next ls))
 
-  stop-at : (o : Optional Addition) (k : ℕ) → obeyed o s .says ≡ refused k → stopped k (line + 1) ≡ after o
+  -- the rest of the run, by what an addition answers
+  abbrev onward : Outcome Model → Run
+  onward o = goOn o (line + 1) (λ next. runFrom places (line + 1) next ls)
+
+  module _ (a : Addition) where
+    abbrev changed : Bool → Changed
+    changed b = changedBy b (addingNumber s (viewOf s) a) s (storeAdded s (viewOf s) a)
+
+    abbrev answered : Bool → Outcome Model
+    answered b = cond b (value (added (viewOf s) a)) (refused (addingNumber s (viewOf s) a))
+
+    stop-added : (k : ℕ) → addStored s a .says ≡ refused k → stopped k (line + 1) ≡ onward (addedTo places (viewOf s) a)
+    stop-added k e = at (eqb (addingNumber s (viewOf s) a) 0) e ∙ sym (ap onward (adding-is a))
+      where
+        at : (b : Bool) → changed b .says ≡ refused k → stopped k (line + 1) ≡ onward (answered b)
+        at true q = let z : _≡_ {A = ℕ} 0 1 = cc in absurd (omega arith)
+        at false q = let z : k ≡ addingNumber s (viewOf s) a = cc in ap (λ (n : ℕ). stopped n (line + 1)) z
+
+    go-added : ((r : List ℕ) → a .root ≡ present r → length r ≡ 32) → (fs : FileStorage) → addStored s a .says ≡ value fs
+        → Sound (newStore fs (addStored s a)) × (runFrom places (line + 1) (viewOf (newStore fs (addStored s a))) ls ≡ onward (addedTo places (viewOf s) a))
+    go-added root fs e =
+        let r = at (eqb (addingNumber s (viewOf s) a) 0) refl e in (r .0, r .1 ∙ sym (ap onward (adding-is a)))
+      where
+        at : (b : Bool) → eqb (addingNumber s (viewOf s) a) 0 ≡ b → changed b .says ≡ value fs
+            → Sound (newStore fs (changed b)) × (runFrom places (line + 1) (viewOf (newStore fs (changed b))) ls ≡ onward (answered b))
+        at true t q =
+            let zero = eqb-true (addingNumber s (viewOf s) a) 0 t in
+            let z : fs ≡ storeAdded s (viewOf s) a .fs = cc in
+            let same : newStore fs (changed true) ≡ storeAdded s (viewOf s) a = ap (λ (f : FileStorage). newStore f (changed true)) z in (
+              subst (λ (x : Store). Sound x) (sym same) (sound-added s a ok zero root),
+              ap (λ (x : Store). runFrom places (line + 1) (viewOf x) ls) same ∙ ap (λ (m : Model). runFrom places (line + 1) m ls) (view-added s a ok zero root),
+            )
+        at false t q = let z : _≡_ {A = ℕ} 0 1 = cc in absurd (omega arith)
+
+  stop-at : (o : Optional FileEntry) (k : ℕ) → obeyed o s .says ≡ refused k → stopped k (line + 1) ≡ after o
   stop-at absent k e = let q : k ≡ 17 = cc in ap (λ (n : ℕ). stopped n (line + 1)) q
-  stop-at (present a) k e =
-      at (eqb (addingNumber s (viewOf s) a) 0) e
-      ∙ sym (ap (λ (o : Outcome Model). goOn o (line + 1) (λ next. runFrom places (line + 1) next ls)) (adding-is a))
-    where
-      at : (b : Bool) → changedBy b (addingNumber s (viewOf s) a) s (storeAdded s (viewOf s) a) .says ≡ refused k
-          → stopped k (line + 1) ≡ goOn (cond b (value (added (viewOf s) a)) (refused (addingNumber s (viewOf s) a))) (line + 1) (λ next. runFrom places (line + 1) next ls)
-      at true q = let z : _≡_ {A = ℕ} 0 1 = cc in absurd (omega arith)
-      at false q = let z : k ≡ addingNumber s (viewOf s) a = cc in ap (λ (n : ℕ). stopped n (line + 1)) z
+  stop-at (present f) k e = stop-added (additionOf f) k e
 
-  go-at : (o : Optional Addition) (fs : FileStorage) → fileIn l ≡ o → obeyed o s .says ≡ value fs
+  go-at : (o : Optional FileEntry) (fs : FileStorage) → obeyed o s .says ≡ value fs
       → Sound (newStore fs (obeyed o s)) × (runFrom places (line + 1) (viewOf (newStore fs (obeyed o s))) ls ≡ after o)
-  go-at absent fs h e = let z : _≡_ {A = ℕ} 0 1 = cc in absurd (omega arith)
-  go-at (present a) fs h e =
-      let r = at (eqb (addingNumber s (viewOf s) a) 0) refl e in
-      (r .0, r .1 ∙ sym (ap (λ (o : Outcome Model). goOn o (line + 1) (λ next. runFrom places (line + 1) next ls)) (adding-is a)))
-    where
-      at : (b : Bool) → eqb (addingNumber s (viewOf s) a) 0 ≡ b → changedBy b (addingNumber s (viewOf s) a) s (storeAdded s (viewOf s) a) .says ≡ value fs
-          → Sound (newStore fs (changedBy b (addingNumber s (viewOf s) a) s (storeAdded s (viewOf s) a))) × (runFrom places (line + 1) (viewOf (newStore fs (changedBy b (addingNumber s (viewOf s) a) s (storeAdded s (viewOf s) a)))) ls ≡ goOn (cond b (value (added (viewOf s) a)) (refused (addingNumber s (viewOf s) a))) (line + 1) (λ next. runFrom places (line + 1) next ls))
-      at true t q =
-          let n = addingNumber s (viewOf s) a in
-          let zero = eqb-true n 0 t in
-          let z : fs ≡ storeAdded s (viewOf s) a .fs = cc in
-          let same : newStore fs (changedBy true n s (storeAdded s (viewOf s) a)) ≡ storeAdded s (viewOf s) a =
-          ap (λ (f : FileStorage). newStore f (changedBy true n s (storeAdded s (viewOf s) a))) z in (
-            subst (λ (x : Store). Sound x) (sym same) (sound-added s a ok zero (root-is l a h)),
-            ap (λ (x : Store). runFrom places (line + 1) (viewOf x) ls) same ∙ ap (λ (m : Model). runFrom places (line + 1) m ls) (view-added s a ok zero (root-is l a h)),
-          )
-      at false t q = let z : _≡_ {A = ℕ} 0 1 = cc in absurd (omega arith)
+  go-at absent fs e = let z : _≡_ {A = ℕ} 0 1 = cc in absurd (omega arith)
+  go-at (present f) fs e = go-added (additionOf f) (root-is f) fs e
 
 -- a line is no longer than what is left of the input
 pub line-few : (input : List ℕ) (at : ℕ) → length (firstLine (drop at input)) ≤ length input - at
@@ -168,7 +181,7 @@ line-few input at =
 
 -- the run at a place of the input: the lines before it are obeyed, their number is `line`, and what is left makes the whole
 pub record Going (input : List ℕ) (whole : Run) (at line : ℕ) (s : Store) : Type 0 where
-  pub behind : line ≤ at
+  pub after-line : line ≤ at
   pub within : at ≤ length input + 1
   pub placed : Placed (s .rows) (s .roots) (s .times) (s .dirs) (s .text)
   pub sound : Sound s
@@ -200,9 +213,9 @@ module _ (input : List ℕ) (whole : Run) (at line : ℕ) (s : Store) (g : Going
       run-goes fs r p =
           let l = partOf input at n in
           let ls = lines (drop (at + n + 1) input) in
-          let m = go-at s (g .placed) (g .sound) line l ls (fileIn l) fs refl (sym (ap (λ (x : Changed). x .says) q) ∙ r) in
+          let m = go-at s (g .placed) (g .sound) line l ls (fileIn l) fs (sym (ap (λ (x : Changed). x .says) q) ∙ r) in
           record {
-            behind = omega (arith, g .behind);
+            after-line = omega (arith, g .after-line);
             within = omega (arith, line-few input at);
             placed = p;
             sound = subst (λ (x : Changed). Sound (newStore fs x)) (sym q) (m .0);

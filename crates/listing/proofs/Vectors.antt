@@ -3,7 +3,8 @@ use mathlib.Core.Path.{_≡_, refl}
 use mathlib.Core.List.{List, [], _∷_, _++_}
 use Prim.Native.Nat.{ℕ}
 use Rattle.lists.specs.Decimal.{digitsWithin, column}
-use Rattle.listing.specs.Run.{listing, runFrom, fileLines}
+use Rattle.listing.specs.Run.{listing, runFrom}
+use Rattle.listing_output.specs.Output.{fileLines}
 
 aLine : List ℕ
 aLine = column 15 10000 ++ (32 ∷ 49 ∷ 54 ∷ 32 ∷ 115 ∷ 47 ∷ 97 ∷ 46 ∷ 119 ∷ 97 ∷ 118 ∷ 10 ∷ [])

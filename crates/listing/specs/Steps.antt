@@ -14,11 +14,12 @@ use Rattle.tables.specs.declared.storage.FileStorage.{FileStorage}
 use Rattle.tables.specs.Model.{Optional, absent, present, Store, viewOf}
 use Rattle.storage.specs.declared.answer.StorageResult.{StorageResult}
 use Rattle.storage.specs.declared.answer.StorageResult.the-variants.{Ok, Err}
-use Rattle.storage.specs.Addition.{Addition}
 use Rattle.storage.specs.Outcomes.{Changed, addStored}
 use Rattle.storage.specs.Opening.{opened}
 use Rattle.storage.specs.Plan.{storeOf}
-use Rattle.listing.specs.Run.{Run, listed, stopped}
+use Rattle.listing_input.specs.Form.{FileEntry}
+use Rattle.listing_output.specs.Output.{Run, listed, stopped}
+use Rattle.listing.specs.Run.{additionOf}
 use Rattle.listing.specs.declared.run.RunResult.{RunResult}
 use Rattle.listing.specs.declared.run.RunResult.the-variants.{Listed, Stopped}
 
@@ -27,17 +28,17 @@ openedBy absent = refused 17
 openedBy (present n) = opened (pos n)
 
 -- a line out of form is 17, and leaves the tables as they were
-abbrev pub obeyed : Optional Addition → Store → Changed
+abbrev pub obeyed : Optional FileEntry → Store → Changed
 obeyed absent s =
     record { says = refused 17; rows = s .rows; roots = s .roots; times = s .times; dirs = s .dirs; text = s .text }
-obeyed (present a) s = addStored s a
+obeyed (present e) s = addStored s (additionOf e)
 
 -- the run that an answer ends
 abbrev pub stoppedBy : StorageResult → ℕ → RunResult
 stoppedBy (Ok fs) line = Stopped ParseFailed line
 stoppedBy (Err e) line = Stopped e line
 
--- the run that ends behind the last line
+-- the run that ends after the last line
 abbrev pub countedBy : FileStorage → ℕ → RunResult
 countedBy fs line =
     cond (ltb 2147483647 (ceiling (fs .«total_size») (fs .«piece_length»))) (Stopped TooManyPieces line) (Listed fs)

@@ -1,27 +1,27 @@
-// The run: lines are obeyed one by one, and the first refusal of any kind ends it. Relies on form.rt for
-// the lines, on `storage` for opening and additions, and on the laws of proofs/Steps.antt.
+// The run: lines are obeyed one by one, and the first refusal of any kind ends it. Relies on `listing_input`
+// for the lines, on `storage` for opening and additions, and on the laws of proofs/Steps.antt.
 ghost use mathlib.Core.Path.{_≡_};
 ghost use lib.Dec.{leb};
 ghost use Prim.Native.Nat.{_+_, _≤_};
 ghost use lib.ListN.{length, drop};
 ghost use Rattle.types.specs.Refusals.{usizeSays};
-ghost use Rattle.path.specs.Join.{Joined, joinedIf, fits};
+ghost use Rattle.path.specs.Join.{Joined};
 ghost use Rattle.tables.specs.Entry.{presenceIf};
 ghost use Rattle.tables.specs.Model.{viewOf};
 ghost use Rattle.storage.specs.Outcomes.{Changed, storageSays};
 ghost use Rattle.sound.specs.Sound.{Sound};
-ghost use Rattle.listing.specs.Form.{lines, pieceLengthIn, fileIn};
+ghost use Rattle.listing_input.specs.Form.{lines, pieceLengthIn, fileIn};
+ghost use Rattle.listing_output.specs.Printing.{putText};
 ghost use Rattle.listing.specs.Run.{run, runFrom, places, listing};
 ghost use Rattle.storage.specs.Plan.{storeOf};
 ghost use Rattle.listing.specs.Steps.{openedBy, obeyed, stoppedBy, countedBy, runSays, Placed};
-use crate::form::FileLine;
-use crate::form::Number;
-use crate::form::file_in;
-use crate::form::line_length;
-use crate::form::piece_length_in;
-use crate::print::pieces_of;
-use crate::print::put_refusal;
-use crate::print::put_set;
+use listing_input::FileLine;
+use listing_input::Number;
+use listing_input::file_in;
+use listing_input::line_length;
+use listing_input::piece_length_in;
+use listing_output::put_refusal;
+use listing_output::put_set;
 use storage::StorageResult;
 use tables::FileStorage;
 use tables::Presence;
@@ -64,7 +64,17 @@ fn add_line(
     text: &mut [u8],
     line: &[u8],
 ) -> StorageResult
-    ensures { λ r. ⌜ _≡_ {A = Changed} (record { says = storageSays r; rows = now (rows .exit); roots = now (roots .exit); times = now (times .exit); dirs = now (dirs .exit); text = now (text .exit) }) (obeyed (fileIn (now (line .entry))) (storeOf fs (now (rows .entry)) (now (roots .entry)) (now (times .entry)) (now (dirs .entry)) (now (text .entry)))) ⌝ }
+    ensures { λ r. ⌜ _≡_ {A = Changed}
+        (record {
+          says = storageSays r;
+          rows = now (rows .exit);
+          roots = now (roots .exit);
+          times = now (times .exit);
+          dirs = now (dirs .exit);
+          text = now (text .exit);
+        })
+        (obeyed (fileIn (now (line .entry)))
+        (storeOf fs (now (rows .entry)) (now (roots .entry)) (now (times .entry)) (now (dirs .entry)) (now (text .entry)))) ⌝ }
 {
     let FileLine::Of(size, flags) = file_in(line) else {
         return StorageResult::Err(Refusal::ParseFailed);
@@ -102,11 +112,11 @@ fn stopped_by(answer: StorageResult, line: usize) -> RunResult
     }
 }
 
-// The run that ends behind the last line: refusal 13 where there are too many pieces.
+// The run that ends after the last line: refusal 13 where there are too many pieces.
 fn counted_by(fs: FileStorage, line: usize) -> RunResult
     ensures { λ r. ⌜ r ≡ countedBy fs line ⌝ }
 {
-    if 2147483647 < pieces_of(fs.total_size, fs.piece_length) {
+    if 2147483647 < lists::div_ceil(fs.total_size, fs.piece_length) {
         return RunResult::Stopped(Refusal::TooManyPieces, line);
     }
     RunResult::Listed(fs)
@@ -126,7 +136,11 @@ fn add_lines(
     requires { ⌜ Placed (now rows) (now roots) (now times) (now dirs) (now text) ⌝ }
     requires { ⌜ Sound (storeOf fs (now rows) (now roots) (now times) (now dirs) (now text)) ⌝ }
     requires { ⌜ (1 ≤ from) × (from ≤ length (now input) + 1) ⌝ }
-    ensures { λ r. ⌜ runSays r (now (rows .exit)) (now (roots .exit)) (now (times .exit)) (now (dirs .exit)) (now (text .exit)) ≡ runFrom places 1 (viewOf (storeOf fs (now (rows .entry)) (now (roots .entry)) (now (times .entry)) (now (dirs .entry)) (now (text .entry)))) (lines (drop from (now (input .entry)))) ⌝ }
+    ensures { λ r. ⌜
+        runSays r (now (rows .exit)) (now (roots .exit)) (now (times .exit)) (now (dirs .exit)) (now (text .exit)) ≡
+        runFrom places 1
+        (viewOf (storeOf fs (now (rows .entry)) (now (roots .entry)) (now (times .entry)) (now (dirs .entry)) (now (text .entry))))
+        (lines (drop from (now (input .entry)))) ⌝ }
 {
     let mut set = fs;
     let mut at = from;
@@ -162,7 +176,9 @@ fn run_input(
     text: &mut [u8],
 ) -> RunResult
     requires { ⌜ Placed (now rows) (now roots) (now times) (now dirs) (now text) ⌝ }
-    ensures { λ r. ⌜ runSays r (now (rows .exit)) (now (roots .exit)) (now (times .exit)) (now (dirs .exit)) (now (text .exit)) ≡ run places (now (input .entry)) ⌝ }
+    ensures { λ r. ⌜
+        runSays r (now (rows .exit)) (now (roots .exit)) (now (times .exit)) (now (dirs .exit)) (now (text .exit)) ≡
+        run places (now (input .entry)) ⌝ }
 {
     if 65536 < input.len() {
         return RunResult::Stopped(Refusal::ParseFailed, 0);
@@ -180,7 +196,8 @@ fn run_input(
 
 // The listing of an input, at the start of `out`, and its length; refusal 10 where `out` is too short.
 pub fn list(input: &[u8], out: &mut [u8]) -> UsizeResult
-    ensures { λ r. ⌜ _≡_ {A = Joined} (record { says = usizeSays r; buf = now (out .exit) }) (joinedIf (fits (listing (now (input .entry))) (now (out .entry))) (listing (now (input .entry))) (now (out .entry))) ⌝ }
+    ensures { λ r. ⌜ _≡_ {A = Joined} (record { says = usizeSays r; buf = now (out .exit) })
+        (putText (listing (now (input .entry))) (now (out .entry))) ⌝ }
 {
     let mut rows = [0u64; 3200];
     let mut roots = [0u8; 12800];

@@ -20,7 +20,7 @@ use Rattle.links.specs.Clean.{cleanedOf}
 use Rattle.sound.specs.Documents as documents
 use Rattle.sound.specs.Documents.{sizes, EndToEnd, sizeOnDisk, OnDisk, Marked, OnPiece, Each, none, more, LinkEmpty}
 use Rattle.model.specs.Reached.{Reached, opened, addition, trim, cleaning}
-use Rattle.sound.proofs.Common.{both-second}
+use Rattle.rules.proofs.Rules.{both-true}
 use Rattle.sound.proofs.Trimming.{flagsAt, Last, TailPad, tail-pad}
 use Rattle.sound.proofs.Files.{map-take, map-drop, each-append, each-front, each-take, each-drop, each-map, each-unmap, sum-zero, sum-except, sizesOf, Laid, done, next, laid-append, laid-take, laid-map, laid-empty, laid-offset}
 use Rattle.model.proofs.CleanedFiles.{cleanedIn, clean-same, clean-held, clean-map, clean-map-same}
@@ -293,7 +293,7 @@ module _ (m : Model) (a : Addition) (total : m .total ≡ sum (sizes m)) (links 
       at : (b : Bool) → both (decides (sizeAdded a) (a .link)) (isOpen (m .total) (m .links) (filesOf m)) ≡ b → cond b (isPresent (a .root)) (m .v2) ≡ true
           → (m .total % m .pieceLength ≡ 0) × Each (OnPiece (m .pieceLength)) (m .files)
       at true q e =
-          let z = open-empty (both-second (decides (sizeAdded a) (a .link)) (isOpen (m .total) (m .links) (filesOf m)) q) in
+          let z = open-empty (both-true (decides (sizeAdded a) (a .link)) (isOpen (m .total) (m .links) (filesOf m)) q .1) in
           (rw z (zero-mod (m .pieceLength)), all-empty (m .pieceLength) (m .files) (sym total ∙ z))
       at false q e = (p .whole e, p .each e)
 

@@ -1,7 +1,7 @@
 -- Rules in order: two lists of them in a row, and what is known where none stops a call.
 use Prim.Native.Nat.{ℕ}
 use mathlib.Core.Path.{_≡_, refl, sym}
-use mathlib.Core.Bool.{Bool, true, false, cond, true≢false}
+use mathlib.Core.Bool.{Bool, true, false, cond, true≢false, false≢true}
 use mathlib.Core.List.{List, [], _∷_, _++_}
 use native.Mathlib.Omega.{arith}
 use lib.Dec.{eqb}
@@ -69,3 +69,7 @@ outcome-refused n k b e = at (eqb n 0) e
 pub either-false : (a b : Bool) → either a b ≡ false → (a ≡ false) × (b ≡ false)
 either-false true b e = absurd (true≢false e)
 either-false false b e = (refl, e)
+
+pub both-true : (a b : Bool) → both a b ≡ true → (a ≡ true) × (b ≡ true)
+both-true true b e = (refl, e)
+both-true false b e = absurd (false≢true e)

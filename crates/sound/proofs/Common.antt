@@ -1,7 +1,5 @@
--- Small laws that several proofs here and in `listing` use: of two tests, sums by places, and sums of tables. They rely on
--- the laws of `lists` and `tables`.
+-- Small laws that several proofs here use: sums by places, and sums of tables. They rely on the laws of `lists` and `tables`.
 use mathlib.Core.Path.{_≡_, refl, ap, _∙_}
-use mathlib.Core.Bool.{Bool, true, false, false≢true}
 use mathlib.Core.List.{List, [], _∷_, _++_, map, map-append}
 use Prim.Native.Nat.{ℕ, zero, suc, _+_, _<_}
 use native.Mathlib.Omega.{arith}
@@ -9,17 +7,7 @@ use Rattle.lists.specs.Lists.{sum}
 use Rattle.lists.proofs.Sums.{sum-append}
 use Rattle.tables.specs.Model.{tabled}
 use Rattle.tables.proofs.Tabled.{tabled-more}
-use Rattle.rules.specs.Rules.{both}
 use Rattle.sound.specs.Sound.{sumTo}
-
--- two tests hold, so each does
-pub both-first : (a b : Bool) → both a b ≡ true → a ≡ true
-both-first true b e = refl
-both-first false b e = e
-
-pub both-second : (a b : Bool) → both a b ≡ true → b ≡ true
-both-second true b e = e
-both-second false b e = absurd (false≢true e)
 
 pub sum-same : (n : ℕ) (v w : ℕ → ℕ) → ((k : ℕ) → k < n → v k ≡ w k) → sumTo n v ≡ sumTo n w
 unfolding sumTo

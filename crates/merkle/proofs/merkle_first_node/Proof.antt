@@ -1,6 +1,7 @@
 -- `merkle::merkle_first_node` meets its contract: the width's answer, less 1. Assumes nothing.
 use Prim.Native.Nat.{_-_, _≤_}
 use mathlib.Core.Path.{_≡_, sym, ap, _∙_}
+use native.Mathlib.Omega.{arith}
 use borrow.Author.Needs.{needs}
 use Rattle.types.specs.Refusals.{value, usizeSays}
 use Rattle.merkle.specs.Width.{firstNode}
@@ -21,7 +22,7 @@ enum-known-w : tie.Need-enum-known-w
 enum-known-w c = search needs
 
 sub-t6 : tie.Need-sub-t6
-sub-t6 c = known c .0
+sub-t6 c = omega (arith, known c .0)
 
 enum-known-refusal : tie.Need-enum-known-refusal
 enum-known-refusal c = search needs

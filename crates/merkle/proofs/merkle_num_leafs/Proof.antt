@@ -8,10 +8,10 @@ use Rattle.merkle.proofs.merkle_num_leafs.Statement.{statement}
 use Rattle.merkle.proofs.merkle_num_leafs.Tie as tie
 
 returns : tie.Need-returns
-returns c = rw (tree-none (c .before .args .blocks) (c .if1 .taken))
+returns c = rw (tree-none (c .before .args .blocks) (omega arith))
 
 returns-2 : tie.Need-returns-2
-returns-2 c = rw (tree-many (c .before .before .args .blocks) (c .if2 .taken))
+returns-2 c = rw (tree-many (c .before .before .args .blocks) (omega arith))
 
 width-requires : tie.Need-width-requires
 width-requires c κs = search needs

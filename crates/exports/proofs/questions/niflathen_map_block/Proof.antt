@@ -2,7 +2,7 @@
 use mathlib.Core.Path.{_≡_, _∙_}
 use lib.IntN.{ℤ}
 use mir.Syntax.{w32, w64}
-use mir.Val.{SFits}
+use mir.Val.{SFits, toZ, ofZ}
 use mir.Facts.{toZ-ofZ}
 use Rattle.types.specs.Refusals.{usizeSays}
 use Rattle.blocks.specs.Block.{Mapped, mapBlock}
@@ -27,6 +27,10 @@ left c =
       size = c .map-block-core .last .1 .1 .1 .1 .1 .1 .1 .0;
     }
 
+-- what the mapping is to leave
+abbrev mapped : tie.Start → Mapped
+mapped s = mapBlock (storageOf (s .args .state .now)) (s .args .rows .now) (s .args .piece) (s .args .offset) (s .args .size) (s .args .out-file .now) (s .args .out-offset .now) (s .args .out-size .now)
+
 storage-at-requires : tie.Need-storage-at-requires
 storage-at-requires c κs = search needs
 
@@ -47,13 +51,13 @@ same-length-3 c = search needs
 
 returns : tie.Need-returns
 returns c =
-    let a = c .before .before .before .before .before .before .before .before .before .before .before .before .before .before .before .before .before .args in
+    let s = c .before .before .before .before .before .before .before .before .before .before .before .before .before .before .before .before .before in
     let m = c .before .before .before .before .before .before .before in
     let r : SFits w64 (c .count-in .result) = search needs in
-    let p : SFits w32 (a .piece) = search needs in
-    let o : SFits w64 (a .offset) = search needs in
-    let s : SFits w64 (a .size) = search needs in
-    said _ (left m) _ (rw (m .before .before .before .before .storage-at .ensures, toZ-ofZ p, toZ-ofZ o, toZ-ofZ s) at (m .map-block-core .ensures)) (toZ-ofZ r ∙ c .count-in .ensures)
+    let p : SFits w32 (s .args .piece) = search needs in
+    let o : SFits w64 (s .args .offset) = search needs in
+    let n : SFits w64 (s .args .size) = search needs in
+    said (toZ w64 (ofZ w64 (c .count-in .result))) (left m) (mapped s) (rw (m .before .before .before .before .storage-at .ensures, toZ-ofZ p, toZ-ofZ o, toZ-ofZ n) at (m .map-block-core .ensures)) (toZ-ofZ r ∙ c .count-in .ensures)
 
 pub niflathen-map-block-spec : {M : Type 1} → statement M
 niflathen-map-block-spec =

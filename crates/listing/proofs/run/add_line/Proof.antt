@@ -11,11 +11,12 @@ use mir.Facts.{toZ-ofZ}
 use Rattle.path.proofs.Ends.{part-rest}
 use Rattle.tables.specs.declared.rows.Presence.{Presence}
 use Rattle.storage.specs.Outcomes.{optionalOf, addStored}
-use Rattle.listing.specs.Form.{additionOf}
+use Rattle.listing_input.specs.Form.{FileEntry}
+use Rattle.listing.specs.Run.{additionOf}
 use Rattle.tables.specs.Model.{Optional, absent, presentIf}
 use Rattle.storage.specs.Addition.{Addition}
-use Rattle.listing.specs.declared.form.FileLine.{FileLine}
-use Rattle.listing.specs.Answers.{fileSays}
+use Rattle.listing_input.specs.declared.form.FileLine.{FileLine}
+use Rattle.listing_input.specs.Answers.{fileSays}
 use Rattle.storage.specs.Plan.{storeOf}
 use Rattle.listing.specs.Steps.{obeyed}
 use Rattle.listing.proofs.Steps.{size-is, root-by}
@@ -25,7 +26,7 @@ use Rattle.listing.proofs.run.add_line.Tie as tie
 
 -- what the call brings is what the line says
 addition-is : (size flags : ℕ) (none path line : List ℕ) (z t : ℤ) (root : Optional (List ℕ)) → none ≡ [] → path ≡ drop 19 line → z ≡ pos size → t ≡ pos 0 → root ≡ presentIf (leb 16 flags) (replicate 32 1)
-    → _≡_ {A = Addition} (record { given = absent; path = path; size = z; flags = flags % 8; time = t; link = none; root = root }) (additionOf size flags (drop 19 line))
+    → _≡_ {A = Addition} (record { given = absent; path = path; size = z; flags = flags % 8; time = t; link = none; root = root }) (additionOf (record { size = size; flags = flags; path = drop 19 line }))
 addition-is size flags none path line z t root a b c d e = rw (a, b, c, d, e)
 
 file-in-requires : tie.Need-file-in-requires
@@ -40,7 +41,7 @@ enum-told c = search needs
 returns : tie.Need-returns
 returns c =
     let a = c .before .before .before .before .before .before .before .before .args in
-    ap (λ (o : Optional Addition). obeyed o (storeOf (a .fs) (a .rows .now) (a .roots .now) (a .times .now) (a .dirs .now) (a .text .now))) (sym (ap (λ (f : FileLine). fileSays f (a .line .now)) (c .enum-told .given .1)) ∙ c .before .before .file-in .ensures)
+    ap (λ (o : Optional FileEntry). obeyed o (storeOf (a .fs) (a .rows .now) (a .roots .now) (a .times .now) (a .dirs .now) (a .text .now))) (sym (ap (λ (f : FileLine). fileSays f (a .line .now)) (c .enum-told .given .1)) ∙ c .before .before .file-in .ensures)
 
 part-requires : tie.Need-part-requires
 part-requires c κs = search needs
@@ -88,7 +89,7 @@ returns-2 c =
     (addition-is size flags (c .before .before .before .before .before .before .before .before .before .before .before .before .before .before .before .before .before .before .part .result .now) (c .before .before .before .before .before .before .before .before .before .before .before .before .before .before .before .before .before .part2 .result .now) (a .line .now) _ _ _ (c .before .before .before .before .before .before .before .before .before .before .before .before .before .before .before .before .before .before .part .ensures) (c .before .before .before .before .before .before .before .before .before .before .before .before .before .before .before .before .before .part2 .ensures ∙ part-rest (a .line .now) 19)
     (toZ-ofZ f ∙ c .before .before .before .before .before .before .before .before .before .before .before .signed64 .ensures ∙ ap pos (size-is (a .line .now) size flags told)) refl
     (ap (λ (r : Presence). optionalOf r (replicate 32 1)) (c .before .before .before .before .before .before .before .before .before .before .rooted-by .ensures) ∙ root-by (leb 16 flags) (replicate 32 1)))
-    ∙ ap (λ (o : Optional Addition). obeyed o s) told
+    ∙ ap (λ (o : Optional FileEntry). obeyed o s) told
 
 pub add-line-spec : {M : Type 1} → statement M
 add-line-spec =

@@ -1,4 +1,4 @@
--- `listing::run::add_lines` meets its contract. The loop's invariant: the run is going on at place `at`, behind `line`
+-- `listing::run::add_lines` meets its contract. The loop's invariant: the run is going on at place `at`, after `line`
 -- lines.
 use Prim.Native.Nat.{ℕ, _+_, _-_}
 use mathlib.Core.Path.{_≡_, refl, sym, ap, _∙_}
@@ -10,7 +10,7 @@ use Rattle.lists.specs.Lists.{partOf}
 use Rattle.tables.specs.Model.{viewOf}
 use Rattle.storage.specs.declared.answer.StorageResult.{StorageResult}
 use Rattle.storage.specs.Outcomes.{Changed, storageSays}
-use Rattle.listing.specs.Form.{lines, fileIn}
+use Rattle.listing_input.specs.Form.{lines, fileIn}
 use Rattle.listing.specs.Run.{runFrom, places}
 use Rattle.listing.specs.declared.run.RunResult.{RunResult}
 use Rattle.storage.specs.Plan.{storeOf}
@@ -53,13 +53,13 @@ placed c =
     }
 
 loop-holds : tie.Need-loop-holds Inv-loop μ-loop
-loop-holds c = record { behind = c .before .before .before .before .before .pre .1 .1 .0; within = c .before .before .before .before .before .pre .1 .1 .1; placed = c .before .before .before .before .before .pre .0; sound = c .before .before .before .before .before .pre .1 .0; rest = refl }
+loop-holds c = record { after-line = c .before .before .before .before .before .pre .1 .1 .0; within = c .before .before .before .before .before .pre .1 .1 .1; placed = c .before .before .before .before .before .pre .0; sound = c .before .before .before .before .before .pre .1 .0; rest = refl }
 
 line-length-requires : tie.Need-line-length-requires Inv-loop μ-loop
 line-length-requires c κs = search needs
 
 add-line : tie.Need-add-line Inv-loop μ-loop
-add-line c = omega (arith, c .before .before .loop .inv .behind, c .before .loop-test .taken, c .before .before .before .before .before .before .before .before .good .0)
+add-line c = omega (arith, c .before .before .loop .inv .after-line, c .before .loop-test .taken, c .before .before .before .before .before .before .before .before .good .0)
 
 part-requires : tie.Need-part-requires Inv-loop μ-loop
 part-requires c κs = search needs
@@ -102,17 +102,17 @@ returns c =
 add-at : tie.Need-add-at Inv-loop μ-loop
 add-at c =
     let l = c .before .before .before .before .before .before .before .before .before .before .before .before .before .before .before .before .before .before .before .before .before .loop in
-    omega (arith, l .inv .behind, c .before .before .before .before .before .before .before .before .before .before .before .before .before .before .before .before .before .before .before .before .loop-test .taken, c .before .before .before .before .before .before .before .before .before .before .before .before .before .before .before .before .before .before .before .before .before .before .before .before .before .before .before .good .0, c .before .before .before .before .before .before .before .before .before .before .before .before .before .before .before .before .before .before .before .line-length .ensures, line-few (c .before .before .before .before .before .before .before .before .before .before .before .before .before .before .before .before .before .before .before .before .before .before .before .before .before .before .before .args .input .now) (l .at))
+    omega (arith, l .inv .after-line, c .before .before .before .before .before .before .before .before .before .before .before .before .before .before .before .before .before .before .before .before .loop-test .taken, c .before .before .before .before .before .before .before .before .before .before .before .before .before .before .before .before .before .before .before .before .before .before .before .before .before .before .before .good .0, c .before .before .before .before .before .before .before .before .before .before .before .before .before .before .before .before .before .before .before .line-length .ensures, line-few (c .before .before .before .before .before .before .before .before .before .before .before .before .before .before .before .before .before .before .before .before .before .before .before .before .before .before .before .args .input .now) (l .at))
 
 add-at-2 : tie.Need-add-at-2 Inv-loop μ-loop
 add-at-2 c =
     let l = c .before .before .before .before .before .before .before .before .before .before .before .before .before .before .before .before .before .before .before .before .before .loop in
-    omega (arith, l .inv .behind, c .before .before .before .before .before .before .before .before .before .before .before .before .before .before .before .before .before .before .before .before .loop-test .taken, c .before .before .before .before .before .before .before .before .before .before .before .before .before .before .before .before .before .before .before .before .before .before .before .before .before .before .before .good .0, c .before .before .before .before .before .before .before .before .before .before .before .before .before .before .before .before .before .before .before .line-length .ensures, line-few (c .before .before .before .before .before .before .before .before .before .before .before .before .before .before .before .before .before .before .before .before .before .before .before .before .before .before .before .args .input .now) (l .at))
+    omega (arith, l .inv .after-line, c .before .before .before .before .before .before .before .before .before .before .before .before .before .before .before .before .before .before .before .before .loop-test .taken, c .before .before .before .before .before .before .before .before .before .before .before .before .before .before .before .before .before .before .before .before .before .before .before .before .before .before .before .good .0, c .before .before .before .before .before .before .before .before .before .before .before .before .before .before .before .before .before .before .before .line-length .ensures, line-few (c .before .before .before .before .before .before .before .before .before .before .before .before .before .before .before .before .before .before .before .before .before .before .before .before .before .before .before .args .input .now) (l .at))
 
 loop-less : tie.Need-loop-less Inv-loop μ-loop
 loop-less c =
     let l = c .before .before .before .before .before .before .before .before .before .before .before .before .before .before .before .before .before .before .before .before .before .loop in
-    omega (arith, l .inv .behind, c .before .before .before .before .before .before .before .before .before .before .before .before .before .before .before .before .before .before .before .before .loop-test .taken, c .before .before .before .before .before .before .before .before .before .before .before .before .before .before .before .before .before .before .before .before .before .before .before .before .before .before .before .good .0, c .before .before .before .before .before .before .before .before .before .before .before .before .before .before .before .before .before .before .before .line-length .ensures, line-few (c .before .before .before .before .before .before .before .before .before .before .before .before .before .before .before .before .before .before .before .before .before .before .before .before .before .before .before .args .input .now) (l .at))
+    omega (arith, l .inv .after-line, c .before .before .before .before .before .before .before .before .before .before .before .before .before .before .before .before .before .before .before .before .loop-test .taken, c .before .before .before .before .before .before .before .before .before .before .before .before .before .before .before .before .before .before .before .before .before .before .before .before .before .before .before .good .0, c .before .before .before .before .before .before .before .before .before .before .before .before .before .before .before .before .before .before .before .line-length .ensures, line-few (c .before .before .before .before .before .before .before .before .before .before .before .before .before .before .before .before .before .before .before .before .before .before .before .before .before .before .before .args .input .now) (l .at))
 
 loop-again : tie.Need-loop-again Inv-loop μ-loop
 loop-again c = run-goes _ _ _ _ _ (c .before .before .before .before .before .before .before .before .before .before .before .before .before .before .before .before .before .before .before .before .before .loop .inv) (c .before .before .before .before .before .before .before .before .before .before .before .before .before .before .before .before .before .before .before .before .loop-test .taken) _ (c .before .before .before .before .before .before .before .before .before .before .before .before .before .before .before .before .before .before .before .line-length .ensures) (left-by (c .before .before .before .before .before .before .before .before .before .before .before .before)) (changed (c .before .before .before .before .before .before .before .before .before .before .before .before)) _ (ap storageSays (c .before .answer .given .1)) (placed (c .before .before .before .before .before .before .before .before .before .before .before .before))

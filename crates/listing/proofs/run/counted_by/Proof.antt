@@ -18,14 +18,14 @@ module _ (fs : FileStorage) (line n : ℕ) (e : n ≡ ceiling (fs .«total_size�
   not-many : n ≤ 2147483647 → Listed fs ≡ countedBy fs line
   not-many h = rw (← e, le-ltb 2147483647 n h)
 
-pieces-of-requires : tie.Need-pieces-of-requires
-pieces-of-requires c κs = search needs
+div-ceil-requires : tie.Need-div-ceil-requires
+div-ceil-requires c κs = search needs
 
 returns : tie.Need-returns
-returns c = too-many (c .before .before .args .fs) (c .before .before .args .line) (c .before .pieces-of .result) (c .before .pieces-of .ensures) (c .if1 .taken)
+returns c = too-many (c .before .before .args .fs) (c .before .before .args .line) (c .before .div-ceil .result) (c .before .div-ceil .ensures) (c .if1 .taken)
 
 returns-2 : tie.Need-returns-2
-returns-2 c = not-many (c .before .before .args .fs) (c .before .before .args .line) (c .before .pieces-of .result) (c .before .pieces-of .ensures) (c .if1 .left)
+returns-2 c = not-many (c .before .before .args .fs) (c .before .before .args .line) (c .before .div-ceil .result) (c .before .div-ceil .ensures) (c .if1 .left)
 
 pub counted-by-spec : {M : Type 1} → statement M
-counted-by-spec = tie.close (tie.spec pieces-of-requires returns returns-2)
+counted-by-spec = tie.close (tie.spec div-ceil-requires returns returns-2)

@@ -3,12 +3,13 @@ use mathlib.Core.Path.{_≡_, refl, sym, ap, _∙_}
 use Prim.Native.Nat.{ℕ}
 use lib.ListN.{replicate, length-replicate}
 use mathlib.Core.List.{List, []}
-use Rattle.listing.specs.Run.{run, places, printed}
-use Rattle.listing.specs.Printing.{putText}
+use Rattle.listing.specs.Run.{run, places}
+use Rattle.listing_output.specs.Output.{printed}
+use Rattle.listing_output.specs.Printing.{putText}
 use Rattle.storage.specs.Plan.{storeOf}
 use Rattle.listing.specs.Steps.{Placed, runSays}
 use Rattle.listing.specs.declared.run.RunResult.{RunResult}
-use Rattle.listing.proofs.Printed.{shown-is}
+use Rattle.listing_output.proofs.Printed.{shown-is}
 use borrow.Author.Needs.{needs}
 use Rattle.listing.proofs.run.list.Statement.{statement}
 use Rattle.listing.proofs.run.list.Tie as tie

@@ -5,7 +5,7 @@ use mir.Syntax.{w32}
 use mir.Val.{SFits}
 use mir.Facts.{toZ-ofZ}
 use Rattle.storage.specs.Opening.{opened}
-use Rattle.listing.specs.Answers.{numberSays}
+use Rattle.listing_input.specs.Answers.{numberSays}
 use Rattle.listing.specs.Steps.{openedBy}
 use Rattle.listing.proofs.Steps.{piece-length-is}
 use borrow.Author.Needs.{needs}

@@ -13,7 +13,7 @@ use Rattle.storage.specs.Opening.{empty}
 use Rattle.sound.specs.Sound.{Sound}
 use Rattle.storage.specs.Opening.{fresh}
 use Rattle.sound.proofs.Opened.{sound-opened, view-opened}
-use Rattle.listing.specs.Form.{lines, pieceLengthIn}
+use Rattle.listing_input.specs.Form.{lines, pieceLengthIn}
 use Rattle.listing.specs.Run.{run, runFrom, places}
 use Rattle.listing.specs.declared.run.RunResult.{RunResult}
 use Rattle.storage.specs.Plan.{storeOf}

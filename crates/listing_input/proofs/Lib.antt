@@ -1,0 +1,2 @@
+-- The laws of `listing_input`.
+pub mod Reading

@@ -1,0 +1,3 @@
+-- The definitions that the contracts of `listing_input` cite.
+pub mod Answers
+pub mod Form

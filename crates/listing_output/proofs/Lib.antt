@@ -1,0 +1,2 @@
+-- The laws of `listing_output`.
+pub mod Printed

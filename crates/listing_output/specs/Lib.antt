@@ -1,0 +1,3 @@
+-- The definitions that the contracts of `listing_output` cite.
+pub mod Output
+pub mod Printing
