@@ -16,9 +16,9 @@ use Rattle.tables.specs.declared.storage.FileStorage.{FileStorage}
 use Rattle.tables.specs.declared.span.Span.{Span}
 use Rattle.tables.specs.Span.{textAt}
 use Rattle.tables.specs.Rows.{rowAt, dirAt, noPath, rootAt, has}
-use Rattle.tables.specs.Model.{Optional, absent, present, presentIf, Directory, single, absolute, stored, File, Store, directoryText, fileOf, viewOf}
+use Rattle.tables.specs.Model.{Optional, absent, present, presentIf, Directory, single, absolute, stored, pathIn, File, Store, directoryText, fileOf, viewOf}
 use Rattle.tables.proofs.Tabled.{length-tabled, getD-tabled}
-use Rattle.rules.specs.Rules.{firstOf, both, outcomeOf}
+use Rattle.rules.specs.Rules.{firstOf, outcomeOf}
 use Rattle.rules.specs.Bounds.{badLength, indexOf}
 use Rattle.rules.specs.Questions.{badPieceLength, noDirectory, short, askedHeld, askedDirectory, askedFile, askedLink}
 use Rattle.answers.specs.Answers.{timeOf, rootOf, isAbsolute, internalPath, symlinkPath}
@@ -33,12 +33,6 @@ abbrev pub isAbsoluteIn : Directory → Bool
 isAbsoluteIn single = false
 isAbsoluteIn absolute = true
 isAbsoluteIn (stored d b) = false
-
--- the path of a name within the set
-abbrev pub pathIn : Directory → List ℕ → List ℕ
-pathIn single name = name
-pathIn absolute name = name
-pathIn (stored d b) name = appended d name
 
 -- the path that a link leads to, with the set's name
 abbrev pub linkIn : List ℕ → Optional (List ℕ) → List ℕ
@@ -85,12 +79,6 @@ root-if false x d = refl
 link-if : (b : Bool) (name t : List ℕ) → cond b (appended name t) [] ≡ linkIn name (presentIf b t)
 link-if true name t = refl
 link-if false name t = refl
-
-path-if : (a b o : Bool) (d name : List ℕ)
-    → cond (both (not a) (not b)) (appended d name) name ≡ pathIn (cond a single (cond b absolute (stored d o))) name
-path-if true b o d name = refl
-path-if false true o d name = refl
-path-if false false o d name = refl
 
 absolute-if : (a b o : Bool) (d : List ℕ) → (a ≡ true → b ≡ false) → b ≡ isAbsoluteIn (cond a single (cond b absolute (stored d o)))
 absolute-if true b o d h = h refl
@@ -151,6 +139,4 @@ module _ (s : Store) where
         absolute-if (eqb (r .«path_index») noPath) (isAbsolute r) (has (r .flags) 32) (directoryText s (r .«path_index»)) (λ e. rw (eqb-true (r .«path_index») noPath e))
 
     pub path-is : internalPath (s .dirs) (s .text) (rowAt (s .rows) k) ≡ pathIn (fileOf s k .directory) (fileOf s k .name)
-    path-is =
-        let r = rowAt (s .rows) k in
-        path-if (eqb (r .«path_index») noPath) (isAbsolute r) (has (r .flags) 32) (directoryText s (r .«path_index»)) (fileOf s k .name)
+    path-is = refl

@@ -1,5 +1,6 @@
 -- Document 01, 'The set': what each plain answer is; its refusals are the rules of `rules`. It relies on what the tables hold (tables,
--- specs/Rows.antt, from which `isAbsolute` and `isInside` are passed on).
+-- specs/Rows.antt and Model.antt, from which `isAbsolute`, `isInside` and `internalPath`, the answer of `internal_file_path`, are
+-- passed on).
 use Prim.Native.Nat.{ℕ}
 use mathlib.Core.Bool.{cond}
 use mathlib.Core.List.{List, []}
@@ -9,7 +10,8 @@ use Rattle.tables.specs.declared.storage.FileStorage.{FileStorage}
 use Rattle.tables.specs.declared.rows.Row.{Row}
 use Rattle.tables.specs.Span.{textAt}
 pub use Rattle.tables.specs.Rows.{isAbsolute, isInside}
-use Rattle.tables.specs.Rows.{rowAt, dirAt, rootAt, has}
+pub use Rattle.tables.specs.Model.{internalPath}
+use Rattle.tables.specs.Rows.{rowAt, rootAt, has}
 use Rattle.path.specs.Join.{appended}
 
 -- a modified time: 0 behind those held
@@ -19,11 +21,6 @@ timeOf fs times k = getD (take (fs .«num_mtimes») times) k (pos 0)
 -- a root, 32 zero bytes where there is none
 abbrev pub rootOf : List ℕ → List ℕ → ℕ → List ℕ
 rootOf rows roots k = cond (has (rowAt rows k .flags) 128) (rootAt roots k) (replicate 32 0)
-
--- `internal_file_path`: directory and name joined; the name alone where there is no directory
-abbrev pub internalPath : List ℕ → List ℕ → Row → List ℕ
-internalPath dirs text r =
-    cond (isInside r) (appended (textAt text (dirAt dirs (r .«path_index»))) (textAt text (r .name))) (textAt text (r .name))
 
 -- `symlink`: the set's name and the link text joined; nothing where no link text is held
 abbrev pub symlinkPath : FileStorage → List ℕ → Row → List ℕ

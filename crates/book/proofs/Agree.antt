@@ -10,7 +10,7 @@ use lib.Dec.{eqb, ltb}
 use lib.IntN.{pos}
 use lib.ListN.{length}
 use borrow.Author.Tests.{eqb-true, eqb-false, ltb-false}
-use Rattle.lists.specs.Lists.{sum}
+use Rattle.lists.specs.Lists.{sum, cleared}
 use Rattle.types.specs.Refusals.{value, refused}
 use Rattle.tables.specs.declared.storage.FileStorage.{FileStorage}
 use Rattle.tables.specs.Model.{Optional, absent, present, File, Model, Store, fileOf, viewOf}
@@ -19,14 +19,14 @@ use Rattle.rules.specs.Bounds.{badLength}
 use Rattle.storage.specs.Addition.{Addition, added}
 use Rattle.storage.specs.Trim.{tailPad}
 use Rattle.storage.specs.Write.{storeAdded}
-use Rattle.storage.specs.Opening.{empty, opened}
+use Rattle.storage.specs.Opening.{empty, opened, fresh}
 use Rattle.storage.specs.Outcomes.{Changed, changedIf, roomsOf, holds, addingNumber, trimmedBy}
-use Rattle.links.specs.Clean.{space}
-use Rattle.links.specs.Judging.{lent, entriesOf, judgingNumber, cleared}
+use Rattle.lookup.specs.Space.{space}
+use Rattle.lookup.specs.Lookup.{lent, entriesOf}
+use Rattle.links.specs.Judging.{judgingNumber}
 use Rattle.cleaning.specs.Cleaning.{cleanedStore, textNeeded, Cleaned, cleanedTo, cleanStored}
 use Rattle.sound.specs.Sound.{Sound}
 use Rattle.sound.specs.Documents.{sizes, EndToEnd, OnDisk, Marked, OnPiece, Each, LinkEmpty}
-use Rattle.storage.specs.Opening.{fresh}
 use Rattle.model.specs.Reached.{Reached}
 use Rattle.model.specs.Reached as reach
 use Rattle.sound.proofs.Common.{sum-tabled}

@@ -21,8 +21,10 @@ use Rattle.storage.specs.Trim.{tailPad}
 use Rattle.storage.specs.Opening.{empty, opened}
 use Rattle.storage.specs.Write.{storeAdded}
 use Rattle.storage.specs.Outcomes.{Changed, changedIf, roomsOf, addingNumber, addStored, trimStored, trimmedBy}
-use Rattle.links.specs.Clean.{cleanedOf, space, linkCount}
-use Rattle.links.specs.Judging.{lent, entriesOf, lacksSpace, cleared}
+use Rattle.links.specs.Clean.{cleanedOf}
+use Rattle.lookup.specs.Space.{space, linkCount, lacksSpace}
+use Rattle.lookup.specs.Lookup.{lent, entriesOf}
+use Rattle.lists.specs.Lists.{cleared}
 use Rattle.cleaning.specs.Cleaning.{cleanedStore, Cleaned, cleanedTo, cleanStored}
 use lib.Seq.{sets}
 use Rattle.renames.specs.Renames.{Renamed, inOrder, lacksRoom, renameFile, renamedTo, renamesOf, stateOf, wordsOf, textsOf}

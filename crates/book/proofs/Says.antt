@@ -25,7 +25,7 @@ use Rattle.storage.specs.Addition.{Addition}
 use Rattle.storage.specs.Opening.{opened}
 use Rattle.storage.specs.Plan.{storeOf, additionOf}
 use Rattle.storage.specs.Outcomes.{Changed, storageSays, addStored, trimStored}
-use Rattle.links.specs.Judging.{lent}
+use Rattle.lookup.specs.Lookup.{lent}
 use Rattle.cleaning.specs.Cleaning.{Cleaned, cleanStored}
 use Rattle.renames.specs.Renames.{renameFile}
 use Rattle.renames.specs.Renames as renames

@@ -13,7 +13,7 @@ use Rattle.tables.specs.Model.{Store}
 use Rattle.storage.specs.Addition.{Addition}
 use Rattle.storage.specs.Opening.{opened}
 use Rattle.storage.specs.Outcomes.{Changed, addStored, trimStored}
-use Rattle.links.specs.Judging.{lent}
+use Rattle.lookup.specs.Lookup.{lent}
 use Rattle.cleaning.specs.Cleaning.{Cleaned, cleanStored}
 use Rattle.renames.specs.declared.rename.RenamedFiles.{RenamedFiles}
 use Rattle.renames.specs.Renames.{renameFile}

@@ -17,7 +17,7 @@ use Rattle.storage.specs.Opening.{empty}
 use Rattle.storage.specs.Outcomes.{Changed, addStored}
 use Rattle.rules.specs.Rules.{both}
 use Rattle.rules.specs.Questions.{askedFile, askedLink, rowsHeld, textHeld}
-use Rattle.links.specs.Judging.{lent}
+use Rattle.lookup.specs.Lookup.{lent}
 use Rattle.cleaning.specs.Cleaning.{Cleaned, cleanStored}
 use Rattle.rules.specs.Results.{Range, Asked}
 use Rattle.files.specs.Request.{fileMapped}

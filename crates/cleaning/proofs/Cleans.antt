@@ -9,17 +9,19 @@ use lib.Dec.{eqb, ltb}
 use lib.ListN.{length, getD, drop, replicate, length-replicate}
 use lib.Seq.{sets, length-sets, getD-drop, drop-drop}
 use borrow.Author.Tests.{eqb-true}
+use Rattle.lists.specs.Lists.{cleared}
 use Rattle.types.specs.Refusals.{numberOf, value, refused}
 use Rattle.types.specs.declared.refusal.Refusal.{Refusal}
 use Rattle.tables.specs.Model.{Store}
-use Rattle.links.specs.Clean.{Entry, linkCount}
-use Rattle.links.specs.Judging.{isFlagged, entriesOf, directoriesOf, verdictOf, verdictsFor, verdicts, judgingNumber, cleared, Judged, judged}
-use Rattle.links.specs.Walking.{entryAt, entriesFrom}
-use Rattle.links.proofs.Rows.{flagged-at, entries-all}
+use Rattle.lookup.specs.Lookup.{Entry, isFlagged, entriesOf, directoriesOf}
+use Rattle.lookup.specs.Space.{linkCount}
+use Rattle.lookup.specs.Rows.{entryAt, entriesFrom}
+use Rattle.lookup.proofs.Rows.{flagged-at, entries-all}
+use Rattle.links.specs.Judging.{verdictOf, verdictsFor, verdicts, judgingNumber, Judged, judged}
 use Rattle.links.proofs.Judgements.{verdicts-set, roomy}
+use Rattle.texts.proofs.OneLink.{cond-yes, cond-no}
 use Rattle.cleaning.specs.Cleaning.{fileVerdictsFor, fileVerdicts, emptied, rewritten, cleanedStore, textNeeded, Cleaned, cleanedTo, cleanStored}
 use Rattle.cleaning.specs.Writing.{flagsIn, verdictsBy, allVerdicts, neededBy, cleanedBy}
-use Rattle.cleaning.proofs.OneLink.{cond-yes, cond-no}
 
 -- ---- verdicts
 

@@ -10,6 +10,7 @@ use native.Mathlib.Nat.{sub-zero}
 use lib.Dec.{eqb}
 use lib.ListN.{length, getD, List·getD-eq-default}
 use lib.Seq.{sets, length-sets}
+use borrow.Author.Tests.{ne-eqb}
 use Rattle.lists.proofs.Orders.{le-or-lt}
 use Rattle.lists.proofs.Runs.{getD-sets, getD-sets-below, getD-sets-above}
 use Rattle.tables.specs.declared.span.Span.{Span}
@@ -17,9 +18,10 @@ use Rattle.tables.specs.declared.rows.Row.{Row}
 use Rattle.tables.specs.Rows.{rowAt, words, putRow}
 use Rattle.tables.specs.Model.{Store, fileOf}
 use Rattle.tables.proofs.Filled.{word-filled, word-behind}
-use Rattle.links.specs.Clean.{entryOf}
-use Rattle.links.specs.Judging.{isFlagged, textBy}
-use Rattle.cleaning.specs.Cleaning.{rowLowered, rowsLowered, linked, cutOut, goneAt, relinked, hasPlace, writtenAt, rewrittenAt, emptied, rewritten}
+use Rattle.lookup.specs.Lookup.{entryOf, isFlagged}
+use Rattle.links.specs.Judging.{textBy}
+use Rattle.texts.specs.Texts.{rowLowered, rowsLowered, linked, cutOut, goneAt, relinked}
+use Rattle.cleaning.specs.Cleaning.{hasPlace, writtenAt, rewrittenAt, emptied, rewritten}
 use Rattle.cleaning.specs.Writing.{flagsIn, verdictBy, markAfter, verdictsBy, passed, emptiedAt}
 
 -- ---- flags stay
@@ -76,6 +78,12 @@ rewritten-keeps n v s i j =
     (kept-if (eqb v 0) s (cond (eqb v 1) (linked s i t) (relinked s i t)) s j refl
     (kept-if (eqb v 1) (linked s i t) (relinked s i t) s j (flags-linked s i t j) (flags-relinked s i t j)))
     refl)
+
+-- ---- by the verdict
+
+-- any verdict but 0 and 1 is that for the text from the link's directory
+pub other-verdict : (n v : ℕ) (s : Store) (i : ℕ) → (v ≡ 0 → ⊥) → (v ≡ 1 → ⊥) → rewrittenAt n 2 s i ≡ rewrittenAt n v s i
+other-verdict n v s i h k = rw (ne-eqb v 0 h, ne-eqb v 1 k)
 
 -- ---- a pass
 

@@ -11,14 +11,35 @@ use lib.Dec.{eqb, ltb}
 use lib.ListN.{length}
 use borrow.Author.Tests.{lt-ltb, le-ltb}
 use Rattle.lists.proofs.Orders.{le-or-lt}
-use Rattle.tables.specs.Rows.{rowAt}
+use Rattle.path.specs.Join.{appended}
+use Rattle.tables.specs.declared.rows.Row.{Row}
+use Rattle.tables.specs.Span.{textAt}
+use Rattle.tables.specs.Rows.{rowAt, directorySpan}
 use Rattle.tables.specs.Model.{Store, fileOf}
-use Rattle.links.specs.Clean.{entryOf}
+use Rattle.lookup.specs.Lookup.{entryOf}
 use Rattle.links.specs.Judging.{textBy}
+use Rattle.texts.specs.Texts.{ownText, textBeside, linkSpan}
+use Rattle.texts.proofs.NewTexts.{own-parts, beside-parts}
 use Rattle.cleaning.specs.Cleaning.{keptAfter, newBytes}
-use Rattle.cleaning.specs.Writing.{verdictBy, markAfter, verdictsBy, goneBytes, newLength, leftBy, sumBy, neededBy}
-use Rattle.cleaning.proofs.NewTexts.{text-by}
+use Rattle.cleaning.specs.Writing.{verdictBy, markAfter, verdictsBy, leafSpan, goneBytes, newLength, leftBy, sumBy, neededBy}
 use Rattle.cleaning.proofs.Passes.{verdicts-turn, verdicts-end, mark-behind}
+
+-- ---- a new text by its parts
+
+module _ (s : Store) (i : ℕ) where
+  abbrev row : Row
+  row = rowAt (s .rows) i
+
+  abbrev branch : List ℕ
+  branch = textAt (s .text) (directorySpan (s .dirs) row)
+
+  text-parts : (b : Bool) → cond b (ownText s i) (textBeside s i) ≡ appended branch (textAt (s .text) (cond b (row .name) (linkSpan row)))
+  text-parts true = own-parts s i
+  text-parts false = beside-parts s i
+
+  -- the text that a verdict gives
+  text-by : (v : ℕ) → eqb v 0 ≡ false → textBy v (entryOf (fileOf s i)) ≡ appended branch (textAt (s .text) (leafSpan v row))
+  text-by v e = rw e (text-parts (eqb v 1))
 
 -- ---- a room less a number, and what is left of it
 

@@ -1,86 +1,19 @@
 -- What a cleaning writes: the tables after it, word by word, for tables of any content. What becomes of each text is said by
--- the verdicts of links' Judging.antt; here stands where texts go. 'Text needed is the sum of … link texts held after the call;
--- what a … cleaning frees is used': first every text goes that gives way to its link's own path, then each new text takes the
--- place of the old one, so that no step needs more than the result.
-use Prim.Native.Nat.{ℕ, _+_, _-_, _/_, min}
+-- the verdicts of links' Judging.antt, and how one text is written by Texts.antt of `texts`. 'What a … cleaning frees is used': first
+-- every text is removed that gives way to its link's own path, then each new text takes the place of the old one, so that no
+-- step needs more than the result.
+use Prim.Native.Nat.{ℕ, _+_, _-_}
 use mathlib.Core.Bool.{Bool, cond}
 use mathlib.Core.List.{List, [], _∷_}
-use lib.Dec.{eqb, ltb, leb}
+use lib.Dec.{eqb, ltb}
 use lib.ListN.{length}
-use lib.Seq.{sets}
+use Rattle.lists.specs.Lists.{cleared}
 use Rattle.types.specs.Refusals.{Outcome, value, refused}
-use Rattle.tables.specs.declared.span.Span.{Span}
-use Rattle.tables.specs.declared.rows.Row.{Row}
 use Rattle.tables.specs.declared.storage.FileStorage.{FileStorage}
-use Rattle.tables.specs.Span.{endOf, clip, slid, low}
-use Rattle.tables.specs.Rows.{rowAt, words, putRow, directorySpan, filled, dirsLowered}
 use Rattle.tables.specs.Model.{Store, fileOf}
-use Rattle.rules.specs.Rules.{both}
-use Rattle.links.specs.Clean.{Entry, entryOf}
-use Rattle.links.specs.Judging.{entriesOf, directoriesOf, verdictOf, textBy, judgingNumber, cleared}
-
--- ---- one link's text
-
--- a set's record with its name elsewhere and so many bytes of text
-abbrev pub storageWith : FileStorage → Span → ℕ → FileStorage
-storageWith fs name used =
-    record {
-      «piece_length» = fs .«piece_length»;
-      v2 = fs .v2;
-      «num_files» = fs .«num_files»;
-      «num_paths» = fs .«num_paths»;
-      «num_symlinks» = fs .«num_symlinks»;
-      «num_mtimes» = fs .«num_mtimes»;
-      name = name;
-      «text_len» = used;
-      «total_size» = fs .«total_size»;
-      «size_on_disk» = fs .«size_on_disk»;
-      trimmed = fs .trimmed;
-    }
-
-abbrev pub rowWith : Row → Span → Span → Row
-rowWith r name link =
-    record { offset = r .offset; size = r .size; name = name; link = link; «path_index» = r .«path_index»; flags = r .flags }
-
--- the first n rows once span c is removed from the text area
-abbrev pub rowLowered : Span → Row → Row
-rowLowered c r = rowWith r (low c (r .name)) (low c (r .link))
-
-abbrev pub rowsLowered : List ℕ → ℕ → Span → List ℕ
-rowsLowered rows n c = sets rows 0 (filled (λ i. words (rowLowered c (rowAt rows i))) 0 (min n (length rows / 8)))
-
--- the set once span c of its text area is removed
-abbrev pub cutOut : Store → Span → Store
-cutOut s c =
-    record {
-      fs = storageWith (s .fs) (low c (s .fs .name)) (s .fs .«text_len» - c .len);
-      rows = rowsLowered (s .rows) (s .fs .«num_files») c;
-      roots = s .roots;
-      times = s .times;
-      dirs = dirsLowered (s .dirs) (s .fs .«num_paths») c;
-      text = slid c (s .fs .«text_len») (s .text);
-    }
-
--- the bytes of a link's text within the used part
-abbrev pub goneAt : Store → ℕ → Span
-goneAt s i = clip (s .fs .«text_len») (rowAt (s .rows) i .link)
-
--- t is appended, and file i's link text is there
-abbrev pub linked : Store → ℕ → List ℕ → Store
-linked s i t =
-    record {
-      fs = storageWith (s .fs) (s .fs .name) (s .fs .«text_len» + length t);
-      rows =
-          putRow (s .rows) i (rowWith (rowAt (s .rows) i) (rowAt (s .rows) i .name) (record { at = s .fs .«text_len»; len = length t }));
-      roots = s .roots;
-      times = s .times;
-      dirs = s .dirs;
-      text = sets (s .text) (s .fs .«text_len») t;
-    }
-
--- file i's link text goes, and t is appended in its stead
-abbrev pub relinked : Store → ℕ → List ℕ → Store
-relinked s i t = linked (cutOut s (goneAt s i)) i t
+use Rattle.lookup.specs.Lookup.{Entry, entryOf, entriesOf, directoriesOf}
+use Rattle.links.specs.Judging.{verdictOf, textBy, judgingNumber}
+use Rattle.texts.specs.Texts.{goneAt, linked, relinked, ownFits, besideFits}
 
 -- ---- all links' texts
 
@@ -102,21 +35,6 @@ abbrev pub writtenAt : ℕ → Store → ℕ → Store
 writtenAt v s i =
     cond (eqb v 0) s
     (cond (eqb v 1) (linked s i (textBy v (entryOf (fileOf s i)))) (relinked s i (textBy v (entryOf (fileOf s i)))))
-
--- a span lies within the first u bytes
-abbrev pub isWithin : ℕ → Span → Bool
-isWithin u c = leb (endOf c) u
-
--- the parts of a link's own path lie in the used part, and the path fits behind it
-abbrev pub ownFits : Store → ℕ → List ℕ → Bool
-ownFits s i t =
-    both (isWithin (s .fs .«text_len») (directorySpan (s .dirs) (rowAt (s .rows) i)))
-    (both (isWithin (s .fs .«text_len») (rowAt (s .rows) i .name)) (leb (length t) (length (s .text) - s .fs .«text_len»)))
-
--- a text fits in n bytes, and in the text area where the old text goes
-abbrev pub besideFits : ℕ → Store → ℕ → List ℕ → Bool
-besideFits n s i t =
-    both (leb (length t) n) (leb (length t) (length (s .text) - (s .fs .«text_len» - goneAt s i .len)))
 
 -- in tables that the other calls leave every new text has its place, once there is room for all; n is the stage's length
 abbrev pub hasPlace : ℕ → ℕ → Store → ℕ → Bool

@@ -1,33 +1,21 @@
--- What the private parts of a cleaning's code give: joins by their parts, and verdicts read from flags and marks. The meaning is
--- that of Cleaning.antt; it relies on the joins of `path` and on the flags of a link in links' Judging.antt.
+-- What the private parts of a cleaning's code give: verdicts read from flags and marks, and the lengths of new texts. The meaning
+-- is that of Cleaning.antt; it relies on the joins of `path` and on the flags of a link in `lookup`.
 use Prim.Native.Nat.{ℕ, zero, suc, _+_, _-_}
-use mathlib.Core.Bool.{Bool, false, cond, not}
-use mathlib.Core.List.{List, [], _∷_, _++_}
+use mathlib.Core.Bool.{cond}
+use mathlib.Core.List.{List, [], _∷_}
 use lib.Dec.{eqb, ltb}
 use lib.ListN.{length, getD}
-use Rattle.path.specs.Join.{isAlone, isClosed, appended}
+use Rattle.lists.specs.Lists.{cleared}
 use Rattle.types.specs.Refusals.{value, refused}
+use Rattle.path.specs.Join.{appended}
 use Rattle.tables.specs.declared.span.Span.{Span}
 use Rattle.tables.specs.declared.rows.Row.{Row}
 use Rattle.tables.specs.Span.{textAt, clip}
-use Rattle.tables.specs.Rows.{rowAt, directorySpan, has}
+use Rattle.tables.specs.Rows.{rowAt, directorySpan}
 use Rattle.tables.specs.Model.{Store}
-use Rattle.links.specs.Judging.{isFlagged, cleared}
-use Rattle.cleaning.specs.Cleaning.{relinked, emptied, rewritten, keptAfter, newBytes, Cleaned, cleanedTo}
-
--- ---- joins by their parts
-
--- whether a separator stands between the branch d and a leaf of n bytes
-abbrev pub isParted : List ℕ → ℕ → Bool
-isParted d n = cond (eqb n 0) false (not (isClosed d))
-
--- what a join has before its leaf of n bytes
-abbrev pub prefixOf : List ℕ → ℕ → List ℕ
-prefixOf d n = cond (isAlone d) [] (cond (isParted d n) (d ++ (47 ∷ [])) d)
-
--- where the leaf of a link's new text lies: the link's name, or its old text where it holds one
-abbrev pub leafSpan : ℕ → Row → Span
-leafSpan v r = cond (eqb v 1) (r .name) (cond (has (r .flags) 16) (r .link) (record { at = 0; len = 0 }))
+use Rattle.lookup.specs.Lookup.{isFlagged}
+use Rattle.texts.specs.Texts.{relinked, linkSpan}
+use Rattle.cleaning.specs.Cleaning.{emptied, rewritten, keptAfter, newBytes, Cleaned, cleanedTo}
 
 -- ---- verdicts
 
@@ -60,6 +48,10 @@ abbrev pub emptiedAt : ℕ → Store → ℕ → Store
 emptiedAt v s i = cond (eqb v 1) (relinked s i []) s
 
 -- ---- the text needed
+
+-- where the leaf of a link's new text lies: the link's name, or its old text
+abbrev pub leafSpan : ℕ → Row → Span
+leafSpan v r = cond (eqb v 1) (r .name) (linkSpan r)
 
 -- the bytes of file i's old text that go, and those of its new text, by its verdict
 abbrev pub goneBytes : List ℕ → ℕ → ℕ → ℕ → ℕ

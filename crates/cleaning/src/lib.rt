@@ -1,9 +1,7 @@
 // `sanitize_symlinks`, from file_storage.rs: what a cleaning writes, once `links` has judged every link.
-// It relies on the total accessors and writers of `lists` and `tables` and on the joins of `path`.
+// It relies on `texts` for one link's text, and on the total accessors of `lists` and `tables`.
 mod clean;
-mod cut;
-mod parts;
-mod put;
+mod rewrite;
 mod room;
 mod verdicts;
 

@@ -1,5 +1,5 @@
 // The room that a cleaning needs, taken off the text area's length text by text, since a sum could be too
-// large. Relies on verdicts.rt, parts.rt and the laws of proofs/Passes.antt.
+// large. Relies on verdicts.rt, `texts` and the laws of proofs/Passes.antt.
 ghost use mathlib.Core.Path.{_≡_};
 ghost use mathlib.Core.Bool.{cond};
 ghost use Prim.Native.Nat.{_-_};
@@ -7,9 +7,8 @@ ghost use lib.Dec.{eqb, ltb};
 ghost use lib.ListN.{length};
 ghost use Rattle.tables.specs.Span.{clip};
 ghost use Rattle.tables.specs.Rows.{rowAt};
-ghost use Rattle.links.specs.Judging.{lent};
-ghost use Rattle.cleaning.specs.Writing.{flagsIn, verdictsBy, allVerdicts, goneBytes, newLength, leftBy, sumBy, neededBy};
-use crate::parts::leaf_of;
+ghost use Rattle.lookup.specs.Lookup.{lent};
+ghost use Rattle.cleaning.specs.Writing.{flagsIn, verdictsBy, allVerdicts, leafSpan, goneBytes, newLength, leftBy, sumBy, neededBy};
 use crate::verdicts::mark_after;
 use crate::verdicts::verdict_of;
 use lists::minus;
@@ -43,6 +42,16 @@ fn kept_after(used: usize, n: usize, rows: &[u64], marks: &[u8]) -> usize
         i += 1;
     }
     left
+}
+
+// Where the leaf of a link's new text lies: its name, or its old text.
+fn leaf_of(row: Row, verdict: u8) -> Span
+    ensures { λ r. ⌜ r ≡ leafSpan verdict row ⌝ }
+{
+    if verdict == 1 {
+        return row.name;
+    }
+    texts::link_span(row)
 }
 
 // How long the new text of a file is, by its verdict.

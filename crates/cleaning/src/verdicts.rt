@@ -8,7 +8,7 @@ ghost use Rattle.cleaning.specs.Writing.{verdictBy, markAfter};
 pub(crate) fn verdict_of(flags: u64, marks: &[u8], k: usize) -> u8
     ensures { λ r. ⌜ r ≡ verdictBy flags (now (marks .entry)) k ⌝ }
 {
-    if links::is_flagged(flags) {
+    if lookup::is_flagged(flags) {
         return lists::byte(marks, k);
     }
     0
@@ -19,7 +19,7 @@ pub(crate) fn mark_after(flags: u64, k: usize) -> usize
     requires { ⌜ k + 1 < 2 ^ 64 ⌝ }
     ensures { λ r. ⌜ r ≡ markAfter flags k ⌝ }
 {
-    if links::is_flagged(flags) {
+    if lookup::is_flagged(flags) {
         return k + 1;
     }
     k

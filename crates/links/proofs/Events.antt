@@ -8,10 +8,12 @@ use native.Mathlib.Omega.{arith}
 use lib.ListN.{length, getD, set, take, drop, length-drop}
 use lib.Seq.{map-set-same}
 use Rattle.tables.specs.Model.{Store, directoryText}
-use Rattle.links.specs.Clean.{Entry, to, leadAt, without, isDirectory, fileAt, isThere, covers, known, cut, weight, left, directoryLength, space}
-use Rattle.links.specs.Judging.{entriesOf, directoriesOf}
-use Rattle.links.specs.Walking.{lead, verdict, entryAt, entriesFrom, directoriesFrom, anyAt, leadMark, leadText, openOf, walkOf, fresh, Joined}
-use Rattle.links.proofs.Rows.{entries-all, entries-cons, entries-none, directories-hit, directories-end}
+use Rattle.lookup.specs.Lookup.{isDirectory, covers, known, entriesOf, directoriesOf}
+use Rattle.lookup.specs.Space.{directoryLength, space}
+use Rattle.lookup.specs.Rows.{entryAt, entriesFrom, directoriesFrom}
+use Rattle.lookup.proofs.Rows.{entries-all, entries-cons, entries-none, directories-hit, directories-end}
+use Rattle.links.specs.Clean.{to, leadAt, without, cut, weight, left}
+use Rattle.links.specs.Walking.{lead, verdict, anyAt, leadMark, leadText, openOf, walkOf, fresh, Joined}
 use Rattle.links.proofs.Walk.{lead-less}
 use Rattle.links.proofs.Turns.{turn-end, turn-dir, turn-dir-stop, turn-link, turn-link-stop, turn-link-less}
 use Rattle.links.proofs.Scans.{Here, here, Scan, scan-turn, scan-hit, scan-none, space-at, used-off, used-fresh, used-some, in-marks, mark-small}
@@ -123,13 +125,6 @@ module _ (s : Store) (ms path : List ℕ) (at e : ℕ) where
           link-less = turn-link-less (isDirectory (directoriesOf s)) (known (entriesOf s) (directoriesOf s)) (openOf (entriesOf s) ms) (drop at path) e (long (x .before-end)) (leadText m (entryAt s i)) (x .no-directory) (hit .0) (openOf (entriesOf s) (set ms k (m + 2))) (drop r path′) e′ (hit .1) (j .is) y
 
 -- ---- the walk's end
-
--- a file or a directory of the set stands at p
-pub known-file : (fs : List Entry) (ds : List (List ℕ)) (p : List ℕ) → isThere (fileAt fs p) ≡ true → true ≡ known fs ds p
-known-file fs ds p h = rw h
-
-pub known-dir : (fs : List Entry) (ds : List (List ℕ)) (p : List ℕ) → isThere (fileAt fs p) ≡ false → isDirectory ds p ≡ known fs ds p
-known-dir fs ds p h = rw h
 
 -- what holds where the walk is left, at its end or before it
 pub record Over (ends : List ℕ → Bool) (ms₀ stage₀ path₀ : List ℕ) (answer : Bool) (ms stage path : List ℕ) (at e : ℕ) : Type 0 where

@@ -9,6 +9,7 @@ use lib.Dec.{ltb}
 use lib.ListN.{length, drop}
 use lib.Seq.{sets, sets-eq}
 use borrow.Author.Tests.{ltb-false}
+use Rattle.lists.specs.Lists.{cleared}
 use Rattle.lists.proofs.Runs.{sets-whole}
 use Rattle.types.specs.Refusals.{numberOf, value, refused, usizeSays}
 use Rattle.types.specs.declared.refusal.Refusal.{Refusal}
@@ -20,8 +21,9 @@ use Rattle.rules.specs.Rules.{Rule, when, outcomeOf, both, either}
 use Rattle.rules.specs.Bounds.{badLength}
 use Rattle.rules.proofs.Rules.{passed, either-false, outcome-value, outcome-refused}
 use Rattle.rules.specs.Questions.{rowsHeld, dirsHeld, textHeld}
-use Rattle.links.specs.Clean.{Entry, space, linkCount}
-use Rattle.links.specs.Judging.{entriesOf, directoriesOf, verdictOf, verdictsFor, verdicts, lacksSpace, judgingNumber, cleared, Judged, judged}
+use Rattle.lookup.specs.Lookup.{Entry, entriesOf, directoriesOf}
+use Rattle.lookup.specs.Space.{space, linkCount, lacksSpace}
+use Rattle.links.specs.Judging.{verdictOf, verdictsFor, verdicts, judgingNumber, Judged, judged}
 use Rattle.links.specs.Walking.{firstMarks}
 use Rattle.links.proofs.Marking.{length-marks}
 

@@ -14,7 +14,8 @@ use Rattle.lists.proofs.Equality.{equal-true, equal-false}
 use Rattle.path.specs.Split.{isComplete}
 use Rattle.path.specs.Join.{appended, combined}
 use Rattle.tables.specs.Model.{Directory, single, absolute, stored}
-use Rattle.links.specs.Clean.{Entry, own, isDirectory, Seen, nothing, file, link, isThere, fileAt, known, First, firstPass, direct, settled, relative, Link, Lead, none, to, leadAt, without, unless, linkOf, linksOf, cut, stop, done, on, further, through, step, follow, walk, left, resolves, cleanText}
+use Rattle.lookup.specs.Lookup.{Entry, own, isDirectory, Seen, nothing, file, link, isThere, fileAt, known}
+use Rattle.links.specs.Clean.{First, firstPass, direct, settled, relative, Link, Lead, none, to, leadAt, without, unless, linkOf, linksOf, cut, stop, done, on, further, through, step, follow, walk, left, resolves, cleanText}
 
 -- ---- where a cleaned link leads
 

@@ -1,12 +1,9 @@
 -- Laws of links.
-pub mod Paths
-pub mod Rows
 pub mod Walk
 pub mod Room
 pub mod Marks
 pub mod Marking
 pub mod Verdicts
-pub mod Spaces
 pub mod Judgements
 pub mod Turns
 pub mod Scans

@@ -11,16 +11,17 @@ use lib.ListN.{length, set}
 use lib.Seq.{sets}
 use Rattle.path.specs.Split.{isComplete}
 use Rattle.path.specs.Join.{appended}
+use Rattle.tables.specs.declared.span.Span.{Span}
 use Rattle.tables.specs.declared.rows.Row.{Row}
 use Rattle.tables.specs.Span.{textAt}
-use Rattle.tables.specs.Rows.{dirAt, has}
+use Rattle.tables.specs.Rows.{dirAt, has, isInside}
 use Rattle.tables.specs.Model.{single, absolute, stored, Store, directoryOf}
 use Rattle.rules.specs.Rules.{both}
-use Rattle.answers.specs.Answers.{isInside}
-use Rattle.links.specs.Clean.{Entry, Seen, nothing, file, link, fileAt, isDirectory, linkCount}
+use Rattle.lookup.specs.Lookup.{Entry, Seen, nothing, file, link, fileAt, isDirectory, seenCode}
+use Rattle.lookup.specs.Space.{linkCount}
+use Rattle.lookup.proofs.Rows.{branchIn}
 use Rattle.links.specs.Judging.{settledMark, relativeMark, firstMark}
-use Rattle.links.specs.Walking.{firstMarks, seenCode}
-use Rattle.links.proofs.Rows.{branchOf}
+use Rattle.links.specs.Walking.{firstMarks}
 
 -- ---- what stands at a path, by its number
 
@@ -62,18 +63,18 @@ module _ (files : List Entry) (ds : List (List ℕ)) (t : List ℕ) (other : ℕ
   kinds-not false true d o e = refl
   kinds-not false false d o e = absurd (true≢false e)
 
-  kinds-in : (a b : Bool) (d y : List ℕ) (o : Bool) → both (not a) (not b) ≡ true → y ≡ appended (cond (both (not a) (not b)) d []) t
-      → settledMark (isDirectory ds y) (fileAt files y) other ≡ relativeMark files ds (cond a single (cond b absolute (stored d o))) t other
-  kinds-in true b d y o e q = absurd (false≢true e)
-  kinds-in false true d y o e q = absurd (false≢true e)
-  kinds-in false false d y o e q = rw q
+  kinds-in : (a b : Bool) (text : List ℕ) (c : Span) (y : List ℕ) (o : Bool) → both (not a) (not b) ≡ true → y ≡ appended (textAt text (cond (both (not a) (not b)) c (record { at = 0; len = 0 }))) t
+      → settledMark (isDirectory ds y) (fileAt files y) other ≡ relativeMark files ds (cond a single (cond b absolute (stored (textAt text c) o))) t other
+  kinds-in true b text c y o e q = absurd (false≢true e)
+  kinds-in false true text c y o e q = absurd (false≢true e)
+  kinds-in false false text c y o e q = rw q
 
   module _ (s : Store) (r : Row) where
     pub near-not : isInside r ≡ false → other ≡ relativeMark files ds (directoryOf s r) t other
     near-not = kinds-not (eqb (r .«path_index») 1073741823) (eqb (r .«path_index») 1073741822) (textAt (s .text) (dirAt (s .dirs) (r .«path_index»))) (has (r .flags) 32)
 
-    pub near-in : (y : List ℕ) → isInside r ≡ true → y ≡ appended (branchOf s r) t → settledMark (isDirectory ds y) (fileAt files y) other ≡ relativeMark files ds (directoryOf s r) t other
-    near-in y = kinds-in (eqb (r .«path_index») 1073741823) (eqb (r .«path_index») 1073741822) (textAt (s .text) (dirAt (s .dirs) (r .«path_index»))) y (has (r .flags) 32)
+    pub near-in : (y : List ℕ) → isInside r ≡ true → y ≡ appended (branchIn (s .dirs) (s .text) r) t → settledMark (isDirectory ds y) (fileAt files y) other ≡ relativeMark files ds (directoryOf s r) t other
+    near-in y = kinds-in (eqb (r .«path_index») 1073741823) (eqb (r .«path_index») 1073741822) (s .text) (dirAt (s .dirs) (r .«path_index»)) y (has (r .flags) 32)
 
 -- by its text as given
 module _ (files : List Entry) (ds : List (List ℕ)) (f : Entry) where

@@ -11,9 +11,11 @@ use Rattle.lists.specs.Lists.{equal}
 use Rattle.lists.proofs.Equality.{equal-true}
 use Rattle.path.specs.Split.{isComplete}
 use Rattle.path.specs.Join.{appended}
-use Rattle.tables.specs.Model.{Directory, single, absolute, stored}
-use Rattle.links.specs.Clean.{Entry, own, isDirectory, Seen, nothing, file, link, fileAt, First, firstPass, direct, settled, relative, Link, Lead, none, to, leadAt, unless, linkOf, linksOf, weight, space}
-use Rattle.links.specs.Judging.{settledMark, directMark, relativeMark, firstMark, besideText}
+use Rattle.tables.specs.Model.{Directory, single, absolute, stored, pathIn}
+use Rattle.lookup.specs.Lookup.{Entry, own, isDirectory, Seen, nothing, file, link, fileAt}
+use Rattle.lookup.specs.Space.{space}
+use Rattle.links.specs.Clean.{First, firstPass, direct, settled, relative, Link, Lead, none, to, leadAt, unless, linkOf, linksOf, weight}
+use Rattle.links.specs.Judging.{settledMark, directMark, relativeMark, firstMark}
 use Rattle.links.specs.Walking.{lead, firstMarks, leadText, leading, butLater, anyAt, opened, openOf, fresh, Ready}
 use Rattle.links.proofs.Room.{links-fit}
 
@@ -23,7 +25,7 @@ pub record Says (f : Entry) (r : First) (m : ℕ) : Type 0 where
   pub text : r .leads ≡ true → leadText m f ≡ r .text
 
 -- so where the text is taken from the link's directory
-settled-says : (f : Entry) (b : Bool) (s : Seen) (t : List ℕ) (o : First) (m : ℕ) → besideText (f .directory) (f .text) ≡ t → Says f o (lead m) → Says f (settled b s t o) (lead (settledMark b s m))
+settled-says : (f : Entry) (b : Bool) (s : Seen) (t : List ℕ) (o : First) (m : ℕ) → pathIn (f .directory) (f .text) ≡ t → Says f o (lead m) → Says f (settled b s t o) (lead (settledMark b s m))
 settled-says f true s t o m e h = record { leads = refl; text = λ q. e }
 settled-says f false link t o m e h = record { leads = refl; text = λ q. e }
 settled-says f false file t o m e h = record { leads = refl; text = λ q. absurd (false≢true q) }
@@ -75,7 +77,7 @@ module _ (files : List Entry) (dirs : List (List ℕ)) where
       near : (p : Directory) → f .directory ≡ p → Says f (relative files dirs p (f .text) other) (lead (relativeMark files dirs p (f .text) 25))
       near single e = base
       near absolute e = base
-      near (stored d outside) e = settled-says f (isDirectory dirs (appended d (f .text))) (fileAt files (appended d (f .text))) (appended d (f .text)) other 25 (ap (λ (p : Directory). besideText p (f .text)) e) base
+      near (stored d outside) e = settled-says f (isDirectory dirs (appended d (f .text))) (fileAt files (appended d (f .text))) (appended d (f .text)) other 25 (ap (λ (p : Directory). pathIn p (f .text)) e) base
 
       go : (b : Bool) → Says f (cond b (record { text = own f; leads = false; walked = false }) (direct (fileAt files (f .text)) (isDirectory dirs (f .text)) (f .text) (relative files dirs (f .directory) (f .text) other))) (lead (cond b 8 (directMark (fileAt files (f .text)) (isDirectory dirs (f .text)) (relativeMark files dirs (f .directory) (f .text) 25))))
       go true = record { leads = refl; text = λ q. absurd (false≢true q) }

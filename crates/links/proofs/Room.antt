@@ -8,7 +8,9 @@ use lib.ListN.{length}
 use Rattle.path.specs.Split.{isComplete}
 use Rattle.path.specs.Join.{appended}
 use Rattle.tables.specs.Model.{Directory, single, absolute, stored}
-use Rattle.links.specs.Clean.{Entry, own, Seen, nothing, file, link, fileAt, isDirectory, First, settled, direct, relative, firstPass, linkOf, linksOf, Lead, none, to, leadAt, unless, weight, directoryLength, space}
+use Rattle.lookup.specs.Lookup.{Entry, own, Seen, nothing, file, link, fileAt, isDirectory}
+use Rattle.lookup.specs.Space.{directoryLength, space}
+use Rattle.links.specs.Clean.{First, settled, direct, relative, firstPass, linkOf, linksOf, Lead, none, to, leadAt, unless, weight}
 use Rattle.links.proofs.Walk.{append-short}
 
 -- what the first pass leaves: a text that leads on is at most the directory, a separator and the text; one to be walked is as given

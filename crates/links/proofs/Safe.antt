@@ -6,9 +6,9 @@ use mathlib.Core.Bool.{Bool, true, false, cond, true≢false}
 use mathlib.Core.List.{List, [], _∷_, _++_}
 use Rattle.path.specs.Split.{isComplete}
 use Rattle.path.specs.Join.{isAlone, isEmpty, isClosed, appended}
-use Rattle.tables.specs.Model.{Directory, single, absolute, stored}
-use Rattle.links.specs.Clean.{Entry, own, pathIn, Seen, nothing, file, link, fileAt, isDirectory, First, settled, direct, relative, firstPass, linksOf, resolves, cleanText}
-use Rattle.links.specs.Judging.{besideText}
+use Rattle.tables.specs.Model.{Directory, single, absolute, stored, pathIn}
+use Rattle.lookup.specs.Lookup.{Entry, own, Seen, nothing, file, link, fileAt, isDirectory}
+use Rattle.links.specs.Clean.{First, settled, direct, relative, firstPass, linksOf, resolves, cleanText}
 use Rattle.links.proofs.Room.{first-fits}
 
 -- ---- absolute texts
@@ -83,7 +83,7 @@ module _ (files : List Entry) (dirs : List (List ℕ)) (f : Entry) (h : Placed (
 pub data Own (files : List Entry) (dirs : List (List ℕ)) (f : Entry) : Type 0 where
   was-own : f .text ≡ own f → Own files dirs f
   was-absolute : isComplete (f .text) ≡ true → Own files dirs f
-  named-itself : besideText (f .directory) (f .text) ≡ own f → Own files dirs f
+  named-itself : pathIn (f .directory) (f .text) ≡ own f → Own files dirs f
   not-resolved : firstPass files dirs f .walked ≡ true → resolves files dirs (linksOf files dirs files) (f .text) ≡ false → Own files dirs f
 
 module _ (files : List Entry) (dirs : List (List ℕ)) (f : Entry) where
@@ -91,7 +91,7 @@ module _ (files : List Entry) (dirs : List (List ℕ)) (f : Entry) where
   Left : First → Type 0
   Left r = r .walked ≡ false → r .text ≡ own f → Own files dirs f
 
-  settled-own : (b : Bool) (s : Seen) (t : List ℕ) (o : First) → besideText (f .directory) (f .text) ≡ t → Left o → Left (settled b s t o)
+  settled-own : (b : Bool) (s : Seen) (t : List ℕ) (o : First) → pathIn (f .directory) (f .text) ≡ t → Left o → Left (settled b s t o)
   unfolding Left
   settled-own true s t o e h = λ w q. named-itself (e ∙ q)
   settled-own false link t o e h = λ w q. named-itself (e ∙ q)
@@ -118,7 +118,7 @@ module _ (files : List Entry) (dirs : List (List ℕ)) (f : Entry) where
       near : (d : Directory) → f .directory ≡ d → Left (relative files dirs d (f .text) other)
       near single e = none
       near absolute e = none
-      near (stored d outside) e = settled-own (isDirectory dirs (appended d (f .text))) (fileAt files (appended d (f .text))) (appended d (f .text)) other (ap (λ (x : Directory). besideText x (f .text)) e) none
+      near (stored d outside) e = settled-own (isDirectory dirs (appended d (f .text))) (fileAt files (appended d (f .text))) (appended d (f .text)) other (ap (λ (x : Directory). pathIn x (f .text)) e) none
 
       go : (b : Bool) → isComplete (f .text) ≡ b → Left (cond b (record { text = own f; leads = false; walked = false }) (direct (fileAt files (f .text)) (isDirectory dirs (f .text)) (f .text) (relative files dirs (f .directory) (f .text) other)))
       go true e = λ w q. was-absolute e

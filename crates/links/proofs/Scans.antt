@@ -1,5 +1,5 @@
 -- The scan of the links for the one at a path, with the leads that say which are open. These laws rely on those
--- of proofs/Rows.antt.
+-- of `lookup` about rows.
 use Prim.Native.Nat.{ℕ, zero, suc, _+_, _<_, _≤_}
 use mathlib.Core.Path.{_≡_, refl, sym, ap, _∙_}
 use mathlib.Core.Bool.{Bool, true, false, cond, true≢false, false≢true}
@@ -12,12 +12,13 @@ use borrow.Author.Tests.{lt-ltb, ltb-true, ltb-false}
 use Rattle.lists.specs.Lists.{equal}
 use Rattle.lists.proofs.Equality.{equal-true}
 use Rattle.tables.specs.Rows.{rowAt}
-use Rattle.tables.specs.Model.{Store}
-use Rattle.answers.specs.Answers.{internalPath}
-use Rattle.links.specs.Clean.{Entry, own, Link, none, to, leadAt, without, directoryLength, space}
-use Rattle.links.specs.Judging.{isFlagged}
-use Rattle.links.specs.Walking.{entryAt, entriesFrom, anyAt, butLater, linkAt, leading, leadMark, leadText, opened, openOf, fresh}
-use Rattle.links.proofs.Rows.{flagged-at, own-at}
+use Rattle.tables.specs.Model.{Store, internalPath}
+use Rattle.lookup.specs.Lookup.{Entry, own, isFlagged}
+use Rattle.lookup.specs.Space.{directoryLength, space}
+use Rattle.lookup.specs.Rows.{entryAt, entriesFrom}
+use Rattle.lookup.proofs.Rows.{flagged-at, own-at}
+use Rattle.links.specs.Clean.{Link, none, to, leadAt, without}
+use Rattle.links.specs.Walking.{anyAt, butLater, linkAt, leading, leadMark, leadText, opened, openOf, fresh}
 
 -- ---- one link
 
@@ -99,11 +100,6 @@ module _ (f : Entry) (m : ℕ) (p : List ℕ) (later : Bool) where
 
   pub mark-here : f .flagged ≡ true → leading m ≡ true → equal (own f) p ≡ true → later ≡ false → m ≡ leadMark f m p later
   mark-here h k q l = sym (cond-yes (cond (leading m) (cond (equal (own f) p) (cond later 0 m) 0) 0) 0 (f .flagged) h ∙ rw (k, q, l))
-
--- a file has one mark or none
-pub one-or-none : (b : Bool) (j : ℕ) → j ≡ cond b 1 0 → j ≤ 1
-one-or-none true j h = omega arith
-one-or-none false j h = omega arith
 
 -- ---- the scan of the links
 

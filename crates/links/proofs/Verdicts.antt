@@ -6,9 +6,10 @@ use mathlib.Core.List.{List}
 use lib.Dec.{eqb}
 use Rattle.path.specs.Split.{isComplete}
 use Rattle.path.specs.Join.{appended}
-use Rattle.tables.specs.Model.{Directory, single, absolute, stored}
-use Rattle.links.specs.Clean.{Entry, own, isDirectory, Seen, nothing, file, link, fileAt, First, settled, direct, relative, firstPass, linksOf, resolves, cleanText}
-use Rattle.links.specs.Judging.{settledMark, directMark, relativeMark, firstMark, verdictOf, besideText, textBy}
+use Rattle.tables.specs.Model.{Directory, single, absolute, stored, pathIn}
+use Rattle.lookup.specs.Lookup.{Entry, own, isDirectory, Seen, nothing, file, link, fileAt}
+use Rattle.links.specs.Clean.{First, settled, direct, relative, firstPass, linksOf, resolves, cleanText}
+use Rattle.links.specs.Judging.{settledMark, directMark, relativeMark, firstMark, verdictOf, textBy}
 
 -- mark m and the first pass's r say the same of link f: the text then, where `goes` says whether a walked text leads on
 Tells : (List ℕ → Bool) → Entry → ℕ → First → Type 0
@@ -26,7 +27,7 @@ module _ (goes : List ℕ → Bool) (f : Entry) where
       at false = refl
 
   -- a text taken from the link's directory
-  settled-tells : (b : Bool) (s : Seen) (t : List ℕ) (m : ℕ) (o : First) → besideText (f .directory) (f .text) ≡ t → Tells goes f m o → Tells goes f (settledMark b s m) (settled b s t o)
+  settled-tells : (b : Bool) (s : Seen) (t : List ℕ) (m : ℕ) (o : First) → pathIn (f .directory) (f .text) ≡ t → Tells goes f m o → Tells goes f (settledMark b s m) (settled b s t o)
   unfolding Tells
   settled-tells true s t m o e h = e
   settled-tells false link t m o e h = e
@@ -50,7 +51,7 @@ module _ (goes : List ℕ → Bool) (f : Entry) where
     near-tells absolute e = walked-tells
     near-tells (stored d o) e =
         settled-tells (isDirectory dirs (appended d (f .text))) (fileAt files (appended d (f .text))) (appended d (f .text)) 25 other
-        (ap (λ (x : Directory). besideText x (f .text)) e) walked-tells
+        (ap (λ (x : Directory). pathIn x (f .text)) e) walked-tells
 
     first-tells : Tells goes f (firstMark files dirs f) (firstPass files dirs f)
     unfolding Tells

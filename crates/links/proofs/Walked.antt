@@ -10,7 +10,8 @@ use borrow.Author.Tests.{eq-eqb, ne-eqb}
 use lib.Dec.{eqb}
 use lib.ListN.{length, getD, set, take, drop, length-drop, length-map}
 use lib.Seq.{take-all, getD-drop, drop-drop, drop-set-lt, map-set-same, take-suc-set, append-snoc}
-use Rattle.links.specs.Clean.{Entry, linksOf, resolves}
+use Rattle.lookup.specs.Lookup.{Entry}
+use Rattle.links.specs.Clean.{linksOf, resolves}
 use Rattle.links.specs.Judging.{firstMark, verdictOf, verdictsFor}
 use Rattle.links.specs.Walking.{lead, verdict, firstMarks, walkedMark}
 use Rattle.links.proofs.Packed.{map-set}

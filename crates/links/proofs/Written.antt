@@ -1,5 +1,5 @@
 -- What the writers of the work space are proved by: a text written over a buffer, the text by which a link leads, and a text that
--- takes the place of a path's first part. These laws rely on those of proofs/Rows.antt.
+-- takes the place of a path's first part. These laws rely on those of `lookup` about rows.
 use Prim.Native.Nat.{ℕ, zero, suc, _+_, _-_, _<_, _≤_}
 use mathlib.Core.Path.{_≡_, refl, ap, _∙_}
 use mathlib.Core.Bool.{true, false}
@@ -11,9 +11,10 @@ use lib.Seq.{drop-cons, length-take-le, take-at, drop-at, drop-drop, getD-set-sa
 use borrow.Author.Tests.{le-ltb}
 use Rattle.path.specs.Join.{isAlone, isClosed, appended, combined}
 use Rattle.tables.specs.Model.{Store}
-use Rattle.links.specs.Clean.{directoryLength}
-use Rattle.links.specs.Walking.{entryAt, rowText, rowBranch, rowLead, leadText, over, Holds, Joined}
-use Rattle.links.proofs.Rows.{branchAt, text-at, beside-at, length-at}
+use Rattle.lookup.specs.Space.{directoryLength}
+use Rattle.lookup.specs.Rows.{entryAt, rowText, rowBranch}
+use Rattle.lookup.proofs.Rows.{branchAt, text-at, beside-at, length-at}
+use Rattle.links.specs.Walking.{rowLead, leadText, over, Holds, Joined}
 
 -- ---- a text written over a buffer
 

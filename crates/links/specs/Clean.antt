@@ -1,85 +1,16 @@
 -- Document 01, 'Links': what `sanitize_symlinks` makes of every link's text, on what a set means: its files' places, names and
--- texts, and its directories. 'Two passes as in the Rust.' It relies on the model of a set in `tables` and on the splits and
--- joins of `path`.
+-- texts, and its directories. 'Two passes as in the Rust.' It relies on the model of a set in `tables`, on what stands at a path
+-- (`lookup`) and on the splits and joins of `path`.
 use Prim.Native.Nat.{ℕ, zero, suc, _+_, _-_}
 use mathlib.Core.Bool.{Bool, true, false, cond}
 use mathlib.Core.List.{List, [], _∷_, map}
-use lib.Dec.{eqb, ltb}
+use lib.Dec.{ltb}
 use lib.ListN.{length, take, drop}
 use Rattle.lists.specs.Lists.{equal}
-use Rattle.path.specs.Split.{isSeparator, isComplete, lsplitAtFirst}
+use Rattle.path.specs.Split.{isComplete, lsplitAtFirst}
 use Rattle.path.specs.Join.{appended, combined}
-use Rattle.tables.specs.Rows.{has}
-use Rattle.tables.specs.Model.{Optional, absent, present, Directory, single, absolute, stored, File, Model}
-
--- ---- what a cleaning looks at in a file
-
--- a file's directory and name, whether it is a flagged link (flag 8, and a text is held), and its link text
-pub record Entry : Type 0 where
-  pub directory : Directory
-  pub name : List ℕ
-  pub flagged : Bool
-  pub text : List ℕ
-
-abbrev pub isHeld : Optional (List ℕ) → Bool
-isHeld absent = false
-isHeld (present t) = true
-
-abbrev pub heldText : Optional (List ℕ) → List ℕ
-heldText absent = []
-heldText (present t) = t
-
-abbrev pub entryOf : File → Entry
-entryOf f =
-    record {
-      directory = f .directory;
-      name = f .name;
-      flagged = cond (has (f .flags) 8) (isHeld (f .link)) false;
-      text = heldText (f .link);
-    }
-
--- the internal path
-abbrev pub pathIn : Directory → List ℕ → List ℕ
-pathIn single name = name
-pathIn absolute name = name
-pathIn (stored d outside) name = appended d name
-
-abbrev pub own : Entry → List ℕ
-own f = pathIn (f .directory) (f .name)
-
--- 'A directory is a stored directory or the part of one that stands before any of its separators'
-abbrev pub covers : List ℕ → List ℕ → Bool
-covers [] [] = true
-covers (x ∷ d) [] = isSeparator x
-covers [] (y ∷ p) = false
-covers (x ∷ d) (y ∷ p) = cond (eqb x y) (covers d p) false
-
-abbrev pub isDirectory : List (List ℕ) → List ℕ → Bool
-isDirectory [] p = false
-isDirectory (d ∷ ds) p = cond (covers d p) true (isDirectory ds p)
-
--- what stands at a path
-pub data Seen : Type 0 where
-  nothing : Seen
-  file : Seen
-  link : Seen
-
-abbrev pub orHere : Seen → Bool → Bool → Seen
-orHere file here l = file
-orHere link here l = link
-orHere nothing true true = link
-orHere nothing true false = file
-orHere nothing false l = nothing
-
--- 'Of files with one internal path the last counts'
-abbrev pub fileAt : List Entry → List ℕ → Seen
-fileAt [] p = nothing
-fileAt (f ∷ fs) p = orHere (fileAt fs p) (equal (own f) p) (f .flagged)
-
-abbrev pub isThere : Seen → Bool
-isThere nothing = false
-isThere file = true
-isThere link = true
+use Rattle.tables.specs.Model.{Optional, present, Directory, single, absolute, stored, File, Model}
+use Rattle.lookup.specs.Lookup.{Entry, entryOf, own, Seen, nothing, file, link, isDirectory, fileAt, known}
 
 -- ---- the first pass
 
@@ -203,10 +134,6 @@ left ls p e = (length p - e) + weight ls
 abbrev pub goes : (List ℕ → Bool) → (List ℕ → Bool) → List Link → List ℕ → ℕ → Bool
 goes dir ends ls p e = walk dir ends (suc (left ls p e)) ls p e
 
--- at the walk's end must stand a file or a directory of the set
-abbrev pub known : List Entry → List (List ℕ) → List ℕ → Bool
-known files dirs p = cond (isThere (fileAt files p)) true (isDirectory dirs p)
-
 abbrev pub resolves : List Entry → List (List ℕ) → List Link → List ℕ → Bool
 resolves files dirs ls t = goes (isDirectory dirs) (known files dirs) ls t (cut t 0)
 
@@ -253,20 +180,3 @@ cleanedOf m =
       onDisk = m .onDisk;
       trimmed = m .trimmed;
     }
-
--- ---- the work space
-
--- 'the sum, over flagged links, of directory length + text length + 2'
-abbrev pub directoryLength : Directory → ℕ
-directoryLength single = 0
-directoryLength absolute = 0
-directoryLength (stored d outside) = length d
-
-abbrev pub space : List Entry → ℕ
-space [] = 0
-space (f ∷ fs) = cond (f .flagged) (directoryLength (f .directory) + length (f .text) + 2) 0 + space fs
-
--- 'one mark a link'
-abbrev pub linkCount : List Entry → ℕ
-linkCount [] = 0
-linkCount (f ∷ fs) = cond (f .flagged) 1 0 + linkCount fs

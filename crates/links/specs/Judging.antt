@@ -1,38 +1,23 @@
 -- The judgement that goes before a cleaning: for every flagged link, what becomes of its text, as a number. While links are
 -- judged the lent marks carry more than that (`firstMark`); afterwards they hold the verdicts alone. It relies on Clean.antt for
--- the two passes, on `tables` for what the lent tables hold, and on the rules in order of `storage`.
-use Prim.Native.Nat.{ℕ, _*_, _/_}
+-- the two passes, on `lookup` for the set that the lent tables hold, and on the rules in order of `rules`.
+use Prim.Native.Nat.{ℕ, _/_}
 use mathlib.Core.Bool.{Bool, true, false, cond, not}
 use mathlib.Core.List.{List, [], _∷_}
-use lib.Dec.{eqb, ltb}
-use lib.ListN.{length, replicate}
+use lib.Dec.{eqb}
+use lib.ListN.{length}
 use lib.Seq.{sets}
+use Rattle.lists.specs.Lists.{cleared}
 use Rattle.types.specs.Refusals.{Outcome, value, refused}
 use Rattle.path.specs.Split.{isComplete}
 use Rattle.path.specs.Join.{appended}
-use Rattle.tables.specs.declared.storage.FileStorage.{FileStorage}
-use Rattle.tables.specs.Rows.{has}
-use Rattle.tables.specs.Model.{Directory, single, absolute, stored, Store, fileOf, directoryText, tabled}
-use Rattle.rules.specs.Rules.{when, firstOf, both, either}
+use Rattle.tables.specs.Model.{Directory, single, absolute, stored, pathIn, Store}
+use Rattle.rules.specs.Rules.{when, firstOf, both}
 use Rattle.rules.specs.Bounds.{badLength}
 use Rattle.rules.specs.Questions.{rowsHeld, dirsHeld, textHeld}
-use Rattle.links.specs.Clean.{Entry, entryOf, own, Seen, nothing, file, link, isDirectory, fileAt, linksOf, resolves, space, linkCount}
-
--- ---- the set that the lent tables hold
-
--- the flags of a flagged link: flag 8, and a text is held
-abbrev pub isFlagged : ℕ → Bool
-isFlagged flags = cond (has flags 8) (has flags 16) false
-
--- a cleaning looks neither at roots nor at times
-abbrev pub lent : FileStorage → List ℕ → List ℕ → List ℕ → Store
-lent fs rows dirs text = record { fs = fs; rows = rows; roots = []; times = []; dirs = dirs; text = text }
-
-abbrev pub entriesOf : Store → List Entry
-entriesOf s = tabled (s .fs .«num_files») (λ i. entryOf (fileOf s i))
-
-abbrev pub directoriesOf : Store → List (List ℕ)
-directoriesOf s = tabled (s .fs .«num_paths») (directoryText s)
+use Rattle.lookup.specs.Lookup.{Entry, own, Seen, nothing, file, link, isDirectory, fileAt, entriesOf, directoriesOf}
+use Rattle.lookup.specs.Space.{linkCount, lacksSpace}
+use Rattle.links.specs.Clean.{linksOf, resolves}
 
 -- ---- marks: m % 8 says how a walk goes through the link (0 not, 1 by its text as given, 2 by its text from its directory),
 -- ---- m / 8 what becomes of its text (0 it stays, 1 the link's own path, 2 the text from its directory, 3 a walk decides)
@@ -67,14 +52,9 @@ verdictOf files dirs f =
     cond (eqb (firstMark files dirs f / 8) 3) (cond (resolves files dirs (linksOf files dirs files) (f .text)) 0 1)
     (firstMark files dirs f / 8)
 
-abbrev pub besideText : Directory → List ℕ → List ℕ
-besideText single t = t
-besideText absolute t = t
-besideText (stored d outside) t = appended d t
-
 -- the text that a verdict gives
 abbrev pub textBy : ℕ → Entry → List ℕ
-textBy v f = cond (eqb v 0) (f .text) (cond (eqb v 1) (own f) (besideText (f .directory) (f .text)))
+textBy v f = cond (eqb v 0) (f .text) (cond (eqb v 1) (own f) (pathIn (f .directory) (f .text)))
 
 -- one verdict for each flagged link
 abbrev pub verdictsFor : List Entry → List (List ℕ) → List Entry → List ℕ
@@ -86,11 +66,6 @@ abbrev pub verdicts : Store → List ℕ
 verdicts s = verdictsFor (entriesOf s) (directoriesOf s) (entriesOf s)
 
 -- ---- the call
-
--- 'Work space: 3 × the sum … and one mark a link': a stage of the sum and a path of twice the sum
-abbrev pub lacksSpace : List Entry → ℕ → ℕ → ℕ → Bool
-lacksSpace files marks stage path =
-    either (ltb marks (linkCount files)) (either (ltb stage (space files)) (ltb path (2 * space files)))
 
 abbrev pub judgingNumber : Store → ℕ → ℕ → ℕ → ℕ
 judgingNumber s marks stage path =
@@ -106,9 +81,6 @@ pub record Judged : Type 0 where
   pub marks : List ℕ
   pub stage : List ℕ
   pub path : List ℕ
-
-abbrev pub cleared : List ℕ → List ℕ
-cleared xs = replicate (length xs) 0
 
 -- `judge_links`: a refusal leaves the work space as it was; else the marks begin with the verdicts, and stage and path are cleared
 abbrev pub judged : Store → List ℕ → List ℕ → List ℕ → Judged

@@ -1,6 +1,5 @@
--- Where the judgement of links stands, for the private parts of its code: parts of the lists of files and directories, marks
--- in use, texts in the work space, and what a walk needs. The meaning is that of Clean.antt; the
--- marks are those of Judging.antt.
+-- Where the judgement of links stands, for the private parts of its code: marks in use, texts in the work space, and what a walk
+-- needs. The meaning is that of Clean.antt; the marks are those of Judging.antt.
 use Prim.Native.Nat.{ℕ, zero, suc, _+_, _*_, _/_, _%_, _<_, _≤_}
 use mathlib.Core.Bool.{Bool, true, false, cond}
 use mathlib.Core.Path.{_≡_}
@@ -9,43 +8,17 @@ use lib.Dec.{eqb, ltb}
 use lib.ListN.{length, getD, take, drop}
 use Rattle.lists.specs.Lists.{equal}
 use Rattle.path.specs.Join.{appended, combined}
-use Rattle.tables.specs.Span.{textAt}
-use Rattle.tables.specs.Rows.{rowAt, dirAt, has}
-use Rattle.tables.specs.Model.{Store, fileOf, directoryText}
-use Rattle.answers.specs.Answers.{isInside}
-use Rattle.links.specs.Clean.{Entry, entryOf, own, Link, Seen, nothing, file, link, linksOf, isDirectory, known, goes, resolves, weight, space}
-use Rattle.links.specs.Judging.{firstMark, besideText}
+use Rattle.tables.specs.Model.{pathIn}
+use Rattle.lookup.specs.Lookup.{Entry, own, isDirectory, known}
+use Rattle.lookup.specs.Rows.{rowText, rowBranch}
+use Rattle.lookup.specs.Space.{space}
+use Rattle.links.specs.Clean.{Link, linksOf, goes, resolves, weight}
+use Rattle.links.specs.Judging.{firstMark}
 
--- file i
-abbrev pub entryAt : Store → ℕ → Entry
-entryAt s i = entryOf (fileOf s i)
-
--- the n files and the n directories from place i on
-unfoldable pub entriesFrom : Store → ℕ → ℕ → List Entry
-entriesFrom s zero i = []
-entriesFrom s (suc n) i = entryAt s i ∷ entriesFrom s n (i + 1)
-
-unfoldable pub directoriesFrom : Store → ℕ → ℕ → List (List ℕ)
-directoriesFrom s zero i = []
-directoriesFrom s (suc n) i = directoryText s i ∷ directoriesFrom s n (i + 1)
-
--- what a row says of a link: its text, its directory (nothing for a single name and an absolute path), and the text by which it
--- leads with lead m (`leadText` of `entryAt`)
-abbrev pub rowText : List ℕ → List ℕ → ℕ → List ℕ
-rowText rows text i = cond (has (rowAt rows i .flags) 16) (textAt text (rowAt rows i .link)) []
-
-abbrev pub rowBranch : List ℕ → List ℕ → List ℕ → ℕ → List ℕ
-rowBranch rows dirs text i = cond (isInside (rowAt rows i)) (textAt text (dirAt dirs (rowAt rows i .«path_index»))) []
-
+-- the text by which the link of row i leads with lead m (`leadText` of `entryAt`)
 abbrev pub rowLead : List ℕ → List ℕ → List ℕ → ℕ → ℕ → List ℕ
 rowLead rows dirs text i m =
     cond (ltb m 2) (rowText rows text i) (appended (rowBranch rows dirs text i) (rowText rows text i))
-
--- what stands at a path, as a number: nothing, a file, a flagged link
-abbrev pub seenCode : Seen → ℕ
-seenCode nothing = 0
-seenCode file = 1
-seenCode link = 2
 
 -- ---- marks
 
@@ -67,7 +40,7 @@ firstMarks files dirs (f ∷ fs) =
 abbrev pub leadText : ℕ → Entry → List ℕ
 leadText zero f = f .text
 leadText (suc zero) f = f .text
-leadText (suc (suc m)) f = besideText (f .directory) (f .text)
+leadText (suc (suc m)) f = pathIn (f .directory) (f .text)
 
 abbrev pub leading : ℕ → Bool
 leading zero = false

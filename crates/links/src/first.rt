@@ -1,4 +1,4 @@
-// The first pass: a mark for each flagged link. It relies on set.rt for what stands at a path, on text.rt for the text
+// The first pass: a mark for each flagged link. It relies on `lookup` for what stands at a path, on text.rt for the text
 // from a link's directory, and on the laws of proofs/Marking.antt.
 ghost use mathlib.Core.Path.{_≡_};
 ghost use mathlib.Core.Bool.{cond};
@@ -6,15 +6,17 @@ ghost use Prim.Native.Nat.{_+_, _<_, _≤_};
 ghost use lib.ListN.{length, set};
 ghost use lib.Seq.{sets};
 ghost use Rattle.tables.specs.Model.{directoryOf};
-ghost use Rattle.links.specs.Clean.{isDirectory, fileAt, directoryLength, space};
-ghost use Rattle.links.specs.Judging.{lent, entriesOf, directoriesOf, settledMark, relativeMark, firstMark};
-ghost use Rattle.links.specs.Walking.{entryAt, firstMarks};
-use crate::set::directory_of;
-use crate::set::file_at;
-use crate::set::is_directory;
-use crate::set::is_link;
-use crate::set::link_text;
+ghost use Rattle.lookup.specs.Lookup.{isDirectory, fileAt, lent, entriesOf, directoriesOf};
+ghost use Rattle.lookup.specs.Space.{directoryLength, space};
+ghost use Rattle.lookup.specs.Rows.{entryAt};
+ghost use Rattle.links.specs.Judging.{settledMark, relativeMark, firstMark};
+ghost use Rattle.links.specs.Walking.{firstMarks};
 use crate::text::append_in;
+use lookup::directory_of;
+use lookup::file_at;
+use lookup::is_directory;
+use lookup::is_link;
+use lookup::link_text;
 use tables::FileStorage;
 use tables::Row;
 

@@ -1,20 +1,22 @@
 // `judge_links`: what becomes of each flagged link's text. Refusals are decided before anything is written; then the first
-// pass marks, walks decide the rest, and the work space is cleared. It relies on first.rt, second.rt, space.rt and the laws of
+// pass marks, walks decide the rest, and the work space is cleared. It relies on first.rt, second.rt, `lookup` and the laws of
 // proofs/Judgements.antt.
 ghost use mathlib.Core.Path.{_≡_};
 ghost use mathlib.Core.List.{map};
 ghost use Prim.Native.Nat.{_*_, _≤_};
 ghost use lib.ListN.{length};
+ghost use Rattle.lists.specs.Lists.{cleared};
 ghost use Rattle.types.specs.Refusals.{usizeSays};
 ghost use Rattle.rules.specs.Rules.{both, outcomeOf};
 ghost use Rattle.rules.specs.Questions.{rowsHeld, dirsHeld, textHeld};
-ghost use Rattle.links.specs.Clean.{space, linkCount};
-ghost use Rattle.links.specs.Judging.{lent, entriesOf, verdicts, judgingNumber, cleared, Judged, judged};
+ghost use Rattle.lookup.specs.Space.{space, linkCount};
+ghost use Rattle.lookup.specs.Lookup.{lent, entriesOf};
+ghost use Rattle.links.specs.Judging.{verdicts, judgingNumber, Judged, judged};
 ghost use Rattle.links.specs.Walking.{verdict};
 use crate::first::first_marks;
 use crate::second::walk_links;
-use crate::space::count_links;
-use crate::space::lacks_space;
+use lookup::count_links;
+use lookup::lacks_space;
 use tables::FileStorage;
 use types::Refusal;
 use types::UsizeResult;
@@ -32,7 +34,7 @@ fn is_held(fs: FileStorage, rows: &[u64], dirs: &[u64], text: &[u8]) -> bool
     fs.text_len <= text.len()
 }
 
-// How many links are judged with so many marks and so long a stage and path, or why none are.
+// How many links are judged, or why none are. `marks`, `stage` and `path` are the lengths of the work space.
 fn links_in(
     fs: FileStorage,
     rows: &[u64],
@@ -67,17 +69,6 @@ fn keep_verdicts(marks: &mut [u8])
     }
 }
 
-// Writes zeros over all bytes.
-pub fn clear(bytes: &mut [u8])
-    ensures { λ _. ⌜ now (bytes .exit) ≡ cleared (now (bytes .entry)) ⌝ }
-{
-    let mut i = 0;
-    while i < bytes.len() {
-        bytes[i] = 0;
-        i += 1;
-    }
-}
-
 // Judges all flagged links, with one mark for each and a work space that is long enough.
 fn judge(
     fs: FileStorage,
@@ -96,8 +87,8 @@ fn judge(
     first_marks(fs, rows, dirs, text, marks, stage);
     walk_links(fs, rows, dirs, text, marks, stage, path);
     keep_verdicts(marks);
-    clear(stage);
-    clear(path);
+    lists::clear(stage);
+    lists::clear(path);
 }
 
 // Judges the flagged links of a set: how many they are, with the verdict on the n-th in mark n (0 its text stays, 1 it becomes

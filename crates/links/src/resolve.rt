@@ -1,21 +1,20 @@
-// The walk of a path through directories and links. It relies on scan.rt, work.rt and the laws of proofs/Events.antt.
+// The walk of a path through directories and links. It relies on `lookup` for what stands at a path, on scan.rt, work.rt and the
+// laws of proofs/Events.antt.
 ghost use mathlib.Core.Path.{_≡_};
 ghost use mathlib.Core.List.{map};
 ghost use Prim.Native.Nat.{_+_, _<_, _≤_};
-ghost use lib.ListN.{length, set, take, drop};
-ghost use Rattle.tables.specs.Span.{textAt};
-ghost use Rattle.tables.specs.Rows.{dirAt};
-ghost use Rattle.links.specs.Clean.{covers, known, cut};
-ghost use Rattle.links.specs.Judging.{lent, entriesOf, directoriesOf};
-ghost use Rattle.links.specs.Walking.{rowText, rowBranch, rowLead, lead, verdict, fresh, walkOf, Joined, Ready};
+ghost use lib.ListN.{length, set, drop};
+ghost use Rattle.lookup.specs.Lookup.{lent, entriesOf, directoriesOf};
+ghost use Rattle.lookup.specs.Rows.{rowText, rowBranch};
+ghost use Rattle.links.specs.Clean.{cut};
+ghost use Rattle.links.specs.Walking.{rowLead, lead, verdict, fresh, walkOf, Joined, Ready};
 use crate::mark::put_lead;
-use crate::parts::is_covered;
 use crate::scan::lead_mark;
-use crate::set::has_file;
-use crate::set::is_directory;
-use crate::set::link_count;
 use crate::work::lead_text;
 use crate::work::substitute;
+use lookup::covers_at;
+use lookup::is_known;
+use lookup::link_count;
 use tables::FileStorage;
 
 // Where the part of the path from `at` on ends that goes on at `pos`.
@@ -23,26 +22,6 @@ fn cut_at(path: &[u8], at: usize, pos: usize) -> usize
     ensures { λ r. ⌜ r ≡ cut (drop at (now (path .entry))) pos ⌝ }
 {
     path::lsplit_path_at_first(lists::part(path, at, path.len()), pos).len()
-}
-
-// Whether directory d covers the e bytes of the path from `at` on.
-fn covers_at(dirs: &[u64], text: &[u8], d: usize, path: &[u8], at: usize, e: usize) -> bool
-    ensures { λ r. ⌜ r ≡ covers (textAt (now (text .entry)) (dirAt (now (dirs .entry)) d)) (take e (drop at (now (path .entry)))) ⌝ }
-{
-    is_covered(
-        tables::text_at(text, tables::dir_at(dirs, d)),
-        lists::part(path, at, e),
-    )
-}
-
-// Whether a file or a directory of the set stands at p.
-fn is_known(fs: FileStorage, rows: &[u64], dirs: &[u64], text: &[u8], p: &[u8]) -> bool
-    ensures { λ r. ⌜ r ≡ known (entriesOf (lent fs (now (rows .entry)) (now (dirs .entry)) (now (text .entry)))) (directoriesOf (lent fs (now (rows .entry)) (now (dirs .entry)) (now (text .entry)))) (now (p .entry)) ⌝ }
-{
-    if has_file(fs, rows, dirs, text, p) {
-        return true;
-    }
-    is_directory(fs, dirs, text, p)
 }
 
 // Goes through link i, with mark k and lead m: its text stands for the first part of the path, and it is used. The new

@@ -1,4 +1,4 @@
-// The links that stand at a path, by the leads that say which are open. They rely on set.rt, mark.rt and the laws of
+// The links that stand at a path, by the leads that say which are open. They rely on `lookup`, mark.rt and the laws of
 // proofs/Scans.antt.
 ghost use mathlib.Core.Path.{_≡_};
 ghost use mathlib.Core.Bool.{false, cond};
@@ -8,13 +8,14 @@ ghost use lib.Dec.{ltb};
 ghost use lib.ListN.{getD, drop};
 ghost use Rattle.lists.specs.Lists.{equal};
 ghost use Rattle.tables.specs.Rows.{rowAt};
-ghost use Rattle.answers.specs.Answers.{internalPath};
-ghost use Rattle.links.specs.Judging.{isFlagged, lent};
-ghost use Rattle.links.specs.Walking.{entryAt, entriesFrom, lead, anyAt, leadMark};
+ghost use Rattle.tables.specs.Model.{internalPath};
+ghost use Rattle.lookup.specs.Lookup.{isFlagged, lent};
+ghost use Rattle.lookup.specs.Rows.{entryAt, entriesFrom};
+ghost use Rattle.links.specs.Walking.{lead, anyAt, leadMark};
 use crate::mark::lead_at;
-use crate::set::is_link;
-use crate::set::link_count;
-use crate::set::own_is;
+use lookup::is_link;
+use lookup::link_count;
+use lookup::own_is;
 use tables::FileStorage;
 
 // Whether file i is a flagged link that leads on, by mark k, and stands at p, traversed or not.

@@ -5,16 +5,19 @@ ghost use mathlib.Core.Bool.{cond};
 ghost use mathlib.Core.List.{map};
 ghost use Prim.Native.Nat.{_*_, _<_, _≤_};
 ghost use lib.ListN.{length, getD, set};
-ghost use Rattle.links.specs.Clean.{resolves, linksOf, space};
-ghost use Rattle.links.specs.Judging.{lent, entriesOf, directoriesOf, verdicts};
-ghost use Rattle.links.specs.Walking.{entryAt, lead, verdict, firstMarks, Walkable, walkedMark};
+ghost use Rattle.lookup.specs.Space.{space};
+ghost use Rattle.lookup.specs.Lookup.{lent, entriesOf, directoriesOf};
+ghost use Rattle.lookup.specs.Rows.{entryAt};
+ghost use Rattle.links.specs.Clean.{resolves, linksOf};
+ghost use Rattle.links.specs.Judging.{verdicts};
+ghost use Rattle.links.specs.Walking.{lead, verdict, firstMarks, Walkable, walkedMark};
 use crate::mark::put_verdict;
 use crate::mark::reopen;
 use crate::mark::verdict_at;
 use crate::resolve::resolve;
-use crate::set::is_link;
-use crate::set::link_text;
 use crate::text::put_at;
+use lookup::is_link;
+use lookup::link_text;
 use tables::FileStorage;
 
 // Whether the text of the flagged link i leads to a file or a directory of the set. The leads are the first pass's, and
@@ -41,6 +44,16 @@ fn walk_link(
     r
 }
 
+// The verdict on a link that was walked: its text stays where the walk came to its end, else it becomes the link's own path.
+fn verdict_by(resolved: bool) -> u8
+    ensures { λ r. ⌜ r ≡ cond resolved 0 1 ⌝ }
+{
+    if resolved {
+        return 0;
+    }
+    1
+}
+
 // The second pass on file i with mark k: a walk decides where the first pass left it open. 1 for a flagged link, else 0.
 fn walk_one(
     fs: FileStorage,
@@ -63,11 +76,9 @@ fn walk_one(
     if verdict_at(marks, k) != 3 {
         return 1;
     }
-    if walk_link(fs, rows, dirs, text, marks, stage, path, i) {
-        put_verdict(marks, k, 0);
-        return 1;
-    }
-    put_verdict(marks, k, 1);
+    let resolved = walk_link(fs, rows, dirs, text, marks, stage, path, i);
+    let verdict = verdict_by(resolved);
+    put_verdict(marks, k, verdict);
     1
 }
 

@@ -1,12 +1,13 @@
 // The work space of a walk: the text by which a link leads on, and that text in place of a part of the path. They rely on
-// text.rt, set.rt and the laws of proofs/Written.antt.
+// text.rt, `lookup` and the laws of proofs/Written.antt.
 ghost use Prim.Native.Nat.{_+_, _<_, _≤_};
 ghost use lib.ListN.{length};
-ghost use Rattle.links.specs.Walking.{rowText, rowBranch, rowLead, Holds, Joined};
-use crate::set::directory_of;
-use crate::set::link_text;
+ghost use Rattle.lookup.specs.Rows.{rowText, rowBranch};
+ghost use Rattle.links.specs.Walking.{rowLead, Holds, Joined};
 use crate::text::append_in;
 use crate::text::put_at;
+use lookup::directory_of;
+use lookup::link_text;
 
 // Puts the text by which link i leads, with lead m, at the front of a buffer that has room for it: its length.
 pub(crate) fn lead_text(

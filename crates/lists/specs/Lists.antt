@@ -1,14 +1,18 @@
--- Lists as slices hold them: parts, equality, sums, and quotients rounded up. Reading past the end is the kit's `getD`,
+-- Lists as slices hold them: parts, zeros, equality, sums, and quotients rounded up. Reading past the end is the kit's `getD`,
 -- storing one value is its `set`, and storing a run of values its `sets`; what falls past the end is dropped.
 use Prim.Native.Nat.{ℕ, _+_, _-_, _/_}
 use mathlib.Core.Bool.{Bool, true, false, cond}
 use mathlib.Core.List.{List, [], _∷_}
 use lib.Dec.{eqb}
-use lib.ListN.{take, drop}
+use lib.ListN.{length, take, drop, replicate}
 
 -- the n elements from place `at` on, or as many of them as there are
 abbrev pub partOf : {A : Type 0} → List A → ℕ → ℕ → List A
 partOf xs at n = take n (drop at xs)
+
+-- as many zeros
+abbrev pub cleared : List ℕ → List ℕ
+cleared xs = replicate (length xs) 0
 
 -- whether two lists of numbers are the same
 abbrev pub equal : List ℕ → List ℕ → Bool

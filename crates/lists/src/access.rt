@@ -4,7 +4,7 @@ ghost use mathlib.Core.Path.{_≡_};
 ghost use Prim.Native.Nat.{_-_, min};
 ghost use lib.ListN.{getD, set};
 ghost use lib.Seq.{sets};
-ghost use Rattle.lists.specs.Lists.{partOf, equal};
+ghost use Rattle.lists.specs.Lists.{partOf, cleared, equal};
 
 // The smaller of two numbers.
 pub fn least(a: usize, b: usize) -> usize
@@ -55,6 +55,17 @@ pub fn put_byte(bytes: &mut [u8], i: usize, value: u8)
 {
     if i < bytes.len() {
         bytes[i] = value;
+    }
+}
+
+// Writes zeros over all bytes.
+pub fn clear(bytes: &mut [u8])
+    ensures { λ _. ⌜ now (bytes .exit) ≡ cleared (now (bytes .entry)) ⌝ }
+{
+    let mut i = 0;
+    while i < bytes.len() {
+        bytes[i] = 0;
+        i += 1;
     }
 }
 

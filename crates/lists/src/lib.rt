@@ -7,6 +7,7 @@ mod decimal;
 mod number;
 
 pub use access::byte;
+pub use access::clear;
 pub use access::copy_behind;
 pub use access::copy_in;
 pub use access::least;

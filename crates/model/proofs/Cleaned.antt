@@ -16,8 +16,10 @@ use Rattle.tables.specs.declared.storage.FileStorage.{FileStorage}
 use Rattle.tables.specs.Model.{present, File, Store, tabled, fileOf, viewOf}
 use Rattle.tables.proofs.Tabled.{length-tabled, tabled-same}
 use Rattle.storage.specs.Addition.{fileText, textOf}
-use Rattle.links.specs.Clean.{Entry, entryOf, isHeld, linkedTo, cleanFile, cleanedOf, space}
-use Rattle.links.specs.Judging.{entriesOf, directoriesOf, verdictOf, textBy}
+use Rattle.lookup.specs.Lookup.{Entry, entryOf, isHeld, entriesOf, directoriesOf}
+use Rattle.links.specs.Clean.{linkedTo, cleanFile, cleanedOf}
+use Rattle.lookup.specs.Space.{space}
+use Rattle.links.specs.Judging.{verdictOf, textBy}
 use Rattle.cleaning.specs.Cleaning.{fileVerdicts, emptied, cleanedStore, textNeeded}
 use Rattle.sound.specs.Sound.{sumTo, Sound}
 use Rattle.sound.proofs.Common.{sum-tabled}

@@ -7,7 +7,8 @@ use Prim.Native.Nat.{ℕ}
 use Rattle.tables.specs.Rows.{has}
 use Rattle.tables.specs.Model.{Optional, absent, present, File, Model}
 use Rattle.storage.specs.Addition.{isPresent}
-use Rattle.links.specs.Clean.{entryOf, isHeld, linkedTo, cleanText, cleanFile, cleanedOf}
+use Rattle.lookup.specs.Lookup.{entryOf, isHeld}
+use Rattle.links.specs.Clean.{linkedTo, cleanText, cleanFile, cleanedOf}
 
 -- of a flagged link a text is held
 pub held-flagged : (f : File) → entryOf f .flagged ≡ true → isHeld (f .link) ≡ true

@@ -12,9 +12,11 @@ use lib.IntN.{ℤ}
 use lib.ListN.{length}
 use Rattle.types.specs.Refusals.{value, refused}
 use Rattle.tables.specs.Model.{Store, fileOf}
-use Rattle.links.specs.Clean.{entryOf}
-use Rattle.links.specs.Judging.{lent, textBy, judgingNumber, cleared}
-use Rattle.cleaning.specs.Cleaning.{goneAt, linked, relinked, fileVerdicts, emptied, writtenAt, hasPlace, rewrittenAt, rewritten, cleanedStore, keptAfter, newBytes, textNeeded, Cleaned, cleanedTo, cleanStored}
+use Rattle.lookup.specs.Lookup.{entryOf, lent}
+use Rattle.links.specs.Judging.{textBy, judgingNumber}
+use Rattle.lists.specs.Lists.{cleared}
+use Rattle.texts.specs.Texts.{goneAt, linked, relinked}
+use Rattle.cleaning.specs.Cleaning.{fileVerdicts, emptied, writtenAt, hasPlace, rewrittenAt, rewritten, cleanedStore, keptAfter, newBytes, textNeeded, Cleaned, cleanedTo, cleanStored}
 
 -- other roots and times
 abbrev pub besides : List ℕ → List ℤ → Store → Store

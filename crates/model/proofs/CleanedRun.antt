@@ -17,10 +17,12 @@ use Rattle.tables.specs.declared.span.Span.{Span}
 use Rattle.tables.specs.declared.storage.FileStorage.{FileStorage}
 use Rattle.tables.specs.Span.{endOf, textAt}
 use Rattle.tables.specs.Rows.{rowAt, directorySpan, has}
-use Rattle.tables.specs.Model.{present, presentIf, Directory, single, absolute, stored, File, Store, fileOf}
-use Rattle.links.specs.Clean.{Entry, entryOf, isHeld, heldText, linkedTo}
-use Rattle.links.specs.Judging.{besideText, textBy}
-use Rattle.cleaning.specs.Cleaning.{goneAt, linked, relinked, emptied, writtenAt, ownFits, besideFits, hasPlace, rewrittenAt, rewritten}
+use Rattle.tables.specs.Model.{present, presentIf, Directory, single, absolute, stored, File, Store, fileOf, pathIn}
+use Rattle.lookup.specs.Lookup.{Entry, entryOf, isHeld, heldText}
+use Rattle.links.specs.Clean.{linkedTo}
+use Rattle.links.specs.Judging.{textBy}
+use Rattle.texts.specs.Texts.{goneAt, linked, relinked, ownFits, besideFits}
+use Rattle.cleaning.specs.Cleaning.{emptied, writtenAt, hasPlace, rewrittenAt, rewritten}
 use Rattle.sound.specs.Sound.{dirName, fileName, linkText, Sound}
 use Rattle.sound.proofs.Texts.{dir-span, name-span, link-span, text-length}
 use Rattle.model.proofs.CleanedText.{Turned, turned-self, turned-same, turned-then, atFile}
@@ -204,7 +206,7 @@ appended-longer b l = at (isAlone b) (isClosed b)
     at true c = omega arith
     at false c = some l c
 
-beside-longer : (d : Directory) (t : List ℕ) → length t ≤ length (besideText d t)
+beside-longer : (d : Directory) (t : List ℕ) → length t ≤ length (pathIn d t)
 beside-longer single t = omega arith
 beside-longer absolute t = omega arith
 beside-longer (stored d outside) t = appended-longer d t

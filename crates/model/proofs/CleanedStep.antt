@@ -24,7 +24,7 @@ use Rattle.tables.proofs.Spans.{apart-kept, within-kept, read-kept, apart-empty
 use Rattle.tables.proofs.Words.{row-back, row-other, length-put-row}
 use Rattle.tables.proofs.Moves.{row-filled, dir-lowered, length-lowered}
 use Rattle.links.specs.Clean.{linkedTo}
-use Rattle.cleaning.specs.Cleaning.{storageWith, rowWith, rowLowered, rowsLowered, cutOut, goneAt, linked, relinked}
+use Rattle.texts.specs.Texts.{storageWith, rowWith, rowLowered, rowsLowered, cutOut, goneAt, linked, relinked}
 use Rattle.sound.specs.Sound.{Place, setName, dirName, fileName, linkText, nowhere, spanOf, Sound}
 use Rattle.sound.proofs.Texts.{link-span}
 use Rattle.sound.proofs.TrimmedSpans.{low-nowhere}

@@ -19,7 +19,7 @@ use Rattle.tables.specs.Rows.{rowAt, rootAt, has, skip}
 use Rattle.tables.specs.Model.{present, presentIf, File, Model, Store, tabled, directoryText, directoryOf, fileOf, viewOf}
 use Rattle.tables.proofs.Tabled.{tabled-same}
 use Rattle.links.specs.Clean.{linkedTo}
-use Rattle.cleaning.specs.Cleaning.{storageWith, rowWith}
+use Rattle.texts.specs.Texts.{storageWith, rowWith}
 use Rattle.sound.specs.Sound.{Place, setName, dirName, fileName, linkText, spanOf, sumTo, textAtRow, lengths, sizeOfRow, padOfRow, Sound}
 use Rattle.sound.proofs.Common.{sum-same}
 use Rattle.sound.proofs.Files.{sum-skip}

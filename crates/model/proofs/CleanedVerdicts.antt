@@ -12,13 +12,16 @@ use lib.Dec.{eqb}
 use lib.ListN.{length}
 use borrow.Author.Tests.{eqb-true, eq-eqb, ne-eqb}
 use Rattle.tables.specs.declared.span.Span.{Span}
-use Rattle.tables.specs.Model.{Optional, absent, present, Directory, single, absolute, stored, File, Store, tabled, fileOf}
+use Rattle.tables.specs.Model.{Optional, absent, present, Directory, single, absolute, stored, File, Store, tabled, fileOf, pathIn}
 use Rattle.storage.specs.Addition.{linkLength}
-use Rattle.links.specs.Clean.{Entry, entryOf, isHeld, heldText, own, linkedTo, cleanText, cleanFile, directoryLength, space}
-use Rattle.links.specs.Judging.{verdictOf, besideText, textBy}
+use Rattle.lookup.specs.Lookup.{Entry, entryOf, isHeld, heldText, own}
+use Rattle.links.specs.Clean.{linkedTo, cleanText, cleanFile}
+use Rattle.lookup.specs.Space.{directoryLength, space}
+use Rattle.links.specs.Judging.{verdictOf, textBy}
 use Rattle.links.proofs.Walk.{append-short}
 use Rattle.links.proofs.Verdicts.{verdict-text}
-use Rattle.cleaning.specs.Cleaning.{goneAt, fileVerdictsFor, keptAfter, newBytes}
+use Rattle.texts.specs.Texts.{goneAt}
+use Rattle.cleaning.specs.Cleaning.{fileVerdictsFor, keptAfter, newBytes}
 use Rattle.sound.specs.Sound.{sumTo, textAtRow, Sound}
 use Rattle.sound.proofs.Common.{sum-more}
 use Rattle.sound.proofs.Texts.{link-span}
@@ -76,7 +79,7 @@ given-file v f h = at (eqb v 0) (eqb v 1) refl refl
     at true b p q =
         none-file v f p
         ∙ ap (λ (l : Optional (List ℕ)). linkedTo l f) (still-held (f .link) h)
-        ∙ ap (λ (c : Bool). linkedTo (present (cond c (heldText (f .link)) (cond (eqb v 1) (own (entryOf f)) (besideText (f .directory) (heldText (f .link)))))) f) (sym p)
+        ∙ ap (λ (c : Bool). linkedTo (present (cond c (heldText (f .link)) (cond (eqb v 1) (own (entryOf f)) (pathIn (f .directory) (heldText (f .link)))))) f) (sym p)
     at false true p q = rw (p, q)
     at false false p q = rw (p, q)
 
@@ -180,7 +183,7 @@ module _ (s : Store) (ok : Sound s) where
 
 -- ---- the work space
 
-pub beside-short : (d : Directory) (t : List ℕ) → length (besideText d t) ≤ directoryLength d + length t + 2
+pub beside-short : (d : Directory) (t : List ℕ) → length (pathIn d t) ≤ directoryLength d + length t + 2
 beside-short single t = omega arith
 beside-short absolute t = omega arith
 beside-short (stored d outside) t = omega (arith, append-short d t)

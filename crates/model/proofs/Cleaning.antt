@@ -15,8 +15,10 @@ use Rattle.types.specs.Refusals.{value, refused}
 use Rattle.tables.specs.Model.{Store}
 use Rattle.rules.specs.Rules.{both}
 use Rattle.rules.specs.Bounds.{badLength}
-use Rattle.links.specs.Clean.{space, linkCount}
-use Rattle.links.specs.Judging.{entriesOf, lacksSpace, judgingNumber, cleared}
+use Rattle.lookup.specs.Space.{space, linkCount, lacksSpace}
+use Rattle.lookup.specs.Lookup.{entriesOf}
+use Rattle.links.specs.Judging.{judgingNumber}
+use Rattle.lists.specs.Lists.{cleared}
 use Rattle.cleaning.specs.Cleaning.{cleanedStore, textNeeded, Cleaned, cleanedTo, cleanStored}
 use Rattle.sound.specs.Sound.{Sound}
 use Rattle.sound.proofs.Adding.{pass-one, neither}

@@ -5,3 +5,4 @@ pub mod Words
 pub mod Filled
 pub mod Tabled
 pub mod Moves
+pub mod Paths

@@ -1,12 +1,13 @@
 -- What a set's tables mean: document 01, 'The set'. A set is its files in order, each with offset, size, name, directory,
 -- flags, link text and root, its directories, its times, its name, v1 or v2, and its totals. It relies on the rows of
--- Rows.antt and the texts of Span.antt.
+-- Rows.antt, the texts of Span.antt and the joins of `path`.
 use Prim.Native.Nat.{ℕ, zero, suc, _%_}
 use mathlib.Core.Bool.{Bool, true, false, cond}
 use mathlib.Core.List.{List, [], _∷_}
 use lib.Dec.{eqb}
 use lib.IntN.{ℤ}
 use lib.ListN.{take}
+use Rattle.path.specs.Join.{appended}
 use Rattle.tables.specs.declared.rows.Row.{Row}
 use Rattle.tables.specs.declared.storage.FileStorage.{FileStorage}
 use Rattle.tables.specs.Span.{textAt}
@@ -26,6 +27,12 @@ pub data Directory : Type 0 where
   single : Directory
   absolute : Directory
   stored : List ℕ → Bool → Directory
+
+-- the internal path of a name in a directory: the name alone where there is none. A link's text is joined to its directory alike
+abbrev pub pathIn : Directory → List ℕ → List ℕ
+pathIn single name = name
+pathIn absolute name = name
+pathIn (stored d outside) name = appended d name
 
 -- flags: pad 1, hidden 2, executable 4, symlink 8; `made` marks a pad that an addition made
 pub record File : Type 0 where
@@ -68,11 +75,18 @@ tabled (suc n) g = g 0 ∷ tabled n (λ k. g (suc k))
 abbrev pub directoryText : Store → ℕ → List ℕ
 directoryText s i = textAt (s .text) (dirAt (s .dirs) i)
 
--- a file's directory, by its path index
-abbrev pub directoryOf : Store → Row → Directory
-directoryOf s r =
+-- a file's directory, by its path index, in a table of directories and the text that they lie in
+abbrev pub directoryIn : List ℕ → List ℕ → Row → Directory
+directoryIn dirs text r =
     cond (eqb (r .«path_index») noPath) single
-    (cond (isAbsolute r) absolute (stored (directoryText s (r .«path_index»)) (has (r .flags) 32)))
+    (cond (isAbsolute r) absolute (stored (textAt text (dirAt dirs (r .«path_index»))) (has (r .flags) 32)))
+
+-- the internal path of the file with that row
+abbrev pub internalPath : List ℕ → List ℕ → Row → List ℕ
+internalPath dirs text r = pathIn (directoryIn dirs text r) (textAt text (r .name))
+
+abbrev pub directoryOf : Store → Row → Directory
+directoryOf s r = directoryIn (s .dirs) (s .text) r
 
 -- bits of a row's flags: 16 a link text is held, 32 the directory stands outside the set's name, 64 a pad made by an
 -- addition, 128 a root is there

@@ -6,7 +6,8 @@ use Rattle.types.specs.declared.refusal.UsizeResult.{UsizeResult}
 use Rattle.types.specs.Refusals.{usizeSays}
 use Rattle.tables.specs.Model.{Store}
 use Rattle.storage.specs.Outcomes.{storageSays}
-use Rattle.links.specs.Judging.{lent, Judged}
+use Rattle.lookup.specs.Lookup.{lent}
+use Rattle.links.specs.Judging.{Judged}
 use Rattle.cleaning.specs.Cleaning.{Cleaned}
 use Rattle.cleaning.proofs.Cleans.{judging-stops, judging-goes}
 use Rattle.cleaning.proofs.clean.sanitize_symlinks.Statement.{statement}

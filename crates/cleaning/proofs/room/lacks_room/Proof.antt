@@ -1,6 +1,6 @@
 -- `cleaning::room::lacks_room` meets its contract.
 use borrow.Author.Needs.{needs}
-use Rattle.links.specs.Judging.{lent}
+use Rattle.lookup.specs.Lookup.{lent}
 use Rattle.cleaning.specs.Writing.{allVerdicts}
 use Rattle.cleaning.proofs.Rooms.{lacks-now, lacks-more}
 use Rattle.cleaning.proofs.room.lacks_room.Statement.{statement}

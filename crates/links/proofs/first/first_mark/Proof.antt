@@ -10,10 +10,11 @@ use Rattle.tables.specs.declared.rows.Row.{Row}
 use Rattle.tables.specs.Span.{textAt}
 use Rattle.tables.specs.Rows.{has}
 use Rattle.tables.specs.Model.{Store, directoryOf}
-use Rattle.links.specs.Clean.{nothing, isDirectory, fileAt, directoryLength}
-use Rattle.links.specs.Judging.{lent, entriesOf, directoriesOf, relativeMark}
-use Rattle.links.specs.Walking.{entryAt, seenCode}
-use Rattle.links.proofs.Rows.{text-at}
+use Rattle.lookup.specs.Lookup.{nothing, isDirectory, fileAt, lent, entriesOf, directoriesOf, seenCode}
+use Rattle.lookup.specs.Space.{directoryLength}
+use Rattle.lookup.specs.Rows.{entryAt}
+use Rattle.lookup.proofs.Rows.{text-at}
+use Rattle.links.specs.Judging.{relativeMark}
 use Rattle.links.proofs.Marking.{code-link, code-file, code-nothing, first-absolute, first-link, first-file, first-dir, first-near}
 use borrow.Author.Needs.{needs}
 use Rattle.links.proofs.first.first_mark.Statement.{statement}

@@ -6,12 +6,11 @@ use native.Mathlib.Omega.{arith}
 use lib.ListN.{length}
 use lib.Seq.{sets}
 use Rattle.tables.specs.Model.{Store}
-use Rattle.links.specs.Clean.{Entry}
-use Rattle.links.specs.Judging.{lent, entriesOf, directoriesOf}
-use Rattle.links.specs.Walking.{entryAt, entriesFrom, firstMarks}
-use Rattle.links.proofs.Rows.{entries-start, entries-cons, entries-none}
+use Rattle.lookup.specs.Lookup.{Entry, lent, entriesOf, directoriesOf}
+use Rattle.lookup.specs.Rows.{entryAt, entriesFrom}
+use Rattle.lookup.proofs.Rows.{entries-start, entries-cons, entries-none, one-or-none}
+use Rattle.links.specs.Walking.{firstMarks}
 use Rattle.links.proofs.Marking.{marks-turn}
-use Rattle.links.proofs.Scans.{one-or-none}
 use Rattle.links.proofs.first.first_marks.Statement.{statement}
 use Rattle.links.proofs.first.first_marks.Tie as tie
 

@@ -3,10 +3,11 @@ use mathlib.Core.Path.{_≡_, sym, ap, _∙_}
 use native.Mathlib.Omega.{arith}
 use lib.ListN.{set}
 use Rattle.tables.specs.Model.{Store}
-use Rattle.links.specs.Clean.{space}
-use Rattle.links.specs.Judging.{lent, entriesOf, directoriesOf, firstMark}
-use Rattle.links.specs.Walking.{entryAt}
-use Rattle.links.proofs.Rows.{flagged-at, entries-all}
+use Rattle.lookup.specs.Space.{space}
+use Rattle.lookup.specs.Lookup.{lent, entriesOf, directoriesOf}
+use Rattle.lookup.specs.Rows.{entryAt}
+use Rattle.lookup.proofs.Rows.{flagged-at, entries-all}
+use Rattle.links.specs.Judging.{firstMark}
 use Rattle.links.proofs.Scans.{space-at, cond-yes, cond-no}
 use borrow.Author.Needs.{needs}
 use Rattle.links.proofs.first.mark_one.Statement.{statement}

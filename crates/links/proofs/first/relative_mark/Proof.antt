@@ -7,8 +7,8 @@ use lib.ListN.{length, take}
 use lib.Seq.{length-take-le}
 use Rattle.path.specs.Join.{appended}
 use Rattle.tables.specs.Model.{Store}
-use Rattle.links.specs.Judging.{lent, entriesOf, directoriesOf}
-use Rattle.links.proofs.Rows.{branchOf, length-of}
+use Rattle.lookup.specs.Lookup.{lent, entriesOf, directoriesOf}
+use Rattle.lookup.proofs.Rows.{branchIn, length-in}
 use Rattle.links.proofs.Marking.{near-not, near-in}
 use borrow.Author.Needs.{needs}
 use Rattle.links.proofs.first.relative_mark.Statement.{statement}
@@ -18,7 +18,7 @@ abbrev theSet : tie.Start → Store
 theSet c = lent (c .args .fs) (c .args .rows .now) (c .args .dirs .now) (c .args .text .now)
 
 -- the stage holds the text from the link's directory
-staged : (c : tie.After-append-in) → take (c .append-in .result) (c .append-in .last .0) ≡ appended (branchOf (theSet (c .before .before .before .before .before .before .before .before .before .before)) (c .before .before .before .before .before .before .before .before .before .before .args .row)) (c .before .before .before .before .before .before .before .before .before .before .args .t .now)
+staged : (c : tie.After-append-in) → take (c .append-in .result) (c .append-in .last .0) ≡ appended (branchIn (theSet (c .before .before .before .before .before .before .before .before .before .before) .dirs) (theSet (c .before .before .before .before .before .before .before .before .before .before) .text) (c .before .before .before .before .before .before .before .before .before .before .args .row)) (c .before .before .before .before .before .before .before .before .before .before .args .t .now)
 staged c = c .append-in .ensures .is ∙ ap (λ (x : List ℕ). appended x (c .before .before .before .before .before .before .before .before .before .before .args .t .now)) (c .before .directory-of .ensures)
 
 is-inside-requires : tie.Need-is-inside-requires
@@ -28,7 +28,7 @@ directory-of-requires : tie.Need-directory-of-requires
 directory-of-requires c κs = search needs
 
 append-in-requires : tie.Need-append-in-requires
-append-in-requires c κs = omega (arith, c .before .before .before .before .before .before .before .before .before .pre, ap length (c .directory-of .ensures), length-of (theSet (c .before .before .before .before .before .before .before .before .before)) (c .before .before .before .before .before .before .before .before .before .args .row))
+append-in-requires c κs = omega (arith, c .before .before .before .before .before .before .before .before .before .pre, ap length (c .directory-of .ensures), length-in (theSet (c .before .before .before .before .before .before .before .before .before) .dirs) (theSet (c .before .before .before .before .before .before .before .before .before) .text) (c .before .before .before .before .before .before .before .before .before .args .row))
 
 slice-reshare-prefix-settled-mark : tie.Need-slice-reshare-prefix-settled-mark
 slice-reshare-prefix-settled-mark c = search needs

@@ -2,8 +2,7 @@
 use mathlib.Core.Path.{_≡_, sym, _∙_}
 use mathlib.Core.Bool.{Bool, false}
 use Rattle.tables.specs.Model.{Store}
-use Rattle.links.specs.Clean.{Seen, isDirectory, fileAt}
-use Rattle.links.specs.Judging.{lent, entriesOf, directoriesOf}
+use Rattle.lookup.specs.Lookup.{Seen, isDirectory, fileAt, lent, entriesOf, directoriesOf}
 use Rattle.links.proofs.Marking.{code-link, code-file, code-nothing, settled-dir, settled-link, settled-file, settled-other}
 use borrow.Author.Needs.{needs}
 use Rattle.links.proofs.first.settled_mark.Statement.{statement}

@@ -4,7 +4,7 @@ use mathlib.Core.Path.{ap, _∙_}
 use native.Mathlib.Omega.{arith}
 use lib.ListN.{replicate}
 use Rattle.tables.specs.Model.{Store}
-use Rattle.links.specs.Judging.{lent}
+use Rattle.lookup.specs.Lookup.{lent}
 use Rattle.links.proofs.Judgements.{marks-whole}
 use borrow.Author.Needs.{needs}
 use Rattle.links.proofs.judge.judge.Statement.{statement}

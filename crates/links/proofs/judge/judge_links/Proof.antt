@@ -5,8 +5,9 @@ use native.Mathlib.Omega.{arith}
 use lib.ListN.{length}
 use lib.Seq.{length-take-le}
 use Rattle.tables.specs.Model.{Store}
-use Rattle.links.specs.Clean.{linkCount}
-use Rattle.links.specs.Judging.{lent, entriesOf, judgingNumber}
+use Rattle.lookup.specs.Space.{linkCount}
+use Rattle.lookup.specs.Lookup.{lent, entriesOf}
+use Rattle.links.specs.Judging.{judgingNumber}
 use Rattle.links.proofs.Judgements.{Roomy, roomy, judged-ok, judged-err, verdicts-set, judged-yes, judged-no}
 use borrow.Author.Needs.{needs}
 use Rattle.links.proofs.judge.judge_links.Statement.{statement}

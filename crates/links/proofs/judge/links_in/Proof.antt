@@ -8,8 +8,8 @@ use Rattle.tables.specs.Model.{Store}
 use Rattle.rules.specs.Rules.{both}
 use Rattle.rules.specs.Bounds.{badLength}
 use Rattle.rules.specs.Questions.{rowsHeld, dirsHeld, textHeld}
-use Rattle.links.specs.Judging.{lent}
-use Rattle.links.proofs.Spaces.{count-rows}
+use Rattle.lookup.specs.Lookup.{lent}
+use Rattle.lookup.proofs.Spaces.{count-rows}
 use Rattle.links.proofs.judge.links_in.Statement.{statement}
 use Rattle.links.proofs.judge.links_in.Tie as tie
 

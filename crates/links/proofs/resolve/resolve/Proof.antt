@@ -11,11 +11,12 @@ use borrow.Author.Needs.{needs}
 use lib.ListN.{length, getD, set, take, drop, length-drop}
 use lib.Seq.{take-all}
 use Rattle.tables.specs.Model.{Store, directoryText}
-use Rattle.links.specs.Clean.{Entry, covers, isDirectory, known, cut, weight, left}
-use Rattle.links.specs.Judging.{lent, entriesOf, directoriesOf}
-use Rattle.links.specs.Walking.{entryAt, entriesFrom, directoriesFrom, lead, verdict, fresh, anyAt, leadMark, leadText, openOf, rowLead, Joined}
-use Rattle.links.proofs.Rows.{flagged-at, entries-start, directories-start, directories-turn}
-use Rattle.links.proofs.Scans.{Scan, scan-start, one-or-none}
+use Rattle.lookup.specs.Lookup.{Entry, covers, isDirectory, known, lent, entriesOf, directoriesOf}
+use Rattle.lookup.specs.Rows.{entryAt, entriesFrom, directoriesFrom}
+use Rattle.lookup.proofs.Rows.{flagged-at, entries-start, directories-start, directories-turn, one-or-none}
+use Rattle.links.specs.Clean.{cut, weight, left}
+use Rattle.links.specs.Walking.{lead, verdict, fresh, anyAt, leadMark, leadText, openOf, rowLead, Joined}
+use Rattle.links.proofs.Scans.{Scan, scan-start}
 use Rattle.links.proofs.Events.{Met, Over, over-is, goesOn, walked-end, no-dir, dir-on, dir-less, dir-stop, link-none, link-past, mark-low, link-staged, link-short, link-marks, link-room, link-on, link-less}
 use Rattle.links.proofs.Written.{row-lead, row-room}
 use Rattle.links.proofs.resolve.resolve.Statement.{statement}

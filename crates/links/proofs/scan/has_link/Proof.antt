@@ -8,11 +8,11 @@ use native.Mathlib.Omega.{arith}
 use borrow.Author.Needs.{needs}
 use lib.ListN.{getD, drop}
 use Rattle.tables.specs.Model.{Store}
-use Rattle.links.specs.Clean.{Entry}
-use Rattle.links.specs.Judging.{lent}
-use Rattle.links.specs.Walking.{entryAt, entriesFrom, lead, anyAt, linkAt}
-use Rattle.links.proofs.Rows.{flagged-at, entries-cons, entries-none}
-use Rattle.links.proofs.Scans.{link-at, any-turn, any-hit, one-or-none}
+use Rattle.lookup.specs.Lookup.{Entry, lent}
+use Rattle.lookup.specs.Rows.{entryAt, entriesFrom}
+use Rattle.lookup.proofs.Rows.{flagged-at, entries-cons, entries-none, one-or-none}
+use Rattle.links.specs.Walking.{lead, anyAt, linkAt}
+use Rattle.links.proofs.Scans.{link-at, any-turn, any-hit}
 use Rattle.links.proofs.scan.has_link.Statement.{statement}
 use Rattle.links.proofs.scan.has_link.Tie as tie
 

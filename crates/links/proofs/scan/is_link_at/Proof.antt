@@ -9,8 +9,8 @@ use lib.Dec.{ltb}
 use lib.ListN.{getD}
 use Rattle.lists.specs.Lists.{equal}
 use Rattle.tables.specs.Rows.{rowAt}
-use Rattle.answers.specs.Answers.{internalPath}
-use Rattle.links.specs.Judging.{isFlagged}
+use Rattle.tables.specs.Model.{internalPath}
+use Rattle.lookup.specs.Lookup.{isFlagged}
 use Rattle.links.specs.Walking.{lead}
 use borrow.Author.Needs.{needs}
 use Rattle.links.proofs.scan.is_link_at.Statement.{statement}

@@ -7,10 +7,10 @@ use borrow.Author.Tests.{not-true, not-false}
 use lib.ListN.{getD, drop}
 use Rattle.lists.specs.Lists.{equal}
 use Rattle.tables.specs.Model.{Store}
-use Rattle.links.specs.Clean.{Entry, own}
-use Rattle.links.specs.Judging.{lent}
-use Rattle.links.specs.Walking.{entryAt, entriesFrom, lead, anyAt, leading}
-use Rattle.links.proofs.Rows.{flagged-at, own-at}
+use Rattle.lookup.specs.Lookup.{Entry, own, lent}
+use Rattle.lookup.specs.Rows.{entryAt, entriesFrom}
+use Rattle.lookup.proofs.Rows.{flagged-at, own-at}
+use Rattle.links.specs.Walking.{lead, anyAt, leading}
 use Rattle.links.proofs.Scans.{leading-not, leading-yes, mark-plain, mark-off, mark-before, mark-there, mark-here}
 use borrow.Author.Needs.{needs}
 use Rattle.links.proofs.scan.lead_mark.Statement.{statement}

@@ -10,10 +10,12 @@ use Rattle.tables.specs.declared.rows.Row.{Row}
 use Rattle.tables.specs.Span.{textAt}
 use Rattle.tables.specs.Rows.{has}
 use Rattle.tables.specs.Model.{Store}
-use Rattle.links.specs.Clean.{linksOf, space, directoryLength}
-use Rattle.links.specs.Judging.{lent, entriesOf, directoriesOf}
-use Rattle.links.specs.Walking.{entryAt, lead, openOf}
-use Rattle.links.proofs.Rows.{text-at, entries-all}
+use Rattle.lookup.specs.Space.{space, directoryLength}
+use Rattle.lookup.specs.Lookup.{lent, entriesOf, directoriesOf}
+use Rattle.lookup.specs.Rows.{entryAt}
+use Rattle.lookup.proofs.Rows.{text-at, entries-all}
+use Rattle.links.specs.Clean.{linksOf}
+use Rattle.links.specs.Walking.{lead, openOf}
 use Rattle.links.proofs.Scans.{space-at}
 use Rattle.links.proofs.Marks.{marks-say, ready, leads-back}
 use Rattle.links.proofs.Packed.{marks-from}

@@ -6,10 +6,9 @@ use native.Mathlib.Omega.{arith}
 use borrow.Author.Needs.{needs}
 use lib.ListN.{length}
 use Rattle.tables.specs.Model.{Store}
-use Rattle.links.specs.Judging.{lent, entriesOf, directoriesOf}
-use Rattle.links.specs.Walking.{entryAt, entriesFrom}
-use Rattle.links.proofs.Rows.{entries-start, entries-cons, entries-none}
-use Rattle.links.proofs.Scans.{one-or-none}
+use Rattle.lookup.specs.Lookup.{lent, entriesOf, directoriesOf}
+use Rattle.lookup.specs.Rows.{entryAt, entriesFrom}
+use Rattle.lookup.proofs.Rows.{entries-start, entries-cons, entries-none, one-or-none}
 use Rattle.links.proofs.Walked.{Judging, judging-start, judging-turn, judging-end}
 use Rattle.links.proofs.second.walk_links.Statement.{statement}
 use Rattle.links.proofs.second.walk_links.Tie as tie

@@ -1,16 +1,17 @@
 -- `links::second::walk_one` meets its contract: no link, a link that is decided, and one that a walk decides.
-use Prim.Native.Nat.{ℕ, _+_, _*_}
+use Prim.Native.Nat.{ℕ, _+_, _*_, _<_}
 use mathlib.Core.Path.{_≡_, sym, ap, _∙_}
 use mathlib.Core.Bool.{Bool, true, false, cond}
 use mathlib.Core.List.{List}
+use native.Mathlib.Omega.{arith}
 use borrow.Author.Tests.{not-true, not-false}
 use lib.ListN.{getD, set}
 use lib.Seq.{set-getD}
 use Rattle.tables.specs.Model.{Store}
-use Rattle.links.specs.Clean.{Entry}
-use Rattle.links.specs.Judging.{lent, entriesOf, directoriesOf}
-use Rattle.links.specs.Walking.{entryAt, lead, walkedMark}
-use Rattle.links.proofs.Rows.{flagged-at}
+use Rattle.lookup.specs.Lookup.{Entry, lent, entriesOf, directoriesOf}
+use Rattle.lookup.specs.Rows.{entryAt}
+use Rattle.lookup.proofs.Rows.{flagged-at}
+use Rattle.links.specs.Walking.{lead, walkedMark}
 use Rattle.links.proofs.Scans.{cond-yes, cond-no}
 use Rattle.links.proofs.Walked.{walked-by, walked-not}
 use borrow.Author.Needs.{needs}
@@ -41,6 +42,10 @@ link-marks : (f : Bool) (ms ms′ : List ℕ) (k v : ℕ) → f ≡ true → ms�
 link-marks f ms ms′ k v h q = q ∙ sym (cond-yes (set ms k v) ms f h)
 
 -- a verdict that the walk gives
+small : (b : Bool) (v : ℕ) → v ≡ cond b 0 1 → v < 32
+small true v e = omega arith
+small false v e = omega arith
+
 given : (ms ms′ ms″ : List ℕ) (k v w : ℕ) → ms′ ≡ ms → ms″ ≡ set ms′ k (v * 8 + lead (getD ms′ k 0)) → v * 8 + lead (getD ms k 0) ≡ w → ms″ ≡ set ms k w
 given ms ms′ ms″ k v w e q h = q ∙ rw (e, h)
 
@@ -70,8 +75,11 @@ walk-link-requires c κs =
     let p = c .before .before .before .before .before .before .before .before .before .before .before .before .before .before .pre in
     record { row = p .0; flag = sym (flag-is (c .before .before .before .before .before .before .before)) ∙ not-false (c .before .before .before .before .before .before .before .is-link .result) (c .before .before .before .before .before .before .if1 .left); marked = p .1; staged = p .2; room = p .3 }
 
+verdict-by-requires : tie.Need-verdict-by-requires
+verdict-by-requires c κs = search needs
+
 put-verdict-requires : tie.Need-put-verdict-requires
-put-verdict-requires c κs = search needs
+put-verdict-requires c κs = small (c .before .before .before .before .before .before .before .before .walk-link .result) (c .before .verdict-by .result) (c .before .verdict-by .ensures)
 
 same-length-2 : tie.Need-same-length-2
 same-length-2 c = search needs
@@ -86,25 +94,7 @@ returns-3 : tie.Need-returns-3
 returns-3 c =
     let s = c .before .before .before .before .before .before .before .before .before .before .before .before .before .before .before .before .before .before .before .before .before .before .before .before .before .before in
     let f : this (c .before .before .before .before .before .before .before .before .before .before .before .before .before .before .before .before .before .before .before .before .before .before .before .before .before .before) .flagged ≡ true = sym (flag-is (c .before .before .before .before .before .before .before .before .before .before .before .before .before .before .before .before .before .before .before)) ∙ not-false (c .before .before .before .before .before .before .before .before .before .before .before .before .before .before .before .before .before .before .before .is-link .result) (c .before .before .before .before .before .before .before .before .before .before .before .before .before .before .before .before .before .before .if1 .left) in
-    (one (this s .flagged) f, link-marks (this s .flagged) (s .args .marks .now) (c .before .before .put-verdict .last .0) (s .args .k) (then s) f (given (s .args .marks .now) (c .before .before .before .before .before .before .before .before .before .before .before .walk-link .last .1 .1 .1 .1 .0) (c .before .before .put-verdict .last .0) (s .args .k) 0 (then s) (c .before .before .before .before .before .before .before .before .before .before .before .walk-link .ensures .1) (c .before .before .put-verdict .ensures) (walked-by (entriesOf (theSet s)) (directoriesOf (theSet s)) (this s) (mark s) 0 (sym (c .before .before .before .before .before .before .before .before .before .before .before .before .before .before .before .before .verdict-at .ensures) ∙ c .before .before .before .before .before .before .before .before .before .before .before .before .before .before .before .if2 .left) (ap (λ (b : Bool). cond b 0 1) (sym (c .before .before .before .before .before .before .before .before .before .before .before .walk-link .ensures .0) ∙ c .before .before .before .before .if3 .taken)))))
-
-put-verdict-requires-2 : tie.Need-put-verdict-requires-2
-put-verdict-requires-2 c κs = search needs
-
-same-length-5 : tie.Need-same-length-5
-same-length-5 c = search needs
-
-same-length-6 : tie.Need-same-length-6
-same-length-6 c = search needs
-
-same-length-7 : tie.Need-same-length-7
-same-length-7 c = search needs
-
-returns-4 : tie.Need-returns-4
-returns-4 c =
-    let s = c .before .before .before .before .before .before .before .before .before .before .before .before .before .before .before .before .before .before .before .before .before .before .before .before .before .before in
-    let f : this (c .before .before .before .before .before .before .before .before .before .before .before .before .before .before .before .before .before .before .before .before .before .before .before .before .before .before) .flagged ≡ true = sym (flag-is (c .before .before .before .before .before .before .before .before .before .before .before .before .before .before .before .before .before .before .before)) ∙ not-false (c .before .before .before .before .before .before .before .before .before .before .before .before .before .before .before .before .before .before .before .is-link .result) (c .before .before .before .before .before .before .before .before .before .before .before .before .before .before .before .before .before .before .if1 .left) in
-    (one (this s .flagged) f, link-marks (this s .flagged) (s .args .marks .now) (c .before .before .put-verdict2 .last .0) (s .args .k) (then s) f (given (s .args .marks .now) (c .before .before .before .before .before .before .before .before .before .before .before .walk-link .last .1 .1 .1 .1 .0) (c .before .before .put-verdict2 .last .0) (s .args .k) 1 (then s) (c .before .before .before .before .before .before .before .before .before .before .before .walk-link .ensures .1) (c .before .before .put-verdict2 .ensures) (walked-by (entriesOf (theSet s)) (directoriesOf (theSet s)) (this s) (mark s) 1 (sym (c .before .before .before .before .before .before .before .before .before .before .before .before .before .before .before .before .verdict-at .ensures) ∙ c .before .before .before .before .before .before .before .before .before .before .before .before .before .before .before .if2 .left) (ap (λ (b : Bool). cond b 0 1) (sym (c .before .before .before .before .before .before .before .before .before .before .before .walk-link .ensures .0) ∙ c .before .before .before .before .if3 .left)))))
+    (one (this s .flagged) f, link-marks (this s .flagged) (s .args .marks .now) (c .before .before .put-verdict .last .0) (s .args .k) (then s) f (given (s .args .marks .now) (c .before .before .before .before .before .before .before .before .before .before .before .walk-link .last .1 .1 .1 .1 .0) (c .before .before .put-verdict .last .0) (s .args .k) (c .before .before .before .before .verdict-by .result) (then s) (c .before .before .before .before .before .before .before .before .before .before .before .walk-link .ensures .1) (c .before .before .put-verdict .ensures) (walked-by (entriesOf (theSet s)) (directoriesOf (theSet s)) (this s) (mark s) (c .before .before .before .before .verdict-by .result) (sym (c .before .before .before .before .before .before .before .before .before .before .before .before .before .before .before .before .verdict-at .ensures) ∙ c .before .before .before .before .before .before .before .before .before .before .before .before .before .before .before .if2 .left) (sym (c .before .before .before .before .verdict-by .ensures ∙ ap (λ (b : Bool). cond b 0 1) (c .before .before .before .before .before .before .before .before .before .before .before .walk-link .ensures .0))))))
 
 pub walk-one-spec : {M : Type 1} → statement M
 walk-one-spec =
@@ -116,13 +106,9 @@ walk-one-spec =
     same-length
     returns-2
     walk-link-requires
+    verdict-by-requires
     put-verdict-requires
     same-length-2
     same-length-3
     same-length-4
-    returns-3
-    put-verdict-requires-2
-    same-length-5
-    same-length-6
-    same-length-7
-    returns-4)
+    returns-3)

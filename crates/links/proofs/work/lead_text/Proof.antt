@@ -10,8 +10,7 @@ use lib.ListN.{length}
 use Rattle.path.specs.Join.{appended}
 use Rattle.tables.specs.declared.rows.Row.{Row}
 use Rattle.tables.specs.Span.{textAt}
-use Rattle.tables.specs.Rows.{rowAt, dirAt, has}
-use Rattle.answers.specs.Answers.{isInside}
+use Rattle.tables.specs.Rows.{rowAt, directorySpan, has}
 use Rattle.links.proofs.Written.{holds}
 use borrow.Author.Needs.{needs}
 use Rattle.links.proofs.work.lead_text.Statement.{statement}
@@ -28,7 +27,7 @@ abbrev textOf : tie.Start → Row → List ℕ
 textOf c w = cond (has (w .flags) 16) (textAt (c .args .text .now) (w .link)) []
 
 abbrev branchOf : tie.Start → Row → List ℕ
-branchOf c w = cond (isInside w) (textAt (c .args .text .now) (dirAt (c .args .dirs .now) (w .«path_index»))) []
+branchOf c w = textAt (c .args .text .now) (directorySpan (c .args .dirs .now) w)
 
 abbrev row : tie.Start → Row
 row c = rowAt (c .args .rows .now) (c .args .i)

@@ -1,0 +1,114 @@
+// The texts of all links, by their verdicts: first every text is removed that gives way to its link's own path, then
+// each new one is written. Relies on `texts` for one link's text, on verdicts.rt and on the laws of proofs/Passes.antt.
+ghost use mathlib.Core.Path.{_≡_};
+ghost use lib.ListN.{length};
+ghost use Rattle.tables.specs.Model.{Store};
+ghost use Rattle.lookup.specs.Lookup.{lent};
+ghost use Rattle.cleaning.specs.Cleaning.{rewrittenAt, emptied, rewritten};
+ghost use Rattle.cleaning.specs.Writing.{flagsIn, verdictsBy, emptiedAt};
+use crate::verdicts::mark_after;
+use crate::verdicts::verdict_of;
+use tables::FileStorage;
+
+// Writes the new text of file i, by its verdict.
+fn write_link(
+    fs: FileStorage,
+    rows: &mut [u64],
+    dirs: &mut [u64],
+    text: &mut [u8],
+    stage: &mut [u8],
+    i: usize,
+    verdict: u8,
+) -> FileStorage
+    ensures { λ r. ⌜ _≡_ {A = Store} (lent r (now (rows .exit)) (now (dirs .exit)) (now (text .exit))) (rewrittenAt (length (now (stage .entry))) verdict (lent fs (now (rows .entry)) (now (dirs .entry)) (now (text .entry))) i) ⌝ }
+{
+    if verdict == 0 {
+        return fs;
+    }
+    if verdict == 1 {
+        return texts::write_own(fs, rows, dirs, text, i);
+    }
+    texts::write_beside(fs, rows, dirs, text, stage, i)
+}
+
+// Removes the old text of file i, where its verdict is the link's own path.
+fn empty_link(
+    fs: FileStorage,
+    rows: &mut [u64],
+    dirs: &mut [u64],
+    text: &mut [u8],
+    i: usize,
+    verdict: u8,
+) -> FileStorage
+    ensures { λ r. ⌜ _≡_ {A = Store} (lent r (now (rows .exit)) (now (dirs .exit)) (now (text .exit))) (emptiedAt verdict (lent fs (now (rows .entry)) (now (dirs .entry)) (now (text .entry))) i) ⌝ }
+{
+    if verdict == 1 {
+        return texts::empty_text(fs, rows, dirs, text, i);
+    }
+    fs
+}
+
+// Removes the old text of each of the first n files whose verdict is the link's own path.
+fn empty_links(
+    fs: FileStorage,
+    n: usize,
+    rows: &mut [u64],
+    dirs: &mut [u64],
+    text: &mut [u8],
+    marks: &[u8],
+) -> FileStorage
+    ensures { λ r. ⌜ _≡_ {A = Store} (lent r (now (rows .exit)) (now (dirs .exit)) (now (text .exit))) (emptied (verdictsBy (flagsIn (now (rows .entry))) (now (marks .entry)) n 0 0) 0 (lent fs (now (rows .entry)) (now (dirs .entry)) (now (text .entry)))) ⌝ }
+{
+    let mut set = fs;
+    let mut i = 0;
+    let mut k = 0;
+    while i < n {
+        let flags = tables::flags_at(rows, i);
+        let verdict = verdict_of(flags, marks, k);
+        set = empty_link(set, rows, dirs, text, i, verdict);
+        k = mark_after(flags, k);
+        i += 1;
+    }
+    set
+}
+
+// Writes every new text of the first n files.
+fn write_links(
+    fs: FileStorage,
+    n: usize,
+    rows: &mut [u64],
+    dirs: &mut [u64],
+    text: &mut [u8],
+    marks: &[u8],
+    stage: &mut [u8],
+) -> FileStorage
+    ensures { λ r. ⌜ _≡_ {A = Store} (lent r (now (rows .exit)) (now (dirs .exit)) (now (text .exit))) (rewritten (length (now (stage .entry))) (verdictsBy (flagsIn (now (rows .entry))) (now (marks .entry)) n 0 0) 0 (lent fs (now (rows .entry)) (now (dirs .entry)) (now (text .entry)))) ⌝ }
+{
+    let mut set = fs;
+    let mut i = 0;
+    let mut k = 0;
+    while i < n {
+        let flags = tables::flags_at(rows, i);
+        let verdict = verdict_of(flags, marks, k);
+        set = write_link(set, rows, dirs, text, stage, i, verdict);
+        k = mark_after(flags, k);
+        i += 1;
+    }
+    set
+}
+
+// Removes the old texts of the first n files and writes their new ones.
+pub(crate) fn rewrite_links(
+    fs: FileStorage,
+    n: usize,
+    rows: &mut [u64],
+    dirs: &mut [u64],
+    text: &mut [u8],
+    marks: &[u8],
+    stage: &mut [u8],
+) -> FileStorage
+    ensures { λ r. ⌜ _≡_ {A = Store} (lent r (now (rows .exit)) (now (dirs .exit)) (now (text .exit))) (rewritten (length (now (stage .entry))) (verdictsBy (flagsIn (now (rows .entry))) (now (marks .entry)) n 0 0) 0 (emptied (verdictsBy (flagsIn (now (rows .entry))) (now (marks .entry)) n 0 0) 0 (lent fs (now (rows .entry)) (now (dirs .entry)) (now (text .entry))))) ⌝ }
+{
+    let without = empty_links(fs, n, rows, dirs, text, marks);
+    write_links(without, n, rows, dirs, text, marks, stage)
+}

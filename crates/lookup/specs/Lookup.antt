@@ -1,0 +1,103 @@
+-- Document 01, 'Links': what stands at a path in a set: a directory, a file, or a flagged link. It relies on the model of a set in
+-- `tables` and on the separator of `path`.
+use Prim.Native.Nat.{ℕ}
+use mathlib.Core.Bool.{Bool, true, false, cond}
+use mathlib.Core.List.{List, [], _∷_}
+use lib.Dec.{eqb}
+use Rattle.lists.specs.Lists.{equal}
+use Rattle.path.specs.Split.{isSeparator}
+use Rattle.tables.specs.declared.storage.FileStorage.{FileStorage}
+use Rattle.tables.specs.Rows.{has}
+use Rattle.tables.specs.Model.{Optional, absent, present, Directory, pathIn, File, Store, fileOf, directoryText, tabled}
+
+-- ---- a file
+
+-- a file's directory and name, whether it is a flagged link (flag 8, and a text is held), and its link text
+pub record Entry : Type 0 where
+  pub directory : Directory
+  pub name : List ℕ
+  pub flagged : Bool
+  pub text : List ℕ
+
+abbrev pub isHeld : Optional (List ℕ) → Bool
+isHeld absent = false
+isHeld (present t) = true
+
+abbrev pub heldText : Optional (List ℕ) → List ℕ
+heldText absent = []
+heldText (present t) = t
+
+abbrev pub entryOf : File → Entry
+entryOf f =
+    record {
+      directory = f .directory;
+      name = f .name;
+      flagged = cond (has (f .flags) 8) (isHeld (f .link)) false;
+      text = heldText (f .link);
+    }
+
+-- its internal path
+abbrev pub own : Entry → List ℕ
+own f = pathIn (f .directory) (f .name)
+
+-- ---- what stands at a path
+
+-- 'A directory is a stored directory or the part of one that stands before any of its separators'
+abbrev pub covers : List ℕ → List ℕ → Bool
+covers [] [] = true
+covers (x ∷ d) [] = isSeparator x
+covers [] (y ∷ p) = false
+covers (x ∷ d) (y ∷ p) = cond (eqb x y) (covers d p) false
+
+abbrev pub isDirectory : List (List ℕ) → List ℕ → Bool
+isDirectory [] p = false
+isDirectory (d ∷ ds) p = cond (covers d p) true (isDirectory ds p)
+
+-- nothing, a file, or a flagged link
+pub data Seen : Type 0 where
+  nothing : Seen
+  file : Seen
+  link : Seen
+
+-- the same as a number
+abbrev pub seenCode : Seen → ℕ
+seenCode nothing = 0
+seenCode file = 1
+seenCode link = 2
+
+abbrev pub orHere : Seen → Bool → Bool → Seen
+orHere file here l = file
+orHere link here l = link
+orHere nothing true true = link
+orHere nothing true false = file
+orHere nothing false l = nothing
+
+-- 'Of files with one internal path the last counts'
+abbrev pub fileAt : List Entry → List ℕ → Seen
+fileAt [] p = nothing
+fileAt (f ∷ fs) p = orHere (fileAt fs p) (equal (own f) p) (f .flagged)
+
+abbrev pub isThere : Seen → Bool
+isThere nothing = false
+isThere file = true
+isThere link = true
+
+-- whether a file or a directory of the set stands at p
+abbrev pub known : List Entry → List (List ℕ) → List ℕ → Bool
+known files dirs p = cond (isThere (fileAt files p)) true (isDirectory dirs p)
+
+-- ---- the set that the lent tables hold
+
+-- the flags of a flagged link: flag 8, and a text is held
+abbrev pub isFlagged : ℕ → Bool
+isFlagged flags = cond (has flags 8) (has flags 16) false
+
+-- neither roots nor times are looked at
+abbrev pub lent : FileStorage → List ℕ → List ℕ → List ℕ → Store
+lent fs rows dirs text = record { fs = fs; rows = rows; roots = []; times = []; dirs = dirs; text = text }
+
+abbrev pub entriesOf : Store → List Entry
+entriesOf s = tabled (s .fs .«num_files») (λ i. entryOf (fileOf s i))
+
+abbrev pub directoriesOf : Store → List (List ℕ)
+directoriesOf s = tabled (s .fs .«num_paths») (directoryText s)
