@@ -1,12 +1,13 @@
 -- `exports::storage_at` meets its contract.
 use lib.ListN.{length}
+use native.Mathlib.Omega.{arith}
 use borrow.Author.Tests.{lt-ltb, le-ltb}
 use borrow.Author.Needs.{needs}
 use Rattle.exports.proofs.storage_at.Statement.{statement}
 use Rattle.exports.proofs.storage_at.Tie as tie
 
 returns : tie.Need-returns
-returns c = rw (lt-ltb (length (c .before .args .state .now)) 12 (c .if1 .taken))
+returns c = rw (lt-ltb (length (c .before .args .state .now)) 12 (omega arith))
 
 shared-slice-read-t6 : tie.Need-shared-slice-read-t6
 shared-slice-read-t6 c = search needs

@@ -1,8 +1,9 @@
 -- `layout::plan::plan_block` meets its contract.
 use borrow.Author.Needs.{needs}
-use mathlib.Core.Path.{_≡_, _∙_}
+use mathlib.Core.Path.{_≡_, ap, _∙_}
 use mir.Syntax.{w64}
-use mir.Val.{SFits}
+use lib.IntN.{ℤ}
+use mir.Val.{SFits, toZ, ofZ}
 use mir.Facts.{toZ-ofZ}
 use Rattle.types.specs.Refusals.{usizeSays}
 use Rattle.layout.specs.Start.{Started, blockStart}
@@ -17,7 +18,9 @@ started c =
     let a = c .before .before .args in
     let offset-fits : SFits w64 (a .offset) = search needs in
     let size-fits : SFits w64 (a .size) = search needs in
-    rw (toZ-ofZ offset-fits, toZ-ofZ size-fits) at (c .start-block .ensures)
+    c .start-block .ensures
+    ∙ ap (λ (x : ℤ). blockStart (a .fs) (a .rows .now) (a .piece .0) x (toZ w64 (ofZ w64 (a .size)))) (toZ-ofZ offset-fits)
+    ∙ ap (λ (x : ℤ). blockStart (a .fs) (a .rows .now) (a .piece .0) (a .offset) x) (toZ-ofZ size-fits)
 
 start-block-requires : tie.Need-start-block-requires
 start-block-requires c κs = search needs
