@@ -9,7 +9,7 @@ use borrow.Author.Tests.{eqb-true, eqb-false}
 use Rattle.types.specs.Refusals.{numberOf, value, refused}
 use Rattle.types.specs.declared.refusal.Refusal.{Refusal}
 use Rattle.types.proofs.Refusals.{numbered}
-use Rattle.rules.specs.Rules.{Rule, firstOf, outcomeOf, either}
+use Rattle.rules.specs.Rules.{Rule, firstOf, outcomeOf, both, either}
 
 -- rules whose numbers are above 0
 abbrev pub Numbered : List Rule → Type 0
