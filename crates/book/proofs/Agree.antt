@@ -16,11 +16,14 @@ use Rattle.tables.specs.declared.storage.FileStorage.{FileStorage}
 use Rattle.tables.specs.Model.{Optional, absent, present, File, Model, Store, fileOf, viewOf}
 use Rattle.rules.specs.Rules.{outcomeOf, firstOf, when}
 use Rattle.rules.specs.Bounds.{badLength}
-use Rattle.storage.specs.Addition.{Addition, added}
-use Rattle.storage.specs.Trim.{tailPad}
-use Rattle.storage.specs.Write.{storeAdded}
+use Rattle.additions.specs.Addition.{Addition, added}
+use Rattle.trim.specs.Trim.{tailPad}
+use Rattle.plan.specs.Write.{storeAdded}
 use Rattle.storage.specs.Opening.{empty, opened, fresh}
-use Rattle.storage.specs.Outcomes.{Changed, changedIf, roomsOf, holds, addingNumber, trimmedBy}
+use Rattle.change.specs.Changes.{Changed, changedIf}
+use Rattle.change.specs.Rooms.{roomsOf, holds}
+use Rattle.plan.specs.Outcomes.{addingNumber}
+use Rattle.trim.specs.Removal.{trimmedBy}
 use Rattle.lookup.specs.Space.{space}
 use Rattle.lookup.specs.Lookup.{lent, entriesOf}
 use Rattle.links.specs.Judging.{judgingNumber}

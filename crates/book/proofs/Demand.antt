@@ -26,12 +26,10 @@ use Rattle.tables.specs.Rows.{rowAt}
 use Rattle.tables.specs.Model.{File, Store, viewOf}
 use Rattle.rules.specs.Rules.{Rule, firstOf}
 use Rattle.rules.specs.Bounds.{badLength, limit}
-use Rattle.rules.specs.Questions.{rowsHeld}
+use Rattle.rules.specs.Questions.{rowsHeld, badPieceLength, manyPieces, noPiece, noFile, badRange, short}
 use Rattle.sound.specs.Sound.{Sound}
-use Rattle.rules.specs.Questions.{badPieceLength, manyPieces, noPiece, noFile, badRange, short}
 use Rattle.rules.specs.Results.{Asked}
-use Rattle.layout.specs.Mapping.{Slice}
-use Rattle.layout.specs.Mapping.{blockOf}
+use Rattle.layout.specs.Mapping.{Slice, blockOf}
 use Rattle.mapping.specs.Table.{Filled, filled, recordOf, blockMapped}
 use Rattle.files.specs.Request.{fileMapped}
 use Rattle.rules.proofs.Rules.{Passed}

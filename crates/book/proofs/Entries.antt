@@ -14,9 +14,9 @@ use Rattle.lists.specs.Lists.{sum}
 use Rattle.path.specs.Join.{isEmpty}
 use Rattle.tables.specs.Model.{Optional, absent, present, File, Model}
 use Rattle.rules.specs.Rules.{both, either}
-use Rattle.storage.specs.Addition.{Addition, added, fileAdded, padAdded, padTo, padAfter, padOf, sizeAdded, flagsKept, keeps, isPresent, isV2}
-use Rattle.storage.specs.Trim.{tailPad, sizeAt, beginningAt, trimmedIf, trimmedOf}
-use Rattle.storage.proofs.Rules.{pad-none, pad-some}
+use Rattle.additions.specs.Addition.{Addition, added, fileAdded, padAdded, padTo, padAfter, padOf, sizeAdded, flagsKept, keeps, isPresent, isV2}
+use Rattle.trim.specs.Trim.{tailPad, sizeAt, beginningAt, trimmedIf, trimmedOf}
+use Rattle.additions.proofs.Rules.{pad-none, pad-some}
 use Rattle.links.specs.Clean.{cleanedOf}
 use Rattle.renames.specs.Imports.{Naming}
 use Rattle.sound.specs.Documents.{sizes}

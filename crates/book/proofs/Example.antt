@@ -12,9 +12,9 @@ use Rattle.lists.specs.Decimal.{digitsWithin}
 use Rattle.tables.specs.declared.storage.FileStorage.{FileStorage}
 use Rattle.tables.specs.Rows.{filled}
 use Rattle.tables.specs.Model.{absent, present, Store, tabled}
-use Rattle.storage.specs.Addition.{Addition}
+use Rattle.additions.specs.Addition.{Addition}
 use Rattle.storage.specs.Opening.{empty}
-use Rattle.storage.specs.Write.{placeFrom}
+use Rattle.plan.specs.Write.{placeFrom}
 use Rattle.links.specs.Clean.{step, walk}
 use Rattle.renames.specs.Renames.{renamesFrom, orderedFrom}
 use Rattle.renames.specs.Imports.{Naming}

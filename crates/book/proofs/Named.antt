@@ -17,17 +17,15 @@ use Rattle.types.specs.Refusals.{value, refused}
 use Rattle.tables.specs.Model.{Store, fileOf, viewOf}
 use Rattle.tables.proofs.Tabled.{length-tabled}
 use Rattle.rules.specs.Rules.{Rule, when, firstOf, both}
-use Rattle.rules.specs.Bounds.{badLength}
-use Rattle.rules.specs.Bounds.{isBelow, indexOf}
-use Rattle.renames.specs.declared.rename.RenamedFiles.{RenamedFiles}
-use Rattle.renames.specs.Renames.{Renamed, renamesOf, orderedFrom, inOrder, withRename, renamedTo, lacksRoom, stateOf, wordsOf, textsOf, modeFor, renameFile}
+use Rattle.rules.specs.Bounds.{badLength, isBelow, indexOf}
+use Rattle.renames.specs.Renames.{Renamed, renamesOf, orderedFrom, inOrder, withRename, renamedTo, lacksRoom, stateOf, wordsOf, textsOf}
 use Rattle.renames.specs.Renames as renames
-use Rattle.renames.specs.Imports.{Naming, fullPath, imported, hasNegative, importFilenames}
+use Rattle.renames.specs.Imports.{Naming, fullPath, imported, hasNegative}
 use Rattle.renames.proofs.Rising.{Rises, Small, rises-read, small-read, rises-with, small-with}
 use Rattle.renames.proofs.Decisions.{order-in}
 use Rattle.renames.proofs.Kept.{kept-order}
 use Rattle.sound.proofs.Adding.{pass-one, neither}
-use Rattle.book.specs.Book.{Came, Made, Row, Book, book}
+use Rattle.book.specs.Book.{Made, Book, book}
 use Rattle.book.specs.Calls.{cameOf, Renames, noEntries, renamesAfter, SameRenames, Leads}
 use Rattle.book.specs.Calls as calls
 use Rattle.book.specs.Book as books

@@ -17,9 +17,10 @@ use Rattle.tables.specs.Model.{Optional, absent, present, presentIf, Model, Sto
 use Rattle.tables.proofs.Tabled.{tabled-same, length-tabled}
 use Rattle.tables.proofs.Words.{row-back, length-root, root-ext, root-back, length-put-root, length-put-row}
 use Rattle.rules.specs.Rules.{firstOf, either}
-use Rattle.storage.specs.Addition.{Addition, added, addingRules, padOf, filesOf}
-use Rattle.storage.specs.Write.{storeAdded, rowAdded, padRow, textAfter}
-use Rattle.storage.specs.Outcomes.{roomsOf, holds, addingNumber}
+use Rattle.additions.specs.Addition.{Addition, added, addingRules, padOf, filesOf}
+use Rattle.plan.specs.Write.{storeAdded, rowAdded, padRow, textAfter}
+use Rattle.change.specs.Rooms.{roomsOf, holds}
+use Rattle.plan.specs.Outcomes.{addingNumber}
 use Rattle.sound.specs.Sound.{Place, setName, dirName, fileName, linkText, spanOf, Sound}
 use Rattle.sound.proofs.Adding.{Fits, fits}
 use Rattle.sound.proofs.AddedWhole.{count-files}

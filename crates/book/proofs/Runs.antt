@@ -15,12 +15,15 @@ use Rattle.types.specs.Refusals.{value}
 use Rattle.types.specs.Refusals as outcomes
 use Rattle.tables.specs.Model.{Store, viewOf}
 use Rattle.rules.specs.Rules.{Rule, when, firstOf}
-use Rattle.rules.specs.Bounds.{badLength}
-use Rattle.storage.specs.Addition.{Addition, added, addingRules, lacks, textOf}
-use Rattle.storage.specs.Trim.{tailPad}
+use Rattle.rules.specs.Bounds.{badLength, isBelow}
+use Rattle.additions.specs.Addition.{Addition, added, addingRules, lacks, textOf}
+use Rattle.trim.specs.Trim.{tailPad}
 use Rattle.storage.specs.Opening.{empty, opened}
-use Rattle.storage.specs.Write.{storeAdded}
-use Rattle.storage.specs.Outcomes.{Changed, changedIf, roomsOf, addingNumber, addStored, trimStored, trimmedBy}
+use Rattle.plan.specs.Write.{storeAdded}
+use Rattle.change.specs.Changes.{Changed, changedIf}
+use Rattle.change.specs.Rooms.{roomsOf}
+use Rattle.plan.specs.Outcomes.{addingNumber, addStored}
+use Rattle.trim.specs.Removal.{trimStored, trimmedBy}
 use Rattle.links.specs.Clean.{cleanedOf}
 use Rattle.lookup.specs.Space.{space, linkCount, lacksSpace}
 use Rattle.lookup.specs.Lookup.{lent, entriesOf}
@@ -29,7 +32,6 @@ use Rattle.cleaning.specs.Cleaning.{cleanedStore, Cleaned, cleanedTo, cleanStor
 use lib.Seq.{sets}
 use Rattle.renames.specs.Renames.{Renamed, inOrder, lacksRoom, renameFile, renamedTo, renamesOf, stateOf, wordsOf, textsOf}
 use Rattle.renames.specs.Renames as renames
-use Rattle.rules.specs.Bounds.{isBelow}
 use Rattle.renames.specs.Imports.{Naming, hasNegative, imported, importFilenames}
 use Rattle.sound.proofs.Adding.{sound-holds, adding-number}
 use Rattle.model.proofs.Cleaning.{judging-is, space-enough}

@@ -20,11 +20,12 @@ use Prim.Native.Nat.{ℕ, _≤_}
 use lib.IntN.{ℤ, pos}
 use Rattle.types.specs.Refusals.{value, usizeSays}
 use Rattle.tables.specs.declared.storage.FileStorage.{FileStorage}
-use Rattle.tables.specs.Model.{Store}
-use Rattle.storage.specs.Addition.{Addition}
+use Rattle.tables.specs.Model.{Store, storeOf}
+use Rattle.additions.specs.Addition.{Addition, additionOf}
 use Rattle.storage.specs.Opening.{opened}
-use Rattle.storage.specs.Plan.{storeOf, additionOf}
-use Rattle.storage.specs.Outcomes.{Changed, storageSays, addStored, trimStored}
+use Rattle.change.specs.Changes.{Changed, storageSays}
+use Rattle.plan.specs.Outcomes.{addStored}
+use Rattle.trim.specs.Removal.{trimStored}
 use Rattle.lookup.specs.Lookup.{lent}
 use Rattle.cleaning.specs.Cleaning.{Cleaned, cleanStored}
 use Rattle.renames.specs.Renames.{renameFile}
@@ -40,9 +41,9 @@ use Rattle.storage.proofs.open.Reads as open-reads
 use Rattle.storage.proofs.add_file
 use Rattle.storage.proofs.add_file.Kinds as add-kinds
 use Rattle.storage.proofs.add_file.Reads as add-reads
-use Rattle.storage.proofs.remove_tail_padding
-use Rattle.storage.proofs.remove_tail_padding.Kinds as trim-kinds
-use Rattle.storage.proofs.remove_tail_padding.Reads as trim-reads
+use Rattle.trim.proofs.remove_tail_padding
+use Rattle.trim.proofs.remove_tail_padding.Kinds as trim-kinds
+use Rattle.trim.proofs.remove_tail_padding.Reads as trim-reads
 use Rattle.mapping.proofs.map_block
 use Rattle.cleaning.proofs.sanitize_symlinks
 use Rattle.cleaning.proofs.sanitize_symlinks.Kinds as clean-kinds

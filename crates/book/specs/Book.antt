@@ -9,7 +9,7 @@ use lib.ListN.{length}
 use Rattle.lists.specs.Lists.{sum}
 use Rattle.rules.specs.Rules.{both, either}
 use Rattle.rules.specs.Bounds.{sizeOf}
-use Rattle.storage.specs.Addition.{Addition, isPresent}
+use Rattle.additions.specs.Addition.{Addition, isPresent}
 use Rattle.renames.specs.Imports.{Naming}
 
 -- a call, by its arguments

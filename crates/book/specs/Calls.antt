@@ -10,9 +10,11 @@ use lib.ListN.{take}
 use Rattle.types.specs.Refusals.{Outcome, value, refused}
 use Rattle.tables.specs.declared.storage.FileStorage.{FileStorage}
 use Rattle.tables.specs.Model.{Store}
-use Rattle.storage.specs.Addition.{Addition}
+use Rattle.additions.specs.Addition.{Addition}
 use Rattle.storage.specs.Opening.{opened}
-use Rattle.storage.specs.Outcomes.{Changed, addStored, trimStored}
+use Rattle.change.specs.Changes.{Changed}
+use Rattle.plan.specs.Outcomes.{addStored}
+use Rattle.trim.specs.Removal.{trimStored}
 use Rattle.lookup.specs.Lookup.{lent}
 use Rattle.cleaning.specs.Cleaning.{Cleaned, cleanStored}
 use Rattle.renames.specs.declared.rename.RenamedFiles.{RenamedFiles}

@@ -9,7 +9,7 @@ use crate::output::Buffer;
 use crate::places;
 use crate::state;
 use crate::strings;
-use storage::StorageResult;
+use change::StorageResult;
 use tables::FileStorage;
 use types::Refusal;
 
@@ -61,7 +61,7 @@ fn make(
 ) -> Made {
     match call {
         kinds::ADD => add(line, fs, rows, roots, times, dirs, text),
-        kinds::TRIM => outcome(storage::remove_tail_padding(fs, rows, roots, times, dirs, text)),
+        kinds::TRIM => outcome(trim::remove_tail_padding(fs, rows, roots, times, dirs, text)),
         _ => cleanings::clean(fs, rows, dirs, text),
     }
 }

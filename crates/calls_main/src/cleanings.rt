@@ -2,7 +2,7 @@
 // `cleaning`. A small work space serves most sets; the large one is cleared only where that is too short.
 use crate::changes;
 use crate::changes::Made;
-use storage::StorageResult;
+use change::StorageResult;
 use tables::FileStorage;
 
 // `clean`.

@@ -9,7 +9,7 @@ use crate::numbers::Short;
 use crate::state;
 use crate::state::Room;
 use crate::words;
-use storage::StorageResult;
+use change::StorageResult;
 
 // What a line says of one kind of room: whether a word names it, and how many places it has.
 struct Named {

@@ -5,7 +5,7 @@ use Rattle.tables.specs.Rows.{filled}
 use Rattle.tables.specs.Model.{tabled}
 use Rattle.layout.specs.Search.{halved}
 use Rattle.layout.specs.Mapping.{walk}
-use Rattle.storage.specs.Write.{placeFrom}
+use Rattle.plan.specs.Write.{placeFrom}
 use Rattle.links.specs.Clean.{step}
 use Rattle.links.specs.Clean as links
 use Rattle.cases.specs.Cases.{table, allHold}

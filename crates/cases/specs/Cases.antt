@@ -6,7 +6,7 @@ use lib.IntN.{ℤ, pos}
 use lib.ListN.{replicate}
 use Rattle.types.specs.Refusals.{Outcome, value, refused}
 use Rattle.tables.specs.Model.{Optional, absent, present, Store}
-use Rattle.storage.specs.Addition.{Addition}
+use Rattle.additions.specs.Addition.{Addition}
 use Rattle.cases.specs.Questions.{newStore, built, Question, addFile, fileOffset, numPieces, mapBlock, fileIndexAtOffset, mapFile, exclusive, inclusive, pieceSize2, linkAfterCleaning, answer, sameAnswer}
 
 -- a question, and the answer that document 01 gives

@@ -12,9 +12,10 @@ use Rattle.tables.specs.declared.storage.FileStorage.{FileStorage}
 use Rattle.tables.specs.Span.{textAt}
 use Rattle.tables.specs.Rows.{rowAt, has}
 use Rattle.tables.specs.Model.{Store}
-use Rattle.storage.specs.Addition.{Addition}
+use Rattle.additions.specs.Addition.{Addition}
 use Rattle.storage.specs.Opening.{empty}
-use Rattle.storage.specs.Outcomes.{Changed, addStored}
+use Rattle.change.specs.Changes.{Changed}
+use Rattle.plan.specs.Outcomes.{addStored}
 use Rattle.rules.specs.Rules.{both}
 use Rattle.rules.specs.Questions.{askedFile, askedLink, rowsHeld, textHeld}
 use Rattle.lookup.specs.Lookup.{lent}

@@ -2,13 +2,13 @@
 // on `links` for the judgement, on room.rt, rewrite.rt and the laws of proofs/Cleans.antt.
 ghost use mathlib.Core.Path.{_≡_};
 ghost use mathlib.Core.List.{[]};
-ghost use Rattle.storage.specs.Outcomes.{storageSays};
+ghost use Rattle.change.specs.Changes.{storageSays};
 ghost use Rattle.lookup.specs.Lookup.{lent};
 ghost use Rattle.cleaning.specs.Cleaning.{Cleaned, cleanStored};
 ghost use Rattle.cleaning.specs.Writing.{allVerdicts, cleanedBy};
 use crate::rewrite::rewrite_links;
 use crate::room::lacks_room;
-use storage::StorageResult;
+use change::StorageResult;
 use tables::FileStorage;
 use types::Refusal;
 use types::UsizeResult;

@@ -2,7 +2,7 @@
 use Prim.Native.Nat.{ℕ}
 use mathlib.Core.Path.{_≡_}
 use mathlib.Core.List.{List}
-use Rattle.storage.specs.Outcomes.{Changed}
+use Rattle.change.specs.Changes.{Changed}
 use Rattle.exports.specs.State.{Exported, exported, numberSaid, stateSaid}
 
 pub answered : (state words : List ℕ) (n : ℕ) (made known : Changed) → made ≡ known → n ≡ numberSaid (made .says) → words ≡ stateSaid (made .says) state

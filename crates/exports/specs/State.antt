@@ -11,10 +11,9 @@ use Rattle.types.specs.Refusals.{Outcome, value, refused}
 use Rattle.tables.specs.declared.storage.FileStorage.{FileStorage}
 use Rattle.tables.specs.declared.rows.Presence.{Presence}
 use Rattle.tables.specs.declared.rows.Presence.the-variants.{Absent, Present}
-use Rattle.tables.specs.Model.{Store}
+use Rattle.tables.specs.Model.{Store, storeOf}
 use Rattle.storage.specs.Opening.{empty}
-use Rattle.storage.specs.Plan.{storeOf}
-use Rattle.storage.specs.Outcomes.{Changed}
+use Rattle.change.specs.Changes.{Changed}
 
 -- the set that the words hold; where they are not all there, one of piece length 0, which every change and every question
 -- refuses by 1

@@ -3,13 +3,16 @@
 // `layout` and `mapping`.
 ghost use mathlib.Core.Path.{_≡_};
 ghost use Rattle.tables.specs.Rows.{rootAt};
-ghost use Rattle.storage.specs.Outcomes.{storageSays, optionalOf, addStored, trimStored};
+ghost use Rattle.change.specs.Changes.{storageSays};
+ghost use Rattle.additions.specs.Addition.{optionalOf};
+ghost use Rattle.plan.specs.Outcomes.{addStored};
+ghost use Rattle.trim.specs.Removal.{trimStored};
 ghost use Rattle.exports.specs.State.{Exported, exported, storageOf, storeAt, stateWith, bit, presenceOf, numberSaid, stateSaid};
 
 mod questions;
 mod slices;
 
-use storage::StorageResult;
+use change::StorageResult;
 use tables::FileStorage;
 use tables::Presence;
 use tables::Span;
@@ -165,7 +168,7 @@ pub extern "C" fn niflathen_add_file(
     put_answer(state, answer)
 }
 
-// `storage::remove_tail_padding`.
+// `trim::remove_tail_padding`.
 #[no_mangle]
 pub extern "C" fn niflathen_remove_tail_padding(
     state: &mut [u64],
@@ -190,6 +193,6 @@ pub extern "C" fn niflathen_remove_tail_padding(
         (storeAt (now (state .entry)) (now (rows .entry)) (now (roots .entry)) (now (times .entry))
         (now (dirs .entry)) (now (text .entry))))) ⌝ }
 {
-    let answer = storage::remove_tail_padding(storage_at(state), rows, roots, times, dirs, text);
+    let answer = trim::remove_tail_padding(storage_at(state), rows, roots, times, dirs, text);
     put_answer(state, answer)
 }

@@ -19,7 +19,7 @@ use Rattle.path.specs.Join.{isEmpty, Joined, joinedIf, fits}
 use Rattle.tables.specs.Model.{Optional, absent, present, Directory, single, absolute, stored, File, Model}
 use Rattle.rules.specs.Rules.{firstOf, both, either}
 use Rattle.rules.specs.Bounds.{limit, isNegative, badLength}
-use Rattle.storage.specs.Addition.{Addition, limitedName, badName, disagree, filesOf, unled, under, pathName, storedName, placeFor, newName, fileAdded, padAdded, padDirectory, padOf, sizeAdded, added, lacks, textOf, addingRules, addedTo}
+use Rattle.additions.specs.Addition.{Addition, limitedName, badName, disagree, filesOf, unled, under, pathName, storedName, placeFor, newName, fileAdded, padAdded, padDirectory, padOf, sizeAdded, added, lacks, textOf, addingRules, addedTo}
 use Rattle.storage.specs.Opening.{fresh}
 use Rattle.listing_input.specs.Form.{FileEntry, linesFrom, lines, pieceLengthIn, fileIn}
 use Rattle.listing.specs.Run.{additionOf, goOn, readAs, runFrom, openedAs, runLines, run, places, listing}

@@ -16,13 +16,15 @@ use Rattle.types.specs.declared.refusal.Refusal.the-variants.{TooManyPieces}
 use Rattle.types.specs.Refusals.{Outcome, value, refused}
 use Rattle.tables.specs.declared.storage.FileStorage.{FileStorage}
 use Rattle.tables.specs.Entry.{presenceIf}
-use Rattle.tables.specs.Model.{Optional, absent, present, presentIf, Model, Store, viewOf}
+use Rattle.tables.specs.Model.{Optional, absent, present, presentIf, Model, Store, viewOf, storeOf}
 use Rattle.rules.specs.Rules.{outcomeOf, both}
-use Rattle.storage.specs.Addition.{Addition, Rooms, added, addedTo}
-use Rattle.storage.specs.Write.{storeAdded}
-use Rattle.storage.specs.Outcomes.{Changed, roomsOf, addingNumber, addStored, optionalOf}
-use Rattle.storage.specs.Opening.{empty}
-use Rattle.storage.specs.Opening.{fresh}
+use Rattle.additions.specs.Addition.{Addition, added, addedTo, optionalOf}
+use Rattle.change.specs.declared.rooms.Rooms.{Rooms}
+use Rattle.plan.specs.Write.{storeAdded}
+use Rattle.change.specs.Changes.{Changed}
+use Rattle.change.specs.Rooms.{roomsOf}
+use Rattle.plan.specs.Outcomes.{addingNumber, addStored}
+use Rattle.storage.specs.Opening.{empty, fresh}
 use Rattle.sound.specs.Sound.{Sound}
 use Rattle.sound.proofs.Adding.{adding}
 use Rattle.sound.proofs.Added.{view-added, sound-added}
@@ -31,7 +33,6 @@ use Rattle.listing.specs.Run.{additionOf, counted, goOn, openedAs, readA
 use Rattle.listing_output.specs.Output.{Run, listed, stopped}
 use Rattle.listing_input.specs.Answers.{firstLine}
 use Rattle.listing.specs.declared.run.RunResult.the-variants.{Listed, Stopped}
-use Rattle.storage.specs.Plan.{storeOf}
 use Rattle.listing.specs.Steps.{openedBy, obeyed, countedBy, runSays, Placed}
 use Rattle.listing_input.proofs.Reading.{number-small, first-take, lines-next}
 

@@ -9,7 +9,8 @@ use lib.IntN.{pos}
 use lib.ListN.{length, replicate}
 use Rattle.types.specs.Refusals.{Outcome, value, refused}
 use Rattle.tables.specs.Model.{Optional, absent, present, presentIf, Model}
-use Rattle.storage.specs.Addition.{Addition, Rooms, addedTo}
+use Rattle.additions.specs.Addition.{Addition, addedTo}
+use Rattle.change.specs.declared.rooms.Rooms.{Rooms}
 use Rattle.storage.specs.Opening.{fresh}
 use Rattle.listing_input.specs.Form.{FileEntry, lines, pieceLengthIn, fileIn}
 use Rattle.listing_output.specs.Output.{Run, listed, stopped, pieces, printed}

@@ -11,12 +11,12 @@ use Rattle.lists.specs.Lists.{ceiling}
 use Rattle.types.specs.declared.refusal.Refusal.the-variants.{TooManyPieces, ParseFailed}
 use Rattle.types.specs.Refusals.{numberOf, Outcome, refused}
 use Rattle.tables.specs.declared.storage.FileStorage.{FileStorage}
-use Rattle.tables.specs.Model.{Optional, absent, present, Store, viewOf}
-use Rattle.storage.specs.declared.answer.StorageResult.{StorageResult}
-use Rattle.storage.specs.declared.answer.StorageResult.the-variants.{Ok, Err}
-use Rattle.storage.specs.Outcomes.{Changed, addStored}
+use Rattle.tables.specs.Model.{Optional, absent, present, Store, viewOf, storeOf}
+use Rattle.change.specs.declared.result.StorageResult.{StorageResult}
+use Rattle.change.specs.declared.result.StorageResult.the-variants.{Ok, Err}
+use Rattle.change.specs.Changes.{Changed}
+use Rattle.plan.specs.Outcomes.{addStored}
 use Rattle.storage.specs.Opening.{opened}
-use Rattle.storage.specs.Plan.{storeOf}
 use Rattle.listing_input.specs.Form.{FileEntry}
 use Rattle.listing_output.specs.Output.{Run, listed, stopped}
 use Rattle.listing.specs.Run.{additionOf}

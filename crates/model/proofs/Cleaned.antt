@@ -15,7 +15,7 @@ use Rattle.lists.specs.Lists.{sum}
 use Rattle.tables.specs.declared.storage.FileStorage.{FileStorage}
 use Rattle.tables.specs.Model.{present, File, Store, tabled, fileOf, viewOf}
 use Rattle.tables.proofs.Tabled.{length-tabled, tabled-same}
-use Rattle.storage.specs.Addition.{fileText, textOf}
+use Rattle.additions.specs.Addition.{fileText, textOf}
 use Rattle.lookup.specs.Lookup.{Entry, entryOf, isHeld, entriesOf, directoriesOf}
 use Rattle.links.specs.Clean.{linkedTo, cleanFile, cleanedOf}
 use Rattle.lookup.specs.Space.{space}

@@ -6,7 +6,7 @@ use mathlib.Core.List.{List, [], _∷_, map, map-map}
 use Prim.Native.Nat.{ℕ}
 use Rattle.tables.specs.Rows.{has}
 use Rattle.tables.specs.Model.{Optional, absent, present, File, Model}
-use Rattle.storage.specs.Addition.{isPresent}
+use Rattle.additions.specs.Addition.{isPresent}
 use Rattle.lookup.specs.Lookup.{entryOf, isHeld}
 use Rattle.links.specs.Clean.{linkedTo, cleanText, cleanFile, cleanedOf}
 

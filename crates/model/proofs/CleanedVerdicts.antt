@@ -13,7 +13,7 @@ use lib.ListN.{length}
 use borrow.Author.Tests.{eqb-true, eq-eqb, ne-eqb}
 use Rattle.tables.specs.declared.span.Span.{Span}
 use Rattle.tables.specs.Model.{Optional, absent, present, Directory, single, absolute, stored, File, Store, tabled, fileOf, pathIn}
-use Rattle.storage.specs.Addition.{linkLength}
+use Rattle.additions.specs.Addition.{linkLength}
 use Rattle.lookup.specs.Lookup.{Entry, entryOf, isHeld, heldText, own}
 use Rattle.links.specs.Clean.{linkedTo, cleanText, cleanFile}
 use Rattle.lookup.specs.Space.{directoryLength, space}

@@ -13,9 +13,9 @@ use borrow.Author.Tests.{eqb-true, eq-eqb}
 use Rattle.lists.specs.Lists.{sum}
 use Rattle.lists.proofs.Sums.{sum-append}
 use Rattle.tables.specs.Model.{Optional, absent, present, presentIf, File, Model}
-use Rattle.storage.specs.Addition.{Addition, added, fileAdded, padAdded, padOf, sizeAdded, flagsKept, keeps, isPresent, filesOf, isV2, isOpen, decides, padTo, padAfter}
+use Rattle.additions.specs.Addition.{Addition, added, fileAdded, padAdded, padOf, sizeAdded, flagsKept, keeps, isPresent, filesOf, isV2, isOpen, decides, padTo, padAfter}
 use Rattle.rules.specs.Rules.{both, either}
-use Rattle.storage.specs.Trim.{tailPad, sizeAt, beginningAt, without, trimmedIf}
+use Rattle.trim.specs.Trim.{tailPad, sizeAt, beginningAt, without, trimmedIf}
 use Rattle.links.specs.Clean.{cleanedOf}
 use Rattle.sound.specs.Documents as documents
 use Rattle.sound.specs.Documents.{sizes, EndToEnd, sizeOnDisk, OnDisk, Marked, OnPiece, Each, none, more, LinkEmpty}

@@ -5,8 +5,9 @@ use mathlib.Core.Path.{_≡_}
 use Rattle.types.specs.Refusals.{value}
 use Rattle.tables.specs.Model.{Model}
 use Rattle.storage.specs.Opening.{fresh}
-use Rattle.storage.specs.Addition.{Addition, Rooms, added, addedTo}
-use Rattle.storage.specs.Trim.{trimmedOf}
+use Rattle.additions.specs.Addition.{Addition, added, addedTo}
+use Rattle.change.specs.declared.rooms.Rooms.{Rooms}
+use Rattle.trim.specs.Trim.{trimmedOf}
 use Rattle.links.specs.Clean.{cleanedOf}
 
 -- models that the calls lead to; the rooms are those of whatever tables are lent at the call

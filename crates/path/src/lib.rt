@@ -19,3 +19,4 @@ pub use split::lsplit_path_first;
 pub use split::lsplit_path_rest;
 pub use split::rsplit_path_branch;
 pub use split::rsplit_path_leaf;
+pub use split::trimmed_length;

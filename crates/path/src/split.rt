@@ -36,6 +36,19 @@ fn is_either(byte: u8) -> bool
     byte == b'\\'
 }
 
+// Where a path ends once a `/` at its end is dropped.
+pub fn trimmed_length(path: &[u8]) -> usize
+    ensures { λ r. ⌜
+        (r ≤ length (now (path .entry))) × (take r (now (path .entry)) ≡ trimmed isSeparator (now (path .entry)))
+        ⌝ }
+{
+    let last = lists::minus(path.len(), 1);
+    if lists::byte(path, last) == b'/' {
+        return last;
+    }
+    path.len()
+}
+
 // A path without the `/` at its end, if it has one.
 fn trim(path: &[u8]) -> &[u8]
     ensures { λ r. ⌜ now r ≡ trimmed isSeparator (now (path .entry)) ⌝ }

@@ -60,17 +60,6 @@ pub(crate) fn rename_at(entries: &[u64], i: usize, at: usize) -> Rename
     }
 }
 
-// How many bytes a name has without the separator at its end, if it has one.
-fn trimmed_len(name: &[u8]) -> usize
-    ensures { λ r. ⌜ (r ≤ length (now (name .entry))) × (take r (now (name .entry)) ≡ trimmed isSeparator (now (name .entry))) ⌝ }
-{
-    let last = lists::minus(name.len(), 1);
-    if lists::byte(name, last) == b'/' {
-        return last;
-    }
-    name.len()
-}
-
 // The place of a name's leaf.
 fn leaf_of(names: &[u8], place: Span) -> Span
     ensures { λ r. ⌜ r ≡ leafSpan (now (names .entry)) place ⌝ }
@@ -78,7 +67,7 @@ fn leaf_of(names: &[u8], place: Span) -> Span
     let name = tables::text_at(names, place);
     let leaf = path::filename(name).len();
     Span {
-        at: place.at + lists::minus(trimmed_len(name), leaf),
+        at: place.at + lists::minus(path::trimmed_length(name), leaf),
         len: leaf,
     }
 }

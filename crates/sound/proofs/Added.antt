@@ -18,9 +18,9 @@ use Rattle.tables.specs.Model.{Optional, absent, present, presentIf, Directory,
 use Rattle.tables.proofs.Spans.{clip-same, length-slid}
 use Rattle.tables.proofs.Tabled.{length-tabled}
 use Rattle.rules.specs.Rules.{both}
-use Rattle.storage.specs.Addition.{Addition, added, filesOf, sizeAdded, keeps, padOf, newName, placeFor, fileAdded, padAdded, padDirectory, flagsKept, isAmong, withDirectory, withPlace, directoriesAfter, isPresent, withTime}
-use Rattle.storage.specs.Write.{isOutside, missing, missingOf, setText, directoryNew, nameText, linkNew, padDirectoryNew, oldName, kept, putDirIf, isNew, isNewPlace, isNewPad, rootsAdded, storeAdded}
-use Rattle.storage.specs.Outcomes.{addingNumber}
+use Rattle.additions.specs.Addition.{Addition, added, filesOf, sizeAdded, keeps, padOf, newName, placeFor, fileAdded, padAdded, padDirectory, flagsKept, isAmong, withDirectory, withPlace, directoriesAfter, isPresent, withTime}
+use Rattle.plan.specs.Write.{isOutside, missing, missingOf, setText, directoryNew, nameText, linkNew, padDirectoryNew, oldName, kept, putDirIf, isNew, isNewPlace, isNewPad, rootsAdded, storeAdded}
+use Rattle.plan.specs.Outcomes.{addingNumber}
 use Rattle.sound.specs.Sound.{setName, Sound}
 use Rattle.sound.proofs.Adding.{Fits, fits}
 use Rattle.sound.proofs.AddedFile.{rowFor, Fitting, length-roots, sound-file, file-name, file-directories, file-files, file-root}

@@ -18,7 +18,7 @@ use Rattle.tables.specs.Model.{Store, tabled, directoryText, viewOf}
 use Rattle.tables.proofs.Spans.{read-before, read-new}
 use Rattle.tables.proofs.Words.{dir-back, dir-other}
 use Rattle.tables.proofs.Tabled.{tabled-more}
-use Rattle.storage.specs.Write.{putDirIf}
+use Rattle.plan.specs.Write.{putDirIf}
 use Rattle.sound.specs.Sound.{Place, setName, dirName, fileName, linkText, spanOf, sumTo, Sound}
 use Rattle.sound.proofs.Common.{sum-same, sum-more}
 use Rattle.sound.proofs.AddedTexts.{Put, old, first, within-put, apart-put, Extends, set-name-kept, dirs-kept, files-kept}

@@ -21,8 +21,8 @@ use Rattle.tables.proofs.Spans.{read-before, read-new}
 use Rattle.tables.proofs.Words.{row-back, row-other, root-back, root-other}
 use Rattle.tables.proofs.Tabled.{tabled-more}
 use Rattle.rules.specs.Bounds.{limit}
-use Rattle.storage.specs.Addition.{isPresent}
-use Rattle.storage.specs.Write.{rootsAdded}
+use Rattle.additions.specs.Addition.{isPresent}
+use Rattle.plan.specs.Write.{rootsAdded}
 use Rattle.sound.specs.Sound.{Place, setName, dirName, fileName, linkText, nowhere, spanOf, sumTo, textAtRow, sizeOfRow, padOfRow, Sound}
 use Rattle.sound.proofs.Common.{sum-same, sum-more}
 use Rattle.sound.proofs.AddedTexts.{Put, old, first, second, within-put, apart-put, Extends, set-name-kept, dirs-kept, files-kept, place-kept, fileFrom, same-file}

@@ -15,8 +15,8 @@ use Rattle.tables.specs.declared.rows.Row.{Row}
 use Rattle.tables.specs.Rows.{has}
 use Rattle.tables.specs.Model.{Directory, single, absolute, stored, Store, directoryText, directoryOf, viewOf}
 use Rattle.tables.proofs.Tabled.{getD-tabled, length-tabled}
-use Rattle.storage.specs.Addition.{isAmong, withDirectory, withPlace, flagsKept}
-use Rattle.storage.specs.Write.{placeFrom, placeOf, indexOf, isOutside}
+use Rattle.additions.specs.Addition.{isAmong, withDirectory, withPlace, flagsKept}
+use Rattle.plan.specs.Write.{placeFrom, placeOf, indexOf, isOutside}
 
 -- ---- places of directories
 

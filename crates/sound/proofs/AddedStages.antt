@@ -11,7 +11,7 @@ use lib.ListN.{length}
 use Rattle.tables.specs.declared.span.Span.{Span}
 use Rattle.tables.specs.Rows.{rootAt, has}
 use Rattle.tables.specs.Model.{File, Store, directoryOf, viewOf}
-use Rattle.storage.specs.Write.{rootsAdded}
+use Rattle.plan.specs.Write.{rootsAdded}
 use Rattle.sound.specs.Sound.{Place, setName, dirName, fileName, linkText, nowhere, spanOf, Sound}
 use Rattle.sound.proofs.AddedTexts.{fileFrom}
 use Rattle.sound.proofs.AddedName.{nameStage, sound-named, named-name, named-directories, named-files}

@@ -7,8 +7,8 @@ use native.Mathlib.Omega.{arith}
 use lib.IntN.{ℤ, pos}
 use lib.ListN.{length, take, drop, set, replicate, length-append, length-set, length-replicate}
 use lib.Seq.{sets, sets-eq, length-sets, length-take-le, take-at, take-set-lt}
-use Rattle.storage.specs.Addition.{isZero, withTime}
-use Rattle.storage.specs.Write.{timesAdded}
+use Rattle.additions.specs.Addition.{isZero, withTime}
+use Rattle.plan.specs.Write.{timesAdded}
 
 -- times held, and zeros up to the file's
 module _ (times zeros : List ℤ) (held n : ℕ) (h : held + length zeros ≤ length times) (e : held + length zeros ≡ n) where

@@ -14,8 +14,8 @@ use Rattle.tables.specs.Span.{slid}
 use Rattle.tables.specs.Rows.{has}
 use Rattle.tables.specs.Model.{absent, Directory, single, absolute, stored, Model, Store}
 use Rattle.rules.specs.Rules.{both}
-use Rattle.storage.specs.Addition.{Addition, added, filesOf, sizeAdded, keeps, isV2, padOf, placeFor, fileAdded, padAdded, padDirectory, flagsKept, isAmong, withDirectory, withPlace, isPresent, isZero}
-use Rattle.storage.specs.Write.{placeOf, indexOf, isOutside, missing, setText, directoryNew, nameText, linkNew, padDirectoryNew, padText, oldName, kept, putDirIf, isNew, isNewPlace, isNewPad, rootsAdded, timesAdded, storageAdded, storeAdded}
+use Rattle.additions.specs.Addition.{Addition, added, filesOf, sizeAdded, keeps, isV2, padOf, placeFor, fileAdded, padAdded, padDirectory, flagsKept, isAmong, withDirectory, withPlace, isPresent, isZero}
+use Rattle.plan.specs.Write.{placeOf, indexOf, isOutside, missing, setText, directoryNew, nameText, linkNew, padDirectoryNew, padText, oldName, kept, putDirIf, isNew, isNewPlace, isNewPad, rootsAdded, timesAdded, storageAdded, storeAdded}
 use Rattle.sound.proofs.AddedName.{nameStage}
 use Rattle.sound.proofs.AddedDirectory.{dirStage}
 use Rattle.sound.proofs.AddedFile.{NewFile, withFile, padStage}

@@ -11,9 +11,10 @@ use Rattle.tables.specs.Model.{Model, Store, viewOf}
 use Rattle.rules.specs.Rules.{firstOf, outcomeOf, both, either}
 use Rattle.path.specs.Split.{hasParent}
 use Rattle.rules.specs.Bounds.{badLength, isNegative, limit}
-use Rattle.storage.specs.Addition.{Addition, added, addedTo, addingRules, badName, disagree, filesOf, lacks, limitedName, padOf, sizeAdded, textOf}
-use Rattle.storage.specs.Write.{textAfter}
-use Rattle.storage.specs.Outcomes.{roomsOf, holds, addingNumber}
+use Rattle.additions.specs.Addition.{Addition, added, addedTo, addingRules, badName, disagree, filesOf, lacks, limitedName, padOf, sizeAdded, textOf}
+use Rattle.plan.specs.Write.{textAfter}
+use Rattle.change.specs.Rooms.{roomsOf, holds}
+use Rattle.plan.specs.Outcomes.{addingNumber}
 use Rattle.sound.specs.Sound.{Sound}
 use Rattle.sound.proofs.TextsAdded.{text-after}
 

@@ -13,7 +13,7 @@ use Rattle.lists.proofs.Orders.{le-or-lt}
 use Rattle.tables.specs.Rows.{skip}
 use Rattle.tables.specs.Model.{File, tabled}
 use Rattle.tables.proofs.Tabled.{getD-tabled, tabled-same}
-use Rattle.storage.specs.Trim.{beginningAt, sizeAt}
+use Rattle.trim.specs.Trim.{beginningAt, sizeAt}
 use Rattle.sound.specs.Sound.{sumTo}
 use Rattle.sound.specs.Documents.{Each, none, more}
 use Rattle.sound.proofs.Common.{sum-same}

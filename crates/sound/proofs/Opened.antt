@@ -6,9 +6,8 @@ use native.Mathlib.Omega.{arith}
 use lib.IntN.{ℤ}
 use borrow.Author.Tests.{le-ltb}
 use Rattle.tables.specs.Model.{Store, tabled, viewOf}
-use Rattle.storage.specs.Opening.{empty}
+use Rattle.storage.specs.Opening.{empty, fresh}
 use Rattle.sound.specs.Sound.{Place, setName, dirName, fileName, linkText, nowhere, spanOf, sumTo, Sound}
-use Rattle.storage.specs.Opening.{fresh}
 
 module _ (n : ℕ) (rows roots : List ℕ) (times : List ℤ) (dirs text : List ℕ) where
   abbrev opened : Store

@@ -14,7 +14,7 @@ use Rattle.tables.specs.declared.rows.Row.{Row}
 use Rattle.tables.specs.Span.{textAt}
 use Rattle.tables.specs.Rows.{rowAt, dirAt, has}
 use Rattle.tables.specs.Model.{Store, stored, presentIf, directoryText, directoryOf, fileOf, viewOf}
-use Rattle.storage.specs.Addition.{linkLength, fileText, textOf}
+use Rattle.additions.specs.Addition.{linkLength, fileText, textOf}
 use Rattle.sound.specs.Sound.{Place, setName, dirName, fileName, linkText, spanOf, textAtRow, Sound}
 use Rattle.sound.proofs.Common.{sum-same, sum-tabled}
 

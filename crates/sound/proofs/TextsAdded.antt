@@ -15,8 +15,8 @@ use Rattle.tables.specs.Span.{endOf}
 use Rattle.tables.specs.Model.{Directory, single, absolute, stored, presentIf, Model, Store, fileOf, viewOf}
 use Rattle.tables.proofs.Spans.{clip-same}
 use Rattle.tables.proofs.Tabled.{length-tabled}
-use Rattle.storage.specs.Addition.{Addition, filesOf, sizeAdded, keeps, padOf, newName, placeFor, fileAdded, padAdded, padDirectory, isAmong, withDirectory, withPlace, added, linkLength, fileText, textOf}
-use Rattle.storage.specs.Write.{missing, missingOf, setText, kept, textAfter}
+use Rattle.additions.specs.Addition.{Addition, filesOf, sizeAdded, keeps, padOf, newName, placeFor, fileAdded, padAdded, padDirectory, isAmong, withDirectory, withPlace, added, linkLength, fileText, textOf}
+use Rattle.plan.specs.Write.{missing, missingOf, setText, kept, textAfter}
 use Rattle.sound.specs.Sound.{setName, Sound}
 use Rattle.sound.proofs.Common.{sum-map-append}
 use Rattle.sound.proofs.Texts.{text-is, text-length}

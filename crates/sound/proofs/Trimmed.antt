@@ -16,9 +16,8 @@ use Rattle.tables.specs.Model.{Optional, absent, present, File, Store, fileOf, 
 use Rattle.tables.proofs.Spans.{length-slid}
 use Rattle.tables.proofs.Moves.{length-lowered, length-without}
 use Rattle.tables.proofs.Tabled.{length-tabled}
-use Rattle.storage.specs.Trim.{tailPad, trimmedIf, trimmedOf}
-use Rattle.storage.specs.Write.{storeTrimmed}
-use Rattle.storage.specs.Outcomes.{trimmedBy}
+use Rattle.trim.specs.Trim.{tailPad, trimmedIf, trimmedOf}
+use Rattle.trim.specs.Removal.{storeTrimmed, trimmedBy}
 use Rattle.sound.specs.Sound.{sumTo, sizeOfRow, padOfRow, Sound}
 use Rattle.sound.proofs.Trimming.{TailPad, tail-pad}
 use Rattle.sound.proofs.Common.{sum-same}

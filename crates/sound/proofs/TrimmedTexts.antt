@@ -16,7 +16,7 @@ use Rattle.tables.specs.Rows.{rowAt, dirAt, skip, rowMoved, dirsLowered}
 use Rattle.tables.specs.Model.{Store}
 use Rattle.tables.proofs.Spans.{clip-same}
 use Rattle.tables.proofs.Moves.{row-moved, dir-lowered, length-lowered}
-use Rattle.storage.specs.Write.{firstGone, secondGone, storeWithout, storeTrimmed}
+use Rattle.trim.specs.Removal.{firstGone, secondGone, storeWithout, storeTrimmed}
 use Rattle.sound.specs.Sound.{Place, setName, dirName, fileName, linkText, nowhere, spanOf, sumTo, textAtRow, lengths, Sound}
 use Rattle.sound.proofs.Common.{sum-same}
 use Rattle.sound.proofs.Files.{sum-skip}

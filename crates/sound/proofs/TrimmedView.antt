@@ -18,7 +18,7 @@ use Rattle.tables.specs.Rows.{rowAt, rootAt, has, skip}
 use Rattle.tables.specs.Model.{Optional, presentIf, Directory, single, absolute, stored, File, Store, tabled, directoryText, fileOf, viewOf}
 use Rattle.tables.proofs.Spans.{read-kept, length-slid}
 use Rattle.tables.proofs.Tabled.{tabled-same}
-use Rattle.storage.specs.Trim.{beginningAt, without}
+use Rattle.trim.specs.Trim.{beginningAt, without}
 use Rattle.sound.specs.Sound.{setName, dirName, fileName, linkText, Sound}
 use Rattle.sound.proofs.Files.{number-tabled, tabled-except}
 use Rattle.sound.proofs.TrimmedTexts.{c, l, new, row-is, text-after}

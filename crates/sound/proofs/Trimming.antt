@@ -12,7 +12,7 @@ use lib.ListN.{length, getD}
 use borrow.Author.Tests.{eqb-true, eqb-false}
 use Rattle.lists.proofs.Orders.{le-or-lt}
 use Rattle.tables.specs.Model.{Optional, absent, present, presentIf, File}
-use Rattle.storage.specs.Trim.{tailPad, tailPadFrom, sizeAt}
+use Rattle.trim.specs.Trim.{tailPad, tailPadFrom, sizeAt}
 
 abbrev pub flagsAt : ℕ → List File → ℕ
 flagsAt f files = getD (map (λ (g : File). g .flags) files) f 0

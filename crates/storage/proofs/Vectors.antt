@@ -7,7 +7,8 @@ use lib.ListN.{replicate}
 use Rattle.types.specs.Refusals.{value, refused}
 use Rattle.lists.specs.Decimal.{digitsWithin}
 use Rattle.tables.specs.Model.{Optional, absent, present, File, Model}
-use Rattle.storage.specs.Addition.{Addition, Rooms, added, addedTo, textOf}
+use Rattle.additions.specs.Addition.{Addition, added, addedTo, textOf}
+use Rattle.change.specs.declared.rooms.Rooms.{Rooms}
 use Rattle.storage.specs.Opening.{fresh}
 
 abbrev file : List ℕ → ℕ → Optional (List ℕ) → Addition

@@ -1,11 +1,3 @@
--- The definitions that the contracts of `storage` cite: what an addition and a trim mean, and what they write; then those
--- of its private functions.
-pub mod Addition
-pub mod Write
-pub mod Trim
-pub mod Outcomes
+-- The definitions that the contracts of `storage` cite: a set that is opened; then those of its private writers.
 pub mod Opening
-pub mod Parts
-pub mod Checks
-pub mod Plan
-pub mod Trims
+pub mod Written

@@ -7,12 +7,14 @@ ghost use Prim.Native.Nat.{_-_, _≤_};
 ghost use lib.IntN.{pos};
 ghost use lib.ListN.{replicate};
 ghost use lib.Seq.{sets};
-ghost use Rattle.storage.specs.Write.{padDigits, rootsAdded, timesAdded};
-ghost use Rattle.storage.specs.Outcomes.{optionalOf};
-ghost use Rattle.storage.specs.Plan.{renamed, textWritten, dirsRenamed, dirWritten, dirsWritten, rowsWritten};
-use crate::checks::is_zero;
-use crate::plan::AddPlan;
-use crate::plan::NewDir;
+ghost use Rattle.tables.specs.Span.{textAt};
+ghost use Rattle.additions.specs.Parts.{nameFrom, linkTextOf};
+ghost use Rattle.plan.specs.Write.{padDigits, rootsAdded, timesAdded};
+ghost use Rattle.additions.specs.Addition.{optionalOf};
+ghost use Rattle.storage.specs.Written.{renamed, textWritten, dirsRenamed, dirWritten, dirsWritten, rowsWritten};
+use additions::FileInfo;
+use plan::AddPlan;
+use plan::NewDir;
 use tables::FileStorage;
 use tables::Presence;
 use tables::Sha256Hash;
@@ -36,11 +38,13 @@ fn put_new(text: &mut [u8], new: bool, at: usize, source: &[u8])
     }
 }
 
-// Writes the file's name: the given one where that is chosen, else the path's own.
-fn put_name(text: &mut [u8], at: usize, chosen: bool, filename: &[u8], own: &[u8])
-    ensures { λ _. ⌜ now (text .exit) ≡ sets (now (text .entry)) at (cond chosen (now (filename .entry)) (now (own .entry))) ⌝ }
+// Writes the file's name: the given one where it has bytes, else `own`, that of the path.
+fn put_name(text: &mut [u8], at: usize, given: Presence, filename: &[u8], own: &[u8])
+    ensures { λ _. ⌜
+        now (text .exit) ≡ sets (now (text .entry)) at (nameFrom given (now (filename .entry)) (now (own .entry)))
+        ⌝ }
 {
-    if chosen {
+    if additions::is_given(given, filename) {
         lists::copy_behind(text, at, filename);
     } else {
         lists::copy_behind(text, at, own);
@@ -56,29 +60,71 @@ fn put_pad(text: &mut [u8], at: usize, pad: u64)
     }
 }
 
-// Writes the new texts: the set's name, the directory, the name, the link, the pad's directory and name.
+// Writes the new texts: the set's name, the directory, the name, the link, the pad's directory and name. `own` is the name
+// that the path gives.
 fn write_text(
     text: &mut [u8],
     files: usize,
     used: usize,
     plan: AddPlan,
-    called: &[u8],
+    set_name: &[u8],
     dir: &[u8],
-    chosen: bool,
+    given: Presence,
     filename: &[u8],
     own: &[u8],
     link: &[u8],
 )
-    ensures { λ _. ⌜ now (text .exit) ≡ textWritten files used plan (now (text .entry)) (now (called .entry)) (now (dir .entry)) (cond chosen (now (filename .entry)) (now (own .entry))) (now (link .entry)) ⌝ }
+    ensures { λ _. ⌜
+        now (text .exit)
+        ≡ textWritten files used plan (now (text .entry)) (now («set_name» .entry)) (now (dir .entry))
+        (nameFrom given (now (filename .entry)) (now (own .entry))) (now (link .entry))
+        ⌝ }
 {
     let old = plan.old;
     free_name(text, files, used, old);
-    lists::copy_behind(text, plan.start, called);
+    lists::copy_behind(text, plan.start, set_name);
     put_new(text, plan.dir.new, plan.dir.text.at, dir);
-    put_name(text, plan.row.name.at, chosen, filename, own);
+    put_name(text, plan.row.name.at, given, filename, own);
     lists::copy_behind(text, plan.row.link.at, link);
     put_new(text, plan.pad_dir.new, plan.pad_dir.text.at, b".pad");
     put_pad(text, plan.pad_row.name.at, plan.pad_row.size);
+}
+
+// Writes the new texts of an addition, which stand in its path, its given name and its link text.
+fn write_texts(
+    text: &mut [u8],
+    fs: FileStorage,
+    plan: AddPlan,
+    given: Presence,
+    filename: &[u8],
+    path: &[u8],
+    symlink_path: &[u8],
+)
+    ensures { λ _. ⌜
+        now (text .exit)
+        ≡ textWritten (fs .«num_files») (fs .«text_len») plan (now (text .entry))
+        (textAt (now (path .entry)) (plan .parts .«set_name»))
+        (textAt (now (path .entry)) (plan .parts .directory))
+        (nameFrom given (now (filename .entry)) (textAt (now (path .entry)) (plan .parts .name)))
+        (linkTextOf (fs .«num_symlinks») (now («symlink_path» .entry)))
+        ⌝ }
+{
+    let parts = plan.parts;
+    let set_span = parts.set_name;
+    let dir_span = parts.directory;
+    let name_span = parts.name;
+    write_text(
+        text,
+        fs.num_files,
+        fs.text_len,
+        plan,
+        tables::text_at(path, set_span),
+        tables::text_at(path, dir_span),
+        given,
+        filename,
+        tables::text_at(path, name_span),
+        additions::link_text(fs.num_symlinks, symlink_path),
+    );
 }
 
 // Lowers the directory rows where the old name of a set without files is removed.
@@ -151,7 +197,7 @@ fn write_time(times: &mut [i64], held: usize, i: usize, time: i64)
     requires { ⌜ i ≤ 65535 ⌝ }
     ensures { λ _. ⌜ now (times .exit) ≡ timesAdded (now (times .entry)) held i time ⌝ }
 {
-    if is_zero(time) {
+    if additions::is_zero(time) {
         return;
     }
     clear_times(times, held, i + 1);
@@ -167,37 +213,35 @@ pub(crate) fn write_all(
     dirs: &mut [u64],
     text: &mut [u8],
     plan: AddPlan,
-    time: i64,
-    rooted: Presence,
-    root: Sha256Hash,
-    called: &[u8],
-    dir: &[u8],
-    chosen: bool,
+    info: FileInfo,
     filename: &[u8],
-    own: &[u8],
-    link: &[u8],
+    path: &[u8],
+    symlink_path: &[u8],
 )
     requires { ⌜ fs .«num_files» ≤ 65535 ⌝ }
     ensures { λ _. ⌜ now (rows .exit) ≡ rowsWritten (fs .«num_files») plan (now (rows .entry)) ⌝ }
-    ensures { λ _. ⌜ now (roots .exit) ≡ rootsAdded (now (roots .entry)) (fs .«num_files») (optionalOf rooted root) ⌝ }
-    ensures { λ _. ⌜ now (times .exit) ≡ timesAdded (now (times .entry)) (fs .«num_mtimes») (fs .«num_files») time ⌝ }
+    ensures { λ _. ⌜
+        now (roots .exit) ≡ rootsAdded (now (roots .entry)) (fs .«num_files») (optionalOf (info .rooted) (info .root))
+        ⌝ }
+    ensures { λ _. ⌜
+        now (times .exit) ≡ timesAdded (now (times .entry)) (fs .«num_mtimes») (fs .«num_files») (info .mtime)
+        ⌝ }
     ensures { λ _. ⌜ now (dirs .exit) ≡ dirsWritten (fs .«num_files») (fs .«num_paths») plan (now (dirs .entry)) ⌝ }
-    ensures { λ _. ⌜ now (text .exit) ≡ textWritten (fs .«num_files») (fs .«text_len») plan (now (text .entry)) (now (called .entry)) (now (dir .entry)) (cond chosen (now (filename .entry)) (now (own .entry))) (now (link .entry)) ⌝ }
+    ensures { λ _. ⌜
+        now (text .exit)
+        ≡ textWritten (fs .«num_files») (fs .«text_len») plan (now (text .entry))
+        (textAt (now (path .entry)) (plan .parts .«set_name»))
+        (textAt (now (path .entry)) (plan .parts .directory))
+        (nameFrom (info .given) (now (filename .entry)) (textAt (now (path .entry)) (plan .parts .name)))
+        (linkTextOf (fs .«num_symlinks») (now («symlink_path» .entry)))
+        ⌝ }
 {
+    let given = info.given;
+    let rooted = info.rooted;
+    let root = info.root;
     write_rows(rows, fs.num_files, plan);
     write_root(roots, fs.num_files, rooted, root);
-    write_time(times, fs.num_mtimes, fs.num_files, time);
+    write_time(times, fs.num_mtimes, fs.num_files, info.mtime);
     write_dirs(dirs, fs.num_files, fs.num_paths, plan);
-    write_text(
-        text,
-        fs.num_files,
-        fs.text_len,
-        plan,
-        called,
-        dir,
-        chosen,
-        filename,
-        own,
-        link,
-    );
+    write_texts(text, fs, plan, given, filename, path, symlink_path);
 }

@@ -67,6 +67,10 @@ pub record Store : Type 0 where
   pub dirs : List ℕ
   pub text : List ℕ
 
+abbrev pub storeOf : FileStorage → List ℕ → List ℕ → List ℤ → List ℕ → List ℕ → Store
+storeOf fs rows roots times dirs text =
+    record { fs = fs; rows = rows; roots = roots; times = times; dirs = dirs; text = text }
+
 -- g 0, …, g (n − 1)
 unfoldable pub tabled : {A : Type 0} → ℕ → (ℕ → A) → List A
 tabled zero g = []

@@ -10,7 +10,9 @@ use borrow.Author.Needs.{needs}
 use Rattle.tables.specs.Rows.{rootAt}
 use Rattle.tables.specs.declared.rows.Presence.{Presence}
 use Rattle.tables.specs.declared.storage.FileStorage.{FileStorage}
-use Rattle.storage.specs.Outcomes.{Changed, storageSays, optionalOf, addStored}
+use Rattle.change.specs.Changes.{Changed, storageSays}
+use Rattle.additions.specs.Addition.{optionalOf}
+use Rattle.plan.specs.Outcomes.{addStored}
 use Rattle.exports.specs.State.{storageOf, presenceOf}
 use Rattle.exports.proofs.Answers.{answered}
 use Rattle.exports.proofs.niflathen_add_file.Statement.{statement}

@@ -2,7 +2,8 @@
 use mathlib.Core.Path.{ap, _∙_}
 use borrow.Author.Needs.{needs}
 use Rattle.tables.specs.declared.storage.FileStorage.{FileStorage}
-use Rattle.storage.specs.Outcomes.{Changed, storageSays, trimStored}
+use Rattle.change.specs.Changes.{Changed, storageSays}
+use Rattle.trim.specs.Removal.{trimStored}
 use Rattle.exports.specs.State.{storageOf}
 use Rattle.exports.proofs.Answers.{answered}
 use Rattle.exports.proofs.niflathen_remove_tail_padding.Statement.{statement}

@@ -5,7 +5,7 @@ use mathlib.Core.List.{[]}
 use Rattle.types.specs.declared.refusal.UsizeResult.{UsizeResult}
 use Rattle.types.specs.Refusals.{usizeSays}
 use Rattle.tables.specs.Model.{Store}
-use Rattle.storage.specs.Outcomes.{storageSays}
+use Rattle.change.specs.Changes.{storageSays}
 use Rattle.lookup.specs.Lookup.{lent}
 use Rattle.links.specs.Judging.{Judged}
 use Rattle.cleaning.specs.Cleaning.{Cleaned}

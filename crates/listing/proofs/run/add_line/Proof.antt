@@ -10,14 +10,13 @@ use mir.Val.{SFits}
 use mir.Facts.{toZ-ofZ}
 use Rattle.path.proofs.Ends.{part-rest}
 use Rattle.tables.specs.declared.rows.Presence.{Presence}
-use Rattle.storage.specs.Outcomes.{optionalOf, addStored}
+use Rattle.additions.specs.Addition.{optionalOf, Addition}
+use Rattle.plan.specs.Outcomes.{addStored}
 use Rattle.listing_input.specs.Form.{FileEntry}
 use Rattle.listing.specs.Run.{additionOf}
-use Rattle.tables.specs.Model.{Optional, absent, presentIf}
-use Rattle.storage.specs.Addition.{Addition}
+use Rattle.tables.specs.Model.{Optional, absent, presentIf, storeOf}
 use Rattle.listing_input.specs.declared.form.FileLine.{FileLine}
 use Rattle.listing_input.specs.Answers.{fileSays}
-use Rattle.storage.specs.Plan.{storeOf}
 use Rattle.listing.specs.Steps.{obeyed}
 use Rattle.listing.proofs.Steps.{size-is, root-by}
 use borrow.Author.Needs.{needs}

@@ -7,13 +7,12 @@ use native.Mathlib.Omega.{arith}
 use lib.ListN.{length, drop}
 use borrow.Author.Needs.{needs}
 use Rattle.lists.specs.Lists.{partOf}
-use Rattle.tables.specs.Model.{viewOf}
-use Rattle.storage.specs.declared.answer.StorageResult.{StorageResult}
-use Rattle.storage.specs.Outcomes.{Changed, storageSays}
+use Rattle.tables.specs.Model.{viewOf, storeOf}
+use Rattle.change.specs.declared.result.StorageResult.{StorageResult}
+use Rattle.change.specs.Changes.{Changed, storageSays}
 use Rattle.listing_input.specs.Form.{lines, fileIn}
 use Rattle.listing.specs.Run.{runFrom, places}
 use Rattle.listing.specs.declared.run.RunResult.{RunResult}
-use Rattle.storage.specs.Plan.{storeOf}
 use Rattle.listing.specs.Steps.{obeyed, stoppedBy, runSays, Placed}
 use Rattle.listing.proofs.Steps.{Going, line-few, run-ends, run-stops, run-goes, counted-is}
 use Rattle.listing.proofs.run.add_lines.Statement.{statement}

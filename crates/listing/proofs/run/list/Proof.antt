@@ -6,7 +6,7 @@ use mathlib.Core.List.{List, []}
 use Rattle.listing.specs.Run.{run, places}
 use Rattle.listing_output.specs.Output.{printed}
 use Rattle.listing_output.specs.Printing.{putText}
-use Rattle.storage.specs.Plan.{storeOf}
+use Rattle.tables.specs.Model.{storeOf}
 use Rattle.listing.specs.Steps.{Placed, runSays}
 use Rattle.listing.specs.declared.run.RunResult.{RunResult}
 use Rattle.listing_output.proofs.Printed.{shown-is}

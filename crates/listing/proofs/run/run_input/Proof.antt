@@ -6,17 +6,15 @@ use native.Mathlib.Omega.{arith}
 use lib.ListN.{drop}
 use Rattle.lists.specs.Lists.{partOf}
 use Rattle.tables.specs.declared.storage.FileStorage.{FileStorage}
-use Rattle.tables.specs.Model.{Model, viewOf}
-use Rattle.storage.specs.declared.answer.StorageResult.{StorageResult}
-use Rattle.storage.specs.Outcomes.{storageSays}
-use Rattle.storage.specs.Opening.{empty}
+use Rattle.tables.specs.Model.{Model, viewOf, storeOf}
+use Rattle.change.specs.declared.result.StorageResult.{StorageResult}
+use Rattle.change.specs.Changes.{storageSays}
+use Rattle.storage.specs.Opening.{empty, fresh}
 use Rattle.sound.specs.Sound.{Sound}
-use Rattle.storage.specs.Opening.{fresh}
 use Rattle.sound.proofs.Opened.{sound-opened, view-opened}
 use Rattle.listing_input.specs.Form.{lines, pieceLengthIn}
 use Rattle.listing.specs.Run.{run, runFrom, places}
 use Rattle.listing.specs.declared.run.RunResult.{RunResult}
-use Rattle.storage.specs.Plan.{storeOf}
 use Rattle.listing.specs.Steps.{openedBy, stoppedBy, runSays}
 use Rattle.listing.proofs.Steps.{line-few, run-long, run-none, first-stops, first-goes}
 use borrow.Author.Needs.{needs}

@@ -1,6 +1,6 @@
 -- `listing::run::stopped_by` meets its contract.
 use mathlib.Core.Path.{sym, ap}
-use Rattle.storage.specs.declared.answer.StorageResult.{StorageResult}
+use Rattle.change.specs.declared.result.StorageResult.{StorageResult}
 use Rattle.listing.specs.Steps.{stoppedBy}
 use borrow.Author.Needs.{needs}
 use Rattle.listing.proofs.run.stopped_by.Statement.{statement}

@@ -1,62 +1,118 @@
--- `storage::add::add_file` meets its contract: the parts that it finds are the texts of the addition.
-use borrow.Author.Needs.{needs}
-use mathlib.Core.Path.{ap, _∙_}
-use mathlib.Core.Bool.{cond}
-use mathlib.Core.List.{List, []}
+-- `storage::add::add_file` meets its contract: a refusal leaves every table, and a plan is written table by table.
+use mathlib.Core.Path.{_≡_, refl, sym, ap, _∙_}
 use Prim.Native.Nat.{ℕ}
 use lib.IntN.{ℤ}
 use mir.Syntax.{w64}
 use mir.Val.{toZ, ofZ}
 use mir.Facts.{toZ-ofZ}
-use Rattle.tables.specs.Model.{Store}
-use Rattle.storage.specs.Addition.{Addition}
-use Rattle.storage.specs.Outcomes.{addStored}
-use Rattle.storage.specs.Plan.{storeOf, additionOf}
-use Rattle.storage.proofs.Texts.{name-is}
-use Rattle.storage.proofs.Written.{texts-of}
+use Rattle.types.specs.Refusals.{numberOf}
+use Rattle.types.specs.declared.refusal.Refusal.{Refusal}
+use Rattle.types.proofs.Refusals.{numbered}
+use Rattle.tables.specs.Span.{textAt}
+use Rattle.tables.specs.Model.{Store, viewOf, storeOf}
+use Rattle.rules.proofs.Rules.{outcome-value, outcome-refused}
+use Rattle.additions.specs.declared.parts.PathParts.{PathParts}
+use Rattle.additions.specs.Addition.{Addition, additionOf}
+use Rattle.additions.specs.Parts.{nameFrom, linkTextOf}
+use Rattle.plan.specs.declared.plan.AddPlan.{AddPlan}
+use Rattle.plan.specs.declared.plan.PlanResult.the-variants.{Ok, Err}
+use Rattle.plan.specs.Write.{storeAdded, timesAdded}
+use Rattle.plan.specs.Outcomes.{addingNumber}
+use Rattle.plan.specs.Plan.{planOf, planSays, plannedFor}
+use Rattle.plan.proofs.Plans.{add-held, texts-of}
+use Rattle.storage.specs.Written.{rowsWritten, dirsWritten, textWritten}
+use Rattle.storage.proofs.Written.{text-is, rows-are, dirs-are, kept-all, wrote-all}
+use borrow.Author.Needs.{needs}
 use Rattle.storage.proofs.add.add_file.Statement.{statement}
 use Rattle.storage.proofs.add.add_file.Tie as tie
 
 abbrev tables : tie.Start → Store
 tables c = storeOf (c .args .fs) (c .args .rows .now) (c .args .roots .now) (c .args .times .now) (c .args .dirs .now) (c .args .text .now)
 
--- the call, with a size, a time and a root
-abbrev callWith : tie.Start → ℤ → ℤ → List ℕ → Addition
-callWith c size time root = additionOf (c .args .given) (c .args .filename .now) (c .args .path .now) size (c .args .file-flags) time (c .args .symlink-path .now) (c .args .rooted) root
+-- the call, with a size and a time
+abbrev callWith : tie.Start → ℤ → ℤ → Addition
+callWith c size time = additionOf (c .args .given) (c .args .filename .now) (c .args .path .now) size (c .args .file-flags) time (c .args .symlink-path .now) (c .args .rooted) (c .args .root)
 
-rsplit-path-leaf-requires : tie.Need-rsplit-path-leaf-requires
-rsplit-path-leaf-requires c κs = search needs
+abbrev call : tie.Start → Addition
+call c = callWith c (c .args .file-size) (c .args .mtime)
 
-branch-before-requires : tie.Need-branch-before-requires
-branch-before-requires c κs = search needs
+abbrev number : tie.Start → ℕ
+number c = addingNumber (tables c) (viewOf (tables c)) (call c)
 
-set-text-requires : tie.Need-set-text-requires
-set-text-requires c κs = search needs
+abbrev plan : tie.Start → AddPlan
+plan c = planOf (c .args .fs) (viewOf (tables c)) (call c)
 
-is-given-requires : tie.Need-is-given-requires
-is-given-requires c κs = search needs
+abbrev after : tie.Start → Store
+after c = storeAdded (tables c) (viewOf (tables c)) (call c)
 
-own-name-requires : tie.Need-own-name-requires
-own-name-requires c κs = search needs
+-- what the plan's answer says of the call
+said : (c : tie.After-plan-add) → planSays (c .plan-add .result) ≡ plannedFor (tables (c .before .before .before .before .before .before .before .before .before .before .before .before .before)) (call (c .before .before .before .before .before .before .before .before .before .before .before .before .before))
+said c =
+    let a = c .before .before .before .before .before .before .before .before .before .before .before .before .before in
+    c .plan-add .ensures
+    ∙ ap (λ (z : ℤ). plannedFor (tables a) (callWith a z (toZ w64 (ofZ w64 (a .args .mtime))))) (toZ-ofZ (a .fits .file-size))
+    ∙ ap (λ (t : ℤ). plannedFor (tables a) (callWith a (a .args .file-size) t)) (toZ-ofZ (a .fits .mtime))
 
-link-text-requires : tie.Need-link-text-requires
-link-text-requires c κs = search needs
+planned : (c : tie.After-plan-add) (p : AddPlan) → c .plan-add .result ≡ Ok p → (number (c .before .before .before .before .before .before .before .before .before .before .before .before .before) ≡ 0) × (p ≡ plan (c .before .before .before .before .before .before .before .before .before .before .before .before .before))
+planned c p e = outcome-value (number (c .before .before .before .before .before .before .before .before .before .before .before .before .before)) p (plan (c .before .before .before .before .before .before .before .before .before .before .before .before .before)) (sym (ap planSays e) ∙ said c)
 
-lsplit-path-first-requires : tie.Need-lsplit-path-first-requires
-lsplit-path-first-requires c κs = search needs
+stopped : (c : tie.After-plan-add) (e : Refusal) → c .plan-add .result ≡ Err e → number (c .before .before .before .before .before .before .before .before .before .before .before .before .before) ≡ numberOf e
+stopped c e q = outcome-refused (number (c .before .before .before .before .before .before .before .before .before .before .before .before .before)) (numberOf e) (plan (c .before .before .before .before .before .before .before .before .before .before .before .before .before)) (sym (ap planSays q) ∙ said c)
 
-lying-of-requires : tie.Need-lying-of-requires
-lying-of-requires c κs = search needs
+-- each table after the writers
+module _ (c : tie.After-write-all) where
+  abbrev start : tie.Start
+  start = c .before .before .before .before .before .before .before .before .before .before .before .before .before .before .before .before .before .before .before .before .before .before
 
-directory-text-requires : tie.Need-directory-text-requires
-directory-text-requires c κs = search needs
+  abbrev made : AddPlan
+  made = c .before .before .before .before .before .before .before .planned2 .given .0 .0
 
-add-parts-requires : tie.Need-add-parts-requires
-add-parts-requires c κs =
-    let a = c .before .before .before .before .before .before .before .before .before .before .before .before .before .before .before .before .before .before .before .before .before .before .before .args in
-    let size = toZ w64 (ofZ w64 (a .file-size)) in
-    let time = toZ w64 (ofZ w64 (a .mtime)) in
-    (c .before .before .before .before .before .before .before .before .before .before .before .before .before .before .before .rsplit-path-leaf .ensures, texts-of (tables (c .before .before .before .before .before .before .before .before .before .before .before .before .before .before .before .before .before .before .before .before .before .before .before)) (callWith (c .before .before .before .before .before .before .before .before .before .before .before .before .before .before .before .before .before .before .before .before .before .before .before) size time []) (c .before .before .before .before .before .before .before .before .before .before .before .before .before .set-text .result .now) (c .before .before .before .before .before .directory-text .result .now) (cond (c .before .before .before .before .before .before .before .before .before .before .before .before .is-given .result) (a .filename .now) (c .before .before .before .before .before .before .before .before .before .before .before .own-name .result .now)) (c .before .before .before .before .before .before .before .before .before .before .link-text .result .now) (c .before .before .before .before .before .before .before .before .before .before .before .before .before .before .branch-before .result .now) (c .before .before .before .before .before .before .lying-of .result) (c .before .before .before .before .before .before .before .before .before .before .before .before .before .set-text .ensures) (c .before .before .before .before .before .before .before .before .before .before .before .before .before .before .branch-before .ensures) (c .before .before .before .before .before .before .lying-of .ensures) (c .before .before .before .before .before .directory-text .ensures) (name-is (a .given) (a .filename .now) (a .path .now) (c .before .before .before .before .before .before .before .before .before .before .before .own-name .result .now) (c .before .before .before .before .before .before .before .before .before .before .before .before .is-given .result) (c .before .before .before .before .before .before .before .before .before .before .before .before .is-given .ensures) (c .before .before .before .before .before .before .before .before .before .before .before .own-name .ensures)) (c .before .before .before .before .before .before .before .before .before .before .link-text .ensures))
+  plan-is : made ≡ plan start
+  plan-is = planned (c .before .before .before .before .before .before .before .before .before) made (c .before .before .before .before .before .before .before .planned2 .given .1) .1
+
+  rows-is : c .write-all .last .1 .0 ≡ after start .rows
+  rows-is =
+      c .write-all .ensures .0
+      ∙ ap (λ (p : AddPlan). rowsWritten (start .args .fs .«num_files») p (start .args .rows .now)) plan-is
+      ∙ rows-are (tables start) (viewOf (tables start)) (call start)
+
+  roots-is : c .write-all .last .1 .1 .0 ≡ after start .roots
+  roots-is = c .write-all .ensures .1 .0
+
+  times-is : c .write-all .last .1 .1 .1 .0 ≡ after start .times
+  times-is =
+      c .write-all .ensures .1 .1 .0
+      ∙ ap (λ (t : ℤ). timesAdded (start .args .times .now) (start .args .fs .«num_mtimes») (start .args .fs .«num_files») t) (toZ-ofZ (start .fits .mtime))
+
+  dirs-is : c .write-all .last .1 .1 .1 .1 .0 ≡ after start .dirs
+  dirs-is =
+      c .write-all .ensures .1 .1 .1 .0
+      ∙ ap (λ (p : AddPlan). dirsWritten (start .args .fs .«num_files») (start .args .fs .«num_paths») p (start .args .dirs .now)) plan-is
+      ∙ dirs-are (tables start) (viewOf (tables start)) (call start)
+
+  -- the parts of the path
+  abbrev own : PathParts
+  own = plan start .parts
+
+  area-is : c .write-all .last .1 .1 .1 .1 .1 .0 ≡ after start .text
+  area-is =
+      let a = start .args in
+      c .write-all .ensures .1 .1 .1 .1
+      ∙ ap (λ (p : AddPlan). textWritten (a .fs .«num_files») (a .fs .«text_len») p (a .text .now) (textAt (a .path .now) (p .parts .«set_name»)) (textAt (a .path .now) (p .parts .directory)) (nameFrom (a .given) (a .filename .now) (textAt (a .path .now) (p .parts .name))) (linkTextOf (a .fs .«num_symlinks») (a .symlink-path .now))) plan-is
+      ∙ text-is (tables start) (viewOf (tables start)) (call start) (textAt (a .path .now) (own .«set_name»)) (textAt (a .path .now) (own .directory)) (nameFrom (a .given) (a .filename .now) (textAt (a .path .now) (own .name))) (linkTextOf (a .fs .«num_symlinks») (a .symlink-path .now)) (own .kind)
+      (texts-of (tables start) (call start) (a .given) (a .filename .now) own refl refl)
+
+plan-add-requires : tie.Need-plan-add-requires
+plan-add-requires c κs = search needs
+
+enum-known-planned : tie.Need-enum-known-planned
+enum-known-planned c = search needs
+
+enum-known-planned-2 : tie.Need-enum-known-planned-2
+enum-known-planned-2 c = search needs
+
+write-all-requires : tie.Need-write-all-requires
+write-all-requires c κs = add-held (tables (c .before .before .before .before .before .before .before .before .before .before .before .before .before .before .before .before .before .before .before .before .before)) (call (c .before .before .before .before .before .before .before .before .before .before .before .before .before .before .before .before .before .before .before .before .before)) (planned (c .before .before .before .before .before .before .before .before) (c .before .before .before .before .before .before .planned2 .given .0 .0) (c .before .before .before .before .before .before .planned2 .given .1) .0)
 
 same-length : tie.Need-same-length
 same-length c = search needs
@@ -75,28 +131,46 @@ same-length-5 c = search needs
 
 returns : tie.Need-returns
 returns c =
-    let a = c .before .before .before .before .before .before .before .before .before .before .before .before .before .before .before .before .before .before .before .before .before .before .before .before .before .before .before .before .before .before .before .before .before in
-    c .before .before .before .before .before .before .before .before .before .add-parts .ensures
-    ∙ ap (λ (z : ℤ). addStored (tables a) (callWith a z (toZ w64 (ofZ w64 (a .args .mtime))) (a .args .root))) (toZ-ofZ (a .fits .file-size))
-    ∙ ap (λ (t : ℤ). addStored (tables a) (callWith a (a .args .file-size) t (a .args .root))) (toZ-ofZ (a .fits .mtime))
+    let e = c .before .planned .given .0 .0 in
+    kept-all (number (c .before .before .before .before .before .before .before .before .before .before .before .before .before .before .before .before)) (numberOf e) (tables (c .before .before .before .before .before .before .before .before .before .before .before .before .before .before .before .before)) (after (c .before .before .before .before .before .before .before .before .before .before .before .before .before .before .before .before)) (stopped (c .before .before .before) e (c .before .planned .given .1)) (numbered e)
+
+same-length-6 : tie.Need-same-length-6
+same-length-6 c = search needs
+
+same-length-7 : tie.Need-same-length-7
+same-length-7 c = search needs
+
+same-length-8 : tie.Need-same-length-8
+same-length-8 c = search needs
+
+same-length-9 : tie.Need-same-length-9
+same-length-9 c = search needs
+
+same-length-10 : tie.Need-same-length-10
+same-length-10 c = search needs
+
+returns-2 : tie.Need-returns-2
+returns-2 c =
+    let w = c .before .before .before .before .before .before .before .before .before .before in
+    wrote-all (number (c .before .before .before .before .before .before .before .before .before .before .before .before .before .before .before .before .before .before .before .before .before .before .before .before .before .before .before .before .before .before .before .before)) (tables (c .before .before .before .before .before .before .before .before .before .before .before .before .before .before .before .before .before .before .before .before .before .before .before .before .before .before .before .before .before .before .before .before)) (after (c .before .before .before .before .before .before .before .before .before .before .before .before .before .before .before .before .before .before .before .before .before .before .before .before .before .before .before .before .before .before .before .before)) (made w .after) (w .write-all .last .1 .0) (w .write-all .last .1 .1 .0) (w .write-all .last .1 .1 .1 .0) (w .write-all .last .1 .1 .1 .1 .0) (w .write-all .last .1 .1 .1 .1 .1 .0) (planned (c .before .before .before .before .before .before .before .before .before .before .before .before .before .before .before .before .before .before .before) (made w) (c .before .before .before .before .before .before .before .before .before .before .before .before .before .before .before .before .before .planned2 .given .1) .0) (ap (λ (p : AddPlan). p .after) (plan-is w)) (rows-is w) (roots-is w) (times-is w) (dirs-is w) (area-is w)
 
 pub add-file-spec : {M : Type 1} → statement M
 add-file-spec =
     tie.close
     (tie.spec
-    rsplit-path-leaf-requires
-    branch-before-requires
-    set-text-requires
-    is-given-requires
-    own-name-requires
-    link-text-requires
-    lsplit-path-first-requires
-    lying-of-requires
-    directory-text-requires
-    add-parts-requires
+    plan-add-requires
+    enum-known-planned
+    enum-known-planned-2
+    write-all-requires
     same-length
     same-length-2
     same-length-3
     same-length-4
     same-length-5
-    returns)
+    returns
+    same-length-6
+    same-length-7
+    same-length-8
+    same-length-9
+    same-length-10
+    returns-2)

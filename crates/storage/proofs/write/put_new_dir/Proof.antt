@@ -5,7 +5,7 @@ use mathlib.Core.List.{List}
 use Prim.Native.Nat.{ℕ}
 use Rattle.tables.specs.declared.span.Span.{Span}
 use Rattle.tables.specs.Rows.{putDir}
-use Rattle.storage.specs.Write.{putDirIf}
+use Rattle.plan.specs.Write.{putDirIf}
 use borrow.Author.Needs.{needs}
 use Rattle.storage.proofs.write.put_new_dir.Statement.{statement}
 use Rattle.storage.proofs.write.put_new_dir.Tie as tie

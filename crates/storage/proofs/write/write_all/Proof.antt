@@ -1,8 +1,9 @@
 -- `storage::write::write_all` meets its contract.
 use mathlib.Core.Path.{ap, _∙_}
 use lib.IntN.{ℤ}
+use mir.Syntax.{w64}
 use mir.Facts.{toZ-ofZ}
-use Rattle.storage.specs.Write.{timesAdded}
+use Rattle.plan.specs.Write.{timesAdded}
 use borrow.Author.Needs.{needs}
 use Rattle.storage.proofs.write.write_all.Statement.{statement}
 use Rattle.storage.proofs.write.write_all.Tie as tie
@@ -19,8 +20,8 @@ write-time-requires c κs = search needs
 write-dirs-requires : tie.Need-write-dirs-requires
 write-dirs-requires c κs = search needs
 
-write-text-requires : tie.Need-write-text-requires
-write-text-requires c κs = search needs
+write-texts-requires : tie.Need-write-texts-requires
+write-texts-requires c κs = search needs
 
 same-length : tie.Need-same-length
 same-length c = search needs
@@ -40,7 +41,8 @@ same-length-5 c = search needs
 returns : tie.Need-returns
 returns c =
     let a = c .before .before .before .before .before .before .before .before .before .before .before .before .before .before .before .before .before .before .before .before .before .before .before .before .before .before .before .before .args in
-    (c .before .before .before .before .before .before .before .before .before .before .before .before .before .before .before .before .before .write-rows .ensures, (c .before .before .before .before .before .before .before .before .before .before .before .before .before .write-root .ensures, (c .before .before .before .before .before .before .before .before .before .write-time .ensures ∙ ap (λ (t : ℤ). timesAdded (a .times .now) (a .fs .«num_mtimes») (a .fs .«num_files») t) (toZ-ofZ (c .before .before .before .before .before .before .before .before .before .before .before .before .before .before .before .before .before .before .before .before .before .before .before .before .before .before .before .before .fits .time)), (c .before .before .before .before .before .before .write-dirs .ensures, c .before .before .write-text .ensures))))
+    let time = toZ-ofZ {w = w64} {z = a .info .mtime} (record { sfits = c .before .before .before .before .before .before .before .before .before .before .struct-told .given .1 .1 .1 .0 .1 }) in
+    (c .before .before .before .before .before .before .before .before .before .before .before .before .before .before .before .before .before .before .write-rows .ensures, (c .before .before .before .before .before .before .before .before .before .before .before .before .before .before .write-root .ensures, (c .before .before .before .before .before .before .before .before .before .write-time .ensures ∙ ap (λ (t : ℤ). timesAdded (a .times .now) (a .fs .«num_mtimes») (a .fs .«num_files») t) time, (c .before .before .before .before .before .before .write-dirs .ensures, c .before .before .write-texts .ensures))))
 
 pub write-all-spec : {M : Type 1} → statement M
 write-all-spec =
@@ -50,7 +52,7 @@ write-all-spec =
     write-root-requires
     write-time-requires
     write-dirs-requires
-    write-text-requires
+    write-texts-requires
     same-length
     same-length-2
     same-length-3

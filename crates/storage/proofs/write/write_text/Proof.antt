@@ -4,8 +4,9 @@ use mathlib.Core.Bool.{cond}
 use mathlib.Core.List.{List, []}
 use Prim.Native.Nat.{ℕ}
 use lib.Seq.{sets}
-use Rattle.storage.specs.Addition.{padDirectory}
-use Rattle.storage.specs.Write.{padDigits}
+use Rattle.additions.specs.Addition.{padDirectory}
+use Rattle.additions.specs.Parts.{nameFrom}
+use Rattle.plan.specs.Write.{padDigits}
 use borrow.Author.Needs.{needs}
 use Rattle.storage.proofs.write.write_text.Statement.{statement}
 use Rattle.storage.proofs.write.write_text.Tie as tie
@@ -48,10 +49,10 @@ returns c =
     (c .before .before .before .before .before .before .before .before .before .before .before .copy-behind2 .ensures
     ∙ ap (λ (l : List ℕ). sets l (p .row .link .at) (a .link .now))
     (c .before .before .before .before .before .before .before .before .before .before .before .before .before .before .before .put-name .ensures
-    ∙ ap (λ (l : List ℕ). sets l (p .row .name .at) (cond (a .chosen) (a .filename .now) (a .own .now)))
+    ∙ ap (λ (l : List ℕ). sets l (p .row .name .at) (nameFrom (a .given) (a .filename .now) (a .own .now)))
     (c .before .before .before .before .before .before .before .before .before .before .before .before .before .before .before .before .before .before .before .put-new .ensures
     ∙ ap (λ (l : List ℕ). sets l (p .dir .text .at) (cond (p .dir .new) (a .dir .now) []))
-    (c .before .before .before .before .before .before .before .before .before .before .before .before .before .before .before .before .before .before .before .before .before .before .before .copy-behind .ensures ∙ ap (λ (l : List ℕ). sets l (p .start) (a .called .now)) (c .before .before .before .before .before .before .before .before .before .before .before .before .before .before .before .before .before .before .before .before .before .before .before .before .before .before .before .free-name .ensures))))))
+    (c .before .before .before .before .before .before .before .before .before .before .before .before .before .before .before .before .before .before .before .before .before .before .before .copy-behind .ensures ∙ ap (λ (l : List ℕ). sets l (p .start) (a .set-name .now)) (c .before .before .before .before .before .before .before .before .before .before .before .before .before .before .before .before .before .before .before .before .before .before .before .before .before .before .before .free-name .ensures))))))
 
 pub write-text-spec : {M : Type 1} → statement M
 write-text-spec =

@@ -5,7 +5,7 @@ use Prim.Native.Nat.{ℕ}
 use lib.IntN.{ℤ}
 use lib.ListN.{set}
 use mir.Facts.{toZ-ofZ}
-use Rattle.storage.specs.Addition.{isZero}
+use Rattle.additions.specs.Addition.{isZero}
 use borrow.Author.Needs.{needs}
 use Rattle.storage.proofs.write.write_time.Statement.{statement}
 use Rattle.storage.proofs.write.write_time.Tie as tie

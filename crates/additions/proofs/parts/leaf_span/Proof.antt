@@ -1,0 +1,21 @@
+-- `additions::parts::leaf_span` meets its contract.
+use Rattle.additions.proofs.Texts.{leaf-is}
+use borrow.Author.Needs.{needs}
+use Rattle.additions.proofs.parts.leaf_span.Statement.{statement}
+use Rattle.additions.proofs.parts.leaf_span.Tie as tie
+
+trimmed-length-requires : tie.Need-trimmed-length-requires
+trimmed-length-requires c κs = search needs
+
+rsplit-path-leaf-requires : tie.Need-rsplit-path-leaf-requires
+rsplit-path-leaf-requires c κs = search needs
+
+minus-requires : tie.Need-minus-requires
+minus-requires c κs = search needs
+
+returns : tie.Need-returns
+returns c = leaf-is (c .before .before .before .before .args .path .now) (c .before .rsplit-path-leaf .result .now) (c .before .before .trimmed-length .result) (c .minus .result) (c .before .rsplit-path-leaf .ensures) (c .before .before .trimmed-length .ensures) (c .minus .ensures)
+
+pub leaf-span-spec : {M : Type 1} → statement M
+leaf-span-spec =
+    tie.close (tie.spec trimmed-length-requires rsplit-path-leaf-requires minus-requires returns)

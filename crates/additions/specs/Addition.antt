@@ -1,0 +1,298 @@
+-- Document 01, 'The set': what an addition is, what it decides, and what the set is after it. All on the model: nothing
+-- here speaks of tables. It relies on the model of `tables`, the splits of `path` and the rules in order of `rules`.
+use Prim.Native.Nat.{ℕ, _+_, _-_, _*_, _/_, _%_}
+use mathlib.Core.Bool.{Bool, true, false, cond, not}
+use mathlib.Core.List.{List, [], _∷_, _++_, map}
+use lib.Dec.{eqb, ltb, leb}
+use lib.IntN.{ℤ, pos, negsuc}
+use lib.ListN.{length, set, replicate}
+use Rattle.lists.specs.Lists.{equal, any, sum}
+use Rattle.lists.specs.Decimal.{decimal}
+use Rattle.path.specs.Split.{isSeparator, rsplitBranch, rsplitLeaf, isComplete, lsplitFirst, lsplitRest, hasParent}
+use Rattle.path.specs.Join.{isEmpty}
+use Rattle.tables.specs.declared.rows.Presence.{Presence}
+use Rattle.tables.specs.declared.rows.Presence.the-variants.{Absent, Present}
+use Rattle.tables.specs.Model.{Optional, absent, present, Directory, single, absolute, stored, presentIf, File, Model}
+use Rattle.types.specs.Refusals.{Outcome}
+use Rattle.rules.specs.Rules.{Rule, when, firstOf, outcomeOf, both, either}
+use Rattle.rules.specs.Bounds.{limit, isNegative, sizeOf, badLength}
+use Rattle.change.specs.declared.rooms.Rooms.{Rooms}
+use Rattle.change.specs.Rooms.{filesRoom, dirsRoom}
+
+-- what an addition is given
+pub record Addition : Type 0 where
+  pub given : Optional (List ℕ)
+  pub path : List ℕ
+  pub size : ℤ
+  pub flags : ℕ
+  pub time : ℤ
+  pub link : List ℕ
+  pub root : Optional (List ℕ)
+
+-- something that may be missing, as a call brings it
+abbrev pub optionalOf : Presence → List ℕ → Optional (List ℕ)
+optionalOf Absent xs = absent
+optionalOf Present xs = present xs
+
+-- what a call brings
+abbrev pub additionOf : Presence → List ℕ → List ℕ → ℤ → ℕ → ℤ → List ℕ → Presence → List ℕ → Addition
+additionOf given filename path size flags time link rooted root =
+    record {
+      given = optionalOf given filename;
+      path = path;
+      size = size;
+      flags = flags;
+      time = time;
+      link = link;
+      root = optionalOf rooted root;
+    }
+
+abbrev pub isZero : ℤ → Bool
+isZero (pos n) = eqb n 0
+isZero (negsuc n) = false
+
+abbrev pub isPresent : {A : Type 0} → Optional A → Bool
+isPresent absent = false
+isPresent (present a) = true
+
+-- 'A path with no parent names the set; else the first element of the first path does'
+abbrev pub setNameOf : List ℕ → List ℕ
+setNameOf path = cond (hasParent path) (lsplitFirst path) path
+
+-- the set's name after an addition to a set that has `files` files
+abbrev pub nameAfter : ℕ → List ℕ → List ℕ → List ℕ
+nameAfter files name path = cond (eqb files 0) (setNameOf path) name
+
+-- without the separators at its start
+abbrev pub unled : List ℕ → List ℕ
+unled [] = []
+unled (c ∷ t) = cond (isSeparator c) (unled t) (c ∷ t)
+
+-- 'A directory whose first element is the set's name is stored without it'
+abbrev pub under : List ℕ → List ℕ → Directory
+under name branch =
+    cond (equal (lsplitFirst branch) name) (stored (unled (lsplitRest branch)) false) (stored branch true)
+
+-- where a path's file lies: an absolute path and a single name have no directory; else it is the path's branch
+abbrev pub directoryFor : List ℕ → List ℕ → Directory
+directoryFor name path =
+    cond (isComplete path) absolute (cond (isEmpty (rsplitBranch path)) single (under name (rsplitBranch path)))
+
+-- the name that a path gives: its last part; an absolute path is its own name
+abbrev pub pathName : List ℕ → List ℕ
+pathName path = cond (isComplete path) path (rsplitLeaf path)
+
+-- the name that is stored: 'A given name of no bytes counts as none'
+abbrev pub storedName : Optional (List ℕ) → List ℕ → List ℕ
+storedName absent path = pathName path
+storedName (present given) path = cond (isEmpty given) (pathName path) given
+
+-- refusal 5 looks at the given name, 'or with none the path's `filename`'; an empty given name is not none here
+abbrev pub limitedName : Optional (List ℕ) → List ℕ → List ℕ
+limitedName absent path = rsplitLeaf path
+limitedName (present given) path = given
+
+-- refusal 6: 'given name starts with a separator, or is nonempty with an absolute path'
+abbrev pub badName : Optional (List ℕ) → List ℕ → Bool
+badName absent path = false
+badName (present given) path = either (isComplete given) (both (not (isEmpty given)) (isComplete path))
+
+-- 'A file of size above 0 without link text': such a file fixes v1 or v2, or must agree
+abbrev pub decides : ℕ → List ℕ → Bool
+decides size link = both (ltb 0 size) (isEmpty link)
+
+-- 'while the total is 0 or there are as many link texts as files'
+abbrev pub isOpen : ℕ → ℕ → ℕ → Bool
+isOpen total links files = either (eqb total 0) (eqb links files)
+
+-- whether the set is v2 after a file with a root or none: one that decides ('plain') 'fixes v2 or v1 (root or none)' in a
+-- set that is open ('free')
+abbrev pub kindAfter : Bool → Bool → Bool → Bool → Bool
+kindAfter v2 plain free root = cond (both plain free) root v2
+
+-- 'later ones must agree'
+abbrev pub disagreesIn : Bool → Bool → Bool → Bool → Bool
+disagreesIn v2 plain free root = both plain (both (not free) (cond v2 (not root) root))
+
+-- the same of a set's numbers and a file's size and link text: 'A file of size above 0 without link text fixes v2 or v1
+-- (root or none) while the total is 0 or there are as many link texts as files; later ones must agree'
+abbrev pub v2After : Bool → ℕ → ℕ → ℕ → ℕ → List ℕ → Bool → Bool
+v2After v2 total links files size link root = kindAfter v2 (decides size link) (isOpen total links files) root
+
+abbrev pub disagrees : Bool → ℕ → ℕ → ℕ → ℕ → List ℕ → Bool → Bool
+disagrees v2 total links files size link root = disagreesIn v2 (decides size link) (isOpen total links files) root
+
+-- 'when the total is no multiple of the piece length, a pad follows': what is missing to the next multiple
+abbrev pub padTo : ℕ → ℕ → ℕ
+padTo pieceLength total = (pieceLength - total % pieceLength) % pieceLength
+
+-- 'In v2 … a pad follows': the size of the pad behind a file, 0 where there is none
+abbrev pub padAfter : Bool → ℕ → ℕ → ℕ
+padAfter v2 pieceLength total = cond v2 (padTo pieceLength total) 0
+
+-- 'Link text makes a link until 32766 are held'
+abbrev pub keepsLink : ℕ → List ℕ → Bool
+keepsLink links link = both (not (isEmpty link)) (ltb links 32766)
+
+-- 'the symlink flag is dropped where none is held'
+abbrev pub flagsKept : ℕ → Bool → ℕ
+flagsKept flags keeps = flags % 8 + cond keeps (flags / 8 % 2 * 8) 0
+
+-- `.pad`
+abbrev pub padDirectory : List ℕ
+padDirectory = 46 ∷ 112 ∷ 97 ∷ 100 ∷ []
+
+-- the directories with one more, unless it is there already
+abbrev pub isAmong : List ℕ → List (List ℕ) → Bool
+isAmong d ds = any (equal d) ds
+
+abbrev pub withDirectory : List ℕ → List (List ℕ) → List (List ℕ)
+withDirectory d ds = cond (isAmong d ds) ds (ds ++ (d ∷ []))
+
+abbrev pub withPlace : Directory → List (List ℕ) → List (List ℕ)
+withPlace single ds = ds
+withPlace absolute ds = ds
+withPlace (stored d outside) ds = withDirectory d ds
+
+-- the times after one is given to file i: 0 gives none, and takes what its place holds
+abbrev pub withTime : ℕ → ℤ → List ℤ → List ℤ
+withTime i t times = cond (isZero t) times (set (times ++ replicate (i + 1 - length times) (pos 0)) i t)
+
+-- ---- the set after an addition that is not refused
+
+abbrev pub filesOf : Model → ℕ
+filesOf m = length (m .files)
+
+abbrev pub sizeAdded : Addition → ℕ
+sizeAdded a = sizeOf (a .size)
+
+abbrev pub keeps : Model → Addition → Bool
+keeps m a = keepsLink (m .links) (a .link)
+
+abbrev pub isV2 : Model → Addition → Bool
+isV2 m a = v2After (m .v2) (m .total) (m .links) (filesOf m) (sizeAdded a) (a .link) (isPresent (a .root))
+
+abbrev pub padOf : Model → Addition → ℕ
+padOf m a = padAfter (isV2 m a) (m .pieceLength) (m .total + sizeAdded a)
+
+abbrev pub newName : Model → Addition → List ℕ
+newName m a = nameAfter (filesOf m) (m .name) (a .path)
+
+abbrev pub placeFor : Model → Addition → Directory
+placeFor m a = directoryFor (newName m a) (a .path)
+
+abbrev pub fileAdded : Model → Addition → File
+fileAdded m a =
+    record {
+      offset = m .total;
+      size = sizeAdded a;
+      name = storedName (a .given) (a .path);
+      directory = placeFor m a;
+      flags = flagsKept (a .flags) (keeps m a);
+      link = presentIf (keeps m a) (a .link);
+      root = a .root;
+      made = false;
+    }
+
+-- 'a pad follows: directory `.pad`, name the pad's size in decimal digits'
+abbrev pub padAdded : ℕ → ℕ → List File
+padAdded offset size =
+    cond (eqb size 0) []
+    (record {
+      offset = offset;
+      size = size;
+      name = decimal size;
+      directory = stored padDirectory false;
+      flags = 1;
+      link = absent;
+      root = absent;
+      made = true;
+    } ∷ [])
+
+abbrev pub directoriesAfter : Model → Addition → List (List ℕ)
+directoriesAfter m a =
+    cond (eqb (padOf m a) 0) (withPlace (placeFor m a) (m .directories))
+    (withDirectory padDirectory (withPlace (placeFor m a) (m .directories)))
+
+-- the set after an addition: the file follows those held, its offset 'the sum of the sizes before it', and its pad follows
+-- it where there is one
+abbrev pub added : Model → Addition → Model
+added m a =
+    record {
+      pieceLength = m .pieceLength;
+      v2 = isV2 m a;
+      name = newName m a;
+      files = m .files ++ (fileAdded m a ∷ padAdded (m .total + sizeAdded a) (padOf m a));
+      directories = directoriesAfter m a;
+      times = withTime (filesOf m) (a .time) (m .times);
+      links = m .links + cond (keeps m a) 1 0;
+      total = m .total + sizeAdded a + padOf m a;
+      onDisk = m .onDisk + cond (eqb (a .flags % 2) 1) 0 (sizeAdded a);
+      trimmed = m .trimmed;
+    }
+
+-- ---- room
+
+-- 'Text needed is the sum of the set's name and all names, directories and link texts held'
+abbrev pub linkLength : Optional (List ℕ) → ℕ
+linkLength absent = 0
+linkLength (present link) = length link
+
+abbrev pub fileText : File → ℕ
+fileText f = length (f .name) + linkLength (f .link)
+
+abbrev pub textOf : Model → ℕ
+textOf m = length (m .name) + sum (map length (m .directories)) + sum (map fileText (m .files))
+
+-- refusal 10: 'a table, text area, … shorter than the result needs, or over 65535 files or directories'
+abbrev pub lacks : Rooms → Model → ℕ → Bool
+lacks rooms m text =
+    either (ltb (filesRoom rooms) (filesOf m))
+    (either (ltb (dirsRoom rooms) (length (m .directories)))
+    (either (ltb (rooms .times) (length (m .times))) (ltb (rooms .text) text)))
+
+-- ---- refusals
+
+abbrev pub disagree : Model → Addition → Bool
+disagree m a = disagrees (m .v2) (m .total) (m .links) (filesOf m) (sizeAdded a) (a .link) (isPresent (a .root))
+
+-- the table's rows for adding, in its order, in four groups: sizes, names, v1 or v2, and the pad. Refusals 1, 2, 3, 4:
+abbrev pub sizeRules : ℕ → ℕ → Bool → ℕ → List Rule
+sizeRules pieceLength total negative size =
+    when (badLength pieceLength) 1 ∷
+    when negative 2 ∷
+    when (ltb limit size) 3 ∷
+    when (ltb limit (total + size)) 4 ∷
+    []
+
+-- refusals 5, 6, 7
+abbrev pub nameRules : ℕ → ℕ → Bool → Bool → List Rule
+nameRules files limited bad parent =
+    when (leb 4096 limited) 5 ∷
+    when bad 6 ∷
+    when (both (not parent) (ltb 0 files)) 7 ∷
+    []
+
+-- refusals 8, 9
+abbrev pub kindRules : Bool → Bool → Bool → Bool → List Rule
+kindRules v2 plain free root =
+    when (both (disagreesIn v2 plain free root) v2) 8 ∷
+    when (disagreesIn v2 plain free root) 9 ∷
+    []
+
+-- refusal 4, for the pad
+abbrev pub padRules : ℕ → ℕ → List Rule
+padRules total pad = when (ltb limit (total + pad)) 4 ∷ []
+
+-- all of them; whether room is lacking is decided beside them
+abbrev pub addingRules : Model → Addition → Bool → List Rule
+addingRules m a noRoom =
+    sizeRules (m .pieceLength) (m .total) (isNegative (a .size)) (sizeAdded a)
+    ++ (nameRules (filesOf m) (length (limitedName (a .given) (a .path))) (badName (a .given) (a .path)) (hasParent (a .path))
+    ++ (kindRules (m .v2) (decides (sizeAdded a) (a .link)) (isOpen (m .total) (m .links) (filesOf m)) (isPresent (a .root))
+    ++ (padRules (m .total + sizeAdded a) (padOf m a)
+    ++ (when noRoom 10 ∷ []))))
+
+-- an addition to a set whose tables have these rooms: the set after it, or the refusal
+abbrev pub addedTo : Rooms → Model → Addition → Outcome Model
+addedTo rooms m a = outcomeOf (firstOf (addingRules m a (lacks rooms (added m a) (textOf (added m a))))) (added m a)

@@ -1,0 +1,82 @@
+// A file to add, and what is kept of it: its name and its link text. Relies on the laws of proofs/Texts.antt.
+ghost use mathlib.Core.Path.{_≡_};
+ghost use mathlib.Core.Bool.{not};
+ghost use lib.ListN.{length};
+ghost use Rattle.path.specs.Join.{isEmpty};
+ghost use Rattle.rules.specs.Rules.{both};
+ghost use Rattle.additions.specs.Addition.{isZero, keepsLink};
+ghost use Rattle.additions.specs.Parts.{isHere, nameFrom, linkTextOf};
+use tables::Presence;
+use tables::Sha256Hash;
+use types::Unsigned;
+
+// A file to add, besides its texts: whether a name is given, its size, flags and modified time, and its root, if it is
+// there.
+pub struct FileInfo {
+    pub given: Presence,
+    pub size: i64,
+    pub flags: u8,
+    pub mtime: i64,
+    pub rooted: Presence,
+    pub root: Sha256Hash,
+}
+
+// Whether something that may be missing is there.
+pub fn is_here(presence: Presence) -> bool
+    ensures { λ r. ⌜ r ≡ isHere presence ⌝ }
+{
+    match presence {
+        Presence::Present => true,
+        Presence::Absent => false,
+    }
+}
+
+// Whether a number is 0.
+pub fn is_zero(x: i64) -> bool
+    ensures { λ r. ⌜ r ≡ isZero x ⌝ }
+{
+    match types::unsigned64(x) {
+        Unsigned::Of(n) => n == 0,
+        Unsigned::Negative => false,
+    }
+}
+
+// Whether a name is given that has bytes.
+pub fn is_given(given: Presence, filename: &[u8]) -> bool
+    ensures { λ r. ⌜ r ≡ both (isHere given) (not (isEmpty (now (filename .entry)))) ⌝ }
+{
+    if is_here(given) {
+        return 0 < filename.len();
+    }
+    false
+}
+
+// The length of the name that is stored: the given one where it has bytes, else `own`, that of the path.
+pub fn name_length(given: Presence, filename: &[u8], own: &[u8]) -> usize
+    ensures { λ r. ⌜ r ≡ length (nameFrom given (now (filename .entry)) (now (own .entry))) ⌝ }
+{
+    if is_given(given, filename) {
+        return filename.len();
+    }
+    own.len()
+}
+
+// Whether an addition keeps its link text: it has one, and fewer than 32766 are held.
+pub fn keeps_link(links: usize, link: &[u8]) -> bool
+    ensures { λ r. ⌜ r ≡ keepsLink links (now (link .entry)) ⌝ }
+{
+    if link.len() == 0 {
+        return false;
+    }
+    links < 32766
+}
+
+// The link text where it is kept, no bytes where not.
+pub fn link_text(links: usize, link: &[u8]) -> &[u8]
+    ensures { λ r. ⌜ now r ≡ linkTextOf links (now (link .entry)) ⌝ }
+{
+    if keeps_link(links, link) {
+        return link;
+    }
+    lists::part(link, 0, 0)
+}

@@ -1,0 +1,2 @@
+-- Laws of the lent tables' rooms.
+pub mod Held

@@ -1,0 +1,35 @@
+-- How much the lent tables hold, and whether that is what a set's record counts. It relies on the tables of `tables`.
+use Prim.Native.Nat.{ℕ, _/_, min}
+use mathlib.Core.Bool.{Bool}
+use lib.Dec.{leb}
+use lib.ListN.{length}
+use Rattle.tables.specs.declared.storage.FileStorage.{FileStorage}
+use Rattle.tables.specs.Model.{Store}
+use Rattle.rules.specs.Rules.{both}
+use Rattle.change.specs.declared.rooms.Rooms.{Rooms}
+
+-- a file row has 8 words, a root 32 bytes, a directory row 2 words
+abbrev pub roomsIn : ℕ → ℕ → ℕ → ℕ → ℕ → Rooms
+roomsIn rows roots times dirs text =
+    record { files = min (rows / 8) (roots / 32); directories = dirs / 2; times = times; text = text }
+
+abbrev pub roomsOf : Store → Rooms
+roomsOf s = roomsIn (length (s .rows)) (length (s .roots)) (length (s .times)) (length (s .dirs)) (length (s .text))
+
+-- refusal 10: 'over 65535 files or directories'
+abbrev pub filesRoom : Rooms → ℕ
+filesRoom rooms = min 65535 (rooms .files)
+
+abbrev pub dirsRoom : Rooms → ℕ
+dirsRoom rooms = min 65535 (rooms .directories)
+
+-- the tables hold what the set's record counts
+abbrev pub holdsIn : FileStorage → Rooms → Bool
+holdsIn fs rooms =
+    both (leb (fs .«num_files») (filesRoom rooms))
+    (both (leb (fs .«num_paths») (dirsRoom rooms))
+    (both (leb (fs .«num_mtimes») (rooms .times))
+    (both (leb (fs .«text_len») (rooms .text)) (leb (fs .«size_on_disk») (fs .«total_size»)))))
+
+abbrev pub holds : Store → Bool
+holds s = holdsIn (s .fs) (roomsOf s)

@@ -1,0 +1,3 @@
+-- Laws of directories and of plans.
+pub mod Directories
+pub mod Plans

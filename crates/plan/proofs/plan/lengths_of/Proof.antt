@@ -1,0 +1,36 @@
+-- `plan::plan::lengths_of` meets its contract.
+use mathlib.Core.Path.{_≡_, ap, _∙_}
+use mathlib.Core.List.{List}
+use Prim.Native.Nat.{ℕ}
+use lib.ListN.{length}
+use Rattle.additions.specs.Parts.{nameFrom}
+use Rattle.plan.specs.declared.plan.TextLengths.{TextLengths}
+use borrow.Author.Needs.{needs}
+use Rattle.plan.proofs.plan.lengths_of.Statement.{statement}
+use Rattle.plan.proofs.plan.lengths_of.Tie as tie
+
+same : {a a' b b' d d' : ℕ} → a ≡ a' → b ≡ b' → d ≡ d'
+    → _≡_ {A = TextLengths} (record { «set_name» = a; name = b; link = d }) (record { «set_name» = a'; name = b'; link = d' })
+same e f g = cc
+
+text-at-requires : tie.Need-text-at-requires
+text-at-requires c κs = search needs
+
+text-at-requires-2 : tie.Need-text-at-requires-2
+text-at-requires-2 c κs = search needs
+
+link-text-requires : tie.Need-link-text-requires
+link-text-requires c κs = search needs
+
+name-length-requires : tie.Need-name-length-requires
+name-length-requires c κs = search needs
+
+returns : tie.Need-returns
+returns c =
+    let a = c .before .before .before .before .before .before .before .before .before .args in
+    same (ap length (c .before .before .before .text-at .ensures)) (c .name-length .ensures ∙ ap (λ (l : List ℕ). length (nameFrom (a .given) (a .filename .now) l)) (c .before .before .text-at2 .ensures)) (ap length (c .before .link-text .ensures))
+
+pub lengths-of-spec : {M : Type 1} → statement M
+lengths-of-spec =
+    tie.close
+    (tie.spec text-at-requires text-at-requires-2 link-text-requires name-length-requires returns)

@@ -1,0 +1,140 @@
+-- `plan::plan::plan_add` meets its contract: the tests stop, the tables do not hold the set, or the numbers of the plan are those
+-- of the model.
+use borrow.Author.Needs.{needs}
+use mathlib.Core.Path.{_≡_, refl, sym, ap, _∙_}
+use mathlib.Core.Bool.{Bool, true}
+use mathlib.Core.List.{List}
+use Prim.Native.Nat.{ℕ}
+use borrow.Author.Tests.{not-true, not-false}
+use Rattle.tables.specs.Span.{textAt}
+use Rattle.tables.specs.Model.{Store, storeOf, viewOf}
+use Rattle.rules.specs.Rules.{firstOf, outcomeOf}
+use Rattle.rules.proofs.Rules.{outcome-value}
+use Rattle.change.specs.Rooms.{holds}
+use Rattle.additions.specs.declared.checks.Sizes.{Sizes}
+use Rattle.additions.specs.declared.checks.SizesResult.the-variants.{Ok}
+use Rattle.additions.specs.declared.parts.PathParts.{PathParts}
+use Rattle.additions.specs.Addition.{Addition, isPresent, isZero, keepsLink}
+use Rattle.additions.specs.Parts.{isHere, additionBy, nameFrom, linkTextOf, partsOf}
+use Rattle.additions.specs.Checks.{sizesSays, sizesFor, numberRules}
+use Rattle.additions.proofs.Rules.{sum-in}
+use Rattle.plan.specs.declared.counts.FileFacts.{FileFacts}
+use Rattle.plan.specs.Plan.{factsOf}
+use Rattle.plan.proofs.Plans.{here-is, texts-of, add-stopped, add-unheld, add-planned}
+use Rattle.plan.proofs.plan.plan_add.Statement.{statement}
+use Rattle.plan.proofs.plan.plan_add.Tie as tie
+
+abbrev tables : tie.Start → Store
+tables c = storeOf (c .args .fs) (c .args .rows .now) (c .args .roots .now) (c .args .times .now) (c .args .dirs .now) (c .args .text .now)
+
+abbrev call : tie.Start → Addition
+call c = additionBy (c .args .info) (c .args .filename .now) (c .args .path .now) (c .args .symlink-path .now)
+
+abbrev parts : tie.Start → PathParts
+parts c = partsOf (c .args .fs .«num_files») (viewOf (tables c) .name) (c .args .path .now)
+
+-- the tests and the sizes, by the parts of the path and whether there is a root
+abbrev numberBy : tie.Start → PathParts → Bool → ℕ
+numberBy c p root = firstOf (numberRules (c .args .fs) (call c .given) p (call c .size) (call c .link) root)
+
+abbrev sizesBy : tie.Start → Bool → Sizes
+sizesBy c root = sizesFor (c .args .fs) (call c .size) (call c .link) root
+
+abbrev number : tie.Start → ℕ
+number c = numberBy c (parts c) (isPresent (call c .root))
+
+abbrev sizes : tie.Start → Sizes
+sizes c = sizesBy c (isPresent (call c .root))
+
+-- what the sizes' answer says of the call
+sized : (c : tie.After-decide-sizes) → sizesSays (c .decide-sizes .result) ≡ outcomeOf (number (c .before .before .before .before .before .before .before .before .before)) (sizes (c .before .before .before .before .before .before .before .before .before))
+sized c =
+    let a = c .before .before .before .before .before .before .before .before .before in
+    c .decide-sizes .ensures
+    ∙ ap (λ (p : PathParts). outcomeOf (numberBy a p (isHere (a .args .info .rooted))) (sizesBy a (isHere (a .args .info .rooted)))) (c .before .parts-of .ensures)
+    ∙ ap (λ (r : Bool). outcomeOf (numberBy a (parts a) r) (sizesBy a r)) (here-is (a .args .info .rooted) (a .args .info .root))
+
+passed : (c : tie.After-decide-sizes) (z : Sizes) → c .decide-sizes .result ≡ Ok z → (number (c .before .before .before .before .before .before .before .before .before) ≡ 0) × (z ≡ sizes (c .before .before .before .before .before .before .before .before .before))
+passed c z e = outcome-value (number (c .before .before .before .before .before .before .before .before .before)) z (sizes (c .before .before .before .before .before .before .before .before .before)) (sym (ap sizesSays e) ∙ sized c)
+
+-- the tables hold what the set counts
+holding : (c : tie.Else1) → holds (tables (c .before .before .before .before .before .before .before .before .before .before .before .before .before .before .before)) ≡ true
+holding c = sym (rw (c .before .before .rooms-in .ensures) at (c .before .holds .ensures)) ∙ not-false (c .before .holds .result) (c .if1 .left)
+
+-- the facts, with the model's root
+abbrev with-root : tie.Start → Bool → FileFacts
+with-root c root =
+    record {
+      flags = call c .flags;
+      «keeps_link» = keepsLink (c .args .fs .«num_symlinks») (call c .link);
+      untimed = isZero (call c .time);
+      «has_root» = root;
+    }
+
+facts-are : (c : tie.Start) → factsOf (c .args .fs) (c .args .info) (c .args .symlink-path .now) ≡ with-root c (isPresent (call c .root))
+facts-are c = ap (with-root c) (here-is (c .args .info .rooted) (c .args .info .root))
+
+parts-of-requires : tie.Need-parts-of-requires
+parts-of-requires c κs = search needs
+
+decide-sizes-requires : tie.Need-decide-sizes-requires
+decide-sizes-requires c κs = search needs
+
+enum-known-e : tie.Need-enum-known-e
+enum-known-e c = search needs
+
+enum-known-sizes : tie.Need-enum-known-sizes
+enum-known-sizes c = search needs
+
+rooms-in-requires : tie.Need-rooms-in-requires
+rooms-in-requires c κs = search needs
+
+holds-requires : tie.Need-holds-requires
+holds-requires c κs = search needs
+
+returns : tie.Need-returns
+returns c =
+    add-unheld (tables (c .before .before .before .before .before .before .before .before .before .before .before .before .before .before .before)) (call (c .before .before .before .before .before .before .before .before .before .before .before .before .before .before .before)) (passed (c .before .before .before .before .before .before) (c .before .before .before .before .sizes .given .0 .0) (c .before .before .before .before .sizes .given .1) .0)
+    (sym (rw (c .before .before .rooms-in .ensures) at (c .before .holds .ensures)) ∙ not-true (c .before .holds .result) (c .if1 .taken))
+
+plan-texts-requires : tie.Need-plan-texts-requires
+plan-texts-requires c κs =
+    let a = c .before .before .before .before .before .before .before .before .before .before .before .before .before .before .before in
+    let p = passed (c .before .before .before .before .before .before) (c .before .before .before .before .sizes .given .0 .0) (c .before .before .before .before .sizes .given .1) in
+    (rw (c .before .before .rooms-in .ensures) (holding c), sum-in (a .args .fs) (call a .given) (parts a) (call a .size) (call a .link) (isPresent (call a .root)) (c .before .before .before .before .sizes .given .0 .0) (p .1) (p .0))
+
+returns-2 : tie.Need-returns-2
+returns-2 c = add-stopped (tables (c .before .before .before .before .before .before .before .before .before .before .before .before)) (call (c .before .before .before .before .before .before .before .before .before .before .before .before)) (c .before .e .given .0 .0) (sizes (c .before .before .before .before .before .before .before .before .before .before .before .before)) (sym (ap sizesSays (c .before .e .given .1)) ∙ sized (c .before .before .before))
+
+returns-3 : tie.Need-returns-3
+returns-3 c =
+    let a = c .before .before .before .before .before .before .before .before .before .before .before .before .before .before .before .before in
+    let z = c .before .before .before .before .before .sizes .given .0 .0 in
+    let p = passed (c .before .before .before .before .before .before .before) z (c .before .before .before .before .before .sizes .given .1) in
+    let q = c .before .before .before .before .before .before .before .before .parts-of .result in
+    rw (c .before .before .before .rooms-in .ensures) at (c .plan-texts .ensures)
+    ∙ add-planned (tables a) (call a) (p .0) (holding (c .before)) z (factsOf (a .args .fs) (a .args .info) (a .args .symlink-path .now)) (q .kind)
+    (textAt (a .args .path .now) (q .«set_name»))
+    (textAt (a .args .path .now) (q .directory))
+    (nameFrom (a .args .info .given) (a .args .filename .now) (textAt (a .args .path .now) (q .name)))
+    (linkTextOf (a .args .fs .«num_symlinks») (a .args .symlink-path .now))
+    q
+    (p .1)
+    (facts-are a)
+    (c .before .before .before .before .before .before .before .before .parts-of .ensures)
+    (texts-of (tables a) (call a) (a .args .info .given) (a .args .filename .now) q refl (c .before .before .before .before .before .before .before .before .parts-of .ensures))
+
+pub plan-add-spec : {M : Type 1} → statement M
+plan-add-spec =
+    tie.close
+    (tie.spec
+    parts-of-requires
+    decide-sizes-requires
+    enum-known-e
+    enum-known-sizes
+    rooms-in-requires
+    holds-requires
+    returns
+    plan-texts-requires
+    returns-2
+    returns-3)

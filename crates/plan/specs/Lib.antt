@@ -1,0 +1,4 @@
+-- The definitions that the contracts of `plan` cite: what an addition writes, its outcome, and its plan.
+pub mod Write
+pub mod Outcomes
+pub mod Plan

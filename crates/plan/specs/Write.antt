@@ -1,0 +1,201 @@
+-- What an addition writes: the tables after it, word by word, for tables of any content. The decisions are
+-- those of Addition.antt on what the tables mean (`viewOf`); here stands where each text and row goes.
+use Prim.Native.Nat.{ℕ, _+_, _-_, _%_, max}
+use mathlib.Core.Bool.{Bool, true, false, cond, not}
+use mathlib.Core.List.{List, [], _∷_, _++_}
+use lib.Dec.{eqb}
+use lib.IntN.{ℤ, pos}
+use lib.ListN.{length, set, replicate}
+use lib.Seq.{sets}
+use Rattle.lists.specs.Lists.{equal}
+use Rattle.lists.specs.Decimal.{decimal}
+use Rattle.tables.specs.declared.span.Span.{Span}
+use Rattle.tables.specs.declared.rows.Row.{Row}
+use Rattle.tables.specs.declared.storage.FileStorage.{FileStorage}
+use Rattle.tables.specs.Span.{clip, slid}
+use Rattle.tables.specs.Rows.{putRow, putDir, noPath, pathIsAbsolute, putRoot, dirsLowered}
+use Rattle.tables.specs.Model.{Optional, absent, present, Directory, single, absolute, stored, Model, Store}
+use Rattle.rules.specs.Rules.{both}
+use Rattle.additions.specs.Addition.{Addition, filesOf, sizeAdded, keeps, isV2, padOf, placeFor, storedName, setNameOf, flagsKept, padDirectory, isAmong, withPlace, added, isPresent, isZero}
+
+-- ---- where texts and rows go
+
+-- the place of the last such directory, or the next free one
+unfoldable pub placeFrom : ℕ → ℕ → List ℕ → List (List ℕ) → ℕ
+placeFrom found i d [] = found
+placeFrom found i d (e ∷ es) = placeFrom (cond (equal d e) i found) (i + 1) d es
+
+abbrev pub placeOf : List ℕ → List (List ℕ) → ℕ
+placeOf d ds = placeFrom (length ds) 0 d ds
+
+-- the Rust's path index of a directory among those stored
+abbrev pub indexOf : Directory → List (List ℕ) → ℕ
+indexOf single ds = noPath
+indexOf absolute ds = pathIsAbsolute
+indexOf (stored d outside) ds = placeOf d ds
+
+-- the text of a directory that is not stored yet
+abbrev pub missing : List ℕ → List (List ℕ) → List ℕ
+missing d ds = cond (isAmong d ds) [] d
+
+abbrev pub missingOf : Directory → List (List ℕ) → List ℕ
+missingOf single ds = []
+missingOf absolute ds = []
+missingOf (stored d outside) ds = missing d ds
+
+abbrev pub isOutside : Directory → Bool
+isOutside single = false
+isOutside absolute = false
+isOutside (stored d outside) = outside
+
+-- the six new texts of an addition, in the order in which they are appended; a text that there is not is empty
+abbrev pub setText : Model → Addition → List ℕ
+setText m a = cond (eqb (filesOf m) 0) (setNameOf (a .path)) []
+
+abbrev pub directoryNew : Model → Addition → List ℕ
+directoryNew m a = missingOf (placeFor m a) (m .directories)
+
+abbrev pub nameText : Model → Addition → List ℕ
+nameText m a = storedName (a .given) (a .path)
+
+abbrev pub linkNew : Model → Addition → List ℕ
+linkNew m a = cond (keeps m a) (a .link) []
+
+abbrev pub padDirectoryNew : Model → Addition → List ℕ
+padDirectoryNew m a = cond (eqb (padOf m a) 0) [] (missing padDirectory (withPlace (placeFor m a) (m .directories)))
+
+-- the name of a pad, 'the pad's size in decimal digits'; nothing where there is none
+abbrev pub padDigits : ℕ → List ℕ
+padDigits pad = cond (eqb pad 0) [] (decimal pad)
+
+abbrev pub padText : Model → Addition → List ℕ
+padText m a = padDigits (padOf m a)
+
+abbrev pub newTexts : Model → Addition → List ℕ
+newTexts m a =
+    setText m a ++ (directoryNew m a ++ (nameText m a ++ (linkNew m a ++ (padDirectoryNew m a ++ padText m a))))
+
+-- the set's old name, which goes where the set is named again; its bytes within the used part
+abbrev pub oldName : FileStorage → Span
+oldName fs = cond (eqb (fs .«num_files») 0) (clip (fs .«text_len») (fs .name)) (record { at = 0; len = 0 })
+
+-- the text that stays: new texts begin behind it
+abbrev pub kept : FileStorage → ℕ
+kept fs = fs .«text_len» - oldName fs .len
+
+-- where each new text begins, and where the last one ends: the text needed after the addition
+abbrev pub directoryStart : FileStorage → Model → Addition → ℕ
+directoryStart fs m a = kept fs + length (setText m a)
+
+abbrev pub nameStart : FileStorage → Model → Addition → ℕ
+nameStart fs m a = directoryStart fs m a + length (directoryNew m a)
+
+abbrev pub linkStart : FileStorage → Model → Addition → ℕ
+linkStart fs m a = nameStart fs m a + length (nameText m a)
+
+abbrev pub padDirectoryStart : FileStorage → Model → Addition → ℕ
+padDirectoryStart fs m a = linkStart fs m a + length (linkNew m a)
+
+abbrev pub padNameStart : FileStorage → Model → Addition → ℕ
+padNameStart fs m a = padDirectoryStart fs m a + length (padDirectoryNew m a)
+
+abbrev pub textAfter : FileStorage → Model → Addition → ℕ
+textAfter fs m a = padNameStart fs m a + length (padText m a)
+
+-- ---- the tables after an addition
+
+-- the text area: the set's old name goes where the set is named again, and the new texts follow what stays
+abbrev pub textAdded : Store → Model → Addition → List ℕ
+textAdded s m a =
+    sets (cond (eqb (s .fs .«num_files») 0) (slid (oldName (s .fs)) (s .fs .«text_len») (s .text)) (s .text)) (kept (s .fs)) (newTexts m a)
+
+-- whether a directory is a new row, which it may be with no bytes of text
+abbrev pub isNew : List ℕ → List (List ℕ) → Bool
+isNew d ds = not (isAmong d ds)
+
+abbrev pub isNewPlace : Directory → List (List ℕ) → Bool
+isNewPlace single ds = false
+isNewPlace absolute ds = false
+isNewPlace (stored d outside) ds = isNew d ds
+
+abbrev pub putDirIf : Bool → List ℕ → ℕ → Span → List ℕ
+putDirIf new dirs i s = cond new (putDir dirs i s) dirs
+
+abbrev pub isNewPad : Model → Addition → Bool
+isNewPad m a = both (not (eqb (padOf m a) 0)) (isNew padDirectory (withPlace (placeFor m a) (m .directories)))
+
+-- the directory rows: the file's, then the pad's
+abbrev pub dirsAdded : Store → Model → Addition → List ℕ
+dirsAdded s m a =
+    putDirIf (isNewPad m a)
+    (putDirIf (isNewPlace (placeFor m a) (m .directories))
+    (cond (eqb (s .fs .«num_files») 0) (dirsLowered (s .dirs) (s .fs .«num_paths») (oldName (s .fs))) (s .dirs))
+    (s .fs .«num_paths»)
+    (record { at = directoryStart (s .fs) m a; len = length (directoryNew m a) }))
+    (length (withPlace (placeFor m a) (m .directories)))
+    (record { at = padDirectoryStart (s .fs) m a; len = 4 })
+
+-- the file's row: bits 16 a link text, 32 a directory outside the set's name, 128 a root
+abbrev pub rowAdded : FileStorage → Model → Addition → Row
+rowAdded fs m a =
+    record {
+      offset = fs .«total_size»;
+      size = sizeAdded a;
+      name = record { at = nameStart fs m a; len = length (nameText m a) };
+      link = record { at = linkStart fs m a; len = length (linkNew m a) };
+      «path_index» = indexOf (placeFor m a) (m .directories);
+      flags = flagsKept (a .flags) (keeps m a) + cond (keeps m a) 16 0 + cond (isOutside (placeFor m a)) 32 0 + cond (isPresent (a .root)) 128 0;
+    }
+
+-- the row of the pad that an addition makes: bits 1 a pad, 64 made here
+abbrev pub padRow : FileStorage → Model → Addition → Row
+padRow fs m a =
+    record {
+      offset = fs .«total_size» + sizeAdded a;
+      size = padOf m a;
+      name = record { at = padNameStart fs m a; len = length (padText m a) };
+      link = record { at = textAfter fs m a; len = 0 };
+      «path_index» = placeOf padDirectory (withPlace (placeFor m a) (m .directories));
+      flags = 65;
+    }
+
+abbrev pub rowsAdded : Store → Model → Addition → List ℕ
+rowsAdded s m a =
+    cond (eqb (padOf m a) 0) (putRow (s .rows) (s .fs .«num_files») (rowAdded (s .fs) m a))
+    (putRow (putRow (s .rows) (s .fs .«num_files») (rowAdded (s .fs) m a)) (s .fs .«num_files» + 1) (padRow (s .fs) m a))
+
+abbrev pub rootsAdded : List ℕ → ℕ → Optional (List ℕ) → List ℕ
+rootsAdded roots i absent = roots
+rootsAdded roots i (present root) = putRoot roots i root
+
+-- times up to the file's, 0 where none was held
+abbrev pub timesAdded : List ℤ → ℕ → ℕ → ℤ → List ℤ
+timesAdded times held i t = cond (isZero t) times (set (sets times held (replicate (i + 1 - held) (pos 0))) i t)
+
+-- the set's record
+abbrev pub storageAdded : FileStorage → Model → Addition → FileStorage
+storageAdded fs m a =
+    record {
+      «piece_length» = fs .«piece_length»;
+      v2 = isV2 m a;
+      «num_files» = fs .«num_files» + cond (eqb (padOf m a) 0) 1 2;
+      «num_paths» = length (added m a .directories);
+      «num_symlinks» = fs .«num_symlinks» + cond (keeps m a) 1 0;
+      «num_mtimes» = cond (isZero (a .time)) (fs .«num_mtimes») (max (fs .«num_mtimes») (fs .«num_files» + 1));
+      name = cond (eqb (fs .«num_files») 0) (record { at = kept fs; len = length (setText m a) }) (fs .name);
+      «text_len» = textAfter fs m a;
+      «total_size» = fs .«total_size» + sizeAdded a + padOf m a;
+      «size_on_disk» = fs .«size_on_disk» + cond (eqb (a .flags % 2) 1) 0 (sizeAdded a);
+      trimmed = fs .trimmed;
+    }
+
+abbrev pub storeAdded : Store → Model → Addition → Store
+storeAdded s m a =
+    record {
+      fs = storageAdded (s .fs) m a;
+      rows = rowsAdded s m a;
+      roots = rootsAdded (s .roots) (s .fs .«num_files») (a .root);
+      times = timesAdded (s .times) (s .fs .«num_mtimes») (s .fs .«num_files») (a .time);
+      dirs = dirsAdded s m a;
+      text = textAdded s m a;
+    }

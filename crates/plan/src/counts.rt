@@ -1,0 +1,117 @@
+// What a set counts after an addition, and the flags of the file's row. The bounds that keep every sum
+// small are in `Countable`.
+ghost use mathlib.Core.Path.{_≡_};
+ghost use mathlib.Core.Bool.{true, cond};
+ghost use Prim.Native.Nat.{_+_, _%_, _≤_, _<_, _^_, max};
+ghost use lib.Dec.{eqb};
+ghost use Rattle.plan.specs.Plan.{Countable, bitOf, rowFlags, countsOf, shortOf};
+use additions::Sizes;
+use change::Rooms;
+use tables::FileStorage;
+
+// What a set counts after an addition; `file_end` is where the added file ends.
+pub(crate) struct Counts {
+    pub num_files: usize,
+    pub num_symlinks: usize,
+    pub num_mtimes: usize,
+    pub file_end: u64,
+    pub total_size: u64,
+    pub size_on_disk: u64,
+}
+
+// What an addition adds to the counts: the flags that are given, whether its link text is kept, whether
+// it has no time, and whether it has a root.
+pub(crate) struct FileFacts {
+    pub flags: u8,
+    pub keeps_link: bool,
+    pub untimed: bool,
+    pub has_root: bool,
+}
+
+// A number where a flag is set, 0 where not.
+fn bit(on: bool, value: u64) -> u64
+    ensures { λ r. ⌜ r ≡ bitOf on value ⌝ }
+{
+    if on { value } else { 0 }
+}
+
+// The flags of a file's row.
+pub(crate) fn row_flags(facts: FileFacts, outside: bool) -> u64
+    ensures { λ r. ⌜ r ≡ rowFlags facts outside ⌝ }
+{
+    let flags = facts.flags as u64;
+    let keeps = facts.keeps_link;
+    flags % 8
+        + bit(keeps, flags / 8 % 2 * 8)
+        + bit(keeps, 16)
+        + bit(outside, 32)
+        + bit(facts.has_root, 128)
+}
+
+// How many files there are after an addition.
+fn files_after(files: usize, pad: u64) -> usize
+    requires { ⌜ files ≤ 65535 ⌝ }
+    ensures { λ r. ⌜ r ≡ files + cond (eqb pad 0) 1 2 ⌝ }
+{
+    if pad == 0 { files + 1 } else { files + 2 }
+}
+
+// How many link texts there are after an addition.
+fn links_after(links: usize, keeps: bool) -> usize
+    requires { ⌜ (keeps ≡ true → links < 32766) ⌝ }
+    ensures { λ r. ⌜ r ≡ links + cond keeps 1 0 ⌝ }
+{
+    if keeps { links + 1 } else { links }
+}
+
+// How many times are held after an addition.
+fn times_after(held: usize, files: usize, untimed: bool) -> usize
+    requires { ⌜ files ≤ 65535 ⌝ }
+    ensures { λ r. ⌜ r ≡ cond untimed held (max held (files + 1)) ⌝ }
+{
+    if untimed {
+        return held;
+    }
+    if held < files + 1 { files + 1 } else { held }
+}
+
+// The bytes on disk after an addition: a pad counts for none.
+fn disk_after(on_disk: u64, flags: u8, size: u64) -> u64
+    requires { ⌜ «on_disk» + size < 2 ^ 64 ⌝ }
+    ensures { λ r. ⌜ r ≡ «on_disk» + cond (eqb (flags % 2) 1) 0 size ⌝ }
+{
+    if flags % 2 == 1 {
+        on_disk
+    } else {
+        on_disk + size
+    }
+}
+
+// What the set counts after an addition.
+pub(crate) fn counts_after(fs: FileStorage, sizes: Sizes, facts: FileFacts) -> Counts
+    requires { ⌜ Countable fs sizes (facts .«keeps_link») ⌝ }
+    ensures { λ r. ⌜ r ≡ countsOf fs sizes facts ⌝ }
+{
+    let file_end = fs.total_size + sizes.size;
+    Counts {
+        num_files: files_after(fs.num_files, sizes.pad),
+        num_symlinks: links_after(fs.num_symlinks, facts.keeps_link),
+        num_mtimes: times_after(fs.num_mtimes, fs.num_files, facts.untimed),
+        file_end,
+        total_size: file_end + sizes.pad,
+        size_on_disk: disk_after(fs.size_on_disk, facts.flags, sizes.size),
+    }
+}
+
+// Whether the file rows, directory rows or times are too few for these counts.
+pub(crate) fn is_short(rooms: Rooms, files: usize, dirs: usize, times: usize) -> bool
+    ensures { λ r. ⌜ r ≡ shortOf rooms files dirs times ⌝ }
+{
+    if change::files_room(rooms) < files {
+        return true;
+    }
+    if change::dirs_room(rooms) < dirs {
+        return true;
+    }
+    rooms.times < times
+}

@@ -1,0 +1,53 @@
+-- `storage::write::write_texts` meets its contract.
+use mathlib.Core.Path.{_≡_, ap, _∙_}
+use mathlib.Core.List.{List}
+use Prim.Native.Nat.{ℕ}
+use Rattle.additions.specs.Parts.{nameFrom}
+use Rattle.plan.specs.declared.plan.AddPlan.{AddPlan}
+use Rattle.storage.specs.Written.{textWritten}
+use borrow.Author.Needs.{needs}
+use Rattle.storage.proofs.write.write_texts.Statement.{statement}
+use Rattle.storage.proofs.write.write_texts.Tie as tie
+
+module _ (files used : ℕ) (p : AddPlan) (text : List ℕ) where
+  same : {x x' d d' n n' l l' : List ℕ} → x ≡ x' → d ≡ d' → n ≡ n' → l ≡ l' → textWritten files used p text x d n l ≡ textWritten files used p text x' d' n' l'
+  same {x} {x'} {d} {d'} {n} {n'} {l} {l'} e f g h =
+      ap (λ (v : List ℕ). textWritten files used p text v d n l) e
+      ∙ ap (λ (v : List ℕ). textWritten files used p text x' v n l) f
+      ∙ ap (λ (v : List ℕ). textWritten files used p text x' d' v l) g
+      ∙ ap (λ (v : List ℕ). textWritten files used p text x' d' n' v) h
+
+text-at-requires : tie.Need-text-at-requires
+text-at-requires c κs = search needs
+
+text-at-requires-2 : tie.Need-text-at-requires-2
+text-at-requires-2 c κs = search needs
+
+text-at-requires-3 : tie.Need-text-at-requires-3
+text-at-requires-3 c κs = search needs
+
+link-text-requires : tie.Need-link-text-requires
+link-text-requires c κs = search needs
+
+write-text-requires : tie.Need-write-text-requires
+write-text-requires c κs = search needs
+
+same-length : tie.Need-same-length
+same-length c = search needs
+
+returns : tie.Need-returns
+returns c =
+    let a = c .before .before .before .before .before .before .before .before .before .before .before .before .before .before .before .before .args in
+    c .before .before .write-text .ensures ∙ same (a .fs .«num_files») (a .fs .«text_len») (a .plan) (a .text .now) (c .before .before .before .before .before .before .text-at .ensures) (c .before .before .before .before .before .text-at2 .ensures) (ap (nameFrom (a .given) (a .filename .now)) (c .before .before .before .before .text-at3 .ensures)) (c .before .before .before .link-text .ensures)
+
+pub write-texts-spec : {M : Type 1} → statement M
+write-texts-spec =
+    tie.close
+    (tie.spec
+    text-at-requires
+    text-at-requires-2
+    text-at-requires-3
+    link-text-requires
+    write-text-requires
+    same-length
+    returns)

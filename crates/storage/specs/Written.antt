@@ -1,0 +1,50 @@
+-- What each table holds once a plan is written. Private: the public definitions are those of `plan`, and proofs/Written.antt
+-- ties these to them.
+use Prim.Native.Nat.{ℕ, _+_}
+use mathlib.Core.Bool.{cond}
+use mathlib.Core.List.{List, []}
+use lib.Dec.{eqb}
+use lib.Seq.{sets}
+use Rattle.tables.specs.declared.span.Span.{Span}
+use Rattle.tables.specs.Span.{slid}
+use Rattle.tables.specs.Rows.{putRow, dirsLowered}
+use Rattle.additions.specs.Addition.{padDirectory}
+use Rattle.plan.specs.declared.plan.NewDir.{NewDir}
+use Rattle.plan.specs.declared.plan.AddPlan.{AddPlan}
+use Rattle.plan.specs.Write.{padDigits, putDirIf}
+
+-- the text area without the old name of a set without files, which is named again
+abbrev pub renamed : ℕ → Span → ℕ → List ℕ → List ℕ
+renamed files old used text = cond (eqb files 0) (slid old used text) text
+
+abbrev pub textWritten : ℕ → ℕ → AddPlan → List ℕ → List ℕ → List ℕ → List ℕ → List ℕ → List ℕ
+textWritten files used p text called dir name link =
+    sets
+    (sets
+    (sets
+    (sets
+    (sets
+    (sets (renamed files (p .old) used text) (p .start) called)
+    (p .dir .text .at)
+    (cond (p .dir .new) dir []))
+    (p .row .name .at)
+    name)
+    (p .row .link .at)
+    link)
+    (p .«pad_dir» .text .at)
+    (cond (p .«pad_dir» .new) padDirectory []))
+    (p .«pad_row» .name .at)
+    (padDigits (p .«pad_row» .size))
+
+abbrev pub dirsRenamed : ℕ → Span → ℕ → List ℕ → List ℕ
+dirsRenamed files old n dirs = cond (eqb files 0) (dirsLowered dirs n old) dirs
+
+abbrev pub dirWritten : NewDir → List ℕ → List ℕ
+dirWritten d dirs = putDirIf (d .new) dirs (d .place) (d .text)
+
+abbrev pub dirsWritten : ℕ → ℕ → AddPlan → List ℕ → List ℕ
+dirsWritten files n p dirs = dirWritten (p .«pad_dir») (dirWritten (p .dir) (dirsRenamed files (p .old) n dirs))
+
+abbrev pub rowsWritten : ℕ → AddPlan → List ℕ → List ℕ
+rowsWritten files p rows =
+    cond (eqb (p .«pad_row» .size) 0) (putRow rows files (p .row)) (putRow (putRow rows files (p .row)) (files + 1) (p .«pad_row»))

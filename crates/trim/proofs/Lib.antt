@@ -1,0 +1,2 @@
+-- Laws of a trim.
+pub mod Trims
