@@ -1,15 +1,15 @@
 // The words of an addition: `add NAME PATH SIZE FLAGS MTIME LINK ROOT`. Relies on the modules for words.
-use crate::numbers;
+use crate::input::Buffer;
 use crate::numbers::Long;
 use crate::numbers::Number;
-use crate::output::Buffer;
+use crate::numbers;
 use crate::roots;
-use crate::strings;
 use crate::strings::Decoded;
+use crate::strings;
 use crate::words;
 use tables::Presence;
 
-// What the words stand for. The three texts stand in a buffer, one behind the other, and these are their ends.
+// What the words stand for. The three texts stand in a buffer, one after the other, and these are their ends.
 pub(crate) struct Addition {
     pub is_formed: bool,
     pub given: Presence,
@@ -90,7 +90,7 @@ fn read_numbers(line: &[u8]) -> Numbers {
     }
 }
 
-// Decodes the texts into a buffer, one behind the other.
+// Decodes the texts into a buffer, one after the other.
 fn read_texts(line: &[u8], target: &mut Buffer) -> Texts {
     let malformed = Texts {
         is_formed: false,

@@ -1,149 +1,86 @@
-// A line's answer: the first word says which call it is; a change is made first, on the tables of all sets,
-// and then the answer is written. Relies on the modules of the calls' kinds.
-use crate::answer;
-use crate::answer::Answer;
+// A line's answer. Each module answers the lines that have one of its forms: first those that speak of no set or turn
+// to another, then the changes of the set that is spoken of, then the questions. A new call is a form in one module,
+// and an arm beside it. Relies on the modules of the calls.
 use crate::changes;
-use crate::compat;
-use crate::kinds;
+use crate::input::Buffer;
 use crate::opening;
-use crate::output::Buffer;
+use crate::output;
 use crate::paths;
-use crate::places::Areas;
 use crate::places::Dirs;
-use crate::places::Entries;
 use crate::places::Roots;
 use crate::places::Rows;
 use crate::places::Texts;
 use crate::places::Times;
 use crate::questions;
-use crate::renaming;
+use crate::sets::Made;
+use crate::sets::Sets;
+use crate::sets;
 use crate::words;
 
-// Answers the line of a length, of which as many bytes stand in its buffer as that has places.
-pub(crate) fn answer_line(
+// Answers the line of a length, of which as many bytes stand in its buffer as that has places; a change of the sets
+// is left to `noted`.
+pub(crate) fn answer(
     line: &Buffer,
     length: usize,
+    all: Sets,
     rows: &mut Rows,
     roots: &mut Roots,
     times: &mut Times,
     dirs: &mut Dirs,
     text: &mut Texts,
-    entries: &mut Entries,
-    area: &mut Areas,
-    cards: &mut [u64; 73],
-    out: &mut Buffer,
-    used: usize,
-) -> usize {
-    let call = call_in(line, length);
+) -> Made {
+    let first = without_tables(line, length, all.at);
+    let Made::NoCall = first else {
+        return first;
+    };
     let content = lists::part(line, 0, length);
-    let made = make(
-        call,
-        content,
-        rows,
-        roots,
-        times,
-        dirs,
-        text,
-        entries,
-        area,
-        cards,
-    );
-    reply(
-        call,
-        made,
-        content,
-        rows,
-        roots,
-        times,
-        dirs,
-        text,
-        entries,
-        area,
-        cards,
-        out,
-        used,
-    )
+    let made = changes::make(content, sets::current(all), rows, roots, times, dirs, text);
+    let Made::NoCall = made else {
+        return made;
+    };
+    questions::answer(content, all, rows, roots, times, dirs, text);
+    Made::Answered
 }
 
-// Which call a line is. A comment and a line of blanks have no answer, and a line that is too long or has more
-// words than its call is no call.
-fn call_in(line: &[u8], length: usize) -> usize {
+// Answers a line that speaks of no set, or says what it changes of the sets, where `at` is the place of the one that
+// is spoken of. A comment and a line of blanks have no answer, and a line that is too long is no call.
+fn without_tables(line: &[u8], length: usize, at: usize) -> Made {
     let content = lists::part(line, 0, length);
     if lists::byte(content, 0) == b'#' {
-        return kinds::SILENT;
+        return Made::Answered;
     }
     if line.len() < length {
-        return kinds::UNKNOWN;
+        output::bad_call();
+        return Made::Answered;
     }
     if !words::has(content, 0) {
-        return kinds::SILENT;
+        return Made::Answered;
     }
-    let call = kinds::find(words::word(content, 0));
-    if words::has(content, kinds::most_words(call)) {
-        return kinds::UNKNOWN;
+    if paths::answer(content) {
+        return Made::Answered;
     }
-    call
+    opening::make(content, at)
 }
 
-// Makes the change that a call is, and says what came of it.
-fn make(
-    call: usize,
-    line: &[u8],
-    rows: &mut Rows,
-    roots: &mut Roots,
-    times: &mut Times,
-    dirs: &mut Dirs,
-    text: &mut Texts,
-    entries: &mut Entries,
-    area: &mut Areas,
-    cards: &mut [u64],
-) -> Answer {
-    match call {
-        kinds::OPEN..=kinds::RESET => opening::answer(call, line, cards),
-        kinds::ADD..=kinds::CLEAN => {
-            changes::answer(call, line, rows, roots, times, dirs, text, cards)
+// Answers a change of the sets, and gives the sets after it.
+pub(crate) fn noted(made: Made, before: Sets) -> Sets {
+    match made {
+        Made::Refused(refusal) => {
+            output::refused(refusal);
+            before
         }
-        kinds::RENAME..=kinds::IMPORT => renaming::answer(call, line, entries, area, cards),
-        _ => Answer::BadCall,
-    }
-}
-
-// Writes the answer to a call, of which the change is made.
-fn reply(
-    call: usize,
-    made: Answer,
-    line: &[u8],
-    rows: &[u64],
-    roots: &[u8],
-    times: &[i64],
-    dirs: &[u64],
-    text: &[u8],
-    entries: &[u64],
-    area: &[u8],
-    cards: &[u64],
-    out: &mut Buffer,
-    used: usize,
-) -> usize {
-    match call {
-        kinds::SILENT => used,
-        kinds::RSPLIT..=kinds::WIDTH => paths::answer(call, line, out, used),
-        kinds::NAME..=kinds::EXPORT => questions::ask(
-            call,
-            line,
-            rows,
-            roots,
-            times,
-            dirs,
-            text,
-            entries,
-            area,
-            cards,
-            out,
-            used,
-        ),
-        kinds::COMPAT => {
-            answer::put_value(compat::answer(line, rows, dirs, text, cards), out, used)
+        Made::Changed(set) => {
+            output::done();
+            sets::with(before, set)
         }
-        _ => answer::put_value(made, out, used),
+        Made::Use(place) => {
+            output::done();
+            sets::turned_to(before, place)
+        }
+        Made::Reset => {
+            output::done();
+            sets::none()
+        }
+        _ => before,
     }
 }

@@ -1,94 +1,93 @@
-// Additions, trims and cleanings: the set's parts of the tables are lent to the library. Relies on `storage`,
-// on addition.rt for the words of an addition, and on cleanings.rt.
-use crate::addition;
+// The calls that change the set that is spoken of, and of these the additions and trims. The tables are handed on
+// whole, and the functions that call the library lend it the set's parts. Relies on `storage`, on
+// addition.rt for the words of an addition, and on cleanings.rt, renaming.rt and importing.rt.
 use crate::addition::Addition;
-use crate::answer::Answer;
+use crate::addition;
 use crate::cleanings;
-use crate::kinds;
-use crate::output::Buffer;
+use crate::importing;
+use crate::input::Buffer;
+use crate::places::Dirs;
+use crate::places::Places;
+use crate::places::Roots;
+use crate::places::Rows;
+use crate::places::Texts;
+use crate::places::Times;
 use crate::places;
-use crate::state;
+use crate::renaming;
+use crate::sets::Made;
+use crate::sets::Set;
 use crate::strings;
+use crate::words;
 use change::StorageResult;
 use tables::FileStorage;
-use types::Refusal;
 
-// What came of a change: the set's record behind it, or why there is none.
-pub(crate) enum Made {
-    BadCall,
-    Changed(FileStorage),
-    Refused(Refusal),
-}
-
-// Changes the set that is spoken of, which is lent its own part of every table.
-pub(crate) fn answer(
-    call: usize,
+// Makes the change of a set that a line says.
+pub(crate) fn make(
     line: &[u8],
-    rows: &mut [u64],
-    roots: &mut [u8],
-    times: &mut [i64],
-    dirs: &mut [u64],
-    text: &mut [u8],
-    cards: &mut [u64],
-) -> Answer {
-    if !state::is_open(cards) {
-        return Answer::BadCall;
-    }
-    let p = places::of_set(cards, state::at(cards));
-    let made = make(
-        call,
-        line,
-        state::record(cards),
-        places::words_of(rows, p.rows),
-        places::bytes_of(roots, p.roots),
-        places::times_of(times, p.times),
-        places::words_of(dirs, p.dirs),
-        places::bytes_of(text, p.text),
-    );
-    note(made, cards)
-}
-
-// Makes a change of a set, whose tables are lent.
-fn make(
-    call: usize,
-    line: &[u8],
-    fs: FileStorage,
-    rows: &mut [u64],
-    roots: &mut [u8],
-    times: &mut [i64],
-    dirs: &mut [u64],
-    text: &mut [u8],
+    set: Set,
+    rows: &mut Rows,
+    roots: &mut Roots,
+    times: &mut Times,
+    dirs: &mut Dirs,
+    text: &mut Texts,
 ) -> Made {
-    match call {
-        kinds::ADD => add(line, fs, rows, roots, times, dirs, text),
-        kinds::TRIM => outcome(trim::remove_tail_padding(fs, rows, roots, times, dirs, text)),
-        _ => cleanings::clean(fs, rows, dirs, text),
+    if !set.is_open {
+        return Made::NoCall;
+    }
+    match words::form_of(b"add NAME PATH SIZE FLAGS MTIME LINK ROOT, trim", line) {
+        0 => add(line, set, rows, roots, times, dirs, text),
+        1 => outcome(set, trim(set.fs, set.parts, rows, roots, times, dirs, text)),
+        _ => make_other(line, set, rows, dirs, text),
+    }
+}
+
+// Makes a change that leaves the roots and the times as they are.
+fn make_other(line: &[u8], set: Set, rows: &mut Rows, dirs: &mut Dirs, text: &mut Texts) -> Made {
+    match words::form_of(b"clean, rename I :NEW, import I :N ..", line) {
+        0 => cleanings::clean(set, rows, dirs, text),
+        1 => renaming::rename(line, set, rows, text),
+        2 => importing::import(line, set, rows, text),
+        _ => Made::NoCall,
     }
 }
 
 // `add NAME PATH SIZE FLAGS MTIME LINK ROOT`.
 fn add(
     line: &[u8],
-    fs: FileStorage,
-    rows: &mut [u64],
-    roots: &mut [u8],
-    times: &mut [i64],
-    dirs: &mut [u64],
-    text: &mut [u8],
+    set: Set,
+    rows: &mut Rows,
+    roots: &mut Roots,
+    times: &mut Times,
+    dirs: &mut Dirs,
+    text: &mut Texts,
 ) -> Made {
     let mut texts = io::large_buffer();
     let words = addition::read(line, &mut texts);
     if !words.is_formed {
-        return Made::BadCall;
+        return Made::NoCall;
     }
-    outcome(add_read(words, &texts, fs, rows, roots, times, dirs, text))
+    outcome(
+        set,
+        add_read(
+            words,
+            &texts,
+            set.fs,
+            set.parts,
+            rows,
+            roots,
+            times,
+            dirs,
+            text,
+        ),
+    )
 }
 
-// Adds the file that the words stand for; its texts stand in a buffer, one behind the other.
+// Adds the file that the words stand for; its texts stand in a buffer, one after the other.
 fn add_read(
     words: Addition,
     texts: &Buffer,
     fs: FileStorage,
+    parts: Places,
     rows: &mut [u64],
     roots: &mut [u8],
     times: &mut [i64],
@@ -100,11 +99,11 @@ fn add_read(
     let root = words.root;
     storage::add_file(
         fs,
-        rows,
-        roots,
-        times,
-        dirs,
-        text,
+        places::words_of(rows, parts.rows),
+        places::bytes_of(roots, parts.roots),
+        places::times_of(times, parts.times),
+        places::words_of(dirs, parts.dirs),
+        places::bytes_of(text, parts.text),
         given,
         strings::between(texts, 0, words.name),
         strings::between(texts, words.name, words.path),
@@ -117,22 +116,34 @@ fn add_read(
     )
 }
 
-// What came of a change that the library was asked for.
-pub(crate) fn outcome(result: StorageResult) -> Made {
-    match result {
-        StorageResult::Ok(fs) => Made::Changed(fs),
-        StorageResult::Err(refusal) => Made::Refused(refusal),
-    }
+// `trim`.
+fn trim(
+    fs: FileStorage,
+    parts: Places,
+    rows: &mut [u64],
+    roots: &mut [u8],
+    times: &mut [i64],
+    dirs: &mut [u64],
+    text: &mut [u8],
+) -> StorageResult {
+    trim::remove_tail_padding(
+        fs,
+        places::words_of(rows, parts.rows),
+        places::bytes_of(roots, parts.roots),
+        places::times_of(times, parts.times),
+        places::words_of(dirs, parts.dirs),
+        places::bytes_of(text, parts.text),
+    )
 }
 
-// Notes the record of a changed set, and gives the answer.
-fn note(made: Made, cards: &mut [u64]) -> Answer {
-    match made {
-        Made::BadCall => Answer::BadCall,
-        Made::Changed(fs) => {
-            state::put_record(cards, fs);
-            Answer::Done
+// What came of a change that the library was asked for: the set has the record that it gives.
+pub(crate) fn outcome(before: Set, result: StorageResult) -> Made {
+    match result {
+        StorageResult::Ok(fs) => {
+            let mut set = before;
+            set.fs = fs;
+            Made::Changed(set)
         }
-        Made::Refused(refusal) => Answer::Refused(refusal),
+        StorageResult::Err(refusal) => Made::Refused(refusal),
     }
 }

@@ -1,65 +1,51 @@
 // `compat A B`, the question on two sets: both are lent their parts of the tables. Relies on `names`, and on
 // the modules for sets, words and answers.
 use crate::answer;
-use crate::answer::Answer;
-use crate::numbers;
 use crate::numbers::Number;
+use crate::numbers;
 use crate::places;
-use crate::state;
+use crate::sets::Set;
+use crate::sets::Sets;
+use crate::sets;
+use crate::words;
 
-// Whether the sets that a line names are compatible.
-pub(crate) fn answer(
-    line: &[u8],
-    rows: &[u64],
-    dirs: &[u64],
-    text: &[u8],
-    cards: &[u64],
-) -> Answer {
-    let Number::Is(a) = numbers::word(line, 1) else {
-        return Answer::BadCall;
-    };
-    let Number::Is(b) = numbers::word(line, 2) else {
-        return Answer::BadCall;
-    };
-    compared(a, b, rows, dirs, text, cards)
+// Answers whether the sets that a line names are compatible, and says whether it names two sets.
+pub(crate) fn answer(line: &[u8], all: Sets, rows: &[u64], dirs: &[u64], text: &[u8]) -> bool {
+    if words::form_of(b"compat A B", line) == words::NONE {
+        return false;
+    }
+    let a = set_in(line, 1, all);
+    let b = set_in(line, 2, all);
+    if !a.is_open {
+        return false;
+    }
+    if !b.is_open {
+        return false;
+    }
+    of_sets(a, b, rows, dirs, text)
 }
 
-// Whether two sets are compatible, if there are sets of those numbers.
-fn compared(a: u64, b: u64, rows: &[u64], dirs: &[u64], text: &[u8], cards: &[u64]) -> Answer {
-    if 3 < a {
-        return Answer::BadCall;
+// The set that a word of the line names, or one that was never opened.
+fn set_in(line: &[u8], number: usize, all: Sets) -> Set {
+    let Number::Is(n) = numbers::word(line, number) else {
+        return sets::closed();
+    };
+    if 3 < n {
+        return sets::closed();
     }
-    if 3 < b {
-        return Answer::BadCall;
-    }
-    let first = a as usize;
-    let second = b as usize;
-    if !state::is_open_at(cards, first) {
-        return Answer::BadCall;
-    }
-    if !state::is_open_at(cards, second) {
-        return Answer::BadCall;
-    }
-    of_sets(first, second, rows, dirs, text, cards)
+    sets::set_at(all, n as usize)
 }
 
-// Whether the sets of two numbers are compatible.
-fn of_sets(
-    first: usize,
-    second: usize,
-    rows: &[u64],
-    dirs: &[u64],
-    text: &[u8],
-    cards: &[u64],
-) -> Answer {
-    let p = places::of_set(cards, first);
-    let q = places::of_set(cards, second);
+// Answers whether two sets are compatible.
+fn of_sets(a: Set, b: Set, rows: &[u64], dirs: &[u64], text: &[u8]) -> bool {
+    let p = a.parts;
+    let q = b.parts;
     answer::boolean(names::files_compatible(
-        state::record_at(cards, first),
+        a.fs,
         places::words_at(rows, p.rows),
         places::words_at(dirs, p.dirs),
         places::bytes_at(text, p.text),
-        state::record_at(cards, second),
+        b.fs,
         places::words_at(rows, q.rows),
         places::words_at(dirs, q.dirs),
         places::bytes_at(text, q.text),

@@ -1,16 +1,20 @@
 // `import I :N I :N …`: the pairs of the line are read into columns, which are lent to the library with the
-// set's tables of renames. Relies on `renames`, and on the modules for words.
-use crate::numbers;
+// set's parts of the tables of renames. Relies on `renames`, and on the modules for sets and words.
+use crate::input::Buffer;
 use crate::numbers::Short;
-use crate::output::Buffer;
+use crate::numbers;
+use crate::places::Places;
+use crate::places::Rows;
+use crate::places::Texts;
 use crate::places;
-use crate::places::Place;
 use crate::renaming;
-use crate::renaming::Renaming;
-use crate::strings;
+use crate::sets::Made;
+use crate::sets::Set;
 use crate::strings::Decoded;
+use crate::strings;
 use crate::words;
 use renames::RenamedFiles;
+use renames::RenamesResult;
 use tables::FileStorage;
 
 // The numbers of the files, and the lengths of their names.
@@ -18,35 +22,57 @@ type Files = [i32; 16384];
 
 type Lengths = [u64; 16384];
 
-// What the words behind the call's name stand for: so many pairs, or nothing.
+// What the words after the call's name stand for: the number of pairs, or nothing.
 enum Pairs {
     Count(usize),
     Malformed,
 }
 
-// Imports names for files of a set, whose tables of renames are lent. A line has at most 16384 pairs.
-pub(crate) fn import(
-    line: &[u8],
-    fs: FileStorage,
-    held: RenamedFiles,
-    entries: &mut [u64],
-    area: &mut [u8],
-) -> Renaming {
+// Imports names for files of a set. A line has at most 16384 pairs.
+pub(crate) fn import(line: &[u8], set: Set, rows: &mut Rows, text: &mut Texts) -> Made {
     let mut files = file_column();
     let mut lengths = length_column();
     let mut names = io::large_buffer();
     let Pairs::Count(n) = read_pairs(line, &mut files, &mut lengths, &mut names) else {
-        return Renaming::BadCall;
+        return Made::NoCall;
     };
-    renaming::outcome(renames::import_filenames(
+    renaming::outcome(
+        set,
+        import_read(
+            &files,
+            n,
+            &lengths,
+            &names,
+            set.fs,
+            set.held,
+            set.parts,
+            rows,
+            text,
+        ),
+    )
+}
+
+// Imports names for the first n files that were read; the names stand in a buffer, one after the other.
+fn import_read(
+    files: &Files,
+    n: usize,
+    lengths: &Lengths,
+    names: &Buffer,
+    fs: FileStorage,
+    held: RenamedFiles,
+    parts: Places,
+    rows: &mut [u64],
+    text: &mut [u8],
+) -> RenamesResult {
+    renames::import_filenames(
         fs,
         held,
-        entries,
-        area,
-        first(&files, n),
-        all_of(&lengths),
-        strings::between(&names, 0, 65536),
-    ))
+        places::words_of(rows, parts.entries),
+        places::bytes_of(text, parts.area),
+        first_of(files, n),
+        lengths,
+        names,
+    )
 }
 
 // Room for the numbers of the files.
@@ -59,44 +85,27 @@ fn length_column() -> Lengths {
     [0u64; 16384]
 }
 
-// The first n files.
-fn first(files: &Files, n: usize) -> &[i32] {
-    first_of(files, n)
-}
-
 // The first n numbers, or as many as there are.
 fn first_of(numbers: &[i32], n: usize) -> &[i32] {
     let to = lists::least(n, numbers.len());
     &numbers[0..to]
 }
 
-// All lengths.
-fn all_of(lengths: &Lengths) -> &[u64] {
-    places::words_at(
-        lengths,
-        Place {
-            start: 0,
-            count: 16384,
-        },
-    )
-}
-
-// Reads the pairs behind the call's name: the files, the lengths of the names, and the names one behind the
-// other.
+// Reads the pairs after the call's name: the files, the lengths of the names, and the names one after the other.
 fn read_pairs(line: &[u8], files: &mut Files, lengths: &mut Lengths, names: &mut Buffer) -> Pairs {
-    let mut left = words::behind(line, 0).len();
+    let mut left = words::after(line, 0).len();
     let mut count = 0;
     let mut used = 0;
     while words::has(last(line, left), 0) {
         let pair = last(line, left);
-        let behind = words::behind(pair, 1).len();
-        if left <= behind {
+        let rest = words::after(pair, 1).len();
+        if left <= rest {
             return Pairs::Malformed;
         }
         let Decoded::Bytes(end) = read_pair(pair, files, lengths, names, count, used) else {
             return Pairs::Malformed;
         };
-        left = behind;
+        left = rest;
         used = end;
         count += 1;
     }
@@ -108,7 +117,7 @@ fn last(line: &[u8], n: usize) -> &[u8] {
     lists::part(line, lists::minus(line.len(), n), n)
 }
 
-// Reads the first two words as pair `count`, whose name goes behind `used` bytes of names, and gives where it
+// Reads the first two words as pair `count`, whose name goes after `used` bytes of names, and gives where it
 // ends.
 fn read_pair(
     pair: &[u8],

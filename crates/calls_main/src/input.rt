@@ -1,8 +1,10 @@
 // Standard input, line by line: blocks are read into a buffer, and each line is copied out of them into
 // another. Relies on `io` and on the accessors of `lists`.
-use crate::output::Buffer;
 use crate::scan;
 use libc::STDIN_FILENO;
+
+// A buffer of input, of a line, or of what its words stand for.
+pub(crate) type Buffer = [u8; 65536];
 
 // What is read but not yet taken stands in the block from `at` to `end`. The line has `length` bytes
 // so far, of which as many are kept as its buffer has places; it is open until its end is found, and

@@ -1,232 +1,188 @@
 // Questions on the layout of a set. Relies on `layout`, and on the modules for words and answers.
 use crate::answer;
-use crate::answer::Answer;
-use crate::kinds;
-use crate::numbers;
 use crate::numbers::Long;
 use crate::numbers::Short;
+use crate::numbers;
+use crate::output::Reply;
 use crate::output;
-use crate::output::Buffer;
 use crate::roots;
+use crate::words;
 use tables::FileStorage;
 use tables::Presence;
 use types::FileIndex;
 use types::PieceIndex;
 use types::UsizeResult;
 
-// A block by the words of a line: whether they are in form, its piece, and where it begins and how long it is.
-struct Block {
-    is_formed: bool,
-    piece: i32,
-    offset: i64,
-    size: i64,
-}
+// A column of slices, of more places than a set has files.
+type Column = [u64; 1024];
 
-// The answer to a question on a layout.
-pub(crate) fn answer(
-    call: usize,
-    line: &[u8],
-    fs: FileStorage,
-    rows: &[u64],
-    hashes: &[u8],
-) -> Answer {
-    match call {
-        kinds::FILE_INDEX_AT_OFFSET => at_offset(line, fs, rows),
-        kinds::FILE_INDEX_FOR_ROOT => for_root(line, fs, rows, hashes),
-        kinds::MAP_FILE => map_file(line, fs, rows),
-        _ => on_number(call, line, fs, rows),
+// Answers a line that has one of this module's forms, and says whether it has.
+pub(crate) fn answer(line: &[u8], fs: FileStorage, rows: &[u64], hashes: &[u8]) -> bool {
+    if on_number(line, fs, rows) {
+        return true;
+    }
+    let forms = b"file_index_at_offset O, file_index_for_root ROOT, map_file I OFFSET SIZE, \
+        map_block PIECE OFFSET SIZE";
+    match words::form_of(forms, line) {
+        0 => at_offset(line, fs, rows),
+        1 => for_root(line, fs, rows, hashes),
+        2 => map_file(line, fs, rows),
+        3 => map_block(line, fs, rows),
+        _ => false,
     }
 }
 
-// The answer to a question on a file or a piece by its number.
-fn on_number(call: usize, line: &[u8], fs: FileStorage, rows: &[u64]) -> Answer {
+// Answers a question on a file or a piece by its number.
+fn on_number(line: &[u8], fs: FileStorage, rows: &[u64]) -> bool {
     let Short::Is(n) = numbers::short_word(line, 1) else {
-        return Answer::BadCall;
+        return false;
     };
-    match call {
-        kinds::EXCLUSIVE..=kinds::LAST_PIECE_INDEX_AT_FILE => {
-            range_of(call, FileIndex(n), fs, rows)
-        }
-        kinds::FILE_NUM_PIECES..=kinds::FILE_FIRST_BLOCK_NODE => {
-            tree_of(call, FileIndex(n), fs, rows)
-        }
-        _ => piece_of(call, PieceIndex(n), fs, rows),
+    if range_of(line, FileIndex(n), fs, rows) {
+        return true;
+    }
+    if tree_of(line, FileIndex(n), fs, rows) {
+        return true;
+    }
+    piece_of(line, PieceIndex(n), fs, rows)
+}
+
+// Answers a question on the pieces of a file; an arm stands for each form, in their order.
+fn range_of(line: &[u8], index: FileIndex, fs: FileStorage, rows: &[u64]) -> bool {
+    let forms =
+        b"exclusive I, inclusive I, file_piece_range I, piece_index_at_file I, last_piece_index_at_file I";
+    match words::form_of(forms, line) {
+        0 => answer::pieces(files::file_piece_range_exclusive(fs, rows, index)),
+        1 => answer::pieces(files::file_piece_range_inclusive(fs, rows, index)),
+        2 => answer::range(files::file_piece_range(fs, rows, index)),
+        3 => answer::piece(files::piece_index_at_file(fs, rows, index)),
+        4 => answer::piece(files::last_piece_index_at_file(fs, rows, index)),
+        _ => false,
     }
 }
 
-// The answer to a question on the pieces of a file.
-fn range_of(call: usize, index: FileIndex, fs: FileStorage, rows: &[u64]) -> Answer {
-    match call {
-        kinds::EXCLUSIVE => answer::pieces(files::file_piece_range_exclusive(fs, rows, index)),
-        kinds::INCLUSIVE => answer::pieces(files::file_piece_range_inclusive(fs, rows, index)),
-        kinds::FILE_PIECE_RANGE => answer::range(files::file_piece_range(fs, rows, index)),
-        kinds::PIECE_INDEX_AT_FILE => answer::piece(files::piece_index_at_file(fs, rows, index)),
-        _ => answer::piece(files::last_piece_index_at_file(fs, rows, index)),
+// Answers a question on the tree of a file; an arm stands for each form, in their order.
+fn tree_of(line: &[u8], index: FileIndex, fs: FileStorage, rows: &[u64]) -> bool {
+    let forms =
+        b"file_num_pieces I, file_num_blocks I, file_first_piece_node I, file_first_block_node I";
+    match words::form_of(forms, line) {
+        0 => answer::short(files::file_num_pieces(fs, rows, index)),
+        1 => answer::long(files::file_num_blocks(fs, rows, index)),
+        2 => answer::count(files::file_first_piece_node(fs, rows, index)),
+        3 => answer::count(files::file_first_block_node(fs, rows, index)),
+        _ => false,
     }
 }
 
-// The answer to a question on the tree of a file.
-fn tree_of(call: usize, index: FileIndex, fs: FileStorage, rows: &[u64]) -> Answer {
-    match call {
-        kinds::FILE_NUM_PIECES => answer::short(files::file_num_pieces(fs, rows, index)),
-        kinds::FILE_NUM_BLOCKS => answer::long(files::file_num_blocks(fs, rows, index)),
-        kinds::FILE_FIRST_PIECE_NODE => {
-            answer::count(files::file_first_piece_node(fs, rows, index))
-        }
-        _ => answer::count(files::file_first_block_node(fs, rows, index)),
-    }
-}
-
-// The answer to a question on a piece.
-fn piece_of(call: usize, piece: PieceIndex, fs: FileStorage, rows: &[u64]) -> Answer {
-    match call {
-        kinds::PIECE_SIZE => answer::short(layout::piece_size(fs, piece)),
-        kinds::PIECE_SIZE2 => answer::short(layout::piece_size2(fs, rows, piece)),
-        kinds::BLOCKS_IN_PIECE2 => answer::short(layout::blocks_in_piece2(fs, rows, piece)),
-        kinds::FILE_INDEX_AT_PIECE => answer::file(layout::file_index_at_piece(fs, rows, piece)),
-        _ => answer::file(layout::last_file_index_at_piece(fs, rows, piece)),
+// Answers a question on a piece; an arm stands for each form, in their order.
+fn piece_of(line: &[u8], piece: PieceIndex, fs: FileStorage, rows: &[u64]) -> bool {
+    let forms =
+        b"piece_size P, piece_size2 P, blocks_in_piece2 P, file_index_at_piece P, last_file_index_at_piece P";
+    match words::form_of(forms, line) {
+        0 => answer::short(layout::piece_size(fs, piece)),
+        1 => answer::short(layout::piece_size2(fs, rows, piece)),
+        2 => answer::short(layout::blocks_in_piece2(fs, rows, piece)),
+        3 => answer::file(layout::file_index_at_piece(fs, rows, piece)),
+        4 => answer::file(layout::last_file_index_at_piece(fs, rows, piece)),
+        _ => false,
     }
 }
 
 // `file_index_at_offset O`.
-fn at_offset(line: &[u8], fs: FileStorage, rows: &[u64]) -> Answer {
+fn at_offset(line: &[u8], fs: FileStorage, rows: &[u64]) -> bool {
     let Long::Is(offset) = numbers::long_word(line, 1) else {
-        return Answer::BadCall;
+        return false;
     };
     answer::file(layout::file_index_at_offset(fs, rows, offset))
 }
 
 // `file_index_for_root ROOT`.
-fn for_root(line: &[u8], fs: FileStorage, rows: &[u64], hashes: &[u8]) -> Answer {
+fn for_root(line: &[u8], fs: FileStorage, rows: &[u64], hashes: &[u8]) -> bool {
     let word = roots::word(line, 1);
     if !word.is_formed {
-        return Answer::BadCall;
+        return false;
     }
     let presence = word.presence;
     let root = word.root;
     match presence {
-        Presence::Absent => Answer::BadCall,
+        Presence::Absent => false,
         Presence::Present => answer::file(files::file_index_for_root(fs, rows, hashes, root)),
     }
 }
 
 // `map_file I OFFSET SIZE`.
-fn map_file(line: &[u8], fs: FileStorage, rows: &[u64]) -> Answer {
+fn map_file(line: &[u8], fs: FileStorage, rows: &[u64]) -> bool {
     let Short::Is(n) = numbers::short_word(line, 1) else {
-        return Answer::BadCall;
+        return false;
     };
     let Long::Is(offset) = numbers::long_word(line, 2) else {
-        return Answer::BadCall;
+        return false;
     };
     let Short::Is(size) = numbers::short_word(line, 3) else {
-        return Answer::BadCall;
+        return false;
     };
     answer::request(files::map_file(fs, rows, FileIndex(n), offset, size))
 }
 
 // `map_block PIECE OFFSET SIZE`.
-pub(crate) fn map_block(
-    line: &[u8],
-    fs: FileStorage,
-    rows: &[u64],
-    out: &mut Buffer,
-    used: usize,
-) -> usize {
-    let block = block_in(line);
-    if !block.is_formed {
-        return output::bad_call(out, used);
-    }
-    map(block, fs, rows, out, used)
-}
-
-// The block that a line names.
-fn block_in(line: &[u8]) -> Block {
-    let malformed = Block {
-        is_formed: false,
-        piece: 0,
-        offset: 0,
-        size: 0,
-    };
+fn map_block(line: &[u8], fs: FileStorage, rows: &[u64]) -> bool {
     let Short::Is(n) = numbers::short_word(line, 1) else {
-        return malformed;
+        return false;
     };
     let Long::Is(offset) = numbers::long_word(line, 2) else {
-        return malformed;
+        return false;
     };
     let Long::Is(size) = numbers::long_word(line, 3) else {
-        return malformed;
+        return false;
     };
-    Block {
-        is_formed: true,
-        piece: n,
-        offset: offset,
-        size: size,
-    }
+    map(PieceIndex(n), offset, size, fs, rows)
 }
 
-// Maps a block into columns of more places than a set has files, and writes the slices.
-fn map(block: Block, fs: FileStorage, rows: &[u64], out: &mut Buffer, used: usize) -> usize {
+// Maps a block, and writes the slices.
+fn map(piece: PieceIndex, offset: i64, size: i64, fs: FileStorage, rows: &[u64]) -> bool {
     let mut files = column();
     let mut offsets = column();
     let mut sizes = column();
     let result = blocks::map_block_core(
         fs,
         rows,
-        PieceIndex(block.piece),
-        block.offset,
-        block.size,
+        piece,
+        offset,
+        size,
         &mut files,
         &mut offsets,
         &mut sizes,
     );
-    put_slices(result, &files, &offsets, &sizes, out, used)
+    put_slices(result, &files, &offsets, &sizes)
 }
 
 // Room for a column of slices.
-fn column() -> [u64; 1024] {
+fn column() -> Column {
     [0u64; 1024]
 }
 
-// Writes the number of slices and the slices, or the refusal.
-fn put_slices(
-    result: UsizeResult,
-    files: &[u64],
-    offsets: &[u64],
-    sizes: &[u64],
-    out: &mut Buffer,
-    used: usize,
-) -> usize {
+// Writes the number of slices and the slices.
+fn put_slices(result: UsizeResult, files: &[u64], offsets: &[u64], sizes: &[u64]) -> bool {
     match result {
         UsizeResult::Ok(n) => {
-            let at = output::ok(out, used);
-            let behind = output::number(out, at, n as u64);
-            let last = each_slice(n, files, offsets, sizes, out, behind);
-            output::end(out, last)
+            let count = output::number(output::ok(), n as u64);
+            output::end(each_slice(count, n, files, offsets, sizes))
         }
-        UsizeResult::Err(refusal) => output::refused(out, used, types::number(refusal)),
+        UsizeResult::Err(refusal) => output::refused(refusal),
     }
 }
 
-// Writes the first n slices.
-fn each_slice(
-    n: usize,
-    files: &[u64],
-    offsets: &[u64],
-    sizes: &[u64],
-    out: &mut Buffer,
-    used: usize,
-) -> usize {
-    let mut at = used;
+// Puts the first n slices.
+fn each_slice(before: Reply, n: usize, files: &[u64], offsets: &[u64], sizes: &[u64]) -> Reply {
+    let mut reply = before;
     let mut i = 0;
     while i < n {
-        at = output::slice(
-            out,
-            at,
+        reply = output::slice(
+            reply,
             lists::word(files, i),
             lists::word(offsets, i),
             lists::word(sizes, i),
         );
         i += 1;
     }
-    at
+    reply
 }

@@ -11,9 +11,7 @@ mod file_questions;
 mod file_words;
 mod importing;
 mod input;
-mod kinds;
 mod layout_questions;
-mod long_questions;
 mod numbers;
 mod opening;
 mod output;
@@ -26,54 +24,45 @@ mod renaming;
 mod roots;
 mod scan;
 mod set_questions;
-mod state;
+mod sets;
 mod strings;
 mod words;
 
-// Answers line by line. The tables have four parts each, one for each set, and the sets have a card each;
-// `entries` and `area` are the tables of the renames. A proved loop has to end, and nothing says that the input
-// does, so the loop counts its turns down from a number that no run uses up.
+// Answers line by line. The tables have four parts each, one for each set. A proved loop has to end, and nothing
+// says that the input does, so the loop counts its turns down from a number that no run uses up.
 fn main() {
     let mut block = io::large_buffer();
     let mut line = io::large_buffer();
-    let mut rows = [0u64; 8192];
+    let mut rows = [0u64; 11264];
     let mut roots = [0u8; 32768];
     let mut times = [0i64; 1024];
     let mut dirs = [0u64; 2048];
-    let mut text = text_areas();
-    let mut entries = [0u64; 3072];
-    let mut area = [0u8; 262144];
-    let mut cards = [0u64; 73];
-    let mut out = io::large_buffer();
-    let mut turns = u64::MAX;
+    let mut text = texts();
+    let mut all = sets::none();
     let mut cursor = input::start();
-    let mut used = 0;
+    let mut turns = u64::MAX;
     while turns > 0 {
         cursor = input::next_line(&mut block, &mut line, cursor);
         if !cursor.is_line {
             break;
         }
         let length = cursor.length;
-        used = calls::answer_line(
+        let made = calls::answer(
             &line,
             length,
+            all,
             &mut rows,
             &mut roots,
             &mut times,
             &mut dirs,
             &mut text,
-            &mut entries,
-            &mut area,
-            &mut cards,
-            &mut out,
-            used,
         );
+        all = calls::noted(made, all);
         turns -= 1;
     }
-    output::flush(&out, used);
 }
 
-// The text areas of the four sets.
-fn text_areas() -> [u8; 1048576] {
-    [0u8; 1048576]
+// The texts of the four sets and of their renames.
+fn texts() -> [u8; 1310720] {
+    [0u8; 1310720]
 }

@@ -1,13 +1,13 @@
-// Opening a set, turning to another, and forgetting all. Relies on `storage`, and on the modules for words
-// and answers.
+// `open`, `use` and `reset`: opening a set, turning to another, and forgetting all. Relies on `storage`, and on the
+// modules for sets and words.
 ghost use Prim.Native.Nat.{_≤_};
-use crate::answer::Answer;
-use crate::kinds;
-use crate::numbers;
 use crate::numbers::Number;
 use crate::numbers::Short;
-use crate::state;
-use crate::state::Room;
+use crate::numbers;
+use crate::places::Places;
+use crate::places;
+use crate::sets::Made;
+use crate::sets;
 use crate::words;
 use change::StorageResult;
 
@@ -18,76 +18,49 @@ struct Named {
     places: usize,
 }
 
-// What a line says of the room of a set: whether all of it is in form, and how many places there are.
-struct Wanted {
-    is_formed: bool,
-    files: usize,
-    dirs: usize,
-    text: usize,
-}
-
-// Answers a call on what sets there are.
-pub(crate) fn answer(call: usize, line: &[u8], cards: &mut [u64]) -> Answer {
-    match call {
-        kinds::OPEN => open(line, cards),
-        kinds::USE => turn_to(line, cards),
-        _ => reset(cards),
-    }
-}
-
-// `open LENGTH [files=N] [dirs=N] [text=N]`.
-fn open(line: &[u8], cards: &mut [u64]) -> Answer {
-    let Short::Is(piece_length) = numbers::short_word(line, 1) else {
-        return Answer::BadCall;
-    };
-    let wanted = wanted_room(line);
-    if !wanted.is_formed {
-        return Answer::BadCall;
-    }
-    let room = Room {
-        files: wanted.files,
-        dirs: wanted.dirs,
-        text: wanted.text,
-    };
-    put_in(piece_length, room, cards)
-}
-
-// The room that a line names.
-fn wanted_room(line: &[u8]) -> Wanted {
-    let usual = state::usual_room();
-    let files = room_of(line, b"files=", usual.files);
-    let dirs = room_of(line, b"dirs=", usual.dirs);
-    let text = room_of(line, b"text=", usual.text);
-    let is_long = words::has(
+// Makes the change of the sets that a line says, where `at` is the place of the one that is spoken of.
+pub(crate) fn make(line: &[u8], at: usize) -> Made {
+    match words::form_of(
+        b"open LENGTH [files=N] [dirs=N] [text=N], use N, reset",
         line,
-        2 + one(files.is_named) + one(dirs.is_named) + one(text.is_named),
-    );
-    Wanted {
-        is_formed: words::are_formed(
-            files.is_formed,
-            dirs.is_formed,
-            words::are_formed(text.is_formed, !is_long, true),
-        ),
-        files: files.places,
-        dirs: dirs.places,
-        text: text.places,
+    ) {
+        0 => open(line, at),
+        1 => turn_to(line),
+        2 => Made::Reset,
+        _ => Made::NoCall,
     }
 }
 
-// Puts a new set in place of the one that is spoken of, where its piece length is in range.
-fn put_in(piece_length: i32, room: Room, cards: &mut [u64]) -> Answer {
+// `open LENGTH [files=N] [dirs=N] [text=N]`. Where a line names no room, a set has the most that it can have.
+fn open(line: &[u8], at: usize) -> Made {
+    let Short::Is(piece_length) = numbers::short_word(line, 1) else {
+        return Made::NoCall;
+    };
+    let files = room_of(line, b"files=", 256);
+    let dirs = room_of(line, b"dirs=", 256);
+    let text = room_of(line, b"text=", 262144);
+    let most = 2 + one(files.is_named) + one(dirs.is_named) + one(text.is_named);
+    if words::has(line, most) {
+        return Made::NoCall;
+    }
+    if !words::are_formed(files.is_formed, dirs.is_formed, text.is_formed) {
+        return Made::NoCall;
+    }
+    opened(
+        piece_length,
+        places::of_set(at, files.places, dirs.places, text.places),
+    )
+}
+
+// A new set in place of the one that is spoken of, where its piece length is in range.
+fn opened(piece_length: i32, parts: Places) -> Made {
     match storage::open(piece_length) {
-        StorageResult::Ok(fs) => {
-            state::put_room(cards, room);
-            state::put_record(cards, fs);
-            state::put_renamed(cards, 0, 0);
-            Answer::Done
-        }
-        StorageResult::Err(refusal) => Answer::Refused(refusal),
+        StorageResult::Ok(fs) => Made::Changed(sets::opened(parts, fs)),
+        StorageResult::Err(refusal) => Made::Refused(refusal),
     }
 }
 
-// A kind of room by its name, with `=` behind it. Three words may name room; of one kind the first counts.
+// A kind of room by its name, with `=` after it. Three words may name room; of one kind the first counts.
 fn room_of(line: &[u8], name: &[u8], most: usize) -> Named {
     if names(line, 2, name) {
         return counted(line, 2, name, most);
@@ -139,19 +112,12 @@ fn one(is_so: bool) -> usize
 }
 
 // `use N`.
-fn turn_to(line: &[u8], cards: &mut [u64]) -> Answer {
+fn turn_to(line: &[u8]) -> Made {
     let Number::Is(place) = numbers::word(line, 1) else {
-        return Answer::BadCall;
+        return Made::NoCall;
     };
     if 3 < place {
-        return Answer::BadCall;
+        return Made::NoCall;
     }
-    state::turn_to(cards, place);
-    Answer::Done
-}
-
-// `reset`.
-fn reset(cards: &mut [u64]) -> Answer {
-    state::reset(cards);
-    Answer::Done
+    Made::Use(place as usize)
 }

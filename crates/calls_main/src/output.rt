@@ -1,106 +1,113 @@
-// Answers as lines of standard output, through a buffer that is written out when it is full. Each
-// function takes how much of the buffer is used and gives how much is used behind what it put there.
-// Relies on `io` and on the accessors of `lists`.
+// Answers as lines of standard output. An answer is put together in a `Reply`, which is handed on by value and
+// written out when it is full and at the answer's end. Relies on `io` and on the accessors of `lists`.
 use crate::strings::is_plain;
 use libc::STDOUT_FILENO;
+use types::Refusal;
 use types::Unsigned;
 
-// A buffer of output, or of a line of input.
-pub(crate) type Buffer = [u8; 65536];
+// What of an answer is not yet written: the first `used` bytes.
+pub(crate) struct Reply {
+    used: usize,
+    bytes: [u8; 256],
+}
 
-// Writes out what the buffer holds.
-pub(crate) fn flush(out: &Buffer, used: usize) {
-    io::write_all(STDOUT_FILENO, lists::part(out, 0, used));
+// A reply of no bytes.
+fn empty() -> Reply {
+    Reply {
+        used: 0,
+        bytes: [0u8; 256],
+    }
 }
 
 // Puts one byte.
-fn put(out: &mut Buffer, used: usize, byte: u8) -> usize {
-    if used < 65536 {
-        out[used] = byte;
-        return used + 1;
+fn put(before: Reply, byte: u8) -> Reply {
+    let mut reply = before;
+    let used = reply.used;
+    if used < 256 {
+        reply.bytes[used] = byte;
+        reply.used = used + 1;
+        return reply;
     }
-    io::write_all(STDOUT_FILENO, out);
-    out[0] = byte;
-    1
+    let full = reply.bytes;
+    io::write_all(STDOUT_FILENO, &full);
+    reply.bytes[0] = byte;
+    reply.used = 1;
+    reply
 }
 
 // Puts bytes as they are.
-fn text(out: &mut Buffer, used: usize, bytes: &[u8]) -> usize {
-    let mut at = used;
+fn text(before: Reply, bytes: &[u8]) -> Reply {
+    let mut reply = before;
     let mut i = 0;
     while i < bytes.len() {
-        at = put(out, at, bytes[i]);
+        reply = put(reply, bytes[i]);
         i += 1;
     }
-    at
+    reply
 }
 
-// Puts a line feed behind an answer.
-pub(crate) fn end(out: &mut Buffer, used: usize) -> usize {
-    put(out, used, b'\n')
+// Ends an answer, and says that there is one.
+pub(crate) fn end(reply: Reply) -> bool {
+    let line = put(reply, b'\n');
+    let bytes = line.bytes;
+    io::write_all(STDOUT_FILENO, lists::part(&bytes, 0, line.used));
+    true
 }
 
-// Puts the answer to a line that is no call.
-pub(crate) fn bad_call(out: &mut Buffer, used: usize) -> usize {
-    text(out, used, b"badcall\n")
+// Answers a line that is no call.
+pub(crate) fn bad_call() -> bool {
+    end(text(empty(), b"badcall"))
 }
 
-// Puts the answer to a call that is refused.
-pub(crate) fn refused(out: &mut Buffer, used: usize, number: u32) -> usize {
-    let at = text(out, used, b"refused ");
-    let behind = digits(out, at, number as u64);
-    end(out, behind)
+// Answers a call that is refused.
+pub(crate) fn refused(refusal: Refusal) -> bool {
+    end(digits(text(empty(), b"refused "), types::number(refusal) as u64))
 }
 
-// Puts the answer to a change that was made.
-pub(crate) fn done(out: &mut Buffer, used: usize) -> usize {
-    text(out, used, b"ok\n")
+// Answers a change that was made.
+pub(crate) fn done() -> bool {
+    end(ok())
 }
 
-// Puts the start of an answer that has values behind it.
-pub(crate) fn ok(out: &mut Buffer, used: usize) -> usize {
-    text(out, used, b"ok")
+// The start of an answer that has values after it.
+pub(crate) fn ok() -> Reply {
+    text(empty(), b"ok")
 }
 
 // Puts a value that is a number.
-pub(crate) fn number(out: &mut Buffer, used: usize, n: u64) -> usize {
-    let at = put(out, used, b' ');
-    digits(out, at, n)
+pub(crate) fn number(reply: Reply, n: u64) -> Reply {
+    digits(put(reply, b' '), n)
 }
 
 // Puts a value that is a slice: `file:offset:size`.
-pub(crate) fn slice(out: &mut Buffer, used: usize, file: u64, offset: u64, size: u64) -> usize {
-    let at = number(out, used, file);
-    let behind = part(out, at, offset);
-    part(out, behind, size)
+pub(crate) fn slice(reply: Reply, file: u64, offset: u64, size: u64) -> Reply {
+    part(part(number(reply, file), offset), size)
 }
 
-// Puts a number behind `:`.
-fn part(out: &mut Buffer, used: usize, n: u64) -> usize {
-    let at = put(out, used, b':');
-    digits(out, at, n)
+// Puts a number after `:`.
+fn part(reply: Reply, n: u64) -> Reply {
+    digits(put(reply, b':'), n)
 }
 
 // Puts a value that is an `i64`.
-pub(crate) fn long(out: &mut Buffer, used: usize, n: i64) -> usize {
+pub(crate) fn long(reply: Reply, n: i64) -> Reply {
     match types::unsigned64(n) {
-        Unsigned::Of(m) => number(out, used, m),
-        Unsigned::Negative => negative(out, used, types::unsigned64(!n)),
+        Unsigned::Of(m) => number(reply, m),
+        Unsigned::Negative => negative(reply, types::unsigned64(!n)),
     }
 }
 
 // Puts a value that is an `i32`.
-pub(crate) fn short(out: &mut Buffer, used: usize, n: i32) -> usize {
+pub(crate) fn short(reply: Reply, n: i32) -> Reply {
     match types::unsigned32(n) {
-        Unsigned::Of(m) => number(out, used, m),
-        Unsigned::Negative => negative(out, used, types::unsigned32(!n)),
+        Unsigned::Of(m) => number(reply, m),
+        Unsigned::Negative => negative(reply, types::unsigned32(!n)),
     }
 }
 
 // Puts a negative number, by how far it lies below −1.
-fn negative(out: &mut Buffer, used: usize, distance: Unsigned) -> usize {
-    let at = text(out, used, b" -");
-    digits(out, at, above(distance))
+fn negative(reply: Reply, distance: Unsigned) -> Reply {
+    digits(text(reply, b" -"), above(distance))
 }
 
 // One more than a number.
@@ -117,63 +124,58 @@ fn above(n: Unsigned) -> u64 {
 }
 
 // Puts a value that is a root, in lower-case hex.
-pub(crate) fn hex(out: &mut Buffer, used: usize, bytes: &[u8]) -> usize {
-    let mut at = put(out, used, b' ');
+pub(crate) fn hex(before: Reply, bytes: &[u8]) -> Reply {
+    let mut reply = put(before, b' ');
     let mut i = 0;
     while i < bytes.len() {
-        at = hex_byte(out, at, bytes[i]);
+        reply = coded(reply, bytes[i], true);
         i += 1;
     }
-    at
-}
-
-// Puts a byte in lower-case hex.
-fn hex_byte(out: &mut Buffer, used: usize, byte: u8) -> usize {
-    let at = put(out, used, lower_digit(byte / 16));
-    put(out, at, lower_digit(byte % 16))
-}
-
-// The lower-case hex digit of a value, of which only the last four bits count.
-fn lower_digit(value: u8) -> u8 {
-    let v = value % 16;
-    if v < 10 {
-        return b'0' + v;
-    }
-    87 + v
+    reply
 }
 
 // Puts a value that is a byte string.
-pub(crate) fn string(out: &mut Buffer, used: usize, bytes: &[u8]) -> usize {
-    let mut at = text(out, used, b" :");
+pub(crate) fn string(before: Reply, bytes: &[u8]) -> Reply {
+    let mut reply = text(before, b" :");
     let mut i = 0;
     while i < bytes.len() {
-        at = character(out, at, bytes[i]);
+        reply = character(reply, bytes[i]);
         i += 1;
     }
-    at
+    reply
 }
 
-// Puts a byte of a string, plainly or coded.
-fn character(out: &mut Buffer, used: usize, byte: u8) -> usize {
+// Puts a byte of a string, plainly or as `%XX`.
+fn character(reply: Reply, byte: u8) -> Reply {
     if is_plain(byte) {
-        return put(out, used, byte);
+        return put(reply, byte);
     }
-    let coded = [b'%', hex_digit(byte / 16), hex_digit(byte % 16)];
-    text(out, used, &coded)
+    coded(put(reply, b'%'), byte, false)
 }
 
-// The upper-case hex digit of a value, of which only the last four bits count.
-fn hex_digit(value: u8) -> u8 {
+// Puts a byte as two hex digits.
+fn coded(reply: Reply, byte: u8, is_lower: bool) -> Reply {
+    put(
+        put(reply, hex_digit(byte / 16, is_lower)),
+        hex_digit(byte % 16, is_lower),
+    )
+}
+
+// The hex digit of a value, of which only the last four bits count.
+fn hex_digit(value: u8, is_lower: bool) -> u8 {
     let v = value % 16;
     if v < 10 {
         return b'0' + v;
+    }
+    if is_lower {
+        return 87 + v;
     }
     55 + v
 }
 
 // Puts a number's decimal digits.
-fn digits(out: &mut Buffer, used: usize, n: u64) -> usize {
+fn digits(reply: Reply, n: u64) -> Reply {
     let mut places = [0u8; 20];
     let k = lists::put_decimal(&mut places, 0, n);
-    text(out, used, lists::part(&places, 0, k))
+    text(reply, lists::part(&places, 0, k))
 }

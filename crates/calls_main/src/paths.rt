@@ -1,125 +1,109 @@
-// Calls that speak of no set: on paths, byte strings and the width of a tree. Each decodes its words,
-// asks the library and writes the answer. Relies on `path`, `crc32c` and `merkle`, and on the modules for
-// words and answers.
+// Calls that speak of no set: on paths, byte strings and the width of a tree. Relies on `path`, `crc32c` and
+// `merkle`, and on the modules for words and answers.
 use crate::answer;
-use crate::answer::Answer;
-use crate::kinds;
-use crate::numbers;
 use crate::numbers::Number;
-use crate::output;
-use crate::output::Buffer;
-use crate::strings;
+use crate::numbers;
 use crate::strings::Decoded;
+use crate::strings;
+use crate::words;
 
-// Answers a call that speaks of no set.
-pub(crate) fn answer(call: usize, line: &[u8], out: &mut Buffer, used: usize) -> usize {
-    match call {
-        kinds::APPEND..=kinds::COMBINE => join(call, line, out, used),
-        kinds::WIDTH => answer::put_value(width(line), out, used),
-        _ => on_string(call, line, out, used),
+// Answers a line that has one of this module's forms, and says whether it has.
+pub(crate) fn answer(line: &[u8]) -> bool {
+    if on_string(line) {
+        return true;
+    }
+    match words::form_of(
+        b"lsplit_at :P N, append :A :B, combine :A :B, width N",
+        line,
+    ) {
+        0 => lsplit_at(line),
+        1 => join(line, true),
+        2 => join(line, false),
+        3 => width(line),
+        _ => false,
     }
 }
 
-// A call on one string.
-fn on_string(call: usize, line: &[u8], out: &mut Buffer, used: usize) -> usize {
-    let mut first = io::large_buffer();
-    let Decoded::Bytes(n) = strings::word(line, 1, &mut first, 0) else {
-        return output::bad_call(out, used);
+// Answers a call on one string.
+fn on_string(line: &[u8]) -> bool {
+    let forms = b"rsplit :P, lsplit :P, has_parent :P, is_complete :P, filename :P, crc :B";
+    let call = words::form_of(forms, line);
+    if call == words::NONE {
+        return false;
+    }
+    let mut buffer = io::large_buffer();
+    let Decoded::Bytes(n) = strings::word(line, 1, &mut buffer, 0) else {
+        return false;
     };
-    of_string(call, line, strings::between(&first, 0, n), out, used)
+    of_string(call, strings::between(&buffer, 0, n))
 }
 
-// Answers a call on the string of a line.
-fn of_string(call: usize, line: &[u8], s: &[u8], out: &mut Buffer, used: usize) -> usize {
+// Answers a call on a string; an arm stands for each form, in their order.
+fn of_string(call: usize, s: &[u8]) -> bool {
     match call {
-        kinds::RSPLIT => put_two(
-            path::rsplit_path_branch(s),
-            path::rsplit_path_leaf(s),
-            out,
-            used,
-        ),
-        kinds::LSPLIT => put_two(
-            path::lsplit_path_first(s),
-            path::lsplit_path_rest(s),
-            out,
-            used,
-        ),
-        kinds::LSPLIT_AT => lsplit_at(line, s, out, used),
-        kinds::FILENAME => answer::put_text(path::filename(s), out, used),
-        _ => answer::put_value(value_of(call, s), out, used),
+        0 => answer::two_strings(path::rsplit_path_branch(s), path::rsplit_path_leaf(s)),
+        1 => answer::two_strings(path::lsplit_path_first(s), path::lsplit_path_rest(s)),
+        2 => answer::truth(path::has_parent_path(s)),
+        3 => answer::truth(path::is_complete(s)),
+        4 => answer::string(path::filename(s)),
+        5 => answer::value(crc32c::crc32c(s) as u64),
+        _ => false,
     }
 }
 
-// The number that a call on a string gives.
-fn value_of(call: usize, s: &[u8]) -> Answer {
-    match call {
-        kinds::HAS_PARENT => Answer::Number(numbers::of_bool(path::has_parent_path(s))),
-        kinds::IS_COMPLETE => Answer::Number(numbers::of_bool(path::is_complete(s))),
-        _ => Answer::Number(crc32c::crc32c(s) as u64),
-    }
-}
-
-// Writes an answer of two strings.
-fn put_two(a: &[u8], b: &[u8], out: &mut Buffer, used: usize) -> usize {
-    let first = output::ok(out, used);
-    let second = output::string(out, first, a);
-    let behind = output::string(out, second, b);
-    output::end(out, behind)
-}
-
-// `lsplit_at :P N`, of which the path is decoded.
-fn lsplit_at(line: &[u8], s: &[u8], out: &mut Buffer, used: usize) -> usize {
-    let Number::Is(n) = numbers::word(line, 2) else {
-        return output::bad_call(out, used);
+// `lsplit_at :P N`.
+fn lsplit_at(line: &[u8]) -> bool {
+    let mut buffer = io::large_buffer();
+    let Decoded::Bytes(n) = strings::word(line, 1, &mut buffer, 0) else {
+        return false;
     };
-    let place = n as usize;
-    put_two(
-        path::lsplit_path_at_first(s, place),
-        path::lsplit_path_at_rest(s, place),
-        out,
-        used,
+    let Number::Is(place) = numbers::word(line, 2) else {
+        return false;
+    };
+    let s = strings::between(&buffer, 0, n);
+    let at = place as usize;
+    answer::two_strings(
+        path::lsplit_path_at_first(s, at),
+        path::lsplit_path_at_rest(s, at),
     )
 }
 
-// `append :A :B` and `combine :A :B`.
-fn join(call: usize, line: &[u8], out: &mut Buffer, used: usize) -> usize {
+// `append :A :B` or `combine :A :B`.
+fn join(line: &[u8], is_append: bool) -> bool {
+    let mut buffer = io::large_buffer();
+    let Decoded::Bytes(first) = strings::word(line, 1, &mut buffer, 0) else {
+        return false;
+    };
+    let Decoded::Bytes(second) = strings::word(line, 2, &mut buffer, first) else {
+        return false;
+    };
+    let a = strings::between(&buffer, 0, first);
+    let b = strings::between(&buffer, first, second);
+    if is_append {
+        return append(a, b);
+    }
+    combine(a, b)
+}
+
+// Appends a leaf to a branch, which stands at the start of the buffer.
+fn append(branch: &[u8], leaf: &[u8]) -> bool {
     let mut joined = answer::room();
-    let found = joined_in(call, line, &mut joined);
-    answer::put_composed(found, &joined, out, used)
+    lists::copy_in(&mut joined, branch);
+    let result = path::append_path(&mut joined, branch.len(), leaf);
+    answer::composed(result, &joined)
 }
 
-// Joins the two paths of a line in a buffer.
-fn joined_in(call: usize, line: &[u8], joined: &mut [u8]) -> Answer {
-    let mut texts = io::large_buffer();
-    let Decoded::Bytes(first) = strings::word(line, 1, &mut texts, 0) else {
-        return Answer::BadCall;
-    };
-    let Decoded::Bytes(second) = strings::word(line, 2, &mut texts, first) else {
-        return Answer::BadCall;
-    };
-    joined_paths(
-        call,
-        strings::between(&texts, 0, first),
-        strings::between(&texts, first, second),
-        joined,
-    )
-}
-
-// Joins two paths in a buffer; the branch that a leaf is appended to stands at its start.
-fn joined_paths(call: usize, a: &[u8], b: &[u8], joined: &mut [u8]) -> Answer {
-    match call {
-        kinds::APPEND => {
-            lists::copy_in(joined, a);
-            answer::composed(path::append_path(joined, a.len(), b))
-        }
-        _ => answer::composed(path::combine_path(a, b, joined)),
-    }
+// Combines two paths.
+fn combine(a: &[u8], b: &[u8]) -> bool {
+    let mut joined = answer::room();
+    let result = path::combine_path(a, b, &mut joined);
+    answer::composed(result, &joined)
 }
 
 // `width N`.
-fn width(line: &[u8]) -> Answer {
+fn width(line: &[u8]) -> bool {
     let Number::Is(n) = numbers::word(line, 1) else {
-        return Answer::BadCall;
+        return false;
     };
     answer::count(merkle::merkle_num_leafs(n as usize))
 }

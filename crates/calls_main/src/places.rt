@@ -1,11 +1,11 @@
-// Where the tables of a set lie: each table has four quarters, one for each set, and a set is lent the
-// start of its own. Relies on state.rt for what it was lent.
+// The tables of the four sets, and the parts of them that a set is lent: each table has four quarters, one for each
+// set, and a set is lent the start of its own. The rows of files have the entries of renames after them, and the
+// texts of sets those of renames. Relies on the accessors of `lists`.
 ghost use Prim.Native.Nat.{_≤_};
-use crate::state;
 use lists::least;
 
-// The tables of the four sets: rows of files, roots, times, directories and texts.
-pub(crate) type Rows = [u64; 8192];
+// The tables: rows of files and entries of renames, roots, times, directories, and texts of sets and of renames.
+pub(crate) type Rows = [u64; 11264];
 
 pub(crate) type Roots = [u8; 32768];
 
@@ -13,12 +13,7 @@ pub(crate) type Times = [i64; 1024];
 
 pub(crate) type Dirs = [u64; 2048];
 
-pub(crate) type Texts = [u8; 1048576];
-
-// The tables of their renames: entries and texts.
-pub(crate) type Entries = [u64; 3072];
-
-pub(crate) type Areas = [u8; 262144];
+pub(crate) type Texts = [u8; 1310720];
 
 // A part of a table: where it begins, and how many places it has.
 pub(crate) struct Place {
@@ -26,17 +21,14 @@ pub(crate) struct Place {
     pub count: usize,
 }
 
-// The parts of all tables.
+// The parts of a set: in the rows, the roots, the times, the directories and the texts; its renames' parts in the
+// rows and in the texts.
 pub(crate) struct Places {
     pub rows: Place,
     pub roots: Place,
     pub times: Place,
     pub dirs: Place,
     pub text: Place,
-}
-
-// The parts of the tables of renames.
-pub(crate) struct RenamePlaces {
     pub entries: Place,
     pub area: Place,
 }
@@ -104,45 +96,38 @@ pub(crate) fn bytes_of(table: &mut [u8], place: Place) -> &mut [u8] {
     &mut table[from..to]
 }
 
-// The parts of the set at a place.
-pub(crate) fn of_set(cards: &[u64], place: usize) -> Places {
+// The parts of the set at a place, with room for that many files, directories and bytes of text. Its renames have
+// 256 entries of three words, and 65536 bytes.
+pub(crate) fn of_set(place: usize, files: usize, dirs: usize, text: usize) -> Places {
     let at = place % 4;
-    let room = state::lent_at(cards, place);
-    let files = least(room.files, 256);
+    let most = least(files, 256);
     Places {
         rows: Place {
             start: at * 2048,
-            count: files * 8,
+            count: most * 8,
         },
         roots: Place {
             start: at * 8192,
-            count: files * 32,
+            count: most * 32,
         },
         times: Place {
             start: at * 256,
-            count: room.files,
+            count: most,
         },
         dirs: Place {
             start: at * 512,
-            count: least(room.dirs, 256) * 2,
+            count: least(dirs, 256) * 2,
         },
         text: Place {
             start: at * 262144,
-            count: room.text,
+            count: least(text, 262144),
         },
-    }
-}
-
-// The parts of the set at a place in the tables of renames: 256 entries of three words, and 65536 bytes.
-pub(crate) fn of_renames(place: usize) -> RenamePlaces {
-    let at = place % 4;
-    RenamePlaces {
         entries: Place {
-            start: at * 768,
+            start: 8192 + at * 768,
             count: 768,
         },
         area: Place {
-            start: at * 65536,
+            start: 1048576 + at * 65536,
             count: 65536,
         },
     }

@@ -1,14 +1,13 @@
 // Questions on a set through its renames, and the export of these. Relies on `renames`, and on the modules for
 // words and answers.
 use crate::answer;
-use crate::answer::Answer;
 use crate::file_words;
-use crate::kinds;
-use crate::numbers;
 use crate::numbers::Short;
+use crate::numbers;
+use crate::output::Reply;
 use crate::output;
-use crate::output::Buffer;
 use crate::strings;
+use crate::words;
 use renames::FileNameResult;
 use renames::Rename;
 use renames::RenameResult;
@@ -16,52 +15,9 @@ use renames::RenamedFiles;
 use tables::FileStorage;
 use types::FileIndex;
 
-// The answer to a question on a name.
+// Answers a line that has one of these forms, and says whether it has; `entries` and `area` are the parts of the
+// renames.
 pub(crate) fn answer(
-    call: usize,
-    line: &[u8],
-    fs: FileStorage,
-    rows: &[u64],
-    text: &[u8],
-    held: RenamedFiles,
-    entries: &[u64],
-    area: &[u8],
-) -> Answer {
-    let Short::Is(n) = numbers::short_word(line, 1) else {
-        return Answer::BadCall;
-    };
-    match call {
-        kinds::RENAMED_NAME => name_of(renames::file_name(
-            fs,
-            rows,
-            text,
-            held,
-            entries,
-            area,
-            FileIndex(n),
-        )),
-        _ => answer::boolean(renames::file_absolute_path(
-            fs,
-            rows,
-            held,
-            entries,
-            area,
-            FileIndex(n),
-        )),
-    }
-}
-
-// A name that lies in the text of the set or of the renames, or the refusal.
-fn name_of(result: FileNameResult) -> Answer {
-    match result {
-        FileNameResult::InSet(place) => Answer::Text(place),
-        FileNameResult::InRenames(place) => Answer::Renamed(place),
-        FileNameResult::Err(refusal) => Answer::Refused(refusal),
-    }
-}
-
-// `renamed_path I :SAVE`: the path is composed in a buffer.
-pub(crate) fn path(
     line: &[u8],
     fs: FileStorage,
     rows: &[u64],
@@ -70,14 +26,74 @@ pub(crate) fn path(
     held: RenamedFiles,
     entries: &[u64],
     area: &[u8],
-    joined: &mut [u8],
-) -> Answer {
-    let mut save = io::large_buffer();
-    let words = file_words::read(line, &mut save);
-    if !words.is_formed {
-        return Answer::BadCall;
+) -> bool {
+    match words::form_of(
+        b"renamed_name I, renamed_absolute I, renamed_path I :SAVE, export",
+        line,
+    ) {
+        0 => name(line, fs, rows, text, held, entries, area),
+        1 => absolute(line, fs, rows, held, entries, area),
+        2 => path(line, fs, rows, dirs, text, held, entries, area),
+        3 => output::end(each_rename(output::ok(), held, entries, area)),
+        _ => false,
     }
-    answer::composed(renames::file_path(
+}
+
+// `renamed_name I`.
+fn name(
+    line: &[u8],
+    fs: FileStorage,
+    rows: &[u64],
+    text: &[u8],
+    held: RenamedFiles,
+    entries: &[u64],
+    area: &[u8],
+) -> bool {
+    let Short::Is(n) = numbers::short_word(line, 1) else {
+        return false;
+    };
+    match renames::file_name(fs, rows, text, held, entries, area, FileIndex(n)) {
+        FileNameResult::InSet(place) => answer::string(tables::text_at(text, place)),
+        FileNameResult::InRenames(place) => answer::string(tables::text_at(area, place)),
+        FileNameResult::Err(refusal) => output::refused(refusal),
+    }
+}
+
+// `renamed_absolute I`.
+fn absolute(
+    line: &[u8],
+    fs: FileStorage,
+    rows: &[u64],
+    held: RenamedFiles,
+    entries: &[u64],
+    area: &[u8],
+) -> bool {
+    let Short::Is(n) = numbers::short_word(line, 1) else {
+        return false;
+    };
+    answer::boolean(renames::file_absolute_path(fs, rows, held, entries, area, FileIndex(n)))
+}
+
+// `renamed_path I :SAVE`.
+fn path(
+    line: &[u8],
+    fs: FileStorage,
+    rows: &[u64],
+    dirs: &[u64],
+    text: &[u8],
+    held: RenamedFiles,
+    entries: &[u64],
+    area: &[u8],
+) -> bool {
+    let mut buffer = io::large_buffer();
+    let words = file_words::read(line, &mut buffer);
+    if !words.is_formed {
+        return false;
+    }
+    let save = strings::between(&buffer, 0, words.length);
+    composed(
+        FileIndex(words.index),
+        save,
         fs,
         rows,
         dirs,
@@ -85,58 +101,65 @@ pub(crate) fn path(
         held,
         entries,
         area,
-        FileIndex(words.index),
-        strings::between(&save, 0, words.length),
-        joined,
-    ))
+    )
 }
 
-// `export`.
-pub(crate) fn export(
+// Composes the path of a file.
+fn composed(
+    index: FileIndex,
+    save: &[u8],
+    fs: FileStorage,
+    rows: &[u64],
+    dirs: &[u64],
+    text: &[u8],
     held: RenamedFiles,
     entries: &[u64],
     area: &[u8],
-    out: &mut Buffer,
-    used: usize,
-) -> usize {
-    let at = output::ok(out, used);
-    let behind = each_rename(held, entries, area, out, at);
-    output::end(out, behind)
+) -> bool {
+    let mut joined = answer::room();
+    let result = renames::file_path(
+        fs,
+        rows,
+        dirs,
+        text,
+        held,
+        entries,
+        area,
+        index,
+        save,
+        &mut joined,
+    );
+    answer::composed(result, &joined)
 }
 
-// All renames.
-fn each_rename(
-    held: RenamedFiles,
-    entries: &[u64],
-    area: &[u8],
-    out: &mut Buffer,
-    used: usize,
-) -> usize {
+// Puts all renames.
+fn each_rename(before: Reply, held: RenamedFiles, entries: &[u64], area: &[u8]) -> Reply {
     let count = held.num_renames;
-    let mut at = used;
+    let mut reply = before;
     let mut i = 0;
     while i < count {
-        at = exported(
+        reply = exported(
+            reply,
             renames::export_filename(held, entries, area, i),
             area,
-            out,
-            at,
         );
         i += 1;
     }
-    at
+    reply
 }
 
-// A rename; a refusal, which no rename of a set gives, is left out.
-fn exported(result: RenameResult, area: &[u8], out: &mut Buffer, used: usize) -> usize {
+// Puts a rename; a refusal, which no rename of a set gives, is left out.
+fn exported(reply: Reply, result: RenameResult, area: &[u8]) -> Reply {
     match result {
-        RenameResult::Ok(rename) => put_rename(rename, area, out, used),
-        RenameResult::Err(_) => used,
+        RenameResult::Ok(rename) => put_rename(reply, rename, area),
+        RenameResult::Err(_) => reply,
     }
 }
 
-// A rename's file and its text.
-fn put_rename(rename: Rename, area: &[u8], out: &mut Buffer, used: usize) -> usize {
-    let at = output::short(out, used, rename.file_index.0);
-    output::string(out, at, tables::text_at(area, rename.name))
+// Puts a rename's file and its text.
+fn put_rename(reply: Reply, rename: Rename, area: &[u8]) -> Reply {
+    output::string(
+        output::short(reply, rename.file_index.0),
+        tables::text_at(area, rename.name),
+    )
 }

@@ -3,7 +3,7 @@
 // `lists`.
 ghost use Prim.Native.Nat.{_<_};
 ghost use lib.ListN.{length};
-use crate::output::Buffer;
+use crate::input::Buffer;
 use crate::words;
 
 // What a word stands for: bytes that end at a place, or nothing.
@@ -18,7 +18,7 @@ struct Unit {
     next: usize,
 }
 
-// Decodes a word of the line into `target` behind so many bytes, and gives where it ends; words are counted
+// Decodes a word of the line into `target` after its first `used` bytes, and gives where it ends; words are counted
 // from 0.
 pub(crate) fn word(line: &[u8], number: usize, target: &mut Buffer, used: usize) -> Decoded {
     decode(words::word(line, number), target, used)
@@ -29,7 +29,7 @@ pub(crate) fn between(bytes: &Buffer, from: usize, to: usize) -> &[u8] {
     lists::part(bytes, from, lists::minus(to, from))
 }
 
-// Writes the bytes that a word stands for behind so many bytes of `target`, which has room for those of a line.
+// Writes the bytes that a word stands for after the first `used` bytes of `target`, which has room for those of a line.
 fn decode(word: &[u8], target: &mut Buffer, used: usize) -> Decoded {
     if lists::byte(word, 0) != b':' {
         return Decoded::Malformed;

@@ -4,11 +4,11 @@ use Rattle.calls_main.proofs.main.Statement.{statement}
 use Rattle.calls_main.proofs.main.Tie as tie
 
 abbrev Inv-loop : tie.InvT-loop
-Inv-loop block₀ line₀ rows₀ roots₀ times₀ dirs₀ text₀ entries₀ area₀ cards₀ out₀ turns₀ cursor₀ used₀ block line rows roots times dirs text entries area cards out turns cursor used =
+Inv-loop block₀ line₀ rows₀ roots₀ times₀ dirs₀ text₀ all₀ cursor₀ turns₀ block line rows roots times dirs text all cursor turns =
     Unit {0}
 
 abbrev μ-loop : tie.MeasureT-loop
-μ-loop block₀ line₀ rows₀ roots₀ times₀ dirs₀ text₀ entries₀ area₀ cards₀ out₀ turns₀ cursor₀ used₀ block line rows roots times dirs text entries area cards out turns cursor used =
+μ-loop block₀ line₀ rows₀ roots₀ times₀ dirs₀ text₀ all₀ cursor₀ turns₀ block line rows roots times dirs text all cursor turns =
     turns
 
 large-buffer-requires : tie.Need-large-buffer-requires Inv-loop μ-loop
@@ -17,11 +17,11 @@ large-buffer-requires c κs = search needs
 large-buffer-requires-2 : tie.Need-large-buffer-requires-2 Inv-loop μ-loop
 large-buffer-requires-2 c κs = search needs
 
-text-areas-requires : tie.Need-text-areas-requires Inv-loop μ-loop
-text-areas-requires c κs = search needs
+texts-requires : tie.Need-texts-requires Inv-loop μ-loop
+texts-requires c κs = search needs
 
-large-buffer-requires-3 : tie.Need-large-buffer-requires-3 Inv-loop μ-loop
-large-buffer-requires-3 c κs = search needs
+none-requires : tie.Need-none-requires Inv-loop μ-loop
+none-requires c κs = search needs
 
 start-requires : tie.Need-start-requires Inv-loop μ-loop
 start-requires c κs = search needs
@@ -32,8 +32,11 @@ loop-holds c = search needs
 next-line-requires : tie.Need-next-line-requires Inv-loop μ-loop
 next-line-requires c κs = search needs
 
-answer-line-requires : tie.Need-answer-line-requires Inv-loop μ-loop
-answer-line-requires c κs = search needs
+answer-requires : tie.Need-answer-requires Inv-loop μ-loop
+answer-requires c κs = search needs
+
+noted-requires : tie.Need-noted-requires Inv-loop μ-loop
+noted-requires c κs = search needs
 
 sub-turns : tie.Need-sub-turns Inv-loop μ-loop
 sub-turns c = search needs
@@ -44,11 +47,11 @@ loop-less c = search needs
 loop-again : tie.Need-loop-again Inv-loop μ-loop
 loop-again c = search needs
 
-flush-requires : tie.Need-flush-requires Inv-loop μ-loop
-flush-requires c κs = search needs
-
 returns : tie.Need-returns Inv-loop μ-loop
 returns c = search needs
+
+returns-2 : tie.Need-returns-2 Inv-loop μ-loop
+returns-2 c = search needs
 
 pub main-spec : {M : Type 1} → statement M
 main-spec =
@@ -58,14 +61,15 @@ main-spec =
     μ-loop
     large-buffer-requires
     large-buffer-requires-2
-    text-areas-requires
-    large-buffer-requires-3
+    texts-requires
+    none-requires
     start-requires
     loop-holds
     next-line-requires
-    answer-line-requires
+    answer-requires
+    noted-requires
     sub-turns
     loop-less
     loop-again
-    flush-requires
-    returns)
+    returns
+    returns-2)

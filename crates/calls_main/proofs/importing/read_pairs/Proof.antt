@@ -1,4 +1,4 @@
--- The loop counts no more pairs than bytes were read. The bytes that are left are its measure: a pair ends behind its start.
+-- The loop counts no more pairs than bytes were read. The bytes that are left are its measure: a pair ends after its start.
 use Prim.Native.Nat.{_+_, _≤_}
 use borrow.Author.Needs.{needs}
 use Rattle.calls_main.proofs.importing.read_pairs.Statement.{statement}
@@ -10,8 +10,8 @@ Inv-loop line files₀ lengths₀ names₀ left₀ count₀ used₀ files length
 abbrev μ-loop : tie.MeasureT-loop
 μ-loop line files₀ lengths₀ names₀ left₀ count₀ used₀ files lengths names left count used = left
 
-behind-requires : tie.Need-behind-requires Inv-loop μ-loop
-behind-requires c κs = search needs
+after-requires : tie.Need-after-requires Inv-loop μ-loop
+after-requires c κs = search needs
 
 loop-holds : tie.Need-loop-holds Inv-loop μ-loop
 loop-holds c = search needs
@@ -25,8 +25,8 @@ has-requires c κs = search needs
 last-requires-2 : tie.Need-last-requires-2 Inv-loop μ-loop
 last-requires-2 c κs = search needs
 
-behind-requires-2 : tie.Need-behind-requires-2 Inv-loop μ-loop
-behind-requires-2 c κs = search needs
+after-requires-2 : tie.Need-after-requires-2 Inv-loop μ-loop
+after-requires-2 c κs = search needs
 
 returns : tie.Need-returns Inv-loop μ-loop
 returns c = search needs
@@ -61,12 +61,12 @@ read-pairs-spec =
     (tie.spec
     Inv-loop
     μ-loop
-    behind-requires
+    after-requires
     loop-holds
     last-requires
     has-requires
     last-requires-2
-    behind-requires-2
+    after-requires-2
     returns
     read-pair-requires
     enum-known-end

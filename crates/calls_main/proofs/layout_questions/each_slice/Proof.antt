@@ -5,10 +5,10 @@ use Rattle.calls_main.proofs.layout_questions.each_slice.Statement.{sta
 use Rattle.calls_main.proofs.layout_questions.each_slice.Tie as tie
 
 abbrev Inv-loop : tie.InvT-loop
-Inv-loop n files offsets sizes out₀ used at₀ i₀ out at i = Unit {0}
+Inv-loop n files offsets sizes reply₀ i₀ reply i = Unit {0}
 
 abbrev μ-loop : tie.MeasureT-loop
-μ-loop n files offsets sizes out₀ used at₀ i₀ out at i = n - i
+μ-loop n files offsets sizes reply₀ i₀ reply i = n - i
 
 loop-holds : tie.Need-loop-holds Inv-loop μ-loop
 loop-holds c = search needs

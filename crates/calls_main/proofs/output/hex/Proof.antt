@@ -6,10 +6,10 @@ use Rattle.calls_main.proofs.output.hex.Statement.{statement}
 use Rattle.calls_main.proofs.output.hex.Tie as tie
 
 abbrev Inv-loop : tie.InvT-loop
-Inv-loop out₀ used bytes at₀ i₀ out at i = Unit {0}
+Inv-loop bytes reply₀ i₀ reply i = Unit {0}
 
 abbrev μ-loop : tie.MeasureT-loop
-μ-loop out₀ used bytes at₀ i₀ out at i = length bytes - i
+μ-loop bytes reply₀ i₀ reply i = length bytes - i
 
 put-requires : tie.Need-put-requires Inv-loop μ-loop
 put-requires c κs = search needs
@@ -17,11 +17,11 @@ put-requires c κs = search needs
 loop-holds : tie.Need-loop-holds Inv-loop μ-loop
 loop-holds c = search needs
 
-shared-slice-read-hex-byte : tie.Need-shared-slice-read-hex-byte Inv-loop μ-loop
-shared-slice-read-hex-byte c = search needs
+shared-slice-read-coded : tie.Need-shared-slice-read-coded Inv-loop μ-loop
+shared-slice-read-coded c = search needs
 
-hex-byte-requires : tie.Need-hex-byte-requires Inv-loop μ-loop
-hex-byte-requires c κs = search needs
+coded-requires : tie.Need-coded-requires Inv-loop μ-loop
+coded-requires c κs = search needs
 
 add-i : tie.Need-add-i Inv-loop μ-loop
 add-i c = search needs
@@ -43,8 +43,8 @@ hex-spec =
     μ-loop
     put-requires
     loop-holds
-    shared-slice-read-hex-byte
-    hex-byte-requires
+    shared-slice-read-coded
+    coded-requires
     add-i
     loop-less
     loop-again

@@ -6,10 +6,10 @@ use Rattle.calls_main.proofs.output.text.Statement.{statement}
 use Rattle.calls_main.proofs.output.text.Tie as tie
 
 abbrev Inv-loop : tie.InvT-loop
-Inv-loop out₀ used bytes at₀ i₀ out at i = Unit {0}
+Inv-loop bytes reply₀ i₀ reply i = Unit {0}
 
 abbrev μ-loop : tie.MeasureT-loop
-μ-loop out₀ used bytes at₀ i₀ out at i = length bytes - i
+μ-loop bytes reply₀ i₀ reply i = length bytes - i
 
 loop-holds : tie.Need-loop-holds Inv-loop μ-loop
 loop-holds c = search needs

@@ -5,10 +5,10 @@ use Rattle.calls_main.proofs.path_questions.each_hash.Statement.{statem
 use Rattle.calls_main.proofs.path_questions.each_hash.Tie as tie
 
 abbrev Inv-loop : tie.InvT-loop
-Inv-loop hashes n out₀ used at₀ i₀ out at i = Unit {0}
+Inv-loop hashes n reply₀ i₀ reply i = Unit {0}
 
 abbrev μ-loop : tie.MeasureT-loop
-μ-loop hashes n out₀ used at₀ i₀ out at i = n - i
+μ-loop hashes n reply₀ i₀ reply i = n - i
 
 loop-holds : tie.Need-loop-holds Inv-loop μ-loop
 loop-holds c = search needs

@@ -5,10 +5,10 @@ use Rattle.calls_main.proofs.renamed_questions.each_rename.Statement.{s
 use Rattle.calls_main.proofs.renamed_questions.each_rename.Tie as tie
 
 abbrev Inv-loop : tie.InvT-loop
-Inv-loop held entries area out₀ used count at₀ i₀ out at i = Unit {0}
+Inv-loop held entries area count reply₀ i₀ reply i = Unit {0}
 
 abbrev μ-loop : tie.MeasureT-loop
-μ-loop held entries area out₀ used count at₀ i₀ out at i = count - i
+μ-loop held entries area count reply₀ i₀ reply i = count - i
 
 loop-holds : tie.Need-loop-holds Inv-loop μ-loop
 loop-holds c = search needs

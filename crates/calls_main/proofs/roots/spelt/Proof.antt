@@ -1,4 +1,4 @@
--- The digits end: those behind the place are the measure, and nothing has to hold from turn to turn.
+-- The digits end: those after the place are the measure, and nothing has to hold from turn to turn.
 use Prim.Native.Nat.{_-_}
 use borrow.Author.Needs.{needs}
 use Rattle.calls_main.proofs.roots.spelt.Statement.{statement}

@@ -5,10 +5,10 @@ use Rattle.calls_main.proofs.set_questions.each_directory.Statement.{st
 use Rattle.calls_main.proofs.set_questions.each_directory.Tie as tie
 
 abbrev Inv-loop : tie.InvT-loop
-Inv-loop fs dirs text n out₀ used count at₀ i₀ out at i = Unit {0}
+Inv-loop fs dirs text n count reply₀ i₀ reply i = Unit {0}
 
 abbrev μ-loop : tie.MeasureT-loop
-μ-loop fs dirs text n out₀ used count at₀ i₀ out at i = count - i
+μ-loop fs dirs text n count reply₀ i₀ reply i = count - i
 
 get-requires : tie.Need-get-requires Inv-loop μ-loop
 get-requires c κs = search needs

@@ -1,4 +1,4 @@
--- The loop ends: the characters that are left are its measure, as a unit ends behind its start, and nothing has to hold from turn
+-- The loop ends: the characters that are left are its measure, as a unit ends after its start, and nothing has to hold from turn
 -- to turn.
 use Prim.Native.Nat.{_-_}
 use borrow.Author.Needs.{needs}

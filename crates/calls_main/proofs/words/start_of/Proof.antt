@@ -1,4 +1,4 @@
--- The scan ends: the bytes behind the place are its measure, and nothing has to hold from turn to turn.
+-- The scan ends: the bytes after the place are its measure, and nothing has to hold from turn to turn.
 use Prim.Native.Nat.{_-_}
 use borrow.Author.Needs.{needs}
 use lib.ListN.{length}
