@@ -97,7 +97,7 @@ abbrev pub badName : Optional (List ℕ) → List ℕ → Bool
 badName absent path = false
 badName (present given) path = either (isComplete given) (both (not (isEmpty given)) (isComplete path))
 
--- 'A file of size above 0 without link text': such a file fixes v1 or v2, or must agree
+-- 'A file of size above 0 without link text' fixes v1 or v2, or must agree
 abbrev pub decides : ℕ → List ℕ → Bool
 decides size link = both (ltb 0 size) (isEmpty link)
 
@@ -126,7 +126,7 @@ disagrees v2 total links files size link root = disagreesIn v2 (decides size lin
 abbrev pub padTo : ℕ → ℕ → ℕ
 padTo pieceLength total = (pieceLength - total % pieceLength) % pieceLength
 
--- 'In v2 … a pad follows': the size of the pad behind a file, 0 where there is none
+-- 'In v2 … a pad follows': the size of the pad after a file, 0 where there is none
 abbrev pub padAfter : Bool → ℕ → ℕ → ℕ
 padAfter v2 pieceLength total = cond v2 (padTo pieceLength total) 0
 

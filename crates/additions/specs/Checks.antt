@@ -1,7 +1,7 @@
 -- The tests of an addition on numbers and on the parts of its path, and what they settle: every rule of Addition.antt but that
 -- of room.
 use Prim.Native.Nat.{ℕ, _+_}
-use mathlib.Core.Bool.{Bool, true, false, not}
+use mathlib.Core.Bool.{Bool, false, not}
 use mathlib.Core.List.{List, _++_}
 use lib.IntN.{ℤ}
 use lib.ListN.{length}

@@ -105,7 +105,7 @@ abbrev pub shortOf : Rooms → ℕ → ℕ → ℕ → Bool
 shortOf rooms files dirs times =
     either (ltb (filesRoom rooms) files) (either (ltb (dirsRoom rooms) dirs) (ltb (rooms .times) times))
 
--- texts of such lengths, one behind the other from `start` on
+-- texts of these lengths, one after the other from `start` on
 abbrev pub placesOf : ℕ → ℕ → ℕ → ℕ → ℕ → ℕ → ℕ → Places
 placesOf start set dir name link padDir pad =
     record {
@@ -171,7 +171,7 @@ planFrom fs z counts flags first second places old parts =
       parts = parts;
     }
 
--- the places of an addition whose texts have such lengths
+-- the places of an addition whose texts have these lengths
 abbrev pub placesFor : FileStorage → Sizes → DirPlan → DirPlan → TextLengths → Places
 placesFor fs z first second l =
     placesOf (kept fs) (l .«set_name») (first .len) (l .name) (l .link) (second .len) (length (padDigits (z .pad)))
@@ -204,8 +204,8 @@ lengthsOf links given filename path parts link =
 -- ---- the plan on the model
 
 -- the texts of an addition are those of the model
-pub record TextsOf (m : Model) (a : Addition) (name-set : List ℕ) (kind : PathKind) (dir name link : List ℕ) : Type 0 where
-  pub set-is : name-set ≡ setText m a
+pub record TextsOf (m : Model) (a : Addition) (called : List ℕ) (kind : PathKind) (dir name link : List ℕ) : Type 0 where
+  pub set-is : called ≡ setText m a
   pub dir-is : directoryAt kind dir ≡ placeFor m a
   pub name-is : name ≡ nameText m a
   pub link-is : link ≡ linkNew m a

@@ -1,7 +1,7 @@
 -- What an addition writes: the tables after it, word by word, for tables of any content. The decisions are
 -- those of Addition.antt on what the tables mean (`viewOf`); here stands where each text and row goes.
 use Prim.Native.Nat.{ℕ, _+_, _-_, _%_, max}
-use mathlib.Core.Bool.{Bool, true, false, cond, not}
+use mathlib.Core.Bool.{Bool, false, cond, not}
 use mathlib.Core.List.{List, [], _∷_, _++_}
 use lib.Dec.{eqb}
 use lib.IntN.{ℤ, pos}
@@ -20,7 +20,7 @@ use Rattle.additions.specs.Addition.{Addition, filesOf, sizeAdded, keeps, isV2,
 
 -- ---- where texts and rows go
 
--- the place of the last such directory, or the next free one
+-- the place of the last directory that is `d`, or the next free one
 unfoldable pub placeFrom : ℕ → ℕ → List ℕ → List (List ℕ) → ℕ
 placeFrom found i d [] = found
 placeFrom found i d (e ∷ es) = placeFrom (cond (equal d e) i found) (i + 1) d es
@@ -79,7 +79,7 @@ newTexts m a =
 abbrev pub oldName : FileStorage → Span
 oldName fs = cond (eqb (fs .«num_files») 0) (clip (fs .«text_len») (fs .name)) (record { at = 0; len = 0 })
 
--- the text that stays: new texts begin behind it
+-- the text that stays: new texts begin after it
 abbrev pub kept : FileStorage → ℕ
 kept fs = fs .«text_len» - oldName fs .len
 

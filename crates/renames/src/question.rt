@@ -1,10 +1,9 @@
 // Questions through the renames. Relies on check.rt and place.rt, on `answers` for the set's own answers and on
 // the laws of proofs/Questions.antt.
 ghost use mathlib.Core.Path.{_≡_};
-ghost use lib.ListN.{length, getD, take};
+ghost use lib.ListN.{length, getD};
 ghost use Prim.Native.Nat.{_+_, _*_, _≤_, _%_, _^_};
 ghost use lib.IntN.{pos};
-ghost use Rattle.path.specs.Split.{isSeparator, trimmed};
 ghost use Rattle.rules.specs.Results.{boolSays};
 ghost use Rattle.renames.specs.Renames.{modeOf};
 ghost use Rattle.renames.specs.Results.{renameSays, nameSays};

@@ -18,13 +18,13 @@ abbrev pub renamed : ℕ → Span → ℕ → List ℕ → List ℕ
 renamed files old used text = cond (eqb files 0) (slid old used text) text
 
 abbrev pub textWritten : ℕ → ℕ → AddPlan → List ℕ → List ℕ → List ℕ → List ℕ → List ℕ → List ℕ
-textWritten files used p text called dir name link =
+textWritten files used p text setName dir name link =
     sets
     (sets
     (sets
     (sets
     (sets
-    (sets (renamed files (p .old) used text) (p .start) called)
+    (sets (renamed files (p .old) used text) (p .start) setName)
     (p .dir .text .at)
     (cond (p .dir .new) dir []))
     (p .row .name .at)

@@ -32,7 +32,7 @@ beginningAt offset g =
       made = g .made;
     }
 
--- the set without file f; the files behind it, which are empty, begin at the new total
+-- the set without file f; the files after it, which are empty, begin at the new total
 abbrev pub without : ℕ → Model → Model
 without f m =
     record {
