@@ -30,16 +30,16 @@ use Rattle.links.specs.Judging.{judgingNumber}
 use Rattle.cleaning.specs.Cleaning.{cleanedStore, textNeeded, Cleaned, cleanedTo, cleanStored}
 use Rattle.sound.specs.Sound.{Sound}
 use Rattle.sound.specs.Documents.{sizes, EndToEnd, OnDisk, Marked, OnPiece, Each, LinkEmpty}
-use Rattle.model.specs.Reached.{Reached}
-use Rattle.model.specs.Reached as reach
+use Rattle.reached.specs.Reached.{Reached}
+use Rattle.reached.specs.Reached as reach
 use Rattle.sound.proofs.Common.{sum-tabled}
 use Rattle.sound.proofs.Opened.{sound-opened, view-opened}
-use Rattle.sound.proofs.Adding.{adding}
+use Rattle.sound.proofs.Added.Answer.{adding}
 use Rattle.sound.proofs.Trimmed.{view-trimmed, sound-trimmed}
-use Rattle.model.proofs.Cleaning.{work-enough}
-use Rattle.model.proofs.Cleaned.{sound-cleaned, view-cleaned}
-use Rattle.model.proofs.CleanedLent.{cleaned-lent, needed-lent}
-use Rattle.model.proofs.Documents.{end-to-end, on-disk, marked, on-piece}
+use Rattle.reached.proofs.Cleaned.Answer.{work-enough}
+use Rattle.reached.proofs.Cleaned.{sound-cleaned, view-cleaned}
+use Rattle.reached.proofs.Cleaned.Lent.{cleaned-lent, needed-lent}
+use Rattle.reached.proofs.Documents.{end-to-end, on-disk, marked, on-piece}
 use Rattle.book.specs.Book.{Call, add, trim, clean, rename, «import», Made, Book, sizesOf, afterAddition, afterTrim, entry, book}
 use Rattle.book.specs.Book as books
 use Rattle.book.specs.Calls.{cameOf, storeAfter, call, cleanedBy, SameSet, Renames, Leads}

@@ -21,8 +21,8 @@ use Rattle.links.specs.Clean.{cleanedOf}
 use Rattle.renames.specs.Imports.{Naming}
 use Rattle.sound.specs.Documents.{sizes}
 use Rattle.sound.proofs.Files.{sum-zero}
-use Rattle.model.proofs.CleanedFiles.{clean-map-same}
-use Rattle.sound.proofs.Trimming.{flagsAt, Last, tail-pad, NoTailPad, bare, other, no-tail-pad}
+use Rattle.reached.proofs.Cleaned.Files.{clean-map-same}
+use Rattle.sound.proofs.Trimmed.Tail.{flagsAt, Last, tail-pad, NoTailPad, bare, other, no-tail-pad}
 use Rattle.book.specs.Book.{Came, done, refused, rename, «import», Row, Book, sizesOf, bytesOf, hasLink, versionAfter, rowFor, filling, linksAfter, afterAddition, trimmedRows, afterTrim, entry}
 
 -- ---- what the book keeps of a set

@@ -23,7 +23,7 @@ use Rattle.tables.specs.Model.{Store, viewOf}
 use Rattle.tables.proofs.Words.{row-ext, dir-ext, root-ext}
 use Rattle.sound.specs.Sound.{Place, setName, dirName, fileName, linkText, nowhere, spanOf, textAtRow, sizeOfRow, padOfRow, Sound}
 use Rattle.sound.proofs.Common.{sum-same}
-use Rattle.sound.proofs.AddedTexts.{Extends, set-name-kept, dirs-kept, files-kept}
+use Rattle.sound.proofs.Added.Texts.{Extends, set-name-kept, dirs-kept, files-kept}
 use Rattle.book.specs.Calls.{SameSet, Renames, SameRenames}
 
 -- ---- two lists that begin alike: one is long enough if the other is, and both read the same there

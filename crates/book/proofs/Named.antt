@@ -24,7 +24,7 @@ use Rattle.renames.specs.Imports.{Naming, fullPath, imported, hasNegative}
 use Rattle.renames.proofs.Rising.{Rises, Small, rises-read, small-read, rises-with, small-with}
 use Rattle.renames.proofs.Decisions.{order-in}
 use Rattle.renames.proofs.Kept.{kept-order}
-use Rattle.sound.proofs.Adding.{pass-one, neither}
+use Rattle.sound.proofs.Added.Answer.{pass-one, neither}
 use Rattle.book.specs.Book.{Made, Book, book}
 use Rattle.book.specs.Calls.{cameOf, Renames, noEntries, renamesAfter, SameRenames, Leads}
 use Rattle.book.specs.Calls as calls

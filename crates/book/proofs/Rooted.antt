@@ -22,8 +22,8 @@ use Rattle.plan.specs.Write.{storeAdded, rowAdded, padRow, textAfter}
 use Rattle.change.specs.Rooms.{roomsOf, holds}
 use Rattle.plan.specs.Outcomes.{addingNumber}
 use Rattle.sound.specs.Sound.{Place, setName, dirName, fileName, linkText, spanOf, Sound}
-use Rattle.sound.proofs.Adding.{Fits, fits}
-use Rattle.sound.proofs.AddedWhole.{count-files}
+use Rattle.sound.proofs.Added.Answer.{Fits, fits}
+use Rattle.sound.proofs.Added.Whole.{count-files}
 use Rattle.sound.proofs.Added.{view-added, sound-added}
 use Rattle.book.specs.Book.{Book, afterAddition}
 

@@ -33,10 +33,10 @@ use lib.Seq.{sets}
 use Rattle.renames.specs.Renames.{Renamed, inOrder, lacksRoom, renameFile, renamedTo, renamesOf, stateOf, wordsOf, textsOf}
 use Rattle.renames.specs.Renames as renames
 use Rattle.renames.specs.Imports.{Naming, hasNegative, imported, importFilenames}
-use Rattle.sound.proofs.Adding.{sound-holds, adding-number}
-use Rattle.model.proofs.Cleaning.{judging-is, space-enough}
-use Rattle.model.proofs.Cleaned.{needed-is}
-use Rattle.model.proofs.CleanedLent.{clean-lent}
+use Rattle.sound.proofs.Added.Answer.{sound-holds, adding-number}
+use Rattle.reached.proofs.Cleaned.Answer.{judging-is, space-enough}
+use Rattle.reached.proofs.Cleaned.{needed-is}
+use Rattle.reached.proofs.Cleaned.Lent.{clean-lent}
 use Rattle.book.specs.Book.{Call, add, trim, clean, rename, «import», Came, done, refused, Made}
 use Rattle.book.specs.Calls.{cameOf, storeAfter, cleanedBy, SameSet, Renames, noEntries, renamesAfter, SameRenames, Leads}
 use Rattle.book.specs.Calls as calls

@@ -26,7 +26,7 @@ use Rattle.change.specs.Rooms.{roomsOf}
 use Rattle.plan.specs.Outcomes.{addingNumber, addStored}
 use Rattle.storage.specs.Opening.{empty, fresh}
 use Rattle.sound.specs.Sound.{Sound}
-use Rattle.sound.proofs.Adding.{adding}
+use Rattle.sound.proofs.Added.Answer.{adding}
 use Rattle.sound.proofs.Added.{view-added, sound-added}
 use Rattle.listing_input.specs.Form.{FileEntry, lines, provided, onlyIf, numberIn, pieceLengthIn, areFlags, entryOf, fileIn}
 use Rattle.listing.specs.Run.{additionOf, counted, goOn, openedAs, readAs, runFrom, run, places}

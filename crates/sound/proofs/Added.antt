@@ -1,5 +1,15 @@
 -- An addition that is not refused: on tables in order it leaves tables in order, and they mean the set that the model adds
--- to. Relies on Adding.antt for the bounds and on the stages of an addition.
+-- to. Relies on Added/Answer.antt for the bounds and on the stages of an addition.
+pub mod TextNeeded
+pub mod Answer
+pub mod Texts
+pub mod Directories
+pub mod Files
+pub mod SetName
+pub mod Stages
+pub mod Places
+pub mod Times
+pub mod Whole
 use mathlib.Core.Path.{_≡_, refl, sym, ap, _∙_}
 use mathlib.Core.Bool.{Bool, true, false, cond, not}
 use mathlib.Core.List.{List, [], _∷_, _++_, append-assoc}
@@ -22,12 +32,12 @@ use Rattle.additions.specs.Addition.{Addition, added, filesOf, sizeAdded, keeps
 use Rattle.plan.specs.Write.{isOutside, missing, missingOf, setText, directoryNew, nameText, linkNew, padDirectoryNew, oldName, kept, putDirIf, isNew, isNewPlace, isNewPad, rootsAdded, storeAdded}
 use Rattle.plan.specs.Outcomes.{addingNumber}
 use Rattle.sound.specs.Sound.{setName, Sound}
-use Rattle.sound.proofs.Adding.{Fits, fits}
-use Rattle.sound.proofs.AddedFile.{rowFor, Fitting, length-roots, sound-file, file-name, file-directories, file-files, file-root}
-use Rattle.sound.proofs.AddedStages.{Named, again, stays, sound-name-stage, name-stage-name, name-stage-directories, name-stage-files, sound-dir-stage, dir-stage-name, dir-stage-directories, dir-stage-files, Padded, none, some, fileIn, sound-pad-stage, pad-stage-name, pad-stage-directories, pad-stage-files, sound-settled}
-use Rattle.sound.proofs.AddedPlaces.{leads, index-placed, index-small, place-at, flags-low, flags-link, flags-outside, flags-made, flags-root, kept-small}
-use Rattle.sound.proofs.AddedTimes.{times-after, times-fit}
-use Rattle.sound.proofs.AddedWhole.{newFile, newPad, stage1, stage2, stage3, stage4, stage5, stage6, count-place, count-pad, count-files, on-disk-is, whole}
+use Rattle.sound.proofs.Added.Answer.{Fits, fits}
+use Rattle.sound.proofs.Added.Files.{rowFor, Fitting, length-roots, sound-file, file-name, file-directories, file-files, file-root}
+use Rattle.sound.proofs.Added.Stages.{Named, again, stays, sound-name-stage, name-stage-name, name-stage-directories, name-stage-files, sound-dir-stage, dir-stage-name, dir-stage-directories, dir-stage-files, Padded, none, some, fileIn, sound-pad-stage, pad-stage-name, pad-stage-directories, pad-stage-files, sound-settled}
+use Rattle.sound.proofs.Added.Places.{leads, index-placed, index-small, place-at, flags-low, flags-link, flags-outside, flags-made, flags-root, kept-small}
+use Rattle.sound.proofs.Added.Times.{times-after, times-fit}
+use Rattle.sound.proofs.Added.Whole.{newFile, newPad, stage1, stage2, stage3, stage4, stage5, stage6, count-place, count-pad, count-files, on-disk-is, whole}
 
 -- ---- what is not put is empty
 

@@ -1,5 +1,9 @@
--- A trim of tables in order: they stay in order, and mean what document 01 says of the trim. It relies on TrimmedView.antt,
--- TrimmedTexts.antt and on what the search for the tail pad finds.
+-- A trim of tables in order: they stay in order, and mean what document 01 says of the trim. It relies on Trimmed/View.antt,
+-- Trimmed/Texts.antt and on what the search for the tail pad finds.
+pub mod Tail
+pub mod Spans
+pub mod Texts
+pub mod View
 use mathlib.Core.Path.{_≡_, refl, sym, ap, _∙_}
 use mathlib.Core.Bool.{true, false, cond}
 use mathlib.Core.Logic.{_⊎_, inl, inr}
@@ -19,11 +23,11 @@ use Rattle.tables.proofs.Tabled.{length-tabled}
 use Rattle.trim.specs.Trim.{tailPad, trimmedIf, trimmedOf}
 use Rattle.trim.specs.Removal.{storeTrimmed, trimmedBy}
 use Rattle.sound.specs.Sound.{sumTo, sizeOfRow, padOfRow, Sound}
-use Rattle.sound.proofs.Trimming.{TailPad, tail-pad}
+use Rattle.sound.proofs.Trimmed.Tail.{TailPad, tail-pad}
 use Rattle.sound.proofs.Common.{sum-same}
 use Rattle.sound.proofs.Files.{sum-skip, sum-tail, number-tabled}
-use Rattle.sound.proofs.TrimmedTexts.{c, l, new, removed-is, row-is, within-after, apart-after, full-after}
-use Rattle.sound.proofs.TrimmedView.{view-after}
+use Rattle.sound.proofs.Trimmed.Texts.{c, l, new, removed-is, row-is, within-after, apart-after, full-after}
+use Rattle.sound.proofs.Trimmed.View.{view-after}
 
 -- ---- what the search on a store's files says of its rows
 

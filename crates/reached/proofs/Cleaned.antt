@@ -1,7 +1,14 @@
 -- A cleaning of tables in order: they stay in order, and mean what document 01 says of the cleaning; no text that is to be
--- written lacks its place. It relies on CleanedRun.antt and CleanedVerdicts.antt.
+-- written lacks its place. It relies on Cleaned/Run.antt and Cleaned/Verdicts.antt.
 --     sound-cleaned, view-cleaned    the tables after it, where there is room and work space enough
 --     needed-is                      the text needed is that of the set after it
+pub mod Answer
+pub mod Files
+pub mod Texts
+pub mod Step
+pub mod Run
+pub mod Verdicts
+pub mod Lent
 use mathlib.Core.Path.{_≡_, refl, sym, ap, subst, _∙_}
 use mathlib.Core.Bool.{Bool, true, false, cond}
 use mathlib.Core.List.{List, [], map}
@@ -25,10 +32,10 @@ use Rattle.sound.specs.Sound.{sumTo, Sound}
 use Rattle.sound.proofs.Common.{sum-tabled}
 use Rattle.sound.proofs.Files.{map-tabled}
 use Rattle.sound.proofs.Texts.{text-is}
-use Rattle.model.proofs.CleanedFiles.{held-flagged}
-use Rattle.model.proofs.CleanedText.{Turned, turned-then, turned-view}
-use Rattle.model.proofs.CleanedRun.{verdictIn, textLength, amount, amount-same, emptiedFile, freed, Passed, emptied-turned, rewrittenFile, grown, rewritten-turned}
-use Rattle.model.proofs.CleanedVerdicts.{length-file-verdicts, verdict, verdict-at, verdict-flagged, none-file, given-file, length-held, cleaned-file, replaced, new, longer, amount-two, amount-sum, sum-from, sum-two, balance, new-bytes, kept-after, replaced-used, beside-short, space-at}
+use Rattle.reached.proofs.Cleaned.Files.{held-flagged}
+use Rattle.reached.proofs.Cleaned.Texts.{Turned, turned-then, turned-view}
+use Rattle.reached.proofs.Cleaned.Run.{verdictIn, textLength, amount, amount-same, emptiedFile, freed, Passed, emptied-turned, rewrittenFile, grown, rewritten-turned}
+use Rattle.reached.proofs.Cleaned.Verdicts.{length-file-verdicts, verdict, verdict-at, verdict-flagged, none-file, given-file, length-held, cleaned-file, replaced, new, longer, amount-two, amount-sum, sum-from, sum-two, balance, new-bytes, kept-after, replaced-used, beside-short, space-at}
 
 -- ---- the tables after a cleaning
 

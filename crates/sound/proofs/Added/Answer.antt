@@ -1,5 +1,5 @@
 -- What an addition answers: on tables in order the number that the tables give is the number that the model gives, and 0
--- gives every bound that the writing needs. Relies on TextsAdded.antt.
+-- gives every bound that the writing needs. Relies on Added/TextNeeded.antt.
 use mathlib.Core.Path.{_≡_, refl, sym, ap, _∙_}
 use mathlib.Core.Bool.{Bool, true, false, cond, not}
 use Prim.Native.Nat.{ℕ, _+_, _*_, _/_, _≤_, min}
@@ -16,7 +16,7 @@ use Rattle.plan.specs.Write.{textAfter}
 use Rattle.change.specs.Rooms.{roomsOf, holds}
 use Rattle.plan.specs.Outcomes.{addingNumber}
 use Rattle.sound.specs.Sound.{Sound}
-use Rattle.sound.proofs.TextsAdded.{text-after}
+use Rattle.sound.proofs.Added.TextNeeded.{text-after}
 
 module _ (s : Store) (ok : Sound s) where
   -- the tables hold what the set's record counts

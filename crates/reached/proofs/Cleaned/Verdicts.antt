@@ -1,5 +1,5 @@
 -- The verdicts of a set's files in a cleaning: what becomes of each file, and the bytes that go and come, as sums over the
--- files. It relies on CleanedRun.antt and on the law of verdicts in `links`.
+-- files. It relies on Cleaned/Run.antt and on the law of verdicts in `links`.
 --     verdict-at, cleaned-file    the verdict of each file gives what the cleaning makes of it
 --     balance, …               sums
 --     space-at                 a text of a flagged link fits into the work space
@@ -25,9 +25,9 @@ use Rattle.cleaning.specs.Cleaning.{fileVerdictsFor, keptAfter, newBytes}
 use Rattle.sound.specs.Sound.{sumTo, textAtRow, Sound}
 use Rattle.sound.proofs.Common.{sum-more}
 use Rattle.sound.proofs.Texts.{link-span}
-use Rattle.model.proofs.CleanedFiles.{held-flagged}
-use Rattle.model.proofs.CleanedStep.{gone-is}
-use Rattle.model.proofs.CleanedRun.{verdictIn, verdict-here, verdict-behind, textLength, text-len, amount, emptiedFile, freed, rewrittenFile, text-longer}
+use Rattle.reached.proofs.Cleaned.Files.{held-flagged}
+use Rattle.reached.proofs.Cleaned.Step.{gone-is}
+use Rattle.reached.proofs.Cleaned.Run.{verdictIn, verdict-here, verdict-behind, textLength, text-len, amount, emptiedFile, freed, rewrittenFile, text-longer}
 
 -- ---- the verdicts of a set's files
 

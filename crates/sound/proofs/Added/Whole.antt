@@ -1,4 +1,4 @@
--- An addition as a whole is its stages one after the other. Relies on AddedStages.antt and the laws of runs of `lists`.
+-- An addition as a whole is its stages one after the other. Relies on Added/Stages.antt and the laws of runs of `lists`.
 use mathlib.Core.Path.{_≡_, refl, ap, _∙_}
 use mathlib.Core.Bool.{Bool, true, false, cond, not}
 use mathlib.Core.List.{List, [], _∷_, _++_}
@@ -16,12 +16,12 @@ use Rattle.tables.specs.Model.{absent, Directory, single, absolute, stored, Mod
 use Rattle.rules.specs.Rules.{both}
 use Rattle.additions.specs.Addition.{Addition, added, filesOf, sizeAdded, keeps, isV2, padOf, placeFor, fileAdded, padAdded, padDirectory, flagsKept, isAmong, withDirectory, withPlace, isPresent, isZero}
 use Rattle.plan.specs.Write.{placeOf, indexOf, isOutside, missing, setText, directoryNew, nameText, linkNew, padDirectoryNew, padText, oldName, kept, putDirIf, isNew, isNewPlace, isNewPad, rootsAdded, timesAdded, storageAdded, storeAdded}
-use Rattle.sound.proofs.AddedName.{nameStage}
-use Rattle.sound.proofs.AddedDirectory.{dirStage}
-use Rattle.sound.proofs.AddedFile.{NewFile, withFile, padStage}
-use Rattle.sound.proofs.AddedStages.{settled}
-use Rattle.sound.proofs.AddedPlaces.{flagsOf, flags-one, kept-small, kept-one}
-use Rattle.sound.proofs.AddedTimes.{heldAfter}
+use Rattle.sound.proofs.Added.SetName.{nameStage}
+use Rattle.sound.proofs.Added.Directories.{dirStage}
+use Rattle.sound.proofs.Added.Files.{NewFile, withFile, padStage}
+use Rattle.sound.proofs.Added.Stages.{settled}
+use Rattle.sound.proofs.Added.Places.{flagsOf, flags-one, kept-small, kept-one}
+use Rattle.sound.proofs.Added.Times.{heldAfter}
 
 -- ---- the stages
 

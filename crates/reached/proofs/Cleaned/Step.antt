@@ -1,5 +1,5 @@
 -- One step of a cleaning, on tables in order: a link's text goes, or one is put where none was, or takes the place of the old
--- one. The tables stay in order and mean the set with that link's text. It relies on CleanedText.antt and on the laws of spans
+-- one. The tables stay in order and mean the set with that link's text. It relies on Cleaned/Texts.antt and on the laws of spans
 -- and rows in `tables`.
 --     emptied-turn, linked-turn, relinked-turn
 use mathlib.Core.Path.{_≡_, refl, sym, ap, subst, _∙_}
@@ -27,8 +27,8 @@ use Rattle.links.specs.Clean.{linkedTo}
 use Rattle.texts.specs.Texts.{storageWith, rowWith, rowLowered, rowsLowered, cutOut, goneAt, linked, relinked}
 use Rattle.sound.specs.Sound.{Place, setName, dirName, fileName, linkText, nowhere, spanOf, Sound}
 use Rattle.sound.proofs.Texts.{link-span}
-use Rattle.sound.proofs.TrimmedSpans.{low-nowhere}
-use Rattle.model.proofs.CleanedText.{isLink, link-is, link-not, Area, over, Relinks, Turned, turned-same, turned-then, atFile, turn}
+use Rattle.sound.proofs.Trimmed.Spans.{low-nowhere}
+use Rattle.reached.proofs.Cleaned.Texts.{isLink, link-is, link-not, Area, over, Relinks, Turned, turned-same, turned-then, atFile, turn}
 
 -- ---- rows once a span is removed
 

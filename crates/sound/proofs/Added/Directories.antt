@@ -1,5 +1,5 @@
 -- A directory put behind those held: the tables stay in order, and mean the set with one more directory. Relies on
--- AddedTexts.antt.
+-- Added/Texts.antt.
 use mathlib.Core.Path.{_≡_, refl, ap, _∙_}
 use mathlib.Core.Logic.{_⊎_, inl, inr}
 use mathlib.Core.Bool.{Bool, true, cond}
@@ -21,7 +21,7 @@ use Rattle.tables.proofs.Tabled.{tabled-more}
 use Rattle.plan.specs.Write.{putDirIf}
 use Rattle.sound.specs.Sound.{Place, setName, dirName, fileName, linkText, spanOf, sumTo, Sound}
 use Rattle.sound.proofs.Common.{sum-same, sum-more}
-use Rattle.sound.proofs.AddedTexts.{Put, old, first, within-put, apart-put, Extends, set-name-kept, dirs-kept, files-kept}
+use Rattle.sound.proofs.Added.Texts.{Put, old, first, within-put, apart-put, Extends, set-name-kept, dirs-kept, files-kept}
 
 -- the set with one more directory, or as it was
 abbrev pub dirStage : Bool → Store → List ℕ → Store

@@ -1,5 +1,5 @@
 -- A file's row put behind those held, with its name, link text and root: the tables stay in order, and mean the set with one
--- more file. Relies on AddedTexts.antt.
+-- more file. Relies on Added/Texts.antt.
 use mathlib.Core.Path.{_≡_, refl, sym, ap, _∙_}
 use mathlib.Core.Logic.{_⊎_, inl, inr}
 use mathlib.Core.Bool.{Bool, true, false, cond}
@@ -25,7 +25,7 @@ use Rattle.additions.specs.Addition.{isPresent}
 use Rattle.plan.specs.Write.{rootsAdded}
 use Rattle.sound.specs.Sound.{Place, setName, dirName, fileName, linkText, nowhere, spanOf, sumTo, textAtRow, sizeOfRow, padOfRow, Sound}
 use Rattle.sound.proofs.Common.{sum-same, sum-more}
-use Rattle.sound.proofs.AddedTexts.{Put, old, first, second, within-put, apart-put, Extends, set-name-kept, dirs-kept, files-kept, place-kept, fileFrom, same-file}
+use Rattle.sound.proofs.Added.Texts.{Put, old, first, second, within-put, apart-put, Extends, set-name-kept, dirs-kept, files-kept, place-kept, fileFrom, same-file}
 
 -- what a new row is made of
 pub record NewFile : Type 0 where

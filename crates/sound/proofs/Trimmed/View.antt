@@ -1,4 +1,4 @@
--- What tables in order mean once row f is removed: the set without file f. It relies on TrimmedTexts.antt and on the laws of
+-- What tables in order mean once row f is removed: the set without file f. It relies on Trimmed/Texts.antt and on the laws of
 -- spans in `tables`, which serve the roots as well.
 use mathlib.Core.Path.{_≡_, refl, sym, ap, _∙_}
 use mathlib.Core.Bool.{Bool, true, false, cond}
@@ -21,7 +21,7 @@ use Rattle.tables.proofs.Tabled.{tabled-same}
 use Rattle.trim.specs.Trim.{beginningAt, without}
 use Rattle.sound.specs.Sound.{setName, dirName, fileName, linkText, Sound}
 use Rattle.sound.proofs.Files.{number-tabled, tabled-except}
-use Rattle.sound.proofs.TrimmedTexts.{c, l, new, row-is, text-after}
+use Rattle.sound.proofs.Trimmed.Texts.{c, l, new, row-is, text-after}
 
 -- ---- roots
 

@@ -19,11 +19,11 @@ use Rattle.trim.specs.Trim.{tailPad, sizeAt, beginningAt, without, trimmedIf}
 use Rattle.links.specs.Clean.{cleanedOf}
 use Rattle.sound.specs.Documents as documents
 use Rattle.sound.specs.Documents.{sizes, EndToEnd, sizeOnDisk, OnDisk, Marked, OnPiece, Each, none, more, LinkEmpty}
-use Rattle.model.specs.Reached.{Reached, opened, addition, trim, cleaning}
+use Rattle.reached.specs.Reached.{Reached, opened, addition, trim, cleaning}
 use Rattle.rules.proofs.Rules.{both-true}
-use Rattle.sound.proofs.Trimming.{flagsAt, Last, TailPad, tail-pad}
+use Rattle.sound.proofs.Trimmed.Tail.{flagsAt, Last, TailPad, tail-pad}
 use Rattle.sound.proofs.Files.{map-take, map-drop, each-append, each-front, each-take, each-drop, each-map, each-unmap, sum-zero, sum-except, sizesOf, Laid, done, next, laid-append, laid-take, laid-map, laid-empty, laid-offset}
-use Rattle.model.proofs.CleanedFiles.{cleanedIn, clean-same, clean-held, clean-map, clean-map-same}
+use Rattle.reached.proofs.Cleaned.Files.{cleanedIn, clean-same, clean-held, clean-map, clean-map-same}
 
 -- the pad that an addition makes, where it makes one
 pad-laid : (o n : ℕ) → Laid o (padAdded o n)

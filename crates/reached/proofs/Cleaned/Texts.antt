@@ -24,7 +24,7 @@ use Rattle.sound.specs.Sound.{Place, setName, dirName, fileName, linkText, span
 use Rattle.sound.proofs.Common.{sum-same}
 use Rattle.sound.proofs.Files.{sum-skip}
 use Rattle.sound.proofs.Texts.{link-span, directory-same}
-use Rattle.sound.proofs.AddedTexts.{fileFrom, same-file}
+use Rattle.sound.proofs.Added.Texts.{fileFrom, same-file}
 
 -- ---- places
 

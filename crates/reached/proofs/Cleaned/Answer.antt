@@ -21,7 +21,7 @@ use Rattle.links.specs.Judging.{judgingNumber}
 use Rattle.lists.specs.Lists.{cleared}
 use Rattle.cleaning.specs.Cleaning.{cleanedStore, textNeeded, Cleaned, cleanedTo, cleanStored}
 use Rattle.sound.specs.Sound.{Sound}
-use Rattle.sound.proofs.Adding.{pass-one, neither}
+use Rattle.sound.proofs.Added.Answer.{pass-one, neither}
 
 module _ (s : Store) (marks stage path : ℕ) where
   abbrev held : Bool

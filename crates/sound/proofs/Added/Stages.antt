@@ -1,6 +1,6 @@
 -- An addition in stages, each of which may leave the tables as they are: the set's name, the file's directory, its row, the
 -- pad's directory and the pad's row, and last what no text or row depends on. Each keeps the tables in order. Relies on
--- AddedName.antt, AddedDirectory.antt and AddedFile.antt.
+-- Added/SetName.antt, Added/Directories.antt and Added/Files.antt.
 use mathlib.Core.Path.{_≡_, refl, sym, ap, _∙_}
 use mathlib.Core.Bool.{Bool, true, false, cond}
 use mathlib.Core.List.{List, [], _∷_, _++_, append-nil}
@@ -13,10 +13,10 @@ use Rattle.tables.specs.Rows.{rootAt, has}
 use Rattle.tables.specs.Model.{File, Store, directoryOf, viewOf}
 use Rattle.plan.specs.Write.{rootsAdded}
 use Rattle.sound.specs.Sound.{Place, setName, dirName, fileName, linkText, nowhere, spanOf, Sound}
-use Rattle.sound.proofs.AddedTexts.{fileFrom}
-use Rattle.sound.proofs.AddedName.{nameStage, sound-named, named-name, named-directories, named-files}
-use Rattle.sound.proofs.AddedDirectory.{dirStage, sound-dir, dir-name, dir-directories, dir-files}
-use Rattle.sound.proofs.AddedFile.{NewFile, rowFor, padStage, Fitting, sound-file, file-name, file-directories, file-files}
+use Rattle.sound.proofs.Added.Texts.{fileFrom}
+use Rattle.sound.proofs.Added.SetName.{nameStage, sound-named, named-name, named-directories, named-files}
+use Rattle.sound.proofs.Added.Directories.{dirStage, sound-dir, dir-name, dir-directories, dir-files}
+use Rattle.sound.proofs.Added.Files.{NewFile, rowFor, padStage, Fitting, sound-file, file-name, file-directories, file-files}
 
 -- ---- the set's name
 

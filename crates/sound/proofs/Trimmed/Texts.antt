@@ -1,5 +1,5 @@
 -- What the removal of row f does to the texts of tables in order: every other text reads what it read, and no two have a
--- byte in common. It relies on TrimmedSpans.antt and on the laws of rows in `tables`.
+-- byte in common. It relies on Trimmed/Spans.antt and on the laws of rows in `tables`.
 use mathlib.Core.Path.{_≡_, refl, sym, ap, _∙_}
 use mathlib.Core.Bool.{cond}
 use mathlib.Core.Logic.{_⊎_, inl, inr}
@@ -20,7 +20,7 @@ use Rattle.trim.specs.Removal.{firstGone, secondGone, storeWithout, storeTrimme
 use Rattle.sound.specs.Sound.{Place, setName, dirName, fileName, linkText, nowhere, spanOf, sumTo, textAtRow, lengths, Sound}
 use Rattle.sound.proofs.Common.{sum-same}
 use Rattle.sound.proofs.Files.{sum-skip}
-use Rattle.sound.proofs.TrimmedSpans.{lowTwice, low-twice-nowhere, next-in, two-within, two-read, two-apart}
+use Rattle.sound.proofs.Trimmed.Spans.{lowTwice, low-twice-nowhere, next-in, two-within, two-read, two-apart}
 
 -- ---- places
 

@@ -1,6 +1,6 @@
 -- All steps of a cleaning, on tables in order, for any list of verdicts: first texts go, then texts are put. The tables stay in
 -- order, each file has the text that its verdict gives, and the used part grows and shrinks by the texts' lengths. It relies on
--- CleanedStep.antt.
+-- Cleaned/Step.antt.
 --     verdictIn                              the verdict of a file
 --     amount                              a sum over files, by their verdicts
 --     emptied-turned, rewritten-turned    the two passes
@@ -25,8 +25,8 @@ use Rattle.texts.specs.Texts.{goneAt, linked, relinked, ownFits, besideFits}
 use Rattle.cleaning.specs.Cleaning.{emptied, writtenAt, hasPlace, rewrittenAt, rewritten}
 use Rattle.sound.specs.Sound.{dirName, fileName, linkText, Sound}
 use Rattle.sound.proofs.Texts.{dir-span, name-span, link-span, text-length}
-use Rattle.model.proofs.CleanedText.{Turned, turned-self, turned-same, turned-then, atFile}
-use Rattle.model.proofs.CleanedStep.{gone-is, emptied-turn, linked-turn, relinked-turn}
+use Rattle.reached.proofs.Cleaned.Texts.{Turned, turned-self, turned-same, turned-then, atFile}
+use Rattle.reached.proofs.Cleaned.Step.{gone-is, emptied-turn, linked-turn, relinked-turn}
 
 -- ---- verdicts
 
