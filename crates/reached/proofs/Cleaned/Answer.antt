@@ -1,5 +1,5 @@
 -- What a cleaning answers: it judges links where there is work space enough, and on tables in order nothing but work space and
--- room for texts can be lacking. Relies on Adding.antt for the laws of rules.
+-- room for texts can be lacking. Relies on the laws of rules in `sound` (Added/Answer.antt).
 --     work-enough     links that are judged have their work space
 --     judging-is      the number on tables in order
 --     clean-done      a cleaning with work space and room is done
