@@ -30,10 +30,10 @@ fresh =
     }
 
 slice-aggregate-run-input : tie.Need-slice-aggregate-run-input
-slice-aggregate-run-input c = sym (length-replicate {A = ℕ} 3200 0)
+slice-aggregate-run-input c = sym (length-replicate {A = ℕ} _ 0)
 
 slice-aggregate-run-input-2 : tie.Need-slice-aggregate-run-input-2
-slice-aggregate-run-input-2 c = sym (length-replicate {A = ℕ} 12800 0)
+slice-aggregate-run-input-2 c = sym (length-replicate {A = ℕ} _ 0)
 
 array-borrow-prefix-times : tie.Need-array-borrow-prefix-times
 array-borrow-prefix-times c = search needs
@@ -42,10 +42,10 @@ slice-aggregate-run-input-3 : tie.Need-slice-aggregate-run-input-3
 slice-aggregate-run-input-3 c = refl
 
 slice-aggregate-run-input-4 : tie.Need-slice-aggregate-run-input-4
-slice-aggregate-run-input-4 c = sym (length-replicate {A = ℕ} 800 0)
+slice-aggregate-run-input-4 c = sym (length-replicate {A = ℕ} _ 0)
 
 slice-aggregate-run-input-5 : tie.Need-slice-aggregate-run-input-5
-slice-aggregate-run-input-5 c = sym (length-replicate {A = ℕ} 65536 0)
+slice-aggregate-run-input-5 c = sym (length-replicate {A = ℕ} _ 0)
 
 run-input-requires : tie.Need-run-input-requires
 run-input-requires c κs = fresh
