@@ -40,7 +40,7 @@ fn set_in(line: &[u8], number: usize, all: Sets) -> Set {
 fn of_sets(a: Set, b: Set, rows: &[u64], dirs: &[u64], text: &[u8]) -> bool {
     let p = a.parts;
     let q = b.parts;
-    answer::boolean(names::files_compatible(
+    answer::boolean(compatible::files_compatible(
         a.fs,
         places::words_at(rows, p.rows),
         places::words_at(dirs, p.dirs),

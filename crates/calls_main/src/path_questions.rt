@@ -67,7 +67,7 @@ fn file_path(
 // `all_path_hashes`. A set has no more of them than directories and bytes of text.
 fn all_path_hashes(fs: FileStorage, dirs: &[u64], text: &[u8]) -> bool {
     let mut hashes = hash_room();
-    let result = names::all_path_hashes(fs, dirs, text, &mut hashes);
+    let result = hashes::all_path_hashes(fs, dirs, text, &mut hashes);
     put_hashes(result, &hashes)
 }
 

@@ -8,7 +8,7 @@ use crate::output::Reply;
 use crate::output;
 use crate::strings;
 use crate::words;
-use renames::FileNameResult;
+use renamed::FileNameResult;
 use renames::Rename;
 use renames::RenameResult;
 use renames::RenamedFiles;
@@ -52,7 +52,7 @@ fn name(
     let Short::Is(n) = numbers::short_word(line, 1) else {
         return false;
     };
-    match renames::file_name(fs, rows, text, held, entries, area, FileIndex(n)) {
+    match renamed::file_name(fs, rows, text, held, entries, area, FileIndex(n)) {
         FileNameResult::InSet(place) => answer::string(tables::text_at(text, place)),
         FileNameResult::InRenames(place) => answer::string(tables::text_at(area, place)),
         FileNameResult::Err(refusal) => output::refused(refusal),
@@ -71,7 +71,7 @@ fn absolute(
     let Short::Is(n) = numbers::short_word(line, 1) else {
         return false;
     };
-    answer::boolean(renames::file_absolute_path(fs, rows, held, entries, area, FileIndex(n)))
+    answer::boolean(renamed::file_absolute_path(fs, rows, held, entries, area, FileIndex(n)))
 }
 
 // `renamed_path I :SAVE`.
@@ -117,7 +117,7 @@ fn composed(
     area: &[u8],
 ) -> bool {
     let mut joined = answer::room();
-    let result = renames::file_path(
+    let result = renamed::file_path(
         fs,
         rows,
         dirs,

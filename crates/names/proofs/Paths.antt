@@ -4,7 +4,6 @@ use Prim.Native.Nat.{ℕ}
 use mathlib.Core.Path.{_≡_, refl, sym, ap, _∙_}
 use mathlib.Core.Bool.{Bool, true, false, cond, not}
 use mathlib.Core.List.{List, [], _∷_, _++_, map, append-assoc}
-use Rattle.lists.specs.Lists.{equal}
 use Rattle.path.specs.Join.{appended}
 use Rattle.crc32c.specs.Crc.{crcFrom, lower}
 use Rattle.crc32c.proofs.Parts.{crc-lower}
@@ -14,7 +13,6 @@ use Rattle.tables.specs.declared.span.Span.{Span}
 use Rattle.tables.specs.declared.rows.Row.{Row}
 use Rattle.tables.specs.Span.{textAt}
 use Rattle.tables.specs.Rows.{dirAt, isAbsolute, isInside, directorySpan, has}
-use Rattle.answers.specs.Answers.{symlinkPath}
 use Rattle.names.specs.Paths.{isSingle, nameOf, filePath, led, hashedPath, hashOf}
 use Rattle.names.proofs.Composed.{append-none}
 
@@ -75,14 +73,6 @@ module _ (fs : FileStorage) (dirs text : List ℕ) (r : Row) where
   pub hashed-is : (save : List ℕ) → led (cond (isAbsolute r) [] save) ++ (cond (both (isInside r) (not (has (r .flags) 32))) (textAt text (fs .name) ++ (47 ∷ [])) [] ++ (led (textAt text dirSpan) ++ nameOf text r)) ≡ hashedPath fs dirs text save r
   hashed-is save = hashed-if text save (nameOf text r) (fs .name) (dirAt dirs (r .«path_index»)) (isAbsolute r) (isSingle r) (has (r .flags) 32)
 
-  -- the parts of a link's path, nothing where no link text is held
-  pub link-is : appended (textAt text (cond (has (r .flags) 16) (fs .name) nowhere)) (textAt text (cond (has (r .flags) 16) (r .link) nowhere)) ≡ symlinkPath fs text r
-  link-is = at (has (r .flags) 16)
-    where
-      at : (b : Bool) → appended (textAt text (cond b (fs .name) nowhere)) (textAt text (cond b (r .link) nowhere)) ≡ cond b (appended (textAt text (fs .name)) (textAt text (r .link))) []
-      at true = refl
-      at false = refl
-
 -- four parts fed one after the other
 pub hash-four : (a b c d : List ℕ)
     → crcFrom (crcFrom (crcFrom (crcFrom 0 (map lower a)) (map lower b)) (map lower c)) (map lower d) ≡ hashOf (a ++ (b ++ (c ++ d)))
@@ -90,8 +80,3 @@ hash-four a b c d =
     crc-lower (crcFrom (crcFrom 0 (map lower a)) (map lower b)) c d
     ∙ crc-lower (crcFrom 0 (map lower a)) b (c ++ d)
     ∙ crc-lower 0 a (b ++ (c ++ d))
-
--- two composed paths, compared
-pub compared : (r : Bool) (a b c d e f p q : List ℕ) → r ≡ equal (appended (appended a b) c) (appended (appended d e) f)
-    → appended (appended a b) c ≡ p → appended (appended d e) f ≡ q → r ≡ equal p q
-compared r a b c d e f p q h i j = h ∙ rw (i, j)

@@ -1,6 +1,6 @@
 -- Document 01, 'Names': a file's whole path, and its hash. Joins are those of `append_path`; for hashes 'the release build'
 -- puts a separator behind each part that is not empty, and behind the set's name always. It relies on the joins of
--- `path`, the hash of `crc32c` and the questions of `answers`.
+-- `path`, the hash of `crc32c` and the questions of `rules`.
 use Prim.Native.Nat.{ℕ}
 use mathlib.Core.Bool.{Bool, cond}
 use mathlib.Core.List.{List, [], _∷_, _++_, map}

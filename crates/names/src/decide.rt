@@ -1,6 +1,5 @@
 // What a question about a file's names decides first, and the parts that lead a file's name: the set's name
-// and the file's directory. Relies on `answers` for the refusals, on `tables` for the places, and on the laws of
-// proofs/Deciding.antt.
+// and the file's directory. Relies on `rules` for the refusals and on `tables` for the places.
 ghost use mathlib.Core.Path.{_≡_};
 ghost use mathlib.Core.Bool.{cond, not};
 ghost use Prim.Native.Nat.{_/_};
@@ -9,16 +8,16 @@ ghost use Rattle.types.specs.Refusals.{usizeSays};
 ghost use Rattle.rules.specs.Rules.{both};
 ghost use Rattle.tables.specs.Rows.{has, isInside};
 ghost use Rattle.rules.specs.Questions.{askedFile, rowsHeld};
-use rules::BoolResult;
+use rules::are_both;
+use rules::is_held;
 use tables::FileStorage;
 use tables::Row;
 use tables::Span;
 use types::FileIndex;
-use types::Refusal;
 use types::UsizeResult;
 
-// Whether so many words of directories and so many bytes of text hold the set's directories and texts.
-pub(crate) fn are_held(fs: FileStorage, words: usize, bytes: usize) -> bool
+// Whether `words` words of directories and `bytes` bytes of text hold the set's directories and texts.
+pub fn are_held(fs: FileStorage, words: usize, bytes: usize) -> bool
     ensures { λ r. ⌜ r ≡ both (leb (fs .«num_paths») (words / 2)) (leb (fs .«text_len») bytes) ⌝ }
 {
     if words / 2 < fs.num_paths {
@@ -29,19 +28,11 @@ pub(crate) fn are_held(fs: FileStorage, words: usize, bytes: usize) -> bool
 
 // The number of a file that a question is about, or why the question isn't answered; `held` says whether
 // the tables besides the rows hold what the set counts.
-pub(crate) fn file_in(fs: FileStorage, rows: &[u64], index: FileIndex, held: bool) -> UsizeResult
+pub fn file_in(fs: FileStorage, rows: &[u64], index: FileIndex, held: bool) -> UsizeResult
     ensures { λ r. ⌜ usizeSays r ≡ askedFile fs (index .0) (both (rowsHeld fs (now (rows .entry))) held) (λ k. k) ⌝ }
 {
-    match answers::pad_file_at(fs, rows, index) {
-        BoolResult::Ok(_) => {
-            if held {
-                UsizeResult::Ok(index.get())
-            } else {
-                UsizeResult::Err(Refusal::NoRoom)
-            }
-        }
-        BoolResult::Err(e) => UsizeResult::Err(e),
-    }
+    let rows_held = is_held(fs.num_files, rows.len() / 8);
+    rules::file_in(fs, index, are_both(rows_held, held))
 }
 
 // Whether the set's name leads a file's path.
@@ -55,7 +46,7 @@ pub(crate) fn is_led(row: Row) -> bool
 }
 
 // Where the set's name lies, nowhere where it doesn't lead the file's path.
-pub(crate) fn set_span(fs: FileStorage, row: Row) -> Span
+pub fn set_span(fs: FileStorage, row: Row) -> Span
     ensures { λ r. ⌜ r ≡ cond (both (isInside row) (not (has (row .flags) 32))) (fs .name) (record { at = 0; len = 0 }) ⌝ }
 {
     let name = fs.name;

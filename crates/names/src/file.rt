@@ -62,7 +62,7 @@ fn hash_closed(crc: u32, part: &[u8]) -> u32
 }
 
 // The hash of the bytes so far and, where the part is not empty, of the part and of a separator.
-pub(crate) fn hash_led(crc: u32, part: &[u8]) -> u32
+pub fn hash_led(crc: u32, part: &[u8]) -> u32
     ensures { λ r. ⌜ r ≡ crcFrom crc (map lower (led (now (part .entry)))) ⌝ }
 {
     if part.len() == 0 {

@@ -1,60 +1,32 @@
 -- Deciding before a change: the order of the refusals, what is known once none stops the call, and that the decision on numbers is
 -- that of the change. These laws rely on those of proofs/Changes.antt.
 use Prim.Native.Nat.{ℕ, _+_, _-_, _*_, _/_, _≤_, _<_}
-use mathlib.Core.Path.{_≡_, refl, _∙_}
+use mathlib.Core.Path.{_≡_, refl}
 use mathlib.Core.Bool.{Bool, true, false, cond, not}
 use mathlib.Core.Logic.{_⊎_, inl, inr}
 use mathlib.Core.List.{List, [], _∷_}
 use native.Mathlib.Omega.{arith}
 use borrow.Author.Tests.{leb-true, ltb-false, lt-ltb, le-ltb, not-false}
 use lib.Dec.{eqb, ltb, leb}
-use lib.IntN.{ℤ, pos, negsuc}
+use lib.IntN.{ℤ}
 use lib.ListN.{length}
 use lib.Seq.{sets}
 use Rattle.lists.proofs.Orders.{le-or-lt}
-use Rattle.types.specs.Refusals.{Outcome, value, refused}
-use Rattle.types.specs.Signed.{belowOr}
+use Rattle.types.specs.Refusals.{value, refused}
 use Rattle.tables.specs.declared.storage.FileStorage.{FileStorage}
 use Rattle.rules.specs.Rules.{when, firstOf, outcomeOf, both}
-use Rattle.rules.specs.Bounds.{badLength}
+use Rattle.rules.specs.Bounds.{badLength, indexOf, isBelow}
 use Rattle.rules.proofs.Rules.{either-false}
-use Rattle.rules.specs.Questions.{askedSet, askedFile}
-use Rattle.rules.specs.Bounds.{indexOf, isBelow}
+use Rattle.rules.specs.Questions.{askedFile}
 use Rattle.rules.proofs.Deciding.{allowed, denied}
-use Rattle.names.proofs.Deciding.{passes, asked-good, asked-there, asked-own}
+use Rattle.renames.proofs.Deciding.{passes, asked-good, asked-there, asked-own}
 use Rattle.renames.specs.declared.rename.RenamedFiles.{RenamedFiles}
-use Rattle.renames.specs.declared.place.Place.{Place}
+use Rattle.compatible.specs.declared.walk.Place.{Place}
 use Rattle.renames.specs.Renames.{Renamed, Changed, orderedFrom, renamesOf, renamedTo, lacksRoom, inOrder, stateOf, wordsOf, textsOf, renameFile}
 use Rattle.renames.specs.Places.{placeOf}
 use Rattle.renames.specs.Changing.{inOrderIn, isShort, placeNumber, placeAsked, renameOf}
 use Rattle.renames.proofs.Ordered.{both-true}
 use Rattle.renames.proofs.Changes.{count-after, bytes-after}
-
--- ---- the set's refusals
-
-pub good : {A : Type 0} (bad : Bool) (x a : A) → value x ≡ outcomeOf (cond bad 1 0) a → bad ≡ false
-good true x a e = absurd (let z : _≡_ {A = ℕ} 0 1 = cc in omega arith)
-good false x a e = refl
-
-pub ill : {A : Type 0} (bad : Bool) (m : ℕ) (a : A) → refused m ≡ outcomeOf (cond bad 1 0) a → (bad ≡ true) × (m ≡ 1)
-ill true m a e = (refl, cc)
-ill false m a e = absurd (let z : _≡_ {A = ℕ} 0 1 = cc in omega arith)
-
-below-asked : (n i : ℕ) (b : Bool) → cond b (value i) (refused 11) ≡ outcomeOf (cond (not b) 11 0) i
-below-asked n i true = refl
-below-asked n i false = refl
-
-below-or : (count : ℕ) (z : ℤ) → belowOr 11 count z ≡ outcomeOf (cond (not (isBelow count z)) 11 0) (indexOf z)
-below-or count (pos n) = below-asked n n (ltb n count)
-below-or count (negsuc n) = refl
-
--- a file's number, behind the test of the piece length
-module _ {A : Type 0} (fs : FileStorage) (z : ℤ) (a : A) where
-  pub file-below : (x : A) → value x ≡ askedSet fs a → (o : Outcome ℕ) → o ≡ belowOr 11 (fs .«num_files») z → o ≡ askedFile fs z true (λ k. k)
-  file-below x e o h = h ∙ below-or (fs .«num_files») z ∙ rw (good (badLength (fs .«piece_length»)) x a e)
-
-  pub file-ill : (m : ℕ) → refused m ≡ askedSet fs a → refused m ≡ askedFile fs z true (λ k. k)
-  file-ill m e = let t = ill (badLength (fs .«piece_length»)) m a e in rw (t .0, t .1)
 
 -- ---- what follows the set's refusals
 

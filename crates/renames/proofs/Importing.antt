@@ -18,7 +18,6 @@ use Rattle.tables.specs.declared.storage.FileStorage.{FileStorage}
 use Rattle.rules.specs.Rules.{outcomeOf}
 use Rattle.rules.specs.Bounds.{badLength, isNegative}
 use Rattle.rules.proofs.Rules.{either-false}
-use Rattle.rules.specs.Questions.{askedSet}
 use Rattle.rules.proofs.Deciding.{denied}
 use Rattle.renames.specs.declared.rename.RenamedFiles.{RenamedFiles}
 use Rattle.renames.specs.Renames.{Renamed, Changed, renamesOf, orderedFrom, inOrder, lacksRoom, stateOf, wordsOf, textsOf}
@@ -27,7 +26,7 @@ use Rattle.renames.specs.Changing.{inOrderIn}
 use Rattle.renames.specs.Imports.{namings, imported, hasNegative, importFilenames}
 use Rattle.renames.specs.Importing.{kept, given, withAll, Fresh, keptWords, keptState, isFull, importNumber, importAsked}
 use Rattle.renames.proofs.Ordered.{order-mode, order-bytes}
-use Rattle.renames.proofs.Decisions.{good, ill, four-passed, same-test, order-in}
+use Rattle.renames.proofs.Decisions.{four-passed, same-test, order-in}
 use Rattle.renames.proofs.Rising.{rises-read, small-read}
 use Rattle.renames.proofs.Kept.{length-words, kept-order, kept-list}
 use Rattle.renames.proofs.Imported.{rises-kept, small-kept, imported-is, fresh-kept, with-given}
@@ -39,26 +38,25 @@ module _ (fs : FileStorage) (rf : RenamedFiles) (e : List ℕ) (room : ℕ) (zs 
   abbrev stay : RenamedFiles
   stay = keptState (fs .«num_files») zs rf e
 
-  module _ {A : Type 0} (a : A) where
-    pub asked-ill : (m : ℕ) → refused m ≡ askedSet fs a → refused m ≡ importAsked fs rf e room zs come
-    asked-ill m h = let t = ill (badLength (fs .«piece_length»)) m a h in rw (t .0, t .1)
+  pub asked-ill : badLength (fs .«piece_length») ≡ true → refused 1 ≡ importAsked fs rf e room zs come
+  asked-ill g = rw g
 
-    module _ (x : A) (h : value x ≡ askedSet fs a) where
-      asked-rest : (n o s : Bool) → any isNegative zs ≡ n → inOrderIn rf e room ≡ o → isFull (length e) room stay come ≡ s
-          → outcomeOf (cond n 11 (cond (not o) 10 (cond s 10 0))) stay ≡ importAsked fs rf e room zs come
-      asked-rest n o s p q r = rw (good (badLength (fs .«piece_length»)) x a h, p, q, r)
+  module _ (g : badLength (fs .«piece_length») ≡ false) where
+    asked-rest : (n o s : Bool) → any isNegative zs ≡ n → inOrderIn rf e room ≡ o → isFull (length e) room stay come ≡ s
+        → outcomeOf (cond n 11 (cond (not o) 10 (cond s 10 0))) stay ≡ importAsked fs rf e room zs come
+    asked-rest n o s p q r = rw (g, p, q, r)
 
-      pub asked-negative : any isNegative zs ≡ true → refused 11 ≡ importAsked fs rf e room zs come
-      asked-negative p = asked-rest true (inOrderIn rf e room) (isFull (length e) room stay come) p refl refl
+    pub asked-negative : any isNegative zs ≡ true → refused 11 ≡ importAsked fs rf e room zs come
+    asked-negative p = asked-rest true (inOrderIn rf e room) (isFull (length e) room stay come) p refl refl
 
-      pub asked-disorder : any isNegative zs ≡ false → inOrderIn rf e room ≡ false → refused 10 ≡ importAsked fs rf e room zs come
-      asked-disorder p q = asked-rest false false (isFull (length e) room stay come) p q refl
+    pub asked-disorder : any isNegative zs ≡ false → inOrderIn rf e room ≡ false → refused 10 ≡ importAsked fs rf e room zs come
+    asked-disorder p q = asked-rest false false (isFull (length e) room stay come) p q refl
 
-      pub asked-full : any isNegative zs ≡ false → inOrderIn rf e room ≡ true → isFull (length e) room stay come ≡ true → refused 10 ≡ importAsked fs rf e room zs come
-      asked-full p q r = asked-rest false true true p q r
+    pub asked-full : any isNegative zs ≡ false → inOrderIn rf e room ≡ true → isFull (length e) room stay come ≡ true → refused 10 ≡ importAsked fs rf e room zs come
+    asked-full p q r = asked-rest false true true p q r
 
-      pub asked-none : any isNegative zs ≡ false → inOrderIn rf e room ≡ true → isFull (length e) room stay come ≡ false → value stay ≡ importAsked fs rf e room zs come
-      asked-none p q r = asked-rest false true false p q r
+    pub asked-none : any isNegative zs ≡ false → inOrderIn rf e room ≡ true → isFull (length e) room stay come ≡ false → value stay ≡ importAsked fs rf e room zs come
+    asked-none p q r = asked-rest false true false p q r
 
 -- what stays lies within the tables
 pub stay-in : (files : ℕ) (zs : List ℤ) (rf : RenamedFiles) (e : List ℕ) (room : ℕ) → inOrderIn rf e room ≡ true

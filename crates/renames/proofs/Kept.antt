@@ -14,9 +14,8 @@ use lib.Seq.{sets, sets-eq, length-sets, getD-drop, drop-drop, take-append-seam,
 use Rattle.types.specs.Refusals.{value, refused}
 use Rattle.tables.specs.declared.storage.FileStorage.{FileStorage}
 use Rattle.rules.specs.Rules.{outcomeOf}
-use Rattle.rules.specs.Bounds.{badLength}
+use Rattle.rules.specs.Bounds.{badLength, indexOf, isBelow}
 use Rattle.rules.proofs.Rules.{either-false}
-use Rattle.rules.specs.Bounds.{indexOf, isBelow}
 use Rattle.renames.specs.declared.rename.RenameMode.{RenameMode}
 use Rattle.renames.specs.declared.rename.RenameMode.the-variants.{FullPath, NoRootPath, AbsolutePath}
 use Rattle.renames.specs.declared.rename.RenamedFiles.{RenamedFiles}

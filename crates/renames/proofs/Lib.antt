@@ -1,13 +1,13 @@
--- Laws of renames: tables in order, places, changes, imports and questions. They rely on the laws of `lists`, `path`,
--- `storage`, `answers` and `names`.
+-- Laws of renames: tables in order, places, changes, imports, and renames read back. They rely on the laws of `lists` and
+-- `rules`.
 pub mod Ordered
 pub mod Places
 pub mod Splices
 pub mod Readings
 pub mod Changes
+pub mod Deciding
 pub mod Decisions
-pub mod Questions
-pub mod Paths
+pub mod Finding
 pub mod Rising
 pub mod Kept
 pub mod Numbers

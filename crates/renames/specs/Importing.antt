@@ -12,8 +12,7 @@ use Rattle.types.specs.Refusals.{Outcome}
 use Rattle.lists.specs.Lists.{any}
 use Rattle.tables.specs.declared.storage.FileStorage.{FileStorage}
 use Rattle.rules.specs.Rules.{when, firstOf, outcomeOf, both, either}
-use Rattle.rules.specs.Bounds.{badLength, isNegative}
-use Rattle.rules.specs.Bounds.{indexOf, isBelow}
+use Rattle.rules.specs.Bounds.{badLength, isNegative, indexOf, isBelow}
 use Rattle.renames.specs.declared.rename.RenamedFiles.{RenamedFiles}
 use Rattle.renames.specs.Renames.{Renamed, withRename}
 use Rattle.renames.specs.Changing.{inOrderIn}

@@ -7,8 +7,7 @@ use lib.ListN.{getD, take, drop}
 use Rattle.lists.specs.Lists.{any}
 use Rattle.tables.specs.declared.storage.FileStorage.{FileStorage}
 use Rattle.rules.specs.Rules.{when, firstOf}
-use Rattle.rules.specs.Bounds.{badLength, isNegative}
-use Rattle.rules.specs.Bounds.{indexOf, isBelow}
+use Rattle.rules.specs.Bounds.{badLength, isNegative, indexOf, isBelow}
 use Rattle.renames.specs.declared.rename.RenameMode.the-variants.{FullPath}
 use Rattle.renames.specs.declared.rename.RenamedFiles.{RenamedFiles}
 use Rattle.renames.specs.Renames.{Renamed, renamesOf, inOrder, withRename, lacksRoom, Changed, changedIf}

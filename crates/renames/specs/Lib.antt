@@ -1,9 +1,8 @@
--- The definitions that the contracts of `renames` cite. They rely on those of `path`, `tables`, `storage`, `answers` and
--- `names`.
+-- The definitions that the contracts of `renames` cite. They rely on those of `path`, `tables` and `rules`.
 pub mod Renames
 pub mod Places
 pub mod Changing
 pub mod Results
-pub mod Questions
+pub mod Finding
 pub mod Imports
 pub mod Importing

@@ -1,5 +1,4 @@
--- What each answer says: its value, or document 01's number. It relies on the numbers of refusals of `types` and on the places
--- of names in Questions.antt.
+-- What each answer says: its value, or document 01's number. It relies on the numbers of refusals of `types`.
 use Rattle.types.specs.Refusals.{numberOf, Outcome, value, refused}
 use Rattle.renames.specs.declared.rename.RenamedFiles.{RenamedFiles}
 use Rattle.renames.specs.declared.rename.RenamesResult.{RenamesResult}
@@ -7,9 +6,9 @@ use Rattle.renames.specs.declared.rename.RenamesResult.the-variants as r
 use Rattle.renames.specs.declared.rename.Rename.{Rename}
 use Rattle.renames.specs.declared.rename.RenameResult.{RenameResult}
 use Rattle.renames.specs.declared.rename.RenameResult.the-variants as one
-use Rattle.renames.specs.declared.rename.FileNameResult.{FileNameResult}
-use Rattle.renames.specs.declared.rename.FileNameResult.the-variants as name
-use Rattle.renames.specs.Questions.{NamePlace, inSet, inRenames}
+use Rattle.renames.specs.declared.rename.FindResult.{FindResult}
+use Rattle.renames.specs.declared.rename.FindResult.the-variants as find
+use Rattle.tables.specs.Model.{Optional, absent, present}
 
 abbrev pub renamesSays : RenamesResult → Outcome RenamedFiles
 renamesSays (renames.Ok rf) = value rf
@@ -19,8 +18,8 @@ abbrev pub renameSays : RenameResult → Outcome Rename
 renameSays (one.Ok r) = value r
 renameSays (one.Err e) = refused (numberOf e)
 
--- the text area that the answer names, and the place there
-abbrev pub nameSays : FileNameResult → Outcome NamePlace
-nameSays (name.InSet s) = value (inSet s)
-nameSays (name.InRenames s) = value (inRenames s)
-nameSays (name.Err e) = refused (numberOf e)
+-- the rename, or none
+abbrev pub findSays : FindResult → Outcome (Optional Rename)
+findSays (find.Renamed r) = value (present r)
+findSays find.Own = value absent
+findSays (find.Err e) = refused (numberOf e)

@@ -1,12 +1,10 @@
 // `rename_file`: a rename is decided first and written after. Relies on check.rt, place.rt and splice.rt, on
-// `answers` for the set's refusals and on the laws of proofs/Changes.antt and proofs/Decisions.antt.
+// `rules` for the set's refusals and on the laws of proofs/Changes.antt and proofs/Decisions.antt.
 ghost use mathlib.Core.Path.{_≡_};
 ghost use mathlib.Core.Bool.{true};
 ghost use Prim.Native.Nat.{_+_, _-_, _*_, _/_, _≤_};
 ghost use lib.ListN.{length};
 ghost use lib.Seq.{sets};
-ghost use Rattle.types.specs.Refusals.{usizeSays};
-ghost use Rattle.rules.specs.Questions.{askedFile};
 ghost use Rattle.renames.specs.Renames.{Changed, modeWord, modeFor, orderedFrom, renamesOf, withRename, wordsOf, textsOf, stateOf, renameFile};
 ghost use Rattle.renames.specs.Results.{renamesSays};
 ghost use Rattle.renames.specs.Places.{placeOf};
@@ -20,21 +18,10 @@ use crate::rename::RenamedFiles;
 use crate::rename::RenamesResult;
 use crate::splice::put_entry;
 use crate::splice::replace_text;
-use rules::I32Result;
 use tables::FileStorage;
 use types::FileIndex;
 use types::Refusal;
 use types::UsizeResult;
-
-// The number of a file, or why there is none.
-fn file_in(fs: FileStorage, index: FileIndex) -> UsizeResult
-    ensures { λ r. ⌜ usizeSays r ≡ askedFile fs (index .0) true (λ k. k) ⌝ }
-{
-    match answers::piece_length(fs) {
-        I32Result::Ok(_) => index.within(fs.num_files),
-        I32Result::Err(e) => UsizeResult::Err(e),
-    }
-}
 
 // Whether tables of so many words and bytes are too short for a text of `len` bytes at that place.
 fn is_short(renames: RenamedFiles, p: Place, words: usize, room: usize, len: usize) -> bool
@@ -58,7 +45,7 @@ fn place_in(
 ) -> PlaceResult
     ensures { λ r. ⌜ placeSays r ≡ placeAsked fs renames (now (entries .entry)) room (index .0) len ⌝ }
 {
-    match file_in(fs, index) {
+    match rules::file_in(fs, index, true) {
         UsizeResult::Ok(file) => {
             if !is_in_order(renames, entries, room) {
                 return PlaceResult::Err(Refusal::NoRoom);

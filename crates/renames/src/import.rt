@@ -16,7 +16,7 @@ use crate::keep::keep_texts;
 use crate::listed::has_negative;
 use crate::rename::RenamedFiles;
 use crate::rename::RenamesResult;
-use rules::I32Result;
+use rules::is_bad_length;
 use tables::FileStorage;
 use types::Refusal;
 
@@ -43,23 +43,21 @@ fn decide(
 ) -> RenamesResult
     ensures { λ r. ⌜ renamesSays r ≡ importAsked fs renames (now (entries .entry)) room (now (numbers .entry)) (stateOf (given (fs .«num_files») (now (numbers .entry)) (now (lengths .entry)) (now (names .entry)))) ⌝ }
 {
-    match answers::piece_length(fs) {
-        I32Result::Ok(_) => {
-            if has_negative(numbers) {
-                return RenamesResult::Err(Refusal::NoSuchFile);
-            }
-            if !is_in_order(renames, entries, room) {
-                return RenamesResult::Err(Refusal::NoRoom);
-            }
-            let stay = count_kept(renames, entries, numbers, fs.num_files);
-            let come = count_given(numbers, lengths, names, fs.num_files);
-            if is_full(entries.len(), room, stay, come) {
-                return RenamesResult::Err(Refusal::NoRoom);
-            }
-            RenamesResult::Ok(stay)
-        }
-        I32Result::Err(e) => RenamesResult::Err(e),
+    if is_bad_length(fs.piece_length) {
+        return RenamesResult::Err(Refusal::InvalidPieceLength);
     }
+    if has_negative(numbers) {
+        return RenamesResult::Err(Refusal::NoSuchFile);
+    }
+    if !is_in_order(renames, entries, room) {
+        return RenamesResult::Err(Refusal::NoRoom);
+    }
+    let stay = count_kept(renames, entries, numbers, fs.num_files);
+    let come = count_given(numbers, lengths, names, fs.num_files);
+    if is_full(entries.len(), room, stay, come) {
+        return RenamesResult::Err(Refusal::NoRoom);
+    }
+    RenamesResult::Ok(stay)
 }
 
 // Records other paths for many files, or why not: number i and the name of `lengths[i]` bytes, the names one

@@ -36,9 +36,9 @@ pub enum RenameResult {
     Err(Refusal),
 }
 
-// The place of a file's name in the set's text area, or in that of the renames, or why there is none.
-pub enum FileNameResult {
-    InSet(Span),
-    InRenames(Span),
+// The rename of a file, or none where the file goes by its own path, or why that is not said.
+pub enum FindResult {
+    Renamed(Rename),
+    Own,
     Err(Refusal),
 }

@@ -1,7 +1,7 @@
 -- `names::decide::is_led` meets its contract.
 use mathlib.Core.Path.{_≡_, sym, _∙_}
 use mathlib.Core.Bool.{true, false}
-use Rattle.answers.specs.Answers.{isInside}
+use Rattle.tables.specs.Rows.{isInside}
 use borrow.Author.Needs.{needs}
 use Rattle.names.proofs.decide.is_led.Statement.{statement}
 use Rattle.names.proofs.decide.is_led.Tie as tie

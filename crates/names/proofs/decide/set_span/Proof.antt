@@ -2,8 +2,7 @@
 use mathlib.Core.Path.{_≡_, sym, _∙_}
 use mathlib.Core.Bool.{true, false, not}
 use Rattle.rules.specs.Rules.{both}
-use Rattle.tables.specs.Rows.{has}
-use Rattle.answers.specs.Answers.{isInside}
+use Rattle.tables.specs.Rows.{has, isInside}
 use borrow.Author.Needs.{needs}
 use Rattle.names.proofs.decide.set_span.Statement.{statement}
 use Rattle.names.proofs.decide.set_span.Tie as tie

@@ -4,9 +4,8 @@ use mathlib.Core.Path.{_≡_, ap, _∙_}
 use mathlib.Core.Bool.{cond, not}
 use mathlib.Core.List.{List, [], _∷_, _++_, map}
 use Rattle.rules.specs.Rules.{both}
-use Rattle.tables.specs.Rows.{has}
+use Rattle.tables.specs.Rows.{has, isAbsolute, isInside}
 use Rattle.tables.specs.Span.{textAt}
-use Rattle.answers.specs.Answers.{isAbsolute, isInside}
 use Rattle.crc32c.specs.Crc.{crcFrom, lower}
 use Rattle.names.specs.Paths.{led, nameOf, hashOf}
 use Rattle.names.proofs.Paths.{dirSpan, hashed-is, hash-four}

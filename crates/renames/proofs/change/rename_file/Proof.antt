@@ -9,7 +9,6 @@ use Rattle.rules.specs.Bounds.{indexOf}
 use Rattle.renames.specs.declared.rename.RenameMode.{RenameMode}
 use Rattle.renames.specs.Renames.{Renamed, stateOf, wordsOf, textsOf, withRename, renamesOf}
 use Rattle.renames.specs.Changing.{placeSays, placeAsked}
-use Rattle.names.proofs.Deciding.{index-is}
 use Rattle.renames.proofs.Decisions.{place-known, place-changed, place-refused}
 use borrow.Author.Needs.{needs}
 use Rattle.renames.proofs.change.rename_file.Statement.{statement}
@@ -20,7 +19,7 @@ place-is : (c : tie.After-place) → let a = c .before .before .before .before .
 place-is c = ap placeSays (sym (c .place .given .1)) ∙ c .before .before .place-in .ensures
 
 file-is : (c : tie.After-get) → c .get .result ≡ indexOf (c .before .before .before .before .before .before .before .before .before .before .before .args .index .0)
-file-is c = c .get .ensures ∙ index-is (c .before .before .before .before .before .before .before .before .before .before .before .args .index .0)
+file-is c = c .get .ensures
 
 -- the rename that is written is the file's, with the name's mode
 same-rename : (i i′ : ℕ) (m m′ : RenameMode) (name : List ℕ) → i ≡ i′ → m ≡ m′

@@ -1,16 +1,12 @@
 -- `renames::import::decide` meets its contract.
-use Prim.Native.Nat.{_%_, _^_}
 use mathlib.Core.Path.{_≡_, sym, ap, _∙_}
 use mathlib.Core.Bool.{true, false}
 use native.Mathlib.Omega.{arith}
 use borrow.Author.Tests.{not-true, not-false}
-use lib.IntN.{ℤ, pos}
 use lib.ListN.{length}
 use Rattle.lists.specs.Lists.{any}
-use Rattle.types.specs.Refusals.{numberOf, value}
-use Rattle.rules.specs.Bounds.{isNegative}
-use Rattle.rules.specs.Questions.{askedSet}
-use Rattle.rules.specs.Results.{i32Says}
+use Rattle.types.specs.Refusals.{value}
+use Rattle.rules.specs.Bounds.{badLength, isNegative}
 use Rattle.renames.specs.declared.rename.RenamedFiles.{RenamedFiles}
 use Rattle.renames.specs.Renames.{stateOf}
 use Rattle.renames.specs.Changing.{inOrderIn}
@@ -20,58 +16,58 @@ use borrow.Author.Needs.{needs}
 use Rattle.renames.proofs.import.decide.Statement.{statement}
 use Rattle.renames.proofs.import.decide.Tie as tie
 
--- what comes, and the set's answer
+-- what comes
 abbrev come : tie.Start → RenamedFiles
 come s = stateOf (given (s .args .fs .«num_files») (s .args .numbers .now) (s .args .lengths .now) (s .args .names .now))
 
-abbrev answer : tie.Start → ℤ
-answer s = pos (s .args .fs .«piece_length» % 2 ^ 31)
-
 -- the set's piece length is good
-good-is : (c : tie.After-enum-told) → value (c .enum-told .given .0 .0) ≡ askedSet (c .before .before .before .before .before .before .args .fs) (answer (c .before .before .before .before .before .before))
-good-is c = sym (ap i32Says (c .enum-told .given .1)) ∙ c .before .before .piece-length .ensures
+good-is : (c : tie.Else1) → badLength (c .before .before .before .before .before .args .fs .«piece_length») ≡ false
+good-is c = sym (c .before .is-bad-length .ensures) ∙ c .if1 .left
 
 -- no number is below 0
-none-is : (c : tie.Else1) → any isNegative (c .before .before .before .before .before .before .before .before .args .numbers .now) ≡ false
-none-is c = sym (c .before .has-negative .ensures) ∙ c .if1 .left
+none-is : (c : tie.Else2) → any isNegative (c .before .before .before .before .before .before .before .args .numbers .now) ≡ false
+none-is c = sym (c .before .has-negative .ensures) ∙ c .if2 .left
 
 -- the tables are in order
-order-is : (c : tie.Else2) → inOrderIn (c .before .before .before .before .before .before .before .before .before .before .args .renames) (c .before .before .before .before .before .before .before .before .before .before .args .entries .now) (c .before .before .before .before .before .before .before .before .before .before .args .room) ≡ true
-order-is c = sym (c .before .is-in-order .ensures) ∙ not-false _ (c .if2 .left)
+order-is : (c : tie.Else3) → let a = c .before .before .before .before .before .before .before .before .before .args in inOrderIn (a .renames) (a .entries .now) (a .room) ≡ true
+order-is c = sym (c .before .is-in-order .ensures) ∙ not-false _ (c .if3 .left)
 
 -- whether they are too short
-full-is : (c : tie.After-is-full) → isFull (length (c .before .before .before .before .before .before .before .before .before .before .before .before .before .args .entries .now)) (c .before .before .before .before .before .before .before .before .before .before .before .before .before .args .room) (keptState (c .before .before .before .before .before .before .before .before .before .before .before .before .before .args .fs .«num_files») (c .before .before .before .before .before .before .before .before .before .before .before .before .before .args .numbers .now) (c .before .before .before .before .before .before .before .before .before .before .before .before .before .args .renames) (c .before .before .before .before .before .before .before .before .before .before .before .before .before .args .entries .now)) (come (c .before .before .before .before .before .before .before .before .before .before .before .before .before)) ≡ c .is-full .result
+full-is : (c : tie.After-is-full) → let s = c .before .before .before .before .before .before .before .before .before .before .before .before in let a = s .args in isFull (length (a .entries .now)) (a .room) (keptState (a .fs .«num_files») (a .numbers .now) (a .renames) (a .entries .now)) (come s) ≡ c .is-full .result
 full-is c =
-    let a = c .before .before .before .before .before .before .before .before .before .before .before .before .before .args in
-    ap (λ (x : RenamedFiles). isFull (length (a .entries .now)) (a .room) x (come (c .before .before .before .before .before .before .before .before .before .before .before .before .before))) (sym (c .before .before .count-kept .ensures))
+    let s = c .before .before .before .before .before .before .before .before .before .before .before .before in
+    let a = s .args in
+    ap (λ (x : RenamedFiles). isFull (length (a .entries .now)) (a .room) x (come s)) (sym (c .before .before .count-kept .ensures))
     ∙ ap (λ (x : RenamedFiles). isFull (length (a .entries .now)) (a .room) (c .before .before .count-kept .result) x) (sym (c .before .count-given .ensures))
     ∙ sym (c .is-full .ensures)
 
-piece-length-requires : tie.Need-piece-length-requires
-piece-length-requires c κs = search needs
+is-bad-length-requires : tie.Need-is-bad-length-requires
+is-bad-length-requires c κs = search needs
 
-enum-told : tie.Need-enum-told
-enum-told c = search needs
+returns : tie.Need-returns
+returns c =
+    let s = c .before .before .before .before .before in
+    asked-ill (s .args .fs) (s .args .renames) (s .args .entries .now) (s .args .room) (s .args .numbers .now) (come s) (sym (c .before .is-bad-length .ensures) ∙ c .if1 .taken)
 
 has-negative-requires : tie.Need-has-negative-requires
 has-negative-requires c κs = search needs
 
-returns : tie.Need-returns
-returns c =
-    let s = c .before .before .before .before .before .before .before .before in
-    asked-negative (s .args .fs) (s .args .renames) (s .args .entries .now) (s .args .room) (s .args .numbers .now) (come s) (answer s) _ (good-is (c .before .before)) (sym (c .before .has-negative .ensures) ∙ c .if1 .taken)
+returns-2 : tie.Need-returns-2
+returns-2 c =
+    let s = c .before .before .before .before .before .before .before in
+    asked-negative (s .args .fs) (s .args .renames) (s .args .entries .now) (s .args .room) (s .args .numbers .now) (come s) (good-is (c .before .before)) (sym (c .before .has-negative .ensures) ∙ c .if2 .taken)
 
 is-in-order-requires : tie.Need-is-in-order-requires
 is-in-order-requires c κs = search needs
 
-returns-2 : tie.Need-returns-2
-returns-2 c =
-    let s = c .before .before .before .before .before .before .before .before .before .before in
-    asked-disorder (s .args .fs) (s .args .renames) (s .args .entries .now) (s .args .room) (s .args .numbers .now) (come s) (answer s) _ (good-is (c .before .before .before .before)) (none-is (c .before .before)) (sym (c .before .is-in-order .ensures) ∙ not-true _ (c .if2 .taken))
+returns-3 : tie.Need-returns-3
+returns-3 c =
+    let s = c .before .before .before .before .before .before .before .before .before in
+    asked-disorder (s .args .fs) (s .args .renames) (s .args .entries .now) (s .args .room) (s .args .numbers .now) (come s) (good-is (c .before .before .before .before)) (none-is (c .before .before)) (sym (c .before .is-in-order .ensures) ∙ not-true _ (c .if3 .taken))
 
 count-kept-requires : tie.Need-count-kept-requires
 count-kept-requires c κs =
-    let a = c .before .before .before .before .before .before .before .before .before .before .args in
+    let a = c .before .before .before .before .before .before .before .before .before .args in
     let k = stay-in (a .fs .«num_files») (a .numbers .now) (a .renames) (a .entries .now) (a .room) (order-is c) in
     (k .0, omega (arith, k .1))
 
@@ -80,42 +76,32 @@ count-given-requires c κs = search needs
 
 is-full-requires : tie.Need-is-full-requires
 is-full-requires c κs =
-    let a = c .before .before .before .before .before .before .before .before .before .before .before .before .args in
+    let a = c .before .before .before .before .before .before .before .before .before .before .before .args in
     let k = stay-in (a .fs .«num_files») (a .numbers .now) (a .renames) (a .entries .now) (a .room) (order-is (c .before .before)) in
     rw (c .before .count-kept .ensures) (k .2, k .3)
 
-returns-3 : tie.Need-returns-3
-returns-3 c =
-    let s = c .before .before .before .before .before .before .before .before .before .before .before .before .before .before in
-    asked-full (s .args .fs) (s .args .renames) (s .args .entries .now) (s .args .room) (s .args .numbers .now) (come s) (answer s) _ (good-is (c .before .before .before .before .before .before .before .before)) (none-is (c .before .before .before .before .before .before)) (order-is (c .before .before .before .before)) (full-is (c .before) ∙ c .if3 .taken)
-
-enum-known-e : tie.Need-enum-known-e
-enum-known-e c = search needs
-
 returns-4 : tie.Need-returns-4
 returns-4 c =
-    let s = c .before .before .before .before .before .before .before .before .before .before .before .before .before .before in
-    ap value (c .before .before .before .count-kept .ensures) ∙ asked-none (s .args .fs) (s .args .renames) (s .args .entries .now) (s .args .room) (s .args .numbers .now) (come s) (answer s) _ (good-is (c .before .before .before .before .before .before .before .before)) (none-is (c .before .before .before .before .before .before)) (order-is (c .before .before .before .before)) (full-is (c .before) ∙ c .if3 .left)
+    let s = c .before .before .before .before .before .before .before .before .before .before .before .before .before in
+    asked-full (s .args .fs) (s .args .renames) (s .args .entries .now) (s .args .room) (s .args .numbers .now) (come s) (good-is (c .before .before .before .before .before .before .before .before)) (none-is (c .before .before .before .before .before .before)) (order-is (c .before .before .before .before)) (full-is (c .before) ∙ c .if4 .taken)
 
 returns-5 : tie.Need-returns-5
 returns-5 c =
-    let s = c .before .before .before .before .before .before .before in
-    asked-ill (s .args .fs) (s .args .renames) (s .args .entries .now) (s .args .room) (s .args .numbers .now) (come s) (answer s) (numberOf (c .before .e .given .0 .0)) (ap i32Says (sym (c .before .e .given .1)) ∙ c .before .before .before .piece-length .ensures)
+    let s = c .before .before .before .before .before .before .before .before .before .before .before .before .before in
+    ap value (c .before .before .before .count-kept .ensures) ∙ asked-none (s .args .fs) (s .args .renames) (s .args .entries .now) (s .args .room) (s .args .numbers .now) (come s) (good-is (c .before .before .before .before .before .before .before .before)) (none-is (c .before .before .before .before .before .before)) (order-is (c .before .before .before .before)) (full-is (c .before) ∙ c .if4 .left)
 
 pub decide-spec : {M : Type 1} → statement M
 decide-spec =
     tie.close
     (tie.spec
-    piece-length-requires
-    enum-told
-    has-negative-requires
+    is-bad-length-requires
     returns
-    is-in-order-requires
+    has-negative-requires
     returns-2
+    is-in-order-requires
+    returns-3
     count-kept-requires
     count-given-requires
     is-full-requires
-    returns-3
-    enum-known-e
     returns-4
     returns-5)

@@ -2,13 +2,12 @@
 use mathlib.Core.Path.{_≡_, ap, _∙_}
 use native.Mathlib.Omega.{arith}
 use Rattle.rules.specs.Bounds.{indexOf}
-use Rattle.names.proofs.Deciding.{index-is}
 use borrow.Author.Needs.{needs}
 use Rattle.renames.proofs.listed.file_at.Statement.{statement}
 use Rattle.renames.proofs.listed.file_at.Tie as tie
 
 file-is : (c : tie.After-get) → c .get .result ≡ indexOf (c .before .index-at .result .0)
-file-is c = c .get .ensures ∙ index-is (c .before .index-at .result .0)
+file-is c = c .get .ensures
 
 index-at-requires : tie.Need-index-at-requires
 index-at-requires c κs = search needs

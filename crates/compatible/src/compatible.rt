@@ -1,0 +1,231 @@
+// Whether two sets have the same layout and names. Relies on walk.rt to compare composed paths, and on
+// `names` for the parts of a file's path.
+ghost use mathlib.Core.Path.{_≡_};
+ghost use mathlib.Core.Bool.{cond};
+ghost use mathlib.Core.List.{[]};
+ghost use Rattle.lists.specs.Lists.{equal};
+ghost use Rattle.tables.specs.Rows.{has};
+ghost use Rattle.rules.specs.Results.{boolSays};
+ghost use Rattle.answers.specs.Answers.{symlinkPath};
+ghost use Rattle.names.specs.Paths.{filePath, namesHeld};
+ghost use Rattle.compatible.specs.Compatible.{isRelevant, sameNamed, sameFile, sameFrom, compatible, filesCompatible};
+use crate::walk::same_composed;
+use names::are_held;
+use names::set_span;
+use rules::BoolResult;
+use rules::is_bad_length;
+use tables::FileStorage;
+use tables::Row;
+use tables::Span;
+use tables::directory_span;
+use types::Refusal;
+
+// Whether the lent tables have as many places as the set counts.
+fn is_held(fs: FileStorage, rows: &[u64], dirs: &[u64], text: &[u8]) -> bool
+    ensures { λ r. ⌜ r ≡ namesHeld fs (now (rows .entry)) (now (dirs .entry)) (now (text .entry)) ⌝ }
+{
+    if rows.len() / 8 < fs.num_files {
+        return false;
+    }
+    are_held(fs, dirs.len(), text.len())
+}
+
+// A span, or nowhere where the file holds no link text.
+fn link_span(flags: u64, place: Span) -> Span
+    ensures { λ r. ⌜ r ≡ cond (has flags 16) place (record { at = 0; len = 0 }) ⌝ }
+{
+    if tables::holds_link(flags) {
+        return place;
+    }
+    Span { at: 0, len: 0 }
+}
+
+// Whether the files with those rows have the same path.
+fn same_path(
+    a: FileStorage,
+    dirs_a: &[u64],
+    text_a: &[u8],
+    row_a: Row,
+    b: FileStorage,
+    dirs_b: &[u64],
+    text_b: &[u8],
+    row_b: Row,
+) -> bool
+    ensures { λ r. ⌜ r ≡ equal (filePath a (now («dirs_a» .entry)) (now («text_a» .entry)) [] «row_a») (filePath b (now («dirs_b» .entry)) (now («text_b» .entry)) [] «row_b») ⌝ }
+{
+    let set_a = tables::text_at(text_a, set_span(a, row_a));
+    let directory_a = tables::text_at(text_a, directory_span(dirs_a, row_a));
+    let name_a = tables::text_at(text_a, row_a.name);
+    let set_b = tables::text_at(text_b, set_span(b, row_b));
+    let directory_b = tables::text_at(text_b, directory_span(dirs_b, row_b));
+    let name_b = tables::text_at(text_b, row_b.name);
+    same_composed(set_a, directory_a, name_a, set_b, directory_b, name_b)
+}
+
+// Whether the links of the files with those rows lead to the same path.
+fn same_link(
+    a: FileStorage,
+    text_a: &[u8],
+    row_a: Row,
+    b: FileStorage,
+    text_b: &[u8],
+    row_b: Row,
+) -> bool
+    ensures { λ r. ⌜ r ≡ equal (symlinkPath a (now («text_a» .entry)) «row_a») (symlinkPath b (now («text_b» .entry)) «row_b») ⌝ }
+{
+    let set_a = tables::text_at(text_a, link_span(row_a.flags, a.name));
+    let link_a = tables::text_at(text_a, link_span(row_a.flags, row_a.link));
+    let set_b = tables::text_at(text_b, link_span(row_b.flags, b.name));
+    let link_b = tables::text_at(text_b, link_span(row_b.flags, row_b.link));
+    same_composed(b"", set_a, link_a, b"", set_b, link_b)
+}
+
+// Whether a file is no pad and not empty.
+fn is_relevant(row: Row) -> bool
+    ensures { λ r. ⌜ r ≡ isRelevant row ⌝ }
+{
+    if tables::is_pad(row.flags) {
+        return false;
+    }
+    0 < row.size
+}
+
+// Whether size, path and offset are the same, and so is the link where the first is flagged as one.
+fn same_named(
+    a: FileStorage,
+    dirs_a: &[u64],
+    text_a: &[u8],
+    row_a: Row,
+    b: FileStorage,
+    dirs_b: &[u64],
+    text_b: &[u8],
+    row_b: Row,
+) -> bool
+    ensures { λ r. ⌜ r ≡ sameNamed (record { fs = a; rows = []; dirs = now («dirs_a» .entry); text = now («text_a» .entry) }) (record { fs = b; rows = []; dirs = now («dirs_b» .entry); text = now («text_b» .entry) }) «row_a» «row_b» ⌝ }
+{
+    if row_a.size != row_b.size {
+        return false;
+    }
+    if !same_path(a, dirs_a, text_a, row_a, b, dirs_b, text_b, row_b) {
+        return false;
+    }
+    if row_a.offset != row_b.offset {
+        return false;
+    }
+    if tables::is_symlink(row_a.flags) {
+        return same_link(a, text_a, row_a, b, text_b, row_b);
+    }
+    true
+}
+
+// Whether both files count or neither does, and where they count they are the same.
+fn same_file(
+    a: FileStorage,
+    dirs_a: &[u64],
+    text_a: &[u8],
+    row_a: Row,
+    b: FileStorage,
+    dirs_b: &[u64],
+    text_b: &[u8],
+    row_b: Row,
+) -> bool
+    ensures { λ r. ⌜ r ≡ sameFile (record { fs = a; rows = []; dirs = now («dirs_a» .entry); text = now («text_a» .entry) }) (record { fs = b; rows = []; dirs = now («dirs_b» .entry); text = now («text_b» .entry) }) «row_a» «row_b» ⌝ }
+{
+    if !is_relevant(row_a) {
+        return !is_relevant(row_b);
+    }
+    if !is_relevant(row_b) {
+        return false;
+    }
+    same_named(a, dirs_a, text_a, row_a, b, dirs_b, text_b, row_b)
+}
+
+// Whether each of the first n files is the same as that of its number in the second set.
+fn same_files(
+    n: usize,
+    a: FileStorage,
+    rows_a: &[u64],
+    dirs_a: &[u64],
+    text_a: &[u8],
+    b: FileStorage,
+    rows_b: &[u64],
+    dirs_b: &[u64],
+    text_b: &[u8],
+) -> bool
+    ensures { λ r. ⌜ r ≡ sameFrom n 0 (record { fs = a; rows = now («rows_a» .entry); dirs = now («dirs_a» .entry); text = now («text_a» .entry) }) (record { fs = b; rows = now («rows_b» .entry); dirs = now («dirs_b» .entry); text = now («text_b» .entry) }) ⌝ }
+{
+    let mut k = 0;
+    while k < n {
+        let row_a = tables::row_at(rows_a, k);
+        let row_b = tables::row_at(rows_b, k);
+        if !same_file(a, dirs_a, text_a, row_a, b, dirs_b, text_b, row_b) {
+            return false;
+        }
+        k += 1;
+    }
+    true
+}
+
+// Whether counts, totals and piece lengths are the same, and each file is.
+fn are_compatible(
+    a: FileStorage,
+    rows_a: &[u64],
+    dirs_a: &[u64],
+    text_a: &[u8],
+    b: FileStorage,
+    rows_b: &[u64],
+    dirs_b: &[u64],
+    text_b: &[u8],
+) -> bool
+    ensures { λ r. ⌜ r ≡ compatible (record { fs = a; rows = now («rows_a» .entry); dirs = now («dirs_a» .entry); text = now («text_a» .entry) }) (record { fs = b; rows = now («rows_b» .entry); dirs = now («dirs_b» .entry); text = now («text_b» .entry) }) ⌝ }
+{
+    if a.num_files != b.num_files {
+        return false;
+    }
+    if a.total_size != b.total_size {
+        return false;
+    }
+    if a.piece_length != b.piece_length {
+        return false;
+    }
+    same_files(
+        a.num_files,
+        a,
+        rows_a,
+        dirs_a,
+        text_a,
+        b,
+        rows_b,
+        dirs_b,
+        text_b,
+    )
+}
+
+// Whether two sets have the same layout and names, pads and empty files aside; not symmetric, since a link
+// is compared only where the first set flags it as one.
+pub fn files_compatible(
+    a: FileStorage,
+    rows_a: &[u64],
+    dirs_a: &[u64],
+    text_a: &[u8],
+    b: FileStorage,
+    rows_b: &[u64],
+    dirs_b: &[u64],
+    text_b: &[u8],
+) -> BoolResult
+    ensures { λ r. ⌜ boolSays r ≡ filesCompatible (record { fs = a; rows = now («rows_a» .entry); dirs = now («dirs_a» .entry); text = now («text_a» .entry) }) (record { fs = b; rows = now («rows_b» .entry); dirs = now («dirs_b» .entry); text = now («text_b» .entry) }) ⌝ }
+{
+    if is_bad_length(a.piece_length) {
+        return BoolResult::Err(Refusal::InvalidPieceLength);
+    }
+    if is_bad_length(b.piece_length) {
+        return BoolResult::Err(Refusal::InvalidPieceLength);
+    }
+    if !is_held(a, rows_a, dirs_a, text_a) {
+        return BoolResult::Err(Refusal::NoRoom);
+    }
+    if !is_held(b, rows_b, dirs_b, text_b) {
+        return BoolResult::Err(Refusal::NoRoom);
+    }
+    BoolResult::Ok(are_compatible(a, rows_a, dirs_a, text_a, b, rows_b, dirs_b, text_b))
+}

@@ -1,0 +1,53 @@
+-- How `all_path_hashes` finds its hashes in order without work space of its own: hashes at or above a bound are put into a
+-- table, each in its place, and what there is no room for falls off behind. All of it is about lists of numbers; it relies on
+-- Hashes.antt for what is due.
+use Prim.Native.Nat.{ℕ, suc, _+_, _≤_, min}
+use mathlib.Core.Path.{_≡_}
+use mathlib.Core.Bool.{cond}
+use mathlib.Core.List.{List, [], _∷_, map}
+use lib.Dec.{ltb}
+use lib.ListN.{length, take}
+use lib.Seq.{sets}
+use Rattle.crc32c.specs.Crc.{crcFrom, lower}
+use Rattle.tables.specs.Span.{textAt}
+use Rattle.tables.specs.Rows.{dirAt}
+use Rattle.tables.specs.Model.{tabled}
+use Rattle.hashes.specs.Hashes.{beginnings, joinedLists, inserted}
+
+-- those at or above b
+abbrev pub above : ℕ → List ℕ → List ℕ
+above b [] = []
+above b (h ∷ hs) = cond (ltb h b) (above b hs) (h ∷ above b hs)
+
+-- xs, and those of some hashes that are at or above b put into it, one after the other
+abbrev pub gathered : ℕ → List ℕ → List ℕ → List ℕ
+gathered b [] xs = xs
+gathered b (h ∷ hs) xs = gathered b hs (cond (ltb h b) xs (inserted h xs))
+
+-- how many stand below h before one that does not
+abbrev pub belowCount : ℕ → List ℕ → ℕ
+belowCount h [] = 0
+belowCount h (x ∷ xs) = cond (ltb x h) (suc (belowCount h xs)) 0
+
+-- each is above the one before it, and the first is at or above b
+abbrev pub Rising : ℕ → List ℕ → Type 0
+Rising b [] = Unit
+Rising b (x ∷ xs) = (b ≤ x) × Rising (x + 1) xs
+
+-- a table whose first n places hold numbers that rise
+pub record Begun (n : ℕ) (table : List ℕ) : Type 0 where
+  pub within : n ≤ length table
+  pub rising : Rising 0 (take n table)
+
+-- `after` is the table with the numbers xs in its first places, as many of them as there is room for, and n is how many
+pub record Holds (table xs after : List ℕ) (n : ℕ) : Type 0 where
+  pub stored : after ≡ sets table 0 xs
+  pub count : n ≡ min (length table) (length xs)
+
+-- the hashes of a directory's beginnings, from the hash of what stands before the directory
+abbrev pub hashesBehind : ℕ → List ℕ → List ℕ
+hashesBehind state d = map (λ (b : List ℕ). crcFrom state (map lower b)) (beginnings d)
+
+-- those of the first n directories
+abbrev pub hashesWithin : ℕ → List ℕ → List ℕ → ℕ → List ℕ
+hashesWithin state dirs text n = joinedLists (map (hashesBehind state) (tabled n (λ i. textAt text (dirAt dirs i))))

@@ -1,0 +1,90 @@
+// A file's whole path through its rename, composed into a lent buffer. Relies on `renames` for the rename, on
+// `names` and `path` for joins and on the laws of proofs/Paths.antt.
+ghost use mathlib.Core.Path.{_≡_};
+ghost use Rattle.types.specs.Refusals.{usizeSays};
+ghost use Rattle.rules.specs.Rules.{both};
+ghost use Rattle.path.specs.Join.{Joined};
+ghost use Rattle.rules.specs.Questions.{askedFile};
+ghost use Rattle.rules.specs.Composed.{composedIf};
+ghost use Rattle.names.specs.Paths.{namesHeld};
+ghost use Rattle.renames.specs.Renames.{inOrder};
+ghost use Rattle.renames.specs.Results.{findSays};
+ghost use Rattle.renames.specs.Finding.{renameFound};
+ghost use Rattle.renamed.specs.Questions.{pathBy, pathInto};
+use names::are_held;
+use renames::FindResult;
+use renames::RenameMode;
+use renames::RenamedFiles;
+use renames::find_rename;
+use tables::FileStorage;
+use types::FileIndex;
+use types::UsizeResult;
+
+// The rename of a file, if it has one, or why a question about the file's path isn't answered.
+fn find_through(
+    fs: FileStorage,
+    rows: &[u64],
+    dirs: &[u64],
+    text: &[u8],
+    renames: RenamedFiles,
+    entries: &[u64],
+    names: &[u8],
+    index: FileIndex,
+) -> FindResult
+    ensures { λ r. ⌜ findSays r ≡
+        askedFile fs (index .0)
+        (both (namesHeld fs (now (rows .entry)) (now (dirs .entry)) (now (text .entry)))
+        (inOrder renames (now (entries .entry)) (now (names .entry))))
+        (renameFound renames (now (entries .entry))) ⌝ }
+{
+    let held = are_held(fs, dirs.len(), text.len());
+    match names::file_in(fs, rows, index, held) {
+        UsizeResult::Ok(k) => find_rename(renames, entries, names.len(), k as u64),
+        UsizeResult::Err(e) => FindResult::Err(e),
+    }
+}
+
+// Writes the path that a rename's text is read as.
+fn put_renamed(
+    mode: RenameMode,
+    save_path: &[u8],
+    set: &[u8],
+    name: &[u8],
+    buf: &mut [u8],
+) -> UsizeResult
+    ensures { λ r. ⌜ _≡_ {A = Joined} (record { says = usizeSays r; buf = now (buf .exit) }) (composedIf 0 (pathBy mode (now («save_path» .entry)) (now (set .entry)) (now (name .entry))) (now (buf .entry))) ⌝ }
+{
+    match mode {
+        RenameMode::FullPath => names::compose_path(save_path, set, b"", name, buf),
+        RenameMode::NoRootPath => path::join_path(save_path, name, buf),
+        RenameMode::AbsolutePath => path::join_path(b"", name, buf),
+    }
+}
+
+// The whole path of a file through its rename, behind a save path, in `buf`.
+pub fn file_path(
+    fs: FileStorage,
+    rows: &[u64],
+    dirs: &[u64],
+    text: &[u8],
+    renames: RenamedFiles,
+    entries: &[u64],
+    names: &[u8],
+    index: FileIndex,
+    save_path: &[u8],
+    buf: &mut [u8],
+) -> UsizeResult
+    ensures { λ r. ⌜ _≡_ {A = Joined} (record { says = usizeSays r; buf = now (buf .exit) }) (pathInto fs (now (rows .entry)) (now (dirs .entry)) (now (text .entry)) renames (now (entries .entry)) (now (names .entry)) (index .0) (now («save_path» .entry)) (now (buf .entry))) ⌝ }
+{
+    let found = find_through(fs, rows, dirs, text, renames, entries, names, index);
+    match found {
+        FindResult::Renamed(rename) => {
+            let mode = rename.mode;
+            let set = tables::text_at(text, fs.name);
+            let name = tables::text_at(names, rename.name);
+            put_renamed(mode, save_path, set, name, buf)
+        }
+        FindResult::Own => names::file_path(fs, rows, dirs, text, index, save_path, buf),
+        FindResult::Err(e) => UsizeResult::Err(e),
+    }
+}
