@@ -40,7 +40,7 @@ pub record SizesIn (n total size : ℕ) : Type 0 where
 
 pub sizes-in : (n total : ℕ) (negative : Bool) (size : ℕ) → 0 ≡ firstOf (sizeRules n total negative size) → SizesIn n total size
 sizes-in n total negative size e =
-    let p = passed (sizeRules n total negative size) (refl, (refl, (refl, (refl, tt)))) e in
+    let p = passed (sizeRules n total negative size) refl e in
     record {
       length = length-in n (p .0) .0;
       file = ltb-false limit size (p .1 .1 .0);
@@ -74,25 +74,25 @@ module _ (fs : FileStorage) (given : Optional (List ℕ)) (parts : PathParts) (z
   result = outcomeOf (firstOf (numberRules fs given parts z link root)) (sizesFor fs z link root)
 
   pub stop-size : (e : Refusal) → numberOf e ≡ firstOf sized → refused (numberOf e) ≡ result
-  stop-size e k = stopped sized (named ++ (kinds ++ padded)) e (sizesFor fs z link root) (refl, (refl, (refl, (refl, tt)))) k
+  stop-size e k = stopped sized (named ++ (kinds ++ padded)) e (sizesFor fs z link root) refl k
 
   module _ (p : 0 ≡ firstOf sized) where
     past-size : firstOf (numberRules fs given parts z link root) ≡ firstOf (named ++ (kinds ++ padded))
-    past-size = after sized (named ++ (kinds ++ padded)) (refl, (refl, (refl, (refl, tt)))) p
+    past-size = after sized (named ++ (kinds ++ padded)) refl p
 
     pub stop-name : (e : Refusal) → numberOf e ≡ firstOf named → refused (numberOf e) ≡ result
-    stop-name e k = rw past-size (stopped named (kinds ++ padded) e (sizesFor fs z link root) (refl, (refl, (refl, tt))) k)
+    stop-name e k = rw past-size (stopped named (kinds ++ padded) e (sizesFor fs z link root) refl k)
 
     module _ (q : 0 ≡ firstOf named) where
       past-name : firstOf (numberRules fs given parts z link root) ≡ firstOf (kinds ++ padded)
-      past-name = past-size ∙ after named (kinds ++ padded) (refl, (refl, (refl, tt))) q
+      past-name = past-size ∙ after named (kinds ++ padded) refl q
 
       pub stop-kind : (e : Refusal) → numberOf e ≡ firstOf kinds → refused (numberOf e) ≡ result
-      stop-kind e k = rw past-name (stopped kinds padded e (sizesFor fs z link root) (refl, (refl, tt)) k)
+      stop-kind e k = rw past-name (stopped kinds padded e (sizesFor fs z link root) refl k)
 
       module _ (r : 0 ≡ firstOf kinds) where
         past-kind : firstOf (numberRules fs given parts z link root) ≡ firstOf padded
-        past-kind = past-name ∙ after kinds padded (refl, (refl, tt)) r
+        past-kind = past-name ∙ after kinds padded refl r
 
         pub stop-pad : limit < fs .«total_size» + sizeOf z + sizesFor fs z link root .pad → refused 4 ≡ result
         stop-pad h = rw (past-kind, lt-ltb limit (fs .«total_size» + sizeOf z + sizesFor fs z link root .pad) h)
@@ -104,7 +104,7 @@ module _ (fs : FileStorage) (given : Optional (List ℕ)) (parts : PathParts) (z
 pub sum-in : (fs : FileStorage) (given : Optional (List ℕ)) (parts : PathParts) (z : ℤ) (link : List ℕ) (root : Bool) (x : Sizes)
     → x ≡ sizesFor fs z link root → firstOf (numberRules fs given parts z link root) ≡ 0 → fs .«total_size» + x .size + x .pad ≤ limit
 sum-in fs given parts z link root x q e =
-    let p = passed (numberRules fs given parts z link root) (refl, (refl, (refl, (refl, (refl, (refl, (refl, (refl, (refl, (refl, tt)))))))))) (sym e) in
+    let p = passed (numberRules fs given parts z link root) refl (sym e) in
     rw q (ltb-false limit (fs .«total_size» + sizeOf z + sizesFor fs z link root .pad) (p .1 .1 .1 .1 .1 .1 .1 .1 .1 .0))
 
 -- where a link text is kept, there is place for one

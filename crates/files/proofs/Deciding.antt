@@ -24,7 +24,7 @@ use Rattle.rules.specs.Results.{checkNumber}
 use Rattle.layout.specs.Deciding.{Counted}
 use Rattle.files.specs.Deciding.{setAsked, placeAsked, bytesAsked}
 use Rattle.rules.specs.Questions.{numPieces, badPieceLength, noFile, manyPieces, badRange, short}
-use Rattle.rules.proofs.Deciding.{passed, below-is}
+use Rattle.rules.proofs.Deciding.{gone, below-is}
 use Rattle.layout.proofs.Deciding.{counted}
 
 pub record FilePassed (fs : FileStorage) (z : ℤ) (many bad tree : Bool) : Type 0 where
@@ -38,7 +38,7 @@ pub file-known : (fs : FileStorage) (z : ℤ) (many bad tree : Bool) (room : ℕ
     → checkNumber d ≡ firstOf (badPieceLength fs ∷ noFile fs z ∷ when many 13 ∷ when bad 14 ∷ when tree 16 ∷ short (leb (fs .«num_files») room) ∷ []) → d ≡ Go
     → FilePassed fs z many bad tree
 file-known fs z many bad tree room c e =
-    let q = passed (badPieceLength fs ∷ noFile fs z ∷ when many 13 ∷ when bad 14 ∷ when tree 16 ∷ short (leb (fs .«num_files») room) ∷ []) refl c e in
+    let q = gone (badPieceLength fs ∷ noFile fs z ∷ when many 13 ∷ when bad 14 ∷ when tree 16 ∷ short (leb (fs .«num_files») room) ∷ []) refl c e in
     record {
       length = q .0;
       below = below-is (fs .«num_files») z (not-false (isBelow (fs .«num_files») z) (q .1 .0));

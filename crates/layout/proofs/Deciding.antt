@@ -25,7 +25,7 @@ use Rattle.rules.specs.declared.decide.Check.the-variants.{Go}
 use Rattle.rules.specs.Results.{checkNumber}
 use Rattle.layout.specs.Deciding.{Counted}
 use Rattle.rules.specs.Questions.{numPieces, badPieceLength, manyPieces, noPiece, short}
-use Rattle.rules.proofs.Deciding.{passed, length-good, below-is}
+use Rattle.rules.proofs.Deciding.{gone, length-good, below-is}
 use Rattle.layout.specs.Pieces.{startOf, pieceSize}
 
 pub counted : (fs : FileStorage) → badPieceLength fs .test ≡ false → manyPieces fs .test ≡ false → Counted fs
@@ -64,28 +64,28 @@ inside fs z p e c n =
 -- what is known after a question's `Go`
 pub pieces-known : (fs : FileStorage) {d : Check} → checkNumber d ≡ firstOf (badPieceLength fs ∷ manyPieces fs ∷ []) → d ≡ Go → Counted fs
 pieces-known fs p e =
-    let q = passed (badPieceLength fs ∷ manyPieces fs ∷ []) refl p e in
+    let q = gone (badPieceLength fs ∷ manyPieces fs ∷ []) refl p e in
     counted fs (q .0) (q .1 .0)
 
 pub piece-known : (fs : FileStorage) (z : ℤ) (bad held : Bool) {d : Check} (p : ℕ) → p ≡ indexOf z
     → checkNumber d ≡ firstOf (badPieceLength fs ∷ manyPieces fs ∷ noPiece fs z ∷ when bad 14 ∷ short held ∷ []) → d ≡ Go → Inside fs p
 piece-known fs z bad held p h c e =
-    let q = passed (badPieceLength fs ∷ manyPieces fs ∷ noPiece fs z ∷ when bad 14 ∷ short held ∷ []) refl c e in
+    let q = gone (badPieceLength fs ∷ manyPieces fs ∷ noPiece fs z ∷ when bad 14 ∷ short held ∷ []) refl c e in
     inside fs z p h (counted fs (q .0) (q .1 .0)) (q .1 .1 .0)
 
 pub piece-range-good : (fs : FileStorage) (z : ℤ) (bad held : Bool) {d : Check}
     → checkNumber d ≡ firstOf (badPieceLength fs ∷ manyPieces fs ∷ noPiece fs z ∷ when bad 14 ∷ short held ∷ []) → d ≡ Go → bad ≡ false
-piece-range-good fs z bad held c e = passed (badPieceLength fs ∷ manyPieces fs ∷ noPiece fs z ∷ when bad 14 ∷ short held ∷ []) refl c e .1 .1 .1 .0
+piece-range-good fs z bad held c e = gone (badPieceLength fs ∷ manyPieces fs ∷ noPiece fs z ∷ when bad 14 ∷ short held ∷ []) refl c e .1 .1 .1 .0
 
 -- the rows that a question needs are there
 pub set-held : (fs : FileStorage) (bad held : Bool) {d : Check} (room : ℕ) → held ≡ leb (fs .«num_files») room
     → checkNumber d ≡ firstOf (badPieceLength fs ∷ when bad 14 ∷ short held ∷ []) → d ≡ Go → fs .«num_files» ≤ room
 set-held fs bad held room h c e =
-    let q = passed (badPieceLength fs ∷ when bad 14 ∷ short held ∷ []) refl c e in
+    let q = gone (badPieceLength fs ∷ when bad 14 ∷ short held ∷ []) refl c e in
     leb-true (fs .«num_files») room (sym h ∙ not-false held (q .1 .1 .0))
 
 pub piece-held : (fs : FileStorage) (z : ℤ) (bad held : Bool) {d : Check} (room : ℕ) → held ≡ leb (fs .«num_files») room
     → checkNumber d ≡ firstOf (badPieceLength fs ∷ manyPieces fs ∷ noPiece fs z ∷ when bad 14 ∷ short held ∷ []) → d ≡ Go → fs .«num_files» ≤ room
 piece-held fs z bad held room h c e =
-    let q = passed (badPieceLength fs ∷ manyPieces fs ∷ noPiece fs z ∷ when bad 14 ∷ short held ∷ []) refl c e in
+    let q = gone (badPieceLength fs ∷ manyPieces fs ∷ noPiece fs z ∷ when bad 14 ∷ short held ∷ []) refl c e in
     leb-true (fs .«num_files») room (sym h ∙ not-false held (q .1 .1 .1 .1 .0))

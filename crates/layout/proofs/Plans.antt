@@ -25,7 +25,7 @@ use Rattle.layout.specs.declared.start.Cursor.{Cursor}
 use Rattle.layout.specs.Pieces.{startOf}
 use Rattle.layout.specs.Mapping.{Slice, walk, blockOf, blockRules}
 use Rattle.layout.specs.Start.{slicesFrom, cursorAt, Started, all, none, started, blockStart}
-use Rattle.rules.proofs.Deciding.{first-append}
+use Rattle.rules.proofs.Rules.{first-append}
 use Rattle.layout.specs.Plan.{Planned, stayed, whole, planned, blockPlan}
 
 -- the number of the first refusal: k before the room is looked at, then 10 where there is none

@@ -71,7 +71,7 @@ module _ (s : Store) where
     pub roomy : judgingNumber s marks stage path ≡ 0 → Roomy
     unfolding rules
     roomy e =
-        let p = passed rules (refl, (refl, (refl, tt))) (sym e) in
+        let p = passed rules refl (sym e) in
         let a = either-false (ltb marks (linkCount (entriesOf s))) (either (ltb stage (space (entriesOf s))) (ltb path (2 * space (entriesOf s)))) (p .1 .1 .0) in
         let b = either-false (ltb stage (space (entriesOf s))) (ltb path (2 * space (entriesOf s))) (a .1) in
         record {

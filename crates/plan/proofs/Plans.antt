@@ -198,7 +198,7 @@ module _ (fs : FileStorage) (name : List ℕ) (files : List File) (ds : List (Li
       ∙ rw e
       (first-append (numberRules fs (a .given) parts (a .size) (a .link) (isPresent (a .root)))
       (when noRoom 10 ∷ [])
-      (refl, (refl, (refl, (refl, (refl, (refl, (refl, (refl, (refl, (refl, tt)))))))))))
+      refl)
 
   pub sizes-are : sizesFor fs (a .size) (a .link) (isPresent (a .root)) ≡ sizes
   sizes-are = rw e
@@ -262,7 +262,7 @@ module _ (s : Store) (a : Addition) where
   -- where no rule stops, the tables hold what the set counts
   pub add-held : addingNumber s (viewOf s) a ≡ 0 → s .fs .«num_files» ≤ 65535
   add-held e =
-      let p = passed (addingRules (viewOf s) a unheld) (refl, (refl, (refl, (refl, (refl, (refl, (refl, (refl, (refl, (refl, (refl, tt))))))))))) (sym e) in
+      let p = passed (addingRules (viewOf s) a unheld) refl (sym e) in
       let u : unheld ≡ false = p .1 .1 .1 .1 .1 .1 .1 .1 .1 .1 .0 in
       let h = store-held s (not-false (holds s) (either-false (not (holds s)) (lacks (roomsOf s) (added (viewOf s) a) (textAfter (s .fs) (viewOf s) a)) u .0)) in
       omega arith

@@ -27,7 +27,7 @@ module _ {A : Type 0} (fs : FileStorage) (z : ℤ) (held : Bool) (f : ℕ → A)
   rules = when (badLength (fs .«piece_length»)) 1 ∷ when (not (isBelow (fs .«num_files») z)) 11 ∷ when (not held) 10 ∷ []
 
   abbrev known : Passed rules × (v ≡ f (indexOf z))
-  known = passes rules (refl, (refl, (refl, tt))) v (f (indexOf z)) h
+  known = passes rules refl v (f (indexOf z)) h
 
   pub asked-good : badLength (fs .«piece_length») ≡ false
   asked-good = known .0 .0

@@ -71,7 +71,7 @@ pub four-passed : {A : Type 0} (a b o s : Bool) (p q : A) → value p ≡ outcom
     → (eqb (firstOf (when a 1 ∷ when b 11 ∷ when (not o) 10 ∷ when s 10 ∷ [])) 0 ≡ true) × (o ≡ true) × (s ≡ false) × (p ≡ q)
 four-passed a b o s p q h =
     let n = firstOf (when a 1 ∷ when b 11 ∷ when (not o) 10 ∷ when s 10 ∷ []) in
-    let t = passes (when a 1 ∷ when b 11 ∷ when (not o) 10 ∷ when s 10 ∷ []) (refl, (refl, (refl, (refl, tt)))) p q h in
+    let t = passes (when a 1 ∷ when b 11 ∷ when (not o) 10 ∷ when s 10 ∷ []) refl p q h in
     (allowed n q (eqb n 0) p h .0, not-false o (t .0 .1 .1 .0), t .0 .1 .1 .1 .0, t .1)
 
 -- the last two, where the last is known only in order

@@ -10,8 +10,7 @@
 --     below-yes, below-no                 what `within` says of a number
 --     below-not, below-as, index-low      what its sign says of it
 --     over-is                             whether there are more than k pieces, by a product
---     none, passed                        where no refusal is said, as after `Go`, no rule's test holds
---     first-append                        two lists of rules in a row
+--     gone                                after `Go` no rule's test holds
 use Prim.Native.Nat.{ℕ, _*_, _≤_, _<_}
 use mathlib.Core.Path.{_≡_, refl, sym, ap, _∙_}
 use mathlib.Core.Bool.{Bool, true, false, cond, not, true≢false}
@@ -21,7 +20,7 @@ use lib.Dec.{eqb, ltb, leb}
 use lib.IntN.{ℤ, pos, negsuc}
 use mir.Syntax.{w32}
 use mir.Val.{SFits}
-use borrow.Author.Tests.{lt-ltb, le-ltb, ltb-true, ltb-false, ne-eqb}
+use borrow.Author.Tests.{lt-ltb, le-ltb, ltb-true, ltb-false}
 use Rattle.lists.specs.Lists.{ceiling}
 use Rattle.lists.proofs.Quotients.{ceiling-above, ceiling-le}
 use Rattle.types.specs.Refusals.{numberOf, Outcome, value, refused, usizeSays}
@@ -39,7 +38,7 @@ use Rattle.rules.specs.Bounds.{badLength, isNegative, isBelow, sizeOf, i
 use Rattle.rules.specs.Results.{checkNumber}
 use Rattle.rules.specs.Questions.{asked, badPieceLength, noFile, noDirectory, noLink, badRange, short, askedHeld, askedDirectory, askedFile, askedLink}
 use Rattle.rules.specs.Composed.{composedIf, composedFile}
-use Rattle.rules.proofs.Rules.{Passed, either-false}
+use Rattle.rules.proofs.Rules.{Numbered, Passed, passed, either-false}
 
 -- two tests, each known in other words
 pub both-is : {r x y a b : Bool} → r ≡ both x y → x ≡ a → y ≡ b → r ≡ both a b
@@ -220,28 +219,9 @@ over-is t n k p = by (ltb (k * n) t) refl
     by true e = sym (lt-ltb k (ceiling t n) (ceiling-above t n p k (ltb-true (k * n) t e)))
     by false e = sym (le-ltb k (ceiling t n) (ceiling-le t n p k (ltb-false (k * n) t e)))
 
--- rules that all have numbers
-abbrev named : List Rule → Bool
-named [] = true
-named (r ∷ rs) = cond (ltb 0 (r .number)) (named rs) false
-
-pub each : (b c : Bool) → cond b c false ≡ true → (b ≡ true) × (c ≡ true)
-each true c e = (refl, e)
-each false c e = absurd (true≢false (sym e))
-
-passed-one : (t : Bool) (n m : ℕ) → 0 < n → cond t n m ≡ 0 → (t ≡ false) × (m ≡ 0)
-passed-one true n m h e = absurd (omega arith)
-passed-one false n m h e = (refl, e)
-
-pub none : (rs : List Rule) → named rs ≡ true → firstOf rs ≡ 0 → Passed rs
-none [] h e = tt
-none (r ∷ rs) h e =
-    let q = each (ltb 0 (r .number)) (named rs) h in
-    let p = passed-one (r .test) (r .number) (firstOf rs) (ltb-true 0 (r .number) (q .0)) e in
-    (p .0, none rs (q .1) (p .1))
-
-pub passed : (rs : List Rule) {d : Check} → named rs ≡ true → checkNumber d ≡ firstOf rs → d ≡ Go → Passed rs
-passed rs h p e = none rs h (sym p ∙ ap checkNumber e)
+-- no rule's test holds after `Go`
+pub gone : (rs : List Rule) {d : Check} → Numbered rs → checkNumber d ≡ firstOf rs → d ≡ Go → Passed rs
+gone rs h p e = passed rs h (sym (ap checkNumber e) ∙ p)
 
 -- what the tests mean where they fail
 pub offset-low : (o n : ℤ) → badRange o n .test ≡ false → sizeOf o ≤ limit
@@ -258,14 +238,3 @@ length-good n e =
 pub either-rule : (o f s : Rule) (a b : Bool) → firstOf (o ∷ f ∷ when (either a b) 16 ∷ s ∷ []) ≡ firstOf (o ∷ f ∷ when a 16 ∷ when b 16 ∷ s ∷ [])
 either-rule o f s true b = refl
 either-rule o f s false b = refl
-
--- rules behind rules that all have numbers
-first-behind : (t : Bool) (n a b : ℕ) → 0 < n → cond t n (cond (eqb a 0) b a) ≡ cond (eqb (cond t n a) 0) b (cond t n a)
-first-behind true n a b h = let e : eqb n 0 ≡ false = ne-eqb n 0 (λ q. omega arith) in rw e
-first-behind false n a b h = refl
-
-pub first-append : (rs qs : List Rule) → named rs ≡ true → firstOf (rs ++ qs) ≡ cond (eqb (firstOf rs) 0) (firstOf qs) (firstOf rs)
-first-append [] qs h = refl
-first-append (r ∷ rs) qs h =
-    let q = each (ltb 0 (r .number)) (named rs) h in
-    ap (cond (r .test) (r .number)) (first-append rs qs (q .1)) ∙ first-behind (r .test) (r .number) (firstOf rs) (firstOf qs) (ltb-true 0 (r .number) (q .0))

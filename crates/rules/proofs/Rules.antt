@@ -1,20 +1,27 @@
 -- Rules in order: two lists of them in a row, and what is known where none stops a call.
-use Prim.Native.Nat.{ℕ}
-use mathlib.Core.Path.{_≡_, refl, sym}
+use Prim.Native.Nat.{ℕ, _<_}
+use mathlib.Core.Path.{_≡_, refl, sym, ap, _∙_}
 use mathlib.Core.Bool.{Bool, true, false, cond, true≢false, false≢true}
 use mathlib.Core.List.{List, [], _∷_, _++_}
 use native.Mathlib.Omega.{arith}
-use lib.Dec.{eqb}
-use borrow.Author.Tests.{eqb-true, eqb-false}
+use lib.Dec.{eqb, ltb}
+use borrow.Author.Tests.{eqb-true, ne-eqb, ltb-true}
 use Rattle.types.specs.Refusals.{numberOf, value, refused}
 use Rattle.types.specs.declared.refusal.Refusal.{Refusal}
 use Rattle.types.proofs.Refusals.{numbered}
 use Rattle.rules.specs.Rules.{Rule, firstOf, outcomeOf, both, either}
 
--- rules whose numbers are above 0
+pub both-true : (a b : Bool) → both a b ≡ true → (a ≡ true) × (b ≡ true)
+both-true true b e = (refl, e)
+both-true false b e = absurd (false≢true e)
+
+-- whether the numbers of rules are above 0
+abbrev named : List Rule → Bool
+named [] = true
+named (r ∷ rs) = both (ltb 0 (r .number)) (named rs)
+
 abbrev pub Numbered : List Rule → Type 0
-Numbered [] = Unit
-Numbered (r ∷ rs) = (eqb (r .number) 0 ≡ false) × Numbered rs
+Numbered rs = named rs ≡ true
 
 -- none of the tests holds
 abbrev pub Passed : List Rule → Type 0
@@ -26,22 +33,27 @@ abbrev pub orElse : ℕ → ℕ → ℕ
 orElse n m = cond (eqb n 0) m n
 
 -- two lists of rules in a row
+behind-one : (t : Bool) (n a b : ℕ) → 0 < n → cond t n (orElse a b) ≡ orElse (cond t n a) b
+behind-one true n a b h = let e : eqb n 0 ≡ false = ne-eqb n 0 (λ q. omega arith) in rw e
+behind-one false n a b h = refl
+
 pub first-append : (rs ss : List Rule) → Numbered rs → firstOf (rs ++ ss) ≡ orElse (firstOf rs) (firstOf ss)
 first-append [] ss h = refl
-first-append (r ∷ rs) ss h = at (r .test) (first-append rs ss (h .1))
-  where
-    at : (t : Bool) → firstOf (rs ++ ss) ≡ orElse (firstOf rs) (firstOf ss)
-        → cond t (r .number) (firstOf (rs ++ ss)) ≡ orElse (cond t (r .number) (firstOf rs)) (firstOf ss)
-    at true e = rw (h .0)
-    at false e = e
+first-append (r ∷ rs) ss h =
+    let q = both-true (ltb 0 (r .number)) (named rs) h in
+    ap (cond (r .test) (r .number)) (first-append rs ss (q .1)) ∙ behind-one (r .test) (r .number) (firstOf rs) (firstOf ss) (ltb-true 0 (r .number) (q .0))
 
-passed-one : (t : Bool) (k n : ℕ) → eqb k 0 ≡ false → 0 ≡ cond t k n → (t ≡ false) × (0 ≡ n)
-passed-one true k n h e = absurd (eqb-false k 0 h (sym e))
-passed-one false k n h e = (refl, e)
+-- where no rule stops a call, no test holds
+passed-one : (t : Bool) (n m : ℕ) → 0 < n → 0 ≡ cond t n m → (t ≡ false) × (0 ≡ m)
+passed-one true n m h e = absurd (omega arith)
+passed-one false n m h e = (refl, e)
 
 pub passed : (rs : List Rule) → Numbered rs → 0 ≡ firstOf rs → Passed rs
 passed [] h e = tt
-passed (r ∷ rs) h e = let p = passed-one (r .test) (r .number) (firstOf rs) (h .0) e in (p .0, passed rs (h .1) (p .1))
+passed (r ∷ rs) h e =
+    let q = both-true (ltb 0 (r .number)) (named rs) h in
+    let p = passed-one (r .test) (r .number) (firstOf rs) (ltb-true 0 (r .number) (q .0)) e in
+    (p .0, passed rs (q .1) (p .1))
 
 -- a rule of the first list stops a call, or none does and the second list decides
 pub stopped : {A : Type 0} (rs ss : List Rule) (e : Refusal) (a : A) → Numbered rs → numberOf e ≡ firstOf rs
@@ -69,7 +81,3 @@ outcome-refused n k b e = at (eqb n 0) e
 pub either-false : (a b : Bool) → either a b ≡ false → (a ≡ false) × (b ≡ false)
 either-false true b e = absurd (true≢false e)
 either-false false b e = (refl, e)
-
-pub both-true : (a b : Bool) → both a b ≡ true → (a ≡ true) × (b ≡ true)
-both-true true b e = (refl, e)
-both-true false b e = absurd (false≢true e)

@@ -15,9 +15,9 @@ use Rattle.rules.specs.Rules.{firstOf}
 use Rattle.rules.specs.Bounds.{sizeOf, indexOf, isBelow}
 use Rattle.files.specs.Request.{Request, mapFile}
 use Rattle.files.specs.Deciding.{requestOf, bytesAsked, placeAsked}
-use Rattle.rules.proofs.Rules.{Passed}
+use Rattle.rules.proofs.Rules.{Passed, passed}
 use Rattle.files.proofs.Deciding.{low-as, past-index, asked-past}
-use Rattle.rules.proofs.Deciding.{none, below-is, offset-low, length-good}
+use Rattle.rules.proofs.Deciding.{below-is, offset-low, length-good}
 use borrow.Author.Needs.{needs}
 use Rattle.files.proofs.file.map_file.Statement.{statement}
 use Rattle.files.proofs.file.map_file.Tie as tie
@@ -38,7 +38,7 @@ answered : (c : tie.Then1) → eqb (firstOf (bytesAsked (c .before .before .befo
 answered c = sym (answered-is (c .before)) ∙ c .if1 .taken
 
 passes : (c : tie.Then1) → Passed (bytesAsked (c .before .before .before .before .before .before .args .fs) (c .before .before .before .before .before .before .args .index .0) (c .before .before .before .before .before .before .args .offset) (c .before .before .before .before .before .before .args .size) (length (c .before .before .before .before .before .before .args .rows .now) / 8))
-passes c = none (bytesAsked (c .before .before .before .before .before .before .args .fs) (c .before .before .before .before .before .before .args .index .0) (c .before .before .before .before .before .before .args .offset) (c .before .before .before .before .before .before .args .size) (length (c .before .before .before .before .before .before .args .rows .now) / 8)) refl (eqb-true _ 0 (answered c))
+passes c = passed (bytesAsked (c .before .before .before .before .before .before .args .fs) (c .before .before .before .before .before .before .args .index .0) (c .before .before .before .before .before .before .args .offset) (c .before .before .before .before .before .before .args .size) (length (c .before .before .before .before .before .before .args .rows .now) / 8)) refl (sym (eqb-true _ 0 (answered c)))
 
 -- there the number is the file's own
 number-is : (c : tie.Then1) → c .before .before .before .before .file-or-past .result ≡ indexOf (c .before .before .before .before .before .before .args .index .0)
