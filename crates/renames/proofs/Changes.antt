@@ -9,7 +9,7 @@ use native.Mathlib.Omega.{arith}
 use lib.ListN.{length, take, drop, length-append, length-drop}
 use lib.Seq.{sets, length-take-le}
 use Rattle.lists.proofs.Parts.{drop-take}
-use Rattle.compatible.specs.declared.walk.Place.{Place}
+use Rattle.renames.specs.declared.place.Place.{Place}
 use Rattle.renames.specs.declared.rename.RenamedFiles.{RenamedFiles}
 use Rattle.renames.specs.Renames.{Renamed, modeWord, renamesFrom, orderedFrom, wordsOf, textsOf, stateOf, withRename}
 use Rattle.renames.specs.Places.{bytesFrom, placeOf, spliced}

@@ -21,7 +21,7 @@ use Rattle.rules.specs.Questions.{askedFile}
 use Rattle.rules.proofs.Deciding.{allowed, denied}
 use Rattle.renames.proofs.Deciding.{passes, asked-good, asked-there, asked-own}
 use Rattle.renames.specs.declared.rename.RenamedFiles.{RenamedFiles}
-use Rattle.compatible.specs.declared.walk.Place.{Place}
+use Rattle.renames.specs.declared.place.Place.{Place}
 use Rattle.renames.specs.Renames.{Renamed, Changed, orderedFrom, renamesOf, renamedTo, lacksRoom, inOrder, stateOf, wordsOf, textsOf, renameFile}
 use Rattle.renames.specs.Places.{placeOf}
 use Rattle.renames.specs.Changing.{inOrderIn, isShort, placeNumber, placeAsked, renameOf}

@@ -22,7 +22,7 @@ use Rattle.renames.specs.declared.rename.RenameMode.{RenameMode}
 use Rattle.renames.specs.declared.rename.RenameMode.the-variants.{FullPath}
 use Rattle.renames.specs.declared.rename.Rename.{Rename}
 use Rattle.renames.specs.declared.rename.RenamedFiles.{RenamedFiles}
-use Rattle.compatible.specs.declared.walk.Place.{Place}
+use Rattle.renames.specs.declared.place.Place.{Place}
 use Rattle.renames.specs.Renames.{Renamed, modeOf, renamesFrom, renamesOf, orderedFrom, inOrder}
 use Rattle.renames.specs.Finding.{renameIn, renameFor, renameFound, exported}
 use Rattle.renames.specs.Places.{belowFrom, bytesFrom, isNamed, placeOf}

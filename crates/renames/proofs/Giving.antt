@@ -18,7 +18,7 @@ use Rattle.rules.specs.Rules.{both}
 use Rattle.rules.specs.Bounds.{indexOf, isBelow}
 use Rattle.renames.specs.declared.rename.RenamedFiles.{RenamedFiles}
 use Rattle.renames.specs.declared.rename.RenameMode.the-variants.{FullPath}
-use Rattle.compatible.specs.declared.walk.Place.{Place}
+use Rattle.renames.specs.declared.place.Place.{Place}
 use Rattle.renames.specs.Renames.{Renamed, renamesOf, orderedFrom, inOrder, withRename, stateOf, wordsOf, textsOf}
 use Rattle.renames.specs.Places.{placeOf}
 use Rattle.renames.specs.Imports.{fullPath}

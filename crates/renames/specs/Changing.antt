@@ -11,7 +11,7 @@ use Rattle.tables.specs.declared.storage.FileStorage.{FileStorage}
 use Rattle.rules.specs.Rules.{when, firstOf, outcomeOf, both, either}
 use Rattle.rules.specs.Bounds.{badLength, indexOf, isBelow}
 use Rattle.renames.specs.declared.rename.RenamedFiles.{RenamedFiles}
-use Rattle.compatible.specs.declared.walk.Place.{Place}
+use Rattle.renames.specs.declared.place.Place.{Place}
 use Rattle.renames.specs.declared.place.PlaceResult.{PlaceResult}
 use Rattle.renames.specs.declared.place.PlaceResult.the-variants as place
 use Rattle.renames.specs.Renames.{Renamed, modeFor, orderedFrom}

@@ -7,7 +7,7 @@ use lib.Dec.{eqb, ltb}
 use lib.ListN.{getD, take, drop}
 use lib.Seq.{sets}
 use Rattle.rules.specs.Rules.{both}
-use Rattle.compatible.specs.declared.walk.Place.{Place}
+use Rattle.renames.specs.declared.place.Place.{Place}
 
 -- how many of the n entries from entry i on stand before the first whose number is k or above
 unfoldable pub belowFrom : ℕ → ℕ → ℕ → List ℕ → ℕ

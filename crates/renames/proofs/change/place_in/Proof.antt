@@ -8,7 +8,7 @@ use lib.ListN.{length}
 use Rattle.types.specs.Refusals.{numberOf, value, usizeSays}
 use Rattle.rules.specs.Questions.{askedFile}
 use Rattle.rules.specs.Bounds.{indexOf}
-use Rattle.compatible.specs.declared.walk.Place.{Place}
+use Rattle.renames.specs.declared.place.Place.{Place}
 use Rattle.renames.specs.Places.{placeOf}
 use Rattle.renames.specs.Changing.{inOrderIn, isShort}
 use Rattle.renames.proofs.Ordered.{order-bytes}
