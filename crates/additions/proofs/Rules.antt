@@ -21,8 +21,7 @@ use Rattle.rules.specs.Rules.{Rule, firstOf, outcomeOf}
 use Rattle.rules.specs.Bounds.{limit, badLength, isNegative, sizeOf}
 use Rattle.additions.specs.Addition.{decides, isOpen, padTo, keepsLink, sizeRules, kindRules, padRules}
 use Rattle.additions.specs.Checks.{namesOf, sizesFor, numberRules}
-use Rattle.rules.proofs.Rules.{after, either-false, passed, stopped}
-use Rattle.change.proofs.Held.{both-true}
+use Rattle.rules.proofs.Rules.{after, either-false, passed, stopped, both-true}
 
 -- ---- the rules of an addition on numbers
 

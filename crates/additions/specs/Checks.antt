@@ -12,19 +12,12 @@ use Rattle.tables.specs.declared.storage.FileStorage.{FileStorage}
 use Rattle.tables.specs.Model.{Optional, absent, present}
 use Rattle.rules.specs.Rules.{Rule, both, either}
 use Rattle.rules.specs.Bounds.{isNegative, sizeOf}
-use Rattle.additions.specs.declared.checks.Check.{Check}
-use Rattle.additions.specs.declared.checks.Check.the-variants.{Go, Stop}
 use Rattle.additions.specs.declared.checks.Sizes.{Sizes}
 use Rattle.additions.specs.declared.checks.SizesResult.{SizesResult}
 use Rattle.additions.specs.declared.checks.SizesResult.the-variants.{Ok, Err}
 use Rattle.additions.specs.declared.parts.PathParts.{PathParts}
 use Rattle.additions.specs.Addition.{decides, isOpen, kindAfter, padAfter, sizeRules, nameRules, kindRules, padRules}
 use Rattle.additions.specs.Parts.{absoluteKind}
-
--- the number of the rule that stops a call, 0 where none does
-abbrev pub checkSays : Check → ℕ
-checkSays Go = 0
-checkSays (Stop e) = numberOf e
 
 abbrev pub sizesSays : SizesResult → Outcome Sizes
 sizesSays (Ok s) = value s

@@ -3,28 +3,24 @@
 ghost use mathlib.Core.Path.{_≡_};
 ghost use Prim.Native.Nat.{_≤_};
 ghost use Rattle.rules.specs.Rules.{firstOf, outcomeOf};
-ghost use Rattle.rules.specs.Bounds.{isNegative, sizeOf};
+ghost use Rattle.rules.specs.Results.{checkNumber};
 ghost use Rattle.additions.specs.Addition.{optionalOf, decides, isOpen, kindAfter, padAfter, sizeRules, kindRules};
 ghost use Rattle.additions.specs.Parts.{isHere};
-ghost use Rattle.additions.specs.Checks.{limitedLength, badBeside, checkSays, sizesSays, namesOf, sizesFor, numberRules};
+ghost use Rattle.additions.specs.Checks.{limitedLength, badBeside, sizesSays, namesOf, sizesFor, numberRules};
 use crate::info::FileInfo;
 use crate::info::is_given;
 use crate::info::is_here;
 use crate::parts::PathParts;
 use crate::parts::is_absolute;
+use rules::Check;
 use tables::FileStorage;
 use tables::Presence;
 use types::Refusal;
-use types::Unsigned;
+use types::clamped64;
+use types::is_negative64;
 
 // The largest size, offset and total.
 const LIMIT: u64 = 281474976710655;
-
-// Whether a call goes on, or why it stops.
-pub(crate) enum Check {
-    Go,
-    Stop(Refusal),
-}
 
 // The size of an addition, whether the set is v2 after it, and the size of the pad after it, 0 for none.
 pub struct Sizes {
@@ -39,29 +35,9 @@ pub enum SizesResult {
     Err(Refusal),
 }
 
-// Whether a number is below 0.
-fn is_negative(x: i64) -> bool
-    ensures { λ r. ⌜ r ≡ isNegative x ⌝ }
-{
-    match types::unsigned64(x) {
-        Unsigned::Of(_) => false,
-        Unsigned::Negative => true,
-    }
-}
-
-// A number, or 0 where it is below 0.
-fn size_of(x: i64) -> u64
-    ensures { λ r. ⌜ r ≡ sizeOf x ⌝ }
-{
-    match types::unsigned64(x) {
-        Unsigned::Of(n) => n,
-        Unsigned::Negative => 0,
-    }
-}
-
 // Refusals 1, 2, 3, 4.
 fn check_size(piece_length: u64, total: u64, negative: bool, size: u64) -> Check
-    ensures { λ r. ⌜ checkSays r ≡ firstOf (sizeRules «piece_length» total negative size) ⌝ }
+    ensures { λ r. ⌜ checkNumber r ≡ firstOf (sizeRules «piece_length» total negative size) ⌝ }
 {
     if rules::is_bad_length(piece_length) {
         return Check::Stop(Refusal::InvalidPieceLength);
@@ -103,7 +79,7 @@ fn is_bad_name(given: Presence, filename: &[u8], absolute: bool) -> bool
 
 // Refusals 5, 6, 7.
 fn check_names(files: usize, given: Presence, filename: &[u8], parts: PathParts) -> Check
-    ensures { λ r. ⌜ checkSays r ≡ firstOf (namesOf files (optionalOf given (now (filename .entry))) parts) ⌝ }
+    ensures { λ r. ⌜ checkNumber r ≡ firstOf (namesOf files (optionalOf given (now (filename .entry))) parts) ⌝ }
 {
     if 4096 <= limited_length(given, filename, parts.leaf.len) {
         return Check::Stop(Refusal::FilenameTooLong);
@@ -143,7 +119,7 @@ fn is_open(total: u64, links: usize, files: usize) -> bool
 
 // Refusals 8, 9.
 fn check_kind(v2: bool, plain: bool, free: bool, root: bool) -> Check
-    ensures { λ r. ⌜ checkSays r ≡ firstOf (kindRules v2 plain free root) ⌝ }
+    ensures { λ r. ⌜ checkNumber r ≡ firstOf (kindRules v2 plain free root) ⌝ }
 {
     if !plain {
         return Check::Go;
@@ -205,11 +181,11 @@ pub fn decide_sizes(
         (sizesFor fs (info .size) (now (link .entry)) (isHere (info .rooted)))
         ⌝ }
 {
-    let size = size_of(info.size);
+    let size = clamped64(info.size);
     if let Check::Stop(e) = check_size(
         fs.piece_length,
         fs.total_size,
-        is_negative(info.size),
+        is_negative64(info.size),
         size,
     ) {
         return SizesResult::Err(e);

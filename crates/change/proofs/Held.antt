@@ -4,13 +4,9 @@ use mathlib.Core.Path.{_≡_, refl, sym}
 use mathlib.Core.Bool.{Bool, true, false, true≢false}
 use borrow.Author.Tests.{leb-true}
 use Rattle.tables.specs.declared.storage.FileStorage.{FileStorage}
-use Rattle.rules.specs.Rules.{both}
 use Rattle.change.specs.declared.rooms.Rooms.{Rooms}
 use Rattle.change.specs.Rooms.{filesRoom, dirsRoom, holdsIn}
-
-pub both-true : (a b : Bool) → both a b ≡ true → (a ≡ true) × (b ≡ true)
-both-true true b e = (refl, e)
-both-true false b e = absurd (true≢false (sym e))
+use Rattle.rules.proofs.Rules.{both-true}
 
 pub record Held (fs : FileStorage) (rooms : Rooms) : Type 0 where
   pub files : fs .«num_files» ≤ filesRoom rooms

@@ -15,7 +15,7 @@ use Rattle.rules.specs.Questions.{askedFile}
 use Rattle.rules.specs.Composed.{composedIf, composedFile}
 use Rattle.rules.proofs.Deciding.{denied}
 use Rattle.renames.proofs.Deciding.{asked-good, asked-there, asked-held, asked-own}
-use Rattle.renames.proofs.Ordered.{both-true}
+use Rattle.rules.proofs.Rules.{both-true}
 
 module _ {A : Type 0} (fs : FileStorage) (z : ℤ) (held order : Bool) (f : ℕ → A) (t : ℕ → List ℕ) (buf : List ℕ) where
   abbrev bad : Bool

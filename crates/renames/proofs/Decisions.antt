@@ -16,7 +16,7 @@ use Rattle.types.specs.Refusals.{value, refused}
 use Rattle.tables.specs.declared.storage.FileStorage.{FileStorage}
 use Rattle.rules.specs.Rules.{when, firstOf, outcomeOf, both}
 use Rattle.rules.specs.Bounds.{badLength, indexOf, isBelow}
-use Rattle.rules.proofs.Rules.{either-false}
+use Rattle.rules.proofs.Rules.{either-false, both-true}
 use Rattle.rules.specs.Questions.{askedFile}
 use Rattle.rules.proofs.Deciding.{allowed, denied}
 use Rattle.renames.proofs.Deciding.{passes, asked-good, asked-there, asked-own}
@@ -25,7 +25,6 @@ use Rattle.renames.specs.declared.place.Place.{Place}
 use Rattle.renames.specs.Renames.{Renamed, Changed, orderedFrom, renamesOf, renamedTo, lacksRoom, inOrder, stateOf, wordsOf, textsOf, renameFile}
 use Rattle.renames.specs.Places.{placeOf}
 use Rattle.renames.specs.Changing.{inOrderIn, isShort, placeNumber, placeAsked, renameOf}
-use Rattle.renames.proofs.Ordered.{both-true}
 use Rattle.renames.proofs.Changes.{count-after, bytes-after}
 
 -- ---- what follows the set's refusals

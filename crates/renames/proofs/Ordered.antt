@@ -13,14 +13,11 @@ use Rattle.lists.proofs.Orders.{le-or-lt}
 use Rattle.rules.specs.Rules.{both}
 use Rattle.renames.specs.Renames.{orderedFrom}
 use Rattle.renames.specs.Places.{bytesFrom}
+use Rattle.rules.proofs.Rules.{both-true}
 
 -- an entry in order: its number, its mode and its text's length
 abbrev pub entryOrdered : ℕ → ℕ → ℕ → ℕ → ℕ → Bool
 entryOrdered file mode len least left = both (both (leb least file) (leb file 2147483647)) (both (leb mode 2) (leb len left))
-
-pub both-true : (a b : Bool) → both a b ≡ true → (a ≡ true) × (b ≡ true)
-both-true true b e = (refl, e)
-both-true false b e = absurd (false≢true e)
 
 pub entry-in : (file mode len least left : ℕ) → entryOrdered file mode len least left ≡ true
     → (least ≤ file) × (file ≤ 2147483647) × (mode ≤ 2) × (len ≤ left)

@@ -21,6 +21,7 @@ use Rattle.tables.specs.Model.{Store}
 use Rattle.rules.specs.Rules.{both}
 use Rattle.texts.specs.Texts.{goneAt, linked, relinked, isWithin, ownFits, besideFits, withOwn, withBeside, stagedBeside, linkSpan}
 use Rattle.texts.proofs.NewTexts.{own-parts, beside-parts}
+use Rattle.rules.proofs.Rules.{both-true}
 
 -- a choice where the test is known
 pub cond-yes : {A : Type 0} (b : Bool) (x y : A) → b ≡ true → x ≡ cond b x y
@@ -28,10 +29,6 @@ cond-yes b x y e = rw e
 
 pub cond-no : {A : Type 0} (b : Bool) (x y : A) → b ≡ false → y ≡ cond b x y
 cond-no b x y e = rw e
-
-pub both-true : (a b : Bool) → both a b ≡ true → (a ≡ true) × (b ≡ true)
-both-true true b e = (refl, e)
-both-true false b e = absurd (let z : _≡_ {A = ℕ} 0 1 = cc in omega arith)
 
 both-no : (a b : Bool) → b ≡ false → both a b ≡ false
 both-no true b e = e

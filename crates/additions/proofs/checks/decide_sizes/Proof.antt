@@ -6,32 +6,33 @@ use native.Mathlib.Omega.{arith}
 use mir.Syntax.{w64}
 use mir.Facts.{toZ-ofZ}
 use Rattle.types.specs.Refusals.{value}
-use Rattle.additions.specs.declared.checks.Check.the-variants.{Go}
+use Rattle.rules.specs.declared.decide.Check.the-variants.{Go}
 use Rattle.additions.specs.declared.checks.Sizes.{Sizes}
 use Rattle.rules.specs.Rules.{firstOf}
 use Rattle.rules.specs.Bounds.{isNegative, sizeOf}
 use Rattle.additions.specs.Addition.{decides, isOpen, optionalOf, sizeRules, kindRules}
 use Rattle.additions.specs.Parts.{isHere}
-use Rattle.additions.specs.Checks.{checkSays, sizesFor}
+use Rattle.additions.specs.Checks.{sizesFor}
+use Rattle.rules.specs.Results.{checkNumber}
 use Rattle.additions.proofs.Rules.{SizesIn, sizes-in, stop-size, stop-name, stop-kind, stop-pad, sizes-done}
 use borrow.Author.Needs.{needs}
 use Rattle.additions.proofs.checks.decide_sizes.Statement.{statement}
 use Rattle.additions.proofs.checks.decide_sizes.Tie as tie
 
 -- the size and the four first rules, on the call's own number
-size-is : (c : tie.After-size-of) → c .size-of .result ≡ sizeOf (c .before .before .before .before .args .info .size)
-size-is c = c .size-of .ensures ∙ ap sizeOf (toZ-ofZ {w = w64} {z = c .before .before .before .before .args .info .size} (record { sfits = c .before .struct-told .given .1 .0 .1 }))
+size-is : (c : tie.After-clamped64) → c .clamped64 .result ≡ sizeOf (c .before .before .before .before .args .info .size)
+size-is c = c .clamped64 .ensures ∙ ap sizeOf (toZ-ofZ {w = w64} {z = c .before .before .before .before .args .info .size} (record { sfits = c .before .struct-told .given .1 .0 .1 }))
 
 sized : (c : tie.After-check-size)
-    → checkSays (c .check-size .result) ≡ firstOf (sizeRules (c .before .before .before .before .before .before .before .args .fs .«piece_length») (c .before .before .before .before .before .before .before .args .fs .«total_size») (isNegative (c .before .before .before .before .before .before .before .args .info .size)) (sizeOf (c .before .before .before .before .before .before .before .args .info .size)))
-sized c = rw (c .before .is-negative .ensures ∙ ap isNegative (toZ-ofZ {w = w64} {z = c .before .before .before .before .before .before .before .args .info .size} (record { sfits = c .before .before .struct-told2 .given .1 .0 .1 })), size-is (c .before .before .before)) at (c .check-size .ensures)
+    → checkNumber (c .check-size .result) ≡ firstOf (sizeRules (c .before .before .before .before .before .before .before .args .fs .«piece_length») (c .before .before .before .before .before .before .before .args .fs .«total_size») (isNegative (c .before .before .before .before .before .before .before .args .info .size)) (sizeOf (c .before .before .before .before .before .before .before .args .info .size)))
+sized c = rw (c .before .is-negative64 .ensures ∙ ap isNegative (toZ-ofZ {w = w64} {z = c .before .before .before .before .before .before .before .args .info .size} (record { sfits = c .before .before .struct-told2 .given .1 .0 .1 })), size-is (c .before .before .before)) at (c .check-size .ensures)
 
-inside : (c : tie.After-check-size) → c .check-size .result ≡ Go → SizesIn (c .before .before .before .before .before .before .before .args .fs .«piece_length») (c .before .before .before .before .before .before .before .args .fs .«total_size») (c .before .before .before .size-of .result)
-inside c e = sizes-in _ _ (c .before .is-negative .result) _ (sym (ap checkSays e) ∙ c .check-size .ensures)
+inside : (c : tie.After-check-size) → c .check-size .result ≡ Go → SizesIn (c .before .before .before .before .before .before .before .args .fs .«piece_length») (c .before .before .before .before .before .before .before .args .fs .«total_size») (c .before .before .before .clamped64 .result)
+inside c e = sizes-in _ _ (c .before .is-negative64 .result) _ (sym (ap checkNumber e) ∙ c .check-size .ensures)
 
 -- the kind's rules, its answer and the pad
 kinds : (c : tie.After-check-kind)
-    → checkSays (c .check-kind .result) ≡ firstOf (kindRules (c .before .before .before .before .before .before .before .before .before .before .before .before .before .before .before .before .args .fs .v2) (decides (sizeOf (c .before .before .before .before .before .before .before .before .before .before .before .before .before .before .before .before .args .info .size)) (c .before .before .before .before .before .before .before .before .before .before .before .before .before .before .before .before .args .link .now)) (isOpen (c .before .before .before .before .before .before .before .before .before .before .before .before .before .before .before .before .args .fs .«total_size») (c .before .before .before .before .before .before .before .before .before .before .before .before .before .before .before .before .args .fs .«num_symlinks») (c .before .before .before .before .before .before .before .before .before .before .before .before .before .before .before .before .args .fs .«num_files»)) (isHere (c .before .before .before .before .before .before .before .before .before .before .before .before .before .before .before .before .args .info .rooted)))
+    → checkNumber (c .check-kind .result) ≡ firstOf (kindRules (c .before .before .before .before .before .before .before .before .before .before .before .before .before .before .before .before .args .fs .v2) (decides (sizeOf (c .before .before .before .before .before .before .before .before .before .before .before .before .before .before .before .before .args .info .size)) (c .before .before .before .before .before .before .before .before .before .before .before .before .before .before .before .before .args .link .now)) (isOpen (c .before .before .before .before .before .before .before .before .before .before .before .before .before .before .before .before .args .fs .«total_size») (c .before .before .before .before .before .before .before .before .before .before .before .before .before .before .before .before .args .fs .«num_symlinks») (c .before .before .before .before .before .before .before .before .before .before .before .before .before .before .before .before .args .fs .«num_files»)) (isHere (c .before .before .before .before .before .before .before .before .before .before .before .before .before .before .before .before .args .info .rooted)))
 kinds c = rw (c .before .before .before .is-plain .ensures, c .before .before .is-open .ensures, c .before .is-here .ensures, size-is (c .before .before .before .before .before .before .before .before .before .before .before .before)) at (c .check-kind .ensures)
 
 kind-is : (c : tie.After-kind-after)
@@ -46,11 +47,11 @@ made : {s t : ℕ} {v u : Bool} {p q : ℕ} → s ≡ t → v ≡ u → p ≡ q
     → _≡_ {A = Sizes} (record { size = s; v2 = v; pad = p }) (record { size = t; v2 = u; pad = q })
 made e f g = cc
 
-size-of-requires : tie.Need-size-of-requires
-size-of-requires c κs = search needs
+clamped64-requires : tie.Need-clamped64-requires
+clamped64-requires c κs = search needs
 
-is-negative-requires : tie.Need-is-negative-requires
-is-negative-requires c κs = search needs
+is-negative64-requires : tie.Need-is-negative64-requires
+is-negative64-requires c κs = search needs
 
 check-size-requires : tie.Need-check-size-requires
 check-size-requires c κs = search needs
@@ -61,7 +62,7 @@ enum-known-e c = search needs
 returns : tie.Need-returns
 returns c =
     let a = c .before .before .before .before .before .before .before .before .before .before .args in
-    stop-size (a .fs) (optionalOf (a .info .given) (a .filename .now)) (a .parts) (a .info .size) (a .link .now) (isHere (a .info .rooted)) (c .before .e .given .0 .0) (sym (ap checkSays (c .before .e .given .1)) ∙ sized (c .before .before .before))
+    stop-size (a .fs) (optionalOf (a .info .given) (a .filename .now)) (a .parts) (a .info .size) (a .link .now) (isHere (a .info .rooted)) (c .before .e .given .0 .0) (sym (ap checkNumber (c .before .e .given .1)) ∙ sized (c .before .before .before))
 
 enum-told : tie.Need-enum-told
 enum-told c = search needs
@@ -75,7 +76,7 @@ enum-known-e-2 c = search needs
 returns-2 : tie.Need-returns-2
 returns-2 c =
     let a = c .before .before .before .before .before .before .before .before .before .before .before .before .before .args in
-    stop-name (a .fs) (optionalOf (a .info .given) (a .filename .now)) (a .parts) (a .info .size) (a .link .now) (isHere (a .info .rooted)) (sym (ap checkSays (c .before .before .before .before .enum-told .given .1)) ∙ sized (c .before .before .before .before .before .before)) (c .before .e2 .given .0 .0) (sym (ap checkSays (c .before .e2 .given .1)) ∙ c .before .before .before .check-names .ensures)
+    stop-name (a .fs) (optionalOf (a .info .given) (a .filename .now)) (a .parts) (a .info .size) (a .link .now) (isHere (a .info .rooted)) (sym (ap checkNumber (c .before .before .before .before .enum-told .given .1)) ∙ sized (c .before .before .before .before .before .before)) (c .before .e2 .given .0 .0) (sym (ap checkNumber (c .before .e2 .given .1)) ∙ c .before .before .before .check-names .ensures)
 
 enum-told-2 : tie.Need-enum-told-2
 enum-told-2 c = search needs
@@ -98,7 +99,7 @@ enum-known-e-3 c = search needs
 returns-3 : tie.Need-returns-3
 returns-3 c =
     let a = c .before .before .before .before .before .before .before .before .before .before .before .before .before .before .before .before .before .before .before .args in
-    stop-kind (a .fs) (optionalOf (a .info .given) (a .filename .now)) (a .parts) (a .info .size) (a .link .now) (isHere (a .info .rooted)) (sym (ap checkSays (c .before .before .before .before .before .before .before .before .before .before .enum-told .given .1)) ∙ sized (c .before .before .before .before .before .before .before .before .before .before .before .before)) (sym (ap checkSays (c .before .before .before .before .before .before .before .enum-told2 .given .1)) ∙ c .before .before .before .before .before .before .before .before .before .check-names .ensures) (c .before .e3 .given .0 .0) (sym (ap checkSays (c .before .e3 .given .1)) ∙ kinds (c .before .before .before))
+    stop-kind (a .fs) (optionalOf (a .info .given) (a .filename .now)) (a .parts) (a .info .size) (a .link .now) (isHere (a .info .rooted)) (sym (ap checkNumber (c .before .before .before .before .before .before .before .before .before .before .enum-told .given .1)) ∙ sized (c .before .before .before .before .before .before .before .before .before .before .before .before)) (sym (ap checkNumber (c .before .before .before .before .before .before .before .enum-told2 .given .1)) ∙ c .before .before .before .before .before .before .before .before .before .check-names .ensures) (c .before .e3 .given .0 .0) (sym (ap checkNumber (c .before .e3 .given .1)) ∙ kinds (c .before .before .before))
 
 enum-told-3 : tie.Need-enum-told-3
 enum-told-3 c = search needs
@@ -119,21 +120,21 @@ returns-4 : tie.Need-returns-4
 returns-4 c =
     let a = c .before .before .before .before .before .before .before .before .before .before .before .before .before .before .before .before .before .before .before .before .before .before .args in
     let h = inside (c .before .before .before .before .before .before .before .before .before .before .before .before .before .before .before) (c .before .before .before .before .before .before .before .before .before .before .before .before .before .enum-told .given .1) in
-    stop-pad (a .fs) (optionalOf (a .info .given) (a .filename .now)) (a .parts) (a .info .size) (a .link .now) (isHere (a .info .rooted)) (sym (ap checkSays (c .before .before .before .before .before .before .before .before .before .before .before .before .before .enum-told .given .1)) ∙ sized (c .before .before .before .before .before .before .before .before .before .before .before .before .before .before .before)) (sym (ap checkSays (c .before .before .before .before .before .before .before .before .before .before .enum-told2 .given .1)) ∙ c .before .before .before .before .before .before .before .before .before .before .before .before .check-names .ensures) (sym (ap checkSays (c .before .before .before .before .enum-told3 .given .1)) ∙ kinds (c .before .before .before .before .before .before)) (omega (arith, size-is (c .before .before .before .before .before .before .before .before .before .before .before .before .before .before .before .before .before .before), pad-is (c .before)))
+    stop-pad (a .fs) (optionalOf (a .info .given) (a .filename .now)) (a .parts) (a .info .size) (a .link .now) (isHere (a .info .rooted)) (sym (ap checkNumber (c .before .before .before .before .before .before .before .before .before .before .before .before .before .enum-told .given .1)) ∙ sized (c .before .before .before .before .before .before .before .before .before .before .before .before .before .before .before)) (sym (ap checkNumber (c .before .before .before .before .before .before .before .before .before .before .enum-told2 .given .1)) ∙ c .before .before .before .before .before .before .before .before .before .before .before .before .check-names .ensures) (sym (ap checkNumber (c .before .before .before .before .enum-told3 .given .1)) ∙ kinds (c .before .before .before .before .before .before)) (omega (arith, size-is (c .before .before .before .before .before .before .before .before .before .before .before .before .before .before .before .before .before .before), pad-is (c .before)))
 
 returns-5 : tie.Need-returns-5
 returns-5 c =
     let a = c .before .before .before .before .before .before .before .before .before .before .before .before .before .before .before .before .before .before .before .before .before .before .args in
     let h = inside (c .before .before .before .before .before .before .before .before .before .before .before .before .before .before .before) (c .before .before .before .before .before .before .before .before .before .before .before .before .before .enum-told .given .1) in
     ap value (made (size-is (c .before .before .before .before .before .before .before .before .before .before .before .before .before .before .before .before .before .before)) (kind-is (c .before .before .before)) (pad-is (c .before)))
-    ∙ sizes-done (a .fs) (optionalOf (a .info .given) (a .filename .now)) (a .parts) (a .info .size) (a .link .now) (isHere (a .info .rooted)) (sym (ap checkSays (c .before .before .before .before .before .before .before .before .before .before .before .before .before .enum-told .given .1)) ∙ sized (c .before .before .before .before .before .before .before .before .before .before .before .before .before .before .before)) (sym (ap checkSays (c .before .before .before .before .before .before .before .before .before .before .enum-told2 .given .1)) ∙ c .before .before .before .before .before .before .before .before .before .before .before .before .check-names .ensures) (sym (ap checkSays (c .before .before .before .before .enum-told3 .given .1)) ∙ kinds (c .before .before .before .before .before .before)) (omega (arith, size-is (c .before .before .before .before .before .before .before .before .before .before .before .before .before .before .before .before .before .before), pad-is (c .before)))
+    ∙ sizes-done (a .fs) (optionalOf (a .info .given) (a .filename .now)) (a .parts) (a .info .size) (a .link .now) (isHere (a .info .rooted)) (sym (ap checkNumber (c .before .before .before .before .before .before .before .before .before .before .before .before .before .enum-told .given .1)) ∙ sized (c .before .before .before .before .before .before .before .before .before .before .before .before .before .before .before)) (sym (ap checkNumber (c .before .before .before .before .before .before .before .before .before .before .enum-told2 .given .1)) ∙ c .before .before .before .before .before .before .before .before .before .before .before .before .check-names .ensures) (sym (ap checkNumber (c .before .before .before .before .enum-told3 .given .1)) ∙ kinds (c .before .before .before .before .before .before)) (omega (arith, size-is (c .before .before .before .before .before .before .before .before .before .before .before .before .before .before .before .before .before .before), pad-is (c .before)))
 
 pub decide-sizes-spec : {M : Type 1} → statement M
 decide-sizes-spec =
     tie.close
     (tie.spec
-    size-of-requires
-    is-negative-requires
+    clamped64-requires
+    is-negative64-requires
     check-size-requires
     enum-known-e
     returns
