@@ -54,9 +54,9 @@ use Rattle.renames.proofs.rename_file.Reads as rename-reads
 use Rattle.renames.proofs.import_filenames
 use Rattle.renames.proofs.import_filenames.Kinds as import-kinds
 use Rattle.renames.proofs.import_filenames.Reads as import-reads
-use Rattle.layout.proofs.map_file
-use Rattle.layout.proofs.map_file.Kinds as map-kinds
-use Rattle.layout.proofs.map_file.Reads as map-reads
+use Rattle.files.proofs.map_file
+use Rattle.files.proofs.map_file.Kinds as map-kinds
+use Rattle.files.proofs.map_file.Reads as map-reads
 use Rattle.book.specs.Book.{Made}
 use Rattle.book.specs.Book as book
 use Rattle.book.specs.Calls.{cameOf, storeAfter, cleanedBy, call, Renames, noEntries, renamesAfter, Leads}

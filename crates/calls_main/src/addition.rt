@@ -1,11 +1,11 @@
 // The words of an addition: `add NAME PATH SIZE FLAGS MTIME LINK ROOT`. Relies on the modules for words.
 use crate::input::Buffer;
+use crate::numbers;
 use crate::numbers::Long;
 use crate::numbers::Number;
-use crate::numbers;
 use crate::roots;
-use crate::strings::Decoded;
 use crate::strings;
+use crate::strings::Decoded;
 use crate::words;
 use tables::Presence;
 

@@ -11,8 +11,8 @@ use rules::PieceRangeResult;
 use rules::PieceResult;
 use rules::RequestResult;
 use rules::SpanResult;
-use rules::U32Result;
 use rules::U8Result;
+use rules::U32Result;
 use types::UsizeResult;
 
 // Writes a number.

@@ -12,9 +12,9 @@ use crate::places::Rows;
 use crate::places::Texts;
 use crate::places::Times;
 use crate::questions;
+use crate::sets;
 use crate::sets::Made;
 use crate::sets::Sets;
-use crate::sets;
 use crate::words;
 
 // Answers the line of a length, of which as many bytes stand in its buffer as that has places; a change of the sets

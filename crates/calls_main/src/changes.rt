@@ -1,18 +1,18 @@
 // The calls that change the set that is spoken of, and of these the additions and trims. The tables are handed on
 // whole, and the functions that call the library lend it the set's parts. Relies on `storage`, on
 // addition.rt for the words of an addition, and on cleanings.rt, renaming.rt and importing.rt.
-use crate::addition::Addition;
 use crate::addition;
+use crate::addition::Addition;
 use crate::cleanings;
 use crate::importing;
 use crate::input::Buffer;
+use crate::places;
 use crate::places::Dirs;
 use crate::places::Places;
 use crate::places::Roots;
 use crate::places::Rows;
 use crate::places::Texts;
 use crate::places::Times;
-use crate::places;
 use crate::renaming;
 use crate::sets::Made;
 use crate::sets::Set;

@@ -1,11 +1,11 @@
 // `clean`: the set's parts of the tables and a work space of the program's own are lent to the library. Relies on
 // `cleaning`. A small work space serves most sets; the large one is cleared only where that is too short.
 use crate::changes;
+use crate::places;
 use crate::places::Dirs;
 use crate::places::Places;
 use crate::places::Rows;
 use crate::places::Texts;
-use crate::places;
 use crate::sets::Made;
 use crate::sets::Set;
 use change::StorageResult;

@@ -1,12 +1,12 @@
 // `compat A B`, the question on two sets: both are lent their parts of the tables. Relies on `names`, and on
 // the modules for sets, words and answers.
 use crate::answer;
-use crate::numbers::Number;
 use crate::numbers;
+use crate::numbers::Number;
 use crate::places;
+use crate::sets;
 use crate::sets::Set;
 use crate::sets::Sets;
-use crate::sets;
 use crate::words;
 
 // Answers whether the sets that a line names are compatible, and says whether it names two sets.

@@ -1,7 +1,7 @@
 // Questions on what a file's row holds. Relies on `answers`, and on the modules for words and answers.
 use crate::answer;
-use crate::numbers::Short;
 use crate::numbers;
+use crate::numbers::Short;
 use crate::output;
 use crate::words;
 use rules::RootResult;

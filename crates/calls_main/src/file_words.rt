@@ -1,10 +1,10 @@
 // The words of a call after its name, where these are a file's number and a byte string. Relies on the modules
 // for words.
 use crate::input::Buffer;
-use crate::numbers::Short;
 use crate::numbers;
-use crate::strings::Decoded;
+use crate::numbers::Short;
 use crate::strings;
+use crate::strings::Decoded;
 
 // What the words stand for. The string stands in a buffer, and this is its length.
 pub(crate) struct FileWords {

@@ -1,17 +1,17 @@
 // `import I :N I :N …`: the pairs of the line are read into columns, which are lent to the library with the
 // set's parts of the tables of renames. Relies on `renames`, and on the modules for sets and words.
 use crate::input::Buffer;
-use crate::numbers::Short;
 use crate::numbers;
+use crate::numbers::Short;
+use crate::places;
 use crate::places::Places;
 use crate::places::Rows;
 use crate::places::Texts;
-use crate::places;
 use crate::renaming;
 use crate::sets::Made;
 use crate::sets::Set;
-use crate::strings::Decoded;
 use crate::strings;
+use crate::strings::Decoded;
 use crate::words;
 use renames::RenamedFiles;
 use renames::RenamesResult;

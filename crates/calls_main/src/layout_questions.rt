@@ -1,10 +1,10 @@
 // Questions on the layout of a set. Relies on `layout`, and on the modules for words and answers.
 use crate::answer;
+use crate::numbers;
 use crate::numbers::Long;
 use crate::numbers::Short;
-use crate::numbers;
-use crate::output::Reply;
 use crate::output;
+use crate::output::Reply;
 use crate::roots;
 use crate::words;
 use tables::FileStorage;

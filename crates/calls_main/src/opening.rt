@@ -1,13 +1,13 @@
 // `open`, `use` and `reset`: opening a set, turning to another, and forgetting all. Relies on `storage`, and on the
 // modules for sets and words.
 ghost use Prim.Native.Nat.{_≤_};
+use crate::numbers;
 use crate::numbers::Number;
 use crate::numbers::Short;
-use crate::numbers;
-use crate::places::Places;
 use crate::places;
-use crate::sets::Made;
+use crate::places::Places;
 use crate::sets;
+use crate::sets::Made;
 use crate::words;
 use change::StorageResult;
 

@@ -1,8 +1,8 @@
 // Questions on whole paths and their hashes. Relies on `names`, and on the modules for words and answers.
 use crate::answer;
 use crate::file_words;
-use crate::output::Reply;
 use crate::output;
+use crate::output::Reply;
 use crate::strings;
 use crate::words;
 use tables::FileStorage;

@@ -1,10 +1,10 @@
 // Calls that speak of no set: on paths, byte strings and the width of a tree. Relies on `path`, `crc32c` and
 // `merkle`, and on the modules for words and answers.
 use crate::answer;
-use crate::numbers::Number;
 use crate::numbers;
-use crate::strings::Decoded;
+use crate::numbers::Number;
 use crate::strings;
+use crate::strings::Decoded;
 use crate::words;
 
 // Answers a line that has one of this module's forms, and says whether it has.

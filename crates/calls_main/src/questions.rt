@@ -5,16 +5,16 @@ use crate::file_questions;
 use crate::layout_questions;
 use crate::output;
 use crate::path_questions;
+use crate::places;
 use crate::places::Dirs;
 use crate::places::Roots;
 use crate::places::Rows;
 use crate::places::Texts;
 use crate::places::Times;
-use crate::places;
 use crate::renamed_questions;
 use crate::set_questions;
-use crate::sets::Sets;
 use crate::sets;
+use crate::sets::Sets;
 use renames::RenamedFiles;
 use tables::FileStorage;
 

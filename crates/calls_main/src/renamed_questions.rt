@@ -2,10 +2,10 @@
 // words and answers.
 use crate::answer;
 use crate::file_words;
-use crate::numbers::Short;
 use crate::numbers;
-use crate::output::Reply;
+use crate::numbers::Short;
 use crate::output;
+use crate::output::Reply;
 use crate::strings;
 use crate::words;
 use renamed::FileNameResult;

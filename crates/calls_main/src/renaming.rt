@@ -1,12 +1,12 @@
 // `rename I :NEW`: the set's parts of the tables of renames are lent to the library. Relies on `renames`, and on the
 // modules for sets and words.
-use crate::file_words::FileWords;
 use crate::file_words;
+use crate::file_words::FileWords;
 use crate::input::Buffer;
+use crate::places;
 use crate::places::Places;
 use crate::places::Rows;
 use crate::places::Texts;
-use crate::places;
 use crate::sets::Made;
 use crate::sets::Set;
 use crate::strings;

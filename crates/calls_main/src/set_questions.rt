@@ -1,7 +1,7 @@
 // Questions on a set as a whole. Relies on `answers` and `layout`, and on the modules for words and answers.
 use crate::answer;
-use crate::output::Reply;
 use crate::output;
+use crate::output::Reply;
 use crate::words;
 use rules::I32Result;
 use rules::SpanResult;

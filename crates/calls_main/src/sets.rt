@@ -1,7 +1,7 @@
 // The four sets of a script, and the one that calls speak of. They are handed on by value; the tables are not among
 // them, and a set's parts say what of these it is lent. Relies on `tables` and `renames` for the records.
-use crate::places::Places;
 use crate::places;
+use crate::places::Places;
 use renames::RenamedFiles;
 use tables::FileStorage;
 use tables::Span;
