@@ -1,4 +1,4 @@
-// Answers about one file that are numbers, truth values or a root. They rely on decide.rt and on the total
+// Answers about one file that are numbers, truth values or a root. They rely on the refusals of `rules` and on the total
 // accessors of `tables`.
 ghost use mathlib.Core.Path.{_≡_};
 ghost use Prim.Native.Nat.{_%_};

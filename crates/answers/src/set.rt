@@ -1,4 +1,4 @@
-// Answers about the set as a whole. They rely on decide.rt, and on `types` for signed numbers.
+// Answers about the set as a whole. They rely on the refusals of `rules`, and on `types` for signed numbers.
 ghost use mathlib.Core.Path.{_≡_};
 ghost use Prim.Native.Nat.{_%_, _^_};
 ghost use lib.IntN.{pos};

@@ -1,5 +1,5 @@
 // Answers about one file that are texts: a place in the text area, or a path composed into a lent buffer.
-// They rely on decide.rt, on the total accessors of `tables` and on the joins of `path`.
+// They rely on the refusals of `rules`, on the total accessors of `tables` and on the joins of `path`.
 ghost use mathlib.Core.Path.{_≡_};
 ghost use Prim.Native.Nat.{_/_};
 ghost use lib.Dec.{leb};

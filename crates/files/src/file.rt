@@ -1,5 +1,5 @@
 // Answers about files' pieces, blocks and trees, and `map_file`. They rely on `merkle` for the nodes and
-// on `types` for signed numbers; each tests its refusals first (decide.rt).
+// on `types` for signed numbers; each tests its refusals first (`rules`).
 ghost use mathlib.Core.Path.{_≡_};
 ghost use mathlib.Core.Bool.{false, not};
 ghost use mathlib.Core.List.{[], _∷_};

@@ -1,5 +1,5 @@
 // Answers about pieces, and files at offsets and pieces. They rely on the search and on `types` for
-// signed numbers; each tests its refusals first (decide.rt).
+// signed numbers; each tests its refusals first (`rules`).
 ghost use mathlib.Core.Path.{_≡_};
 ghost use mathlib.Core.List.{[], _∷_};
 ghost use Prim.Native.Nat.{_+_, _-_, _*_, _/_, _%_, _^_, _≤_, _<_};

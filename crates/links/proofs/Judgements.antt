@@ -1,5 +1,5 @@
 -- Laws of `judge_links`: what is known where none of its refusals stops it, and its outcome in both cases. They rely on the laws
--- of rules in order (`storage`).
+-- of rules in order (`rules`).
 use Prim.Native.Nat.{ℕ, _+_, _*_, _≤_}
 use mathlib.Core.Path.{_≡_, refl, sym, ap, _∙_}
 use mathlib.Core.Bool.{Bool, true, false, cond, not}

@@ -1,6 +1,6 @@
 -- Document 01, 'Names': 'a rename entry holds its file number and one of three modes'. A set's renames are a list, ascending
 -- by file number, each number once. In the lent tables an entry is three words: number, mode, length of the text; the texts stand in the
--- entries' order in the text area, one behind the other. It relies on the rules in order of `storage`.
+-- entries' order in the text area, one behind the other. It relies on the rules in order of `rules`.
 use Prim.Native.Nat.{ℕ, zero, suc, _+_, _-_, _*_, _/_}
 use mathlib.Core.Bool.{Bool, cond, not}
 use mathlib.Core.List.{List, [], _∷_, _++_}
