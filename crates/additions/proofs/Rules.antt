@@ -18,9 +18,9 @@ use Rattle.tables.specs.Model.{Optional}
 use Rattle.additions.specs.declared.checks.Sizes.{Sizes}
 use Rattle.additions.specs.declared.parts.PathParts.{PathParts}
 use Rattle.rules.specs.Rules.{Rule, firstOf, outcomeOf}
-use Rattle.rules.specs.Bounds.{limit, badLength, isNegative, sizeOf}
-use Rattle.additions.specs.Addition.{decides, isOpen, padTo, keepsLink, sizeRules, kindRules, padRules}
-use Rattle.additions.specs.Checks.{namesOf, sizesFor, numberRules}
+use Rattle.rules.specs.Bounds.{limit, badLength, isNegative, clampedOf}
+use Rattle.additions.specs.Addition.{decides, isOpen, padTo, keepsLink, sizeRules, versionRules, padRules}
+use Rattle.additions.specs.private.Checks.{namesOf, sizesFor, numberRules}
 use Rattle.rules.proofs.Rules.{after, either-false, passed, stopped, both-true}
 
 -- ---- the rules of an addition on numbers
@@ -58,16 +58,16 @@ pad-some n total h e =
 
 module _ (fs : FileStorage) (given : Optional (List ℕ)) (parts : PathParts) (z : ℤ) (link : List ℕ) (root : Bool) where
   abbrev sized : List Rule
-  sized = sizeRules (fs .«piece_length») (fs .«total_size») (isNegative z) (sizeOf z)
+  sized = sizeRules (fs .«piece_length») (fs .«total_size») (isNegative z) (clampedOf z)
 
   abbrev named : List Rule
   named = namesOf (fs .«num_files») given parts
 
   abbrev kinds : List Rule
-  kinds = kindRules (fs .v2) (decides (sizeOf z) link) (isOpen (fs .«total_size») (fs .«num_symlinks») (fs .«num_files»)) root
+  kinds = versionRules (fs .v2) (decides (clampedOf z) link) (isOpen (fs .«total_size») (fs .«num_symlinks») (fs .«num_files»)) root
 
   abbrev padded : List Rule
-  padded = padRules (fs .«total_size» + sizeOf z) (sizesFor fs z link root .pad)
+  padded = padRules (fs .«total_size» + clampedOf z) (sizesFor fs z link root .pad)
 
   abbrev result : Outcome Sizes
   result = outcomeOf (firstOf (numberRules fs given parts z link root)) (sizesFor fs z link root)
@@ -93,18 +93,18 @@ module _ (fs : FileStorage) (given : Optional (List ℕ)) (parts : PathParts) (z
         past-kind : firstOf (numberRules fs given parts z link root) ≡ firstOf padded
         past-kind = past-name ∙ after kinds padded refl r
 
-        pub stop-pad : limit < fs .«total_size» + sizeOf z + sizesFor fs z link root .pad → refused 4 ≡ result
-        stop-pad h = rw (past-kind, lt-ltb limit (fs .«total_size» + sizeOf z + sizesFor fs z link root .pad) h)
+        pub stop-pad : limit < fs .«total_size» + clampedOf z + sizesFor fs z link root .pad → refused 4 ≡ result
+        stop-pad h = rw (past-kind, lt-ltb limit (fs .«total_size» + clampedOf z + sizesFor fs z link root .pad) h)
 
-        pub sizes-done : fs .«total_size» + sizeOf z + sizesFor fs z link root .pad ≤ limit → value (sizesFor fs z link root) ≡ result
-        sizes-done h = rw (past-kind, le-ltb limit (fs .«total_size» + sizeOf z + sizesFor fs z link root .pad) h)
+        pub sizes-done : fs .«total_size» + clampedOf z + sizesFor fs z link root .pad ≤ limit → value (sizesFor fs z link root) ≡ result
+        sizes-done h = rw (past-kind, le-ltb limit (fs .«total_size» + clampedOf z + sizesFor fs z link root .pad) h)
 
 -- the total stays in range with file and pad
 pub sum-in : (fs : FileStorage) (given : Optional (List ℕ)) (parts : PathParts) (z : ℤ) (link : List ℕ) (root : Bool) (x : Sizes)
     → x ≡ sizesFor fs z link root → firstOf (numberRules fs given parts z link root) ≡ 0 → fs .«total_size» + x .size + x .pad ≤ limit
 sum-in fs given parts z link root x q e =
     let p = passed (numberRules fs given parts z link root) refl (sym e) in
-    rw q (ltb-false limit (fs .«total_size» + sizeOf z + sizesFor fs z link root .pad) (p .1 .1 .1 .1 .1 .1 .1 .1 .1 .0))
+    rw q (ltb-false limit (fs .«total_size» + clampedOf z + sizesFor fs z link root .pad) (p .1 .1 .1 .1 .1 .1 .1 .1 .1 .0))
 
 -- where a link text is kept, there is place for one
 pub link-in : (links : ℕ) (link : List ℕ) → keepsLink links link ≡ true → links < 32766

@@ -2,7 +2,7 @@
 -- tests that led to them.
 use Prim.Native.Nat.{ℕ, suc, _+_, _-_, _≤_, _<_}
 use mathlib.Core.Path.{_≡_, refl, sym, ap, _∙_}
-use mathlib.Core.Bool.{Bool, true, false, cond, not, false≢true, true≢false}
+use mathlib.Core.Bool.{Bool, true, false, cond, not, false≢true, true≢false, _&&_}
 use mathlib.Core.List.{List, [], _∷_, _++_, append-assoc}
 use native.Mathlib.Omega.{arith}
 use native.Mathlib.Numerals.{add-one}
@@ -11,7 +11,7 @@ use lib.ListN.{length, getD, take, drop, length-append, drop-of-length-le, take-
 use lib.Seq.{length-take-le, take-length, drop-cons, drop-drop, take-append-seam, take-append-le, drop-append-seam, drop-append-add}
 use borrow.Author.Tests.{lt-ltb, ne-eqb, not-true}
 use Rattle.lists.specs.Lists.{any, equal, partOf}
-use Rattle.path.specs.Split.{isSeparator, isEither, trimmedFrom, trimmed, hasParent, beforeLast, behindLast, beforeFirst, behindFirst, skipped, isComplete, rsplitBranch, rsplitLeaf, lsplitFirst, lsplitRest}
+use Rattle.path.specs.Split.{isSeparator, isEither, trimmedFrom, trimmed, hasParent, beforeLast, afterLast, beforeFirst, afterFirst, skipped, isComplete, rsplitBranch, rsplitLeaf, lsplitFirst, lsplitRest}
 use Rattle.path.specs.Join.{isEmpty}
 use Rattle.path.proofs.Splits.{last-parts, leaf-all, branch-none, first-parts, first-all, rest-none}
 use Rattle.path.proofs.Ends.{trimmed-rest}
@@ -20,13 +20,13 @@ use Rattle.tables.specs.declared.rows.Presence.{Presence}
 use Rattle.tables.specs.declared.rows.Presence.the-variants.{Absent, Present}
 use Rattle.tables.specs.Span.{textAt}
 use Rattle.tables.specs.Model.{Optional, absent, present}
-use Rattle.rules.specs.Rules.{both}
 use Rattle.additions.specs.declared.parts.PathKind.{PathKind}
 use Rattle.additions.specs.declared.parts.PathKind.the-variants.{Single, Absolute, Inside, Outside}
 use Rattle.additions.specs.declared.parts.PathParts.{PathParts}
-use Rattle.additions.specs.Addition.{setNameOf, nameAfter, unled, pathName, storedName, limitedName, badName, optionalOf}
-use Rattle.additions.specs.Parts.{isHere, nameFrom, setTextOf, kindFor, textUnder, absoluteKind, noSpan, wholeSpan, leafSpan, firstSpan, setNameSpan, nameSpan, directorySpan, partsOf}
-use Rattle.additions.specs.Checks.{limitedLength, badBeside}
+use Rattle.additions.specs.Addition.{setNameOf, nameAfter, withoutLeading, pathName, storedName, limitedName, badName, optionalOf}
+use Rattle.additions.specs.private.Texts.{isHere, nameFrom, setTextOf, textUnder, absoluteKind}
+use Rattle.additions.specs.Parts.{kindFor, noSpan, wholeSpan, leafSpan, firstSpan, setNameSpan, nameSpan, directorySpan, partsOf}
+use Rattle.additions.specs.private.Checks.{limitedLength, badBeside}
 
 -- a text of no bytes, and any other
 pub empty-is : (l : List ℕ) → length l ≡ 0 → isEmpty l ≡ true
@@ -38,18 +38,18 @@ filled-is [] e = absurd (e refl)
 filled-is (c ∷ t) e = refl
 
 -- a path's branch lies before its leaf and the separator between them, one at the end dropped
-branch-at : (q : List ℕ) → take (length q - (length (behindLast q) + 1)) q ≡ beforeLast q
+branch-at : (q : List ℕ) → take (length q - (length (afterLast q) + 1)) q ≡ beforeLast q
 branch-at q = at (any isSeparator q) refl
   where
-    at : (t : Bool) → any isSeparator q ≡ t → take (length q - (length (behindLast q) + 1)) q ≡ beforeLast q
+    at : (t : Bool) → any isSeparator q ≡ t → take (length q - (length (afterLast q) + 1)) q ≡ beforeLast q
     at true e =
-        let l : length q ≡ length (beforeLast q) + suc (length (behindLast q)) = ap length (last-parts q e) ∙ length-append (beforeLast q) (47 ∷ behindLast q) in
-        let n : length q - (length (behindLast q) + 1) ≡ length (beforeLast q) = omega arith in
+        let l : length q ≡ length (beforeLast q) + suc (length (afterLast q)) = ap length (last-parts q e) ∙ length-append (beforeLast q) (47 ∷ afterLast q) in
+        let n : length q - (length (afterLast q) + 1) ≡ length (beforeLast q) = omega arith in
         ap (λ (k : ℕ). take k q) n
         ∙ ap (take (length (beforeLast q))) (last-parts q e)
-        ∙ take-append-seam (beforeLast q) (47 ∷ behindLast q)
+        ∙ take-append-seam (beforeLast q) (47 ∷ afterLast q)
     at false e =
-        let n : length q - (length (behindLast q) + 1) ≡ 0 = omega (arith, ap length (leaf-all q e)) in
+        let n : length q - (length (afterLast q) + 1) ≡ 0 = omega (arith, ap length (leaf-all q e)) in
         rw (n, branch-none q e)
 
 -- what a span at the end of a part reads. A list ends in x:
@@ -70,11 +70,11 @@ read-end path l x r e w =
     ∙ read-within (w .0) x r
 
 -- a path's leaf ends it, once a separator at the end is dropped
-leaf-ends : (q : List ℕ) → Ends (behindLast q) q
+leaf-ends : (q : List ℕ) → Ends (afterLast q) q
 leaf-ends q = at (any isSeparator q) refl
   where
-    at : (t : Bool) → any isSeparator q ≡ t → Ends (behindLast q) q
-    at true e = (beforeLast q ++ (47 ∷ []), last-parts q e ∙ sym (append-assoc (beforeLast q) (47 ∷ []) (behindLast q)))
+    at : (t : Bool) → any isSeparator q ≡ t → Ends (afterLast q) q
+    at true e = (beforeLast q ++ (47 ∷ []), last-parts q e ∙ sym (append-assoc (beforeLast q) (47 ∷ []) (afterLast q)))
     at false e = ([], sym (leaf-all q e))
 
 pub leaf-is : (p leaf : List ℕ) (k m : ℕ) → leaf ≡ rsplitLeaf p → (k ≤ length p) × (take k p ≡ trimmed isSeparator p) → m ≡ k - length leaf
@@ -87,11 +87,11 @@ pub branch-is : (p : List ℕ) (s : Span) → s ≡ leafSpan p → take (s .at -
 branch-is p s e =
     let q = trimmed isSeparator p in
     let w = trimmed-rest isSeparator p in
-    let n : length q - length (behindLast q) - 1 ≡ length q - (length (behindLast q) + 1) = omega arith in
+    let n : length q - length (afterLast q) - 1 ≡ length q - (length (afterLast q) + 1) = omega arith in
     ap (λ (x : Span). take (x .at - 1) p) e
     ∙ ap (λ (k : ℕ). take k p) n
-    ∙ ap (take (length q - (length (behindLast q) + 1))) (w .1)
-    ∙ take-append-le (length q - (length (behindLast q) + 1)) q (w .0) (omega arith)
+    ∙ ap (take (length q - (length (afterLast q) + 1))) (w .1)
+    ∙ take-append-le (length q - (length (afterLast q) + 1)) q (w .0) (omega arith)
     ∙ branch-at q
 
 -- the name that a path gives its file
@@ -109,7 +109,7 @@ first-at : (q : List ℕ) → take (length (beforeFirst q)) q ≡ beforeFirst q
 first-at q = at (any isSeparator q) refl
   where
     at : (t : Bool) → any isSeparator q ≡ t → take (length (beforeFirst q)) q ≡ beforeFirst q
-    at true e = ap (take (length (beforeFirst q))) (first-parts q e) ∙ take-append-seam (beforeFirst q) (47 ∷ behindFirst q)
+    at true e = ap (take (length (beforeFirst q))) (first-parts q e) ∙ take-append-seam (beforeFirst q) (47 ∷ afterFirst q)
     at false e = ap (λ (l : List ℕ). take (length l) q) (first-all q e) ∙ take-length q ∙ sym (first-all q e)
 
 pub set-read : (files : ℕ) (path : List ℕ) → textAt path (setNameSpan files (hasParent path) path) ≡ setTextOf files path
@@ -134,7 +134,7 @@ branch-first q r = at (any isSeparator q) refl
   where
     at : (t : Bool) → any isSeparator q ≡ t → (s : List ℕ) × (q ++ r ≡ beforeLast q ++ s)
     at true e =
-        ((47 ∷ behindLast q) ++ r, ap (λ (l : List ℕ). l ++ r) (last-parts q e) ∙ append-assoc (beforeLast q) (47 ∷ behindLast q) r)
+        ((47 ∷ afterLast q) ++ r, ap (λ (l : List ℕ). l ++ r) (last-parts q e) ∙ append-assoc (beforeLast q) (47 ∷ afterLast q) r)
     at false e = (q ++ r, ap (λ (l : List ℕ). l ++ (q ++ r)) (sym (branch-none q e)))
 
 branch-leads : (path : List ℕ) → (s : List ℕ) × (path ≡ rsplitBranch path ++ s)
@@ -143,19 +143,19 @@ branch-leads path =
     let b = branch-first (trimmed isSeparator path) (w .0) in
     (b .0, w .1 ∙ b .1)
 
-unled-ends : (l : List ℕ) → Ends (unled l) l
+unled-ends : (l : List ℕ) → Ends (withoutLeading l) l
 unled-ends [] = ([], refl)
 unled-ends (c ∷ t) = at (isSeparator c) (unled-ends t)
   where
-    at : (b : Bool) → Ends (unled t) t → Ends (cond b (unled t) (c ∷ t)) (c ∷ t)
+    at : (b : Bool) → Ends (withoutLeading t) t → Ends (cond b (withoutLeading t) (c ∷ t)) (c ∷ t)
     at true w = (c ∷ w .0, ap (λ (l : List ℕ). c ∷ l) (w .1))
     at false w = ([], refl)
 
-behind-ends : (l : List ℕ) → Ends (behindFirst l) l
+behind-ends : (l : List ℕ) → Ends (afterFirst l) l
 behind-ends [] = ([], refl)
 behind-ends (c ∷ t) = at (isSeparator c) (behind-ends t)
   where
-    at : (b : Bool) → Ends (behindFirst t) t → Ends (cond b t (behindFirst t)) (c ∷ t)
+    at : (b : Bool) → Ends (afterFirst t) t → Ends (cond b t (afterFirst t)) (c ∷ t)
     at true w = (c ∷ [], refl)
     at false w = (c ∷ w .0, ap (λ (l : List ℕ). c ∷ l) (w .1))
 
@@ -167,7 +167,7 @@ directory-read Single path = refl
 directory-read Absolute path = refl
 directory-read Inside path =
     let b = branch-leads path in
-    read-end path (rsplitBranch path) (unled (lsplitRest (rsplitBranch path))) (b .0) (b .1)
+    read-end path (rsplitBranch path) (withoutLeading (lsplitRest (rsplitBranch path))) (b .0) (b .1)
     (ends-trans (unled-ends (lsplitRest (rsplitBranch path))) (ends-trans (behind-ends (skipped (rsplitBranch path))) (skipped-ends (rsplitBranch path))))
 directory-read Outside path =
     let b = branch-leads path in
@@ -201,12 +201,12 @@ module _ (files : ℕ) (old path branch called : List ℕ) where
       same e f g h i j = cc
 
 -- and what lies behind its first part and the separator between them, a leading one skipped, is the rest
-rest-at : (q : List ℕ) → drop (length (beforeFirst q) + 1) q ≡ behindFirst q
+rest-at : (q : List ℕ) → drop (length (beforeFirst q) + 1) q ≡ afterFirst q
 rest-at q = at (any isSeparator q) refl
   where
-    at : (t : Bool) → any isSeparator q ≡ t → drop (length (beforeFirst q) + 1) q ≡ behindFirst q
+    at : (t : Bool) → any isSeparator q ≡ t → drop (length (beforeFirst q) + 1) q ≡ afterFirst q
     at true e =
-        ap (drop (length (beforeFirst q) + 1)) (first-parts q e) ∙ drop-append-add (beforeFirst q) (47 ∷ behindFirst q) 1
+        ap (drop (length (beforeFirst q) + 1)) (first-parts q e) ∙ drop-append-add (beforeFirst q) (47 ∷ afterFirst q) 1
     at false e =
         drop-of-length-le q {i = length (beforeFirst q) + 1} (omega (arith, ap length (first-all q e))) ∙ sym (rest-none q e)
 
@@ -264,10 +264,10 @@ parent-above p leaf e h = at (hasParent p) refl
     at false q = absurd (omega (arith, trimmed-length p, ap length e ∙ ap length (leaf-all (trimmed isSeparator p) (trimmed-clear p q))))
 
 -- one place of the scan for separators at a path's start
-pub unled-turn : (l : List ℕ) (i : ℕ) → i < length l → getD l i 0 ≡ 47 → unled (drop i l) ≡ unled (drop (i + 1) l)
+pub unled-turn : (l : List ℕ) (i : ℕ) → i < length l → getD l i 0 ≡ 47 → withoutLeading (drop i l) ≡ withoutLeading (drop (i + 1) l)
 unled-turn l i h e = rw (add-one i, drop-cons l i 0 h, e)
 
-pub unled-stop : (l : List ℕ) (i : ℕ) → i < length l → (getD l i 0 ≡ 47 → ⊥) → unled (drop i l) ≡ drop i l
+pub unled-stop : (l : List ℕ) (i : ℕ) → i < length l → (getD l i 0 ≡ 47 → ⊥) → withoutLeading (drop i l) ≡ drop i l
 unled-stop l i h e = rw (drop-cons l i 0 h, ne-eqb (getD l i 0) 47 e)
 
 -- a given name that has bytes, or none that has
@@ -301,15 +301,15 @@ bad-is (present given) name path =
     ap (λ (t : Bool). badBeside (present given) t) (absolute-is (isComplete path) (isEmpty (rsplitBranch path)) (equal (lsplitFirst (rsplitBranch path)) name))
 
 module _ (absolute : Bool) where
-  pub bad-given : (p : Presence) (given : List ℕ) → both (isHere p) (not (isEmpty given)) ≡ true → isComplete given ≡ true → true ≡ badBeside (optionalOf p given) absolute
+  pub bad-given : (p : Presence) (given : List ℕ) → (isHere p && not (isEmpty given)) ≡ true → isComplete given ≡ true → true ≡ badBeside (optionalOf p given) absolute
   bad-given Absent given e h = absurd (false≢true e)
   bad-given Present given e h = rw h
 
-  pub bad-beside : (p : Presence) (given : List ℕ) → both (isHere p) (not (isEmpty given)) ≡ true → isComplete given ≡ false → absolute ≡ badBeside (optionalOf p given) absolute
+  pub bad-beside : (p : Presence) (given : List ℕ) → (isHere p && not (isEmpty given)) ≡ true → isComplete given ≡ false → absolute ≡ badBeside (optionalOf p given) absolute
   bad-beside Absent given e h = absurd (false≢true e)
   bad-beside Present given e h = rw (h, not-true (isEmpty given) e)
 
-  pub bad-none : (p : Presence) (given : List ℕ) → both (isHere p) (not (isEmpty given)) ≡ false → false ≡ badBeside (optionalOf p given) absolute
+  pub bad-none : (p : Presence) (given : List ℕ) → (isHere p && not (isEmpty given)) ≡ false → false ≡ badBeside (optionalOf p given) absolute
   bad-none Absent given e = refl
   bad-none Present [] e = refl
   bad-none Present (c ∷ t) e = absurd (true≢false e)

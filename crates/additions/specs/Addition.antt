@@ -1,7 +1,7 @@
 -- Document 01, 'The set': what an addition is, what it decides, and what the set is after it. All on the model: nothing
 -- here speaks of tables. It relies on the model of `tables`, the splits of `path` and the rules in order of `rules`.
 use Prim.Native.Nat.{ℕ, _+_, _-_, _*_, _/_, _%_}
-use mathlib.Core.Bool.{Bool, true, false, cond, not}
+use mathlib.Core.Bool.{Bool, true, false, cond, not, _&&_, _||_}
 use mathlib.Core.List.{List, [], _∷_, _++_, map}
 use lib.Dec.{eqb, ltb, leb}
 use lib.IntN.{ℤ, pos, negsuc}
@@ -14,8 +14,8 @@ use Rattle.tables.specs.declared.rows.Presence.{Presence}
 use Rattle.tables.specs.declared.rows.Presence.the-variants.{Absent, Present}
 use Rattle.tables.specs.Model.{Optional, absent, present, Directory, single, absolute, stored, presentIf, File, Model}
 use Rattle.types.specs.Refusals.{Outcome}
-use Rattle.rules.specs.Rules.{Rule, when, firstOf, outcomeOf, both, either}
-use Rattle.rules.specs.Bounds.{limit, isNegative, sizeOf, badLength}
+use Rattle.rules.specs.Rules.{Rule, when, firstOf, outcomeOf}
+use Rattle.rules.specs.Bounds.{limit, isNegative, clampedOf, badLength}
 use Rattle.change.specs.declared.rooms.Rooms.{Rooms}
 use Rattle.change.specs.Rooms.{filesRoom, dirsRoom}
 
@@ -64,19 +64,19 @@ abbrev pub nameAfter : ℕ → List ℕ → List ℕ → List ℕ
 nameAfter files name path = cond (eqb files 0) (setNameOf path) name
 
 -- without the separators at its start
-abbrev pub unled : List ℕ → List ℕ
-unled [] = []
-unled (c ∷ t) = cond (isSeparator c) (unled t) (c ∷ t)
+abbrev pub withoutLeading : List ℕ → List ℕ
+withoutLeading [] = []
+withoutLeading (c ∷ t) = cond (isSeparator c) (withoutLeading t) (c ∷ t)
 
 -- 'A directory whose first element is the set's name is stored without it'
-abbrev pub under : List ℕ → List ℕ → Directory
-under name branch =
-    cond (equal (lsplitFirst branch) name) (stored (unled (lsplitRest branch)) false) (stored branch true)
+abbrev pub directoryUnder : List ℕ → List ℕ → Directory
+directoryUnder name branch =
+    cond (equal (lsplitFirst branch) name) (stored (withoutLeading (lsplitRest branch)) false) (stored branch true)
 
 -- where a path's file lies: an absolute path and a single name have no directory; else it is the path's branch
 abbrev pub directoryFor : List ℕ → List ℕ → Directory
 directoryFor name path =
-    cond (isComplete path) absolute (cond (isEmpty (rsplitBranch path)) single (under name (rsplitBranch path)))
+    cond (isComplete path) absolute (cond (isEmpty (rsplitBranch path)) single (directoryUnder name (rsplitBranch path)))
 
 -- the name that a path gives: its last part; an absolute path is its own name
 abbrev pub pathName : List ℕ → List ℕ
@@ -95,29 +95,29 @@ limitedName (present given) path = given
 -- refusal 6: 'given name starts with a separator, or is nonempty with an absolute path'
 abbrev pub badName : Optional (List ℕ) → List ℕ → Bool
 badName absent path = false
-badName (present given) path = either (isComplete given) (both (not (isEmpty given)) (isComplete path))
+badName (present given) path = isComplete given || (not (isEmpty given) && isComplete path)
 
 -- 'A file of size above 0 without link text' fixes v1 or v2, or must agree
 abbrev pub decides : ℕ → List ℕ → Bool
-decides size link = both (ltb 0 size) (isEmpty link)
+decides size link = ltb 0 size && isEmpty link
 
 -- 'while the total is 0 or there are as many link texts as files'
 abbrev pub isOpen : ℕ → ℕ → ℕ → Bool
-isOpen total links files = either (eqb total 0) (eqb links files)
+isOpen total links files = eqb total 0 || eqb links files
 
 -- whether the set is v2 after a file with a root or none: one that decides ('plain') 'fixes v2 or v1 (root or none)' in a
 -- set that is open ('free')
-abbrev pub kindAfter : Bool → Bool → Bool → Bool → Bool
-kindAfter v2 plain free root = cond (both plain free) root v2
+abbrev pub versionBy : Bool → Bool → Bool → Bool → Bool
+versionBy v2 plain free root = cond (plain && free) root v2
 
 -- 'later ones must agree'
 abbrev pub disagreesIn : Bool → Bool → Bool → Bool → Bool
-disagreesIn v2 plain free root = both plain (both (not free) (cond v2 (not root) root))
+disagreesIn v2 plain free root = plain && (not free && cond v2 (not root) root)
 
 -- the same of a set's numbers and a file's size and link text: 'A file of size above 0 without link text fixes v2 or v1
 -- (root or none) while the total is 0 or there are as many link texts as files; later ones must agree'
 abbrev pub v2After : Bool → ℕ → ℕ → ℕ → ℕ → List ℕ → Bool → Bool
-v2After v2 total links files size link root = kindAfter v2 (decides size link) (isOpen total links files) root
+v2After v2 total links files size link root = versionBy v2 (decides size link) (isOpen total links files) root
 
 abbrev pub disagrees : Bool → ℕ → ℕ → ℕ → ℕ → List ℕ → Bool → Bool
 disagrees v2 total links files size link root = disagreesIn v2 (decides size link) (isOpen total links files) root
@@ -132,7 +132,7 @@ padAfter v2 pieceLength total = cond v2 (padTo pieceLength total) 0
 
 -- 'Link text makes a link until 32766 are held'
 abbrev pub keepsLink : ℕ → List ℕ → Bool
-keepsLink links link = both (not (isEmpty link)) (ltb links 32766)
+keepsLink links link = not (isEmpty link) && ltb links 32766
 
 -- 'the symlink flag is dropped where none is held'
 abbrev pub flagsKept : ℕ → Bool → ℕ
@@ -149,10 +149,10 @@ isAmong d ds = any (equal d) ds
 abbrev pub withDirectory : List ℕ → List (List ℕ) → List (List ℕ)
 withDirectory d ds = cond (isAmong d ds) ds (ds ++ (d ∷ []))
 
-abbrev pub withPlace : Directory → List (List ℕ) → List (List ℕ)
-withPlace single ds = ds
-withPlace absolute ds = ds
-withPlace (stored d outside) ds = withDirectory d ds
+abbrev pub withDirectoryOf : Directory → List (List ℕ) → List (List ℕ)
+withDirectoryOf single ds = ds
+withDirectoryOf absolute ds = ds
+withDirectoryOf (stored d outside) ds = withDirectory d ds
 
 -- the times after one is given to file i: 0 gives none, and takes what its place holds
 abbrev pub withTime : ℕ → ℤ → List ℤ → List ℤ
@@ -164,7 +164,7 @@ abbrev pub filesOf : Model → ℕ
 filesOf m = length (m .files)
 
 abbrev pub sizeAdded : Addition → ℕ
-sizeAdded a = sizeOf (a .size)
+sizeAdded a = clampedOf (a .size)
 
 abbrev pub keeps : Model → Addition → Bool
 keeps m a = keepsLink (m .links) (a .link)
@@ -178,8 +178,8 @@ padOf m a = padAfter (isV2 m a) (m .pieceLength) (m .total + sizeAdded a)
 abbrev pub newName : Model → Addition → List ℕ
 newName m a = nameAfter (filesOf m) (m .name) (a .path)
 
-abbrev pub placeFor : Model → Addition → Directory
-placeFor m a = directoryFor (newName m a) (a .path)
+abbrev pub directoryAdded : Model → Addition → Directory
+directoryAdded m a = directoryFor (newName m a) (a .path)
 
 abbrev pub fileAdded : Model → Addition → File
 fileAdded m a =
@@ -187,7 +187,7 @@ fileAdded m a =
       offset = m .total;
       size = sizeAdded a;
       name = storedName (a .given) (a .path);
-      directory = placeFor m a;
+      directory = directoryAdded m a;
       flags = flagsKept (a .flags) (keeps m a);
       link = presentIf (keeps m a) (a .link);
       root = a .root;
@@ -211,8 +211,8 @@ padAdded offset size =
 
 abbrev pub directoriesAfter : Model → Addition → List (List ℕ)
 directoriesAfter m a =
-    cond (eqb (padOf m a) 0) (withPlace (placeFor m a) (m .directories))
-    (withDirectory padDirectory (withPlace (placeFor m a) (m .directories)))
+    cond (eqb (padOf m a) 0) (withDirectoryOf (directoryAdded m a) (m .directories))
+    (withDirectory padDirectory (withDirectoryOf (directoryAdded m a) (m .directories)))
 
 -- the set after an addition: the file follows those held, its offset 'the sum of the sizes before it', and its pad follows
 -- it where there is one
@@ -247,9 +247,9 @@ textOf m = length (m .name) + sum (map length (m .directories)) + sum (map fileT
 -- refusal 10: 'a table, text area, … shorter than the result needs, or over 65535 files or directories'
 abbrev pub lacks : Rooms → Model → ℕ → Bool
 lacks rooms m text =
-    either (ltb (filesRoom rooms) (filesOf m))
-    (either (ltb (dirsRoom rooms) (length (m .directories)))
-    (either (ltb (rooms .times) (length (m .times))) (ltb (rooms .text) text)))
+    ltb (filesRoom rooms) (filesOf m)
+    || (ltb (dirsRoom rooms) (length (m .directories))
+    || (ltb (rooms .times) (length (m .times)) || ltb (rooms .text) text))
 
 -- ---- refusals
 
@@ -270,13 +270,13 @@ abbrev pub nameRules : ℕ → ℕ → Bool → Bool → List Rule
 nameRules files limited bad parent =
     when (leb 4096 limited) 5 ∷
     when bad 6 ∷
-    when (both (not parent) (ltb 0 files)) 7 ∷
+    when (not parent && ltb 0 files) 7 ∷
     []
 
 -- refusals 8, 9
-abbrev pub kindRules : Bool → Bool → Bool → Bool → List Rule
-kindRules v2 plain free root =
-    when (both (disagreesIn v2 plain free root) v2) 8 ∷
+abbrev pub versionRules : Bool → Bool → Bool → Bool → List Rule
+versionRules v2 plain free root =
+    when (disagreesIn v2 plain free root && v2) 8 ∷
     when (disagreesIn v2 plain free root) 9 ∷
     []
 
@@ -289,7 +289,7 @@ abbrev pub addingRules : Model → Addition → Bool → List Rule
 addingRules m a noRoom =
     sizeRules (m .pieceLength) (m .total) (isNegative (a .size)) (sizeAdded a)
     ++ (nameRules (filesOf m) (length (limitedName (a .given) (a .path))) (badName (a .given) (a .path)) (hasParent (a .path))
-    ++ (kindRules (m .v2) (decides (sizeAdded a) (a .link)) (isOpen (m .total) (m .links) (filesOf m)) (isPresent (a .root))
+    ++ (versionRules (m .v2) (decides (sizeAdded a) (a .link)) (isOpen (m .total) (m .links) (filesOf m)) (isPresent (a .root))
     ++ (padRules (m .total + sizeAdded a) (padOf m a)
     ++ (when noRoom 10 ∷ []))))
 

@@ -1,7 +1,7 @@
 -- The tests of an addition on numbers and on the parts of its path, and what they settle: every rule of Addition.antt but that
 -- of room.
 use Prim.Native.Nat.{ℕ, _+_}
-use mathlib.Core.Bool.{Bool, false, not}
+use mathlib.Core.Bool.{Bool, false, not, _&&_, _||_}
 use mathlib.Core.List.{List, _++_}
 use lib.IntN.{ℤ}
 use lib.ListN.{length}
@@ -10,14 +10,14 @@ use Rattle.path.specs.Join.{isEmpty}
 use Rattle.types.specs.Refusals.{numberOf, Outcome, value, refused}
 use Rattle.tables.specs.declared.storage.FileStorage.{FileStorage}
 use Rattle.tables.specs.Model.{Optional, absent, present}
-use Rattle.rules.specs.Rules.{Rule, both, either}
-use Rattle.rules.specs.Bounds.{isNegative, sizeOf}
+use Rattle.rules.specs.Rules.{Rule}
+use Rattle.rules.specs.Bounds.{isNegative, clampedOf}
 use Rattle.additions.specs.declared.checks.Sizes.{Sizes}
 use Rattle.additions.specs.declared.checks.SizesResult.{SizesResult}
 use Rattle.additions.specs.declared.checks.SizesResult.the-variants.{Ok, Err}
 use Rattle.additions.specs.declared.parts.PathParts.{PathParts}
-use Rattle.additions.specs.Addition.{decides, isOpen, kindAfter, padAfter, sizeRules, nameRules, kindRules, padRules}
-use Rattle.additions.specs.Parts.{absoluteKind}
+use Rattle.additions.specs.Addition.{decides, isOpen, versionBy, padAfter, sizeRules, nameRules, versionRules, padRules}
+use Rattle.additions.specs.private.Texts.{absoluteKind}
 
 abbrev pub sizesSays : SizesResult → Outcome Sizes
 sizesSays (Ok s) = value s
@@ -31,7 +31,7 @@ limitedLength (present given) leaf = length given
 -- refusal 6 beside a path that is absolute or not
 abbrev pub badBeside : Optional (List ℕ) → Bool → Bool
 badBeside absent absolute = false
-badBeside (present given) absolute = either (isComplete given) (both (not (isEmpty given)) absolute)
+badBeside (present given) absolute = isComplete given || (not (isEmpty given) && absolute)
 
 -- refusals 5, 6, 7
 abbrev pub namesOf : ℕ → Optional (List ℕ) → PathParts → List Rule
@@ -42,20 +42,20 @@ namesOf files given parts =
 abbrev pub sizesFor : FileStorage → ℤ → List ℕ → Bool → Sizes
 sizesFor fs size link root =
     record {
-      size = sizeOf size;
+      size = clampedOf size;
       v2 =
-          kindAfter (fs .v2) (decides (sizeOf size) link) (isOpen (fs .«total_size») (fs .«num_symlinks») (fs .«num_files»)) root;
+          versionBy (fs .v2) (decides (clampedOf size) link) (isOpen (fs .«total_size») (fs .«num_symlinks») (fs .«num_files»)) root;
       pad =
           padAfter
-          (kindAfter (fs .v2) (decides (sizeOf size) link) (isOpen (fs .«total_size») (fs .«num_symlinks») (fs .«num_files»)) root)
+          (versionBy (fs .v2) (decides (clampedOf size) link) (isOpen (fs .«total_size») (fs .«num_symlinks») (fs .«num_files»)) root)
           (fs .«piece_length»)
-          (fs .«total_size» + sizeOf size);
+          (fs .«total_size» + clampedOf size);
     }
 
 -- every rule but that of room
 abbrev pub numberRules : FileStorage → Optional (List ℕ) → PathParts → ℤ → List ℕ → Bool → List Rule
 numberRules fs given parts size link root =
-    sizeRules (fs .«piece_length») (fs .«total_size») (isNegative size) (sizeOf size)
+    sizeRules (fs .«piece_length») (fs .«total_size») (isNegative size) (clampedOf size)
     ++ (namesOf (fs .«num_files») given parts
-    ++ (kindRules (fs .v2) (decides (sizeOf size) link) (isOpen (fs .«total_size») (fs .«num_symlinks») (fs .«num_files»)) root
-    ++ padRules (fs .«total_size» + sizeOf size) (sizesFor fs size link root .pad)))
+    ++ (versionRules (fs .v2) (decides (clampedOf size) link) (isOpen (fs .«total_size») (fs .«num_symlinks») (fs .«num_files»)) root
+    ++ padRules (fs .«total_size» + clampedOf size) (sizesFor fs size link root .pad)))

@@ -1,14 +1,13 @@
 -- The parts of a path as spans in it, and the texts that an addition keeps. What the spans read is what Addition.antt says of
 -- the path: proofs/Texts.antt shows it.
 use Prim.Native.Nat.{ℕ, _-_}
-use mathlib.Core.Bool.{Bool, true, false, cond, not}
+use mathlib.Core.Bool.{Bool, true, false, cond, not, _&&_}
 use mathlib.Core.List.{List, []}
 use lib.Dec.{eqb}
 use lib.ListN.{length}
 use Rattle.lists.specs.Lists.{equal}
 use Rattle.path.specs.Split.{isSeparator, trimmed, hasParent, rsplitBranch, rsplitLeaf, isComplete, lsplitFirst, lsplitRest}
 use Rattle.path.specs.Join.{isEmpty}
-use Rattle.rules.specs.Rules.{both}
 use Rattle.tables.specs.declared.span.Span.{Span}
 use Rattle.tables.specs.declared.rows.Presence.{Presence}
 use Rattle.tables.specs.declared.rows.Presence.the-variants.{Absent, Present}
@@ -17,22 +16,22 @@ use Rattle.additions.specs.declared.parts.PathKind.{PathKind}
 use Rattle.additions.specs.declared.parts.PathKind.the-variants.{Single, Absolute, Inside, Outside}
 use Rattle.additions.specs.declared.parts.PathParts.{PathParts}
 use Rattle.additions.specs.declared.info.FileInfo.{FileInfo}
-use Rattle.additions.specs.Addition.{Addition, additionOf, setNameOf, nameAfter, unled, keepsLink}
+use Rattle.additions.specs.Addition.{Addition, additionOf, setNameOf, nameAfter, withoutLeading, keepsLink}
 
 abbrev pub isHere : Presence → Bool
 isHere Absent = false
 isHere Present = true
 
 -- the addition of a file
-abbrev pub additionBy : FileInfo → List ℕ → List ℕ → List ℕ → Addition
-additionBy f filename path link =
+abbrev pub additionOf : FileInfo → List ℕ → List ℕ → List ℕ → Addition
+additionOf f filename path link =
     additionOf (f .given) filename path (f .size) (f .flags) (f .mtime) link (f .rooted) (f .root)
 
 -- ---- texts
 
 -- the given name where it has bytes, else the path's own
 abbrev pub nameFrom : Presence → List ℕ → List ℕ → List ℕ
-nameFrom given filename own = cond (both (isHere given) (not (isEmpty filename))) filename own
+nameFrom given filename own = cond (isHere given && not (isEmpty filename)) filename own
 
 -- the link text that is kept where `links` are held
 abbrev pub linkTextOf : ℕ → List ℕ → List ℕ
@@ -55,7 +54,7 @@ kindFor name path =
 abbrev pub textUnder : PathKind → List ℕ → List ℕ
 textUnder Single branch = []
 textUnder Absolute branch = []
-textUnder Inside branch = unled (lsplitRest branch)
+textUnder Inside branch = withoutLeading (lsplitRest branch)
 textUnder Outside branch = branch
 
 -- the model's directory
@@ -107,7 +106,7 @@ abbrev pub directorySpan : PathKind → List ℕ → Span
 directorySpan Single branch = noSpan
 directorySpan Absolute branch = noSpan
 directorySpan Inside branch =
-    record { at = length branch - length (unled (lsplitRest branch)); len = length (unled (lsplitRest branch)) }
+    record { at = length branch - length (withoutLeading (lsplitRest branch)); len = length (withoutLeading (lsplitRest branch)) }
 directorySpan Outside branch = wholeSpan branch
 
 -- the parts of the path of a file that is added to a set of that many files and that name

@@ -4,9 +4,9 @@ ghost use mathlib.Core.Path.{_≡_};
 ghost use Prim.Native.Nat.{_≤_};
 ghost use Rattle.rules.specs.Rules.{firstOf, outcomeOf};
 ghost use Rattle.rules.specs.Results.{checkNumber};
-ghost use Rattle.additions.specs.Addition.{optionalOf, decides, isOpen, kindAfter, padAfter, sizeRules, kindRules};
-ghost use Rattle.additions.specs.Parts.{isHere};
-ghost use Rattle.additions.specs.Checks.{limitedLength, badBeside, sizesSays, namesOf, sizesFor, numberRules};
+ghost use Rattle.additions.specs.Addition.{optionalOf, decides, isOpen, versionBy, padAfter, sizeRules, versionRules};
+ghost use Rattle.additions.specs.private.Texts.{isHere};
+ghost use Rattle.additions.specs.private.Checks.{limitedLength, badBeside, sizesSays, namesOf, sizesFor, numberRules};
 use crate::info::FileInfo;
 use crate::info::is_given;
 use crate::info::is_here;
@@ -119,7 +119,7 @@ fn is_open(total: u64, links: usize, files: usize) -> bool
 
 // Refusals 8, 9.
 fn check_kind(v2: bool, plain: bool, free: bool, root: bool) -> Check
-    ensures { λ r. ⌜ checkNumber r ≡ firstOf (kindRules v2 plain free root) ⌝ }
+    ensures { λ r. ⌜ checkNumber r ≡ firstOf (versionRules v2 plain free root) ⌝ }
 {
     if !plain {
         return Check::Go;
@@ -141,7 +141,7 @@ fn check_kind(v2: bool, plain: bool, free: bool, root: bool) -> Check
 
 // Whether the set is v2 after an addition.
 fn kind_after(v2: bool, plain: bool, free: bool, root: bool) -> bool
-    ensures { λ r. ⌜ r ≡ kindAfter v2 plain free root ⌝ }
+    ensures { λ r. ⌜ r ≡ versionBy v2 plain free root ⌝ }
 {
     if plain {
         if free {

@@ -1,11 +1,10 @@
 // A file to add, and what is kept of it: its name and its link text. Relies on the laws of proofs/Texts.antt.
 ghost use mathlib.Core.Path.{_≡_};
-ghost use mathlib.Core.Bool.{not};
+ghost use mathlib.Core.Bool.{not, _&&_};
 ghost use lib.ListN.{length};
 ghost use Rattle.path.specs.Join.{isEmpty};
-ghost use Rattle.rules.specs.Rules.{both};
 ghost use Rattle.additions.specs.Addition.{isZero, keepsLink};
-ghost use Rattle.additions.specs.Parts.{isHere, nameFrom, linkTextOf};
+ghost use Rattle.additions.specs.private.Texts.{isHere, nameFrom, linkTextOf};
 use tables::Presence;
 use tables::Sha256Hash;
 use types::Unsigned;
@@ -43,7 +42,7 @@ pub fn is_zero(x: i64) -> bool
 
 // Whether a name is given that has bytes.
 pub fn is_given(given: Presence, filename: &[u8]) -> bool
-    ensures { λ r. ⌜ r ≡ both (isHere given) (not (isEmpty (now (filename .entry)))) ⌝ }
+    ensures { λ r. ⌜ r ≡ (isHere given && not (isEmpty (now (filename .entry)))) ⌝ }
 {
     if is_here(given) {
         return 0 < filename.len();

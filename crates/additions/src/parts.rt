@@ -6,8 +6,9 @@ ghost use lib.ListN.{length};
 ghost use Rattle.lists.specs.Lists.{equal};
 ghost use Rattle.path.specs.Split.{rsplitBranch, rsplitLeaf, lsplitFirst, lsplitRest, isComplete, hasParent};
 ghost use Rattle.tables.specs.Span.{textAt};
-ghost use Rattle.additions.specs.Addition.{unled};
-ghost use Rattle.additions.specs.Parts.{wholeSpan, leafSpan, firstSpan, setNameSpan, kindFor, directorySpan, outsideKind, absoluteKind, partsOf};
+ghost use Rattle.additions.specs.Addition.{withoutLeading};
+ghost use Rattle.additions.specs.Parts.{wholeSpan, leafSpan, firstSpan, setNameSpan, kindFor, directorySpan, partsOf};
+ghost use Rattle.additions.specs.private.Texts.{outsideKind, absoluteKind};
 use tables::FileStorage;
 use tables::Span;
 
@@ -37,7 +38,7 @@ pub struct PathParts {
 
 // A path without the separators at its start.
 fn strip_separators(path: &[u8]) -> &[u8]
-    ensures { λ r. ⌜ now r ≡ unled (now (path .entry)) ⌝ }
+    ensures { λ r. ⌜ now r ≡ withoutLeading (now (path .entry)) ⌝ }
 {
     let mut i = 0;
     while i < path.len() {
@@ -56,7 +57,7 @@ fn leaf_span(path: &[u8]) -> Span
     let end = path::trimmed_length(path);
     let leaf = path::rsplit_path_leaf(path);
     Span {
-        at: lists::minus(end, leaf.len()),
+        at: lists::saturating_sub_usize(end, leaf.len()),
         len: leaf.len(),
     }
 }
@@ -66,7 +67,7 @@ fn branch_before(path: &[u8], leaf: Span) -> &[u8]
     requires { ⌜ leaf ≡ leafSpan (now path) ⌝ }
     ensures { λ r. ⌜ now r ≡ rsplitBranch (now (path .entry)) ⌝ }
 {
-    lists::part(path, 0, lists::minus(leaf.at, 1))
+    lists::part(path, 0, lists::saturating_sub_usize(leaf.at, 1))
 }
 
 // Whether a path has a part above its leaf, whose length is known. A path longer than its leaf and one separator has one,
@@ -75,7 +76,7 @@ fn is_below(path: &[u8], leaf: usize) -> bool
     requires { ⌜ leaf ≡ length (rsplitLeaf (now path)) ⌝ }
     ensures { λ r. ⌜ r ≡ hasParent (now (path .entry)) ⌝ }
 {
-    if leaf < lists::minus(path.len(), 1) {
+    if leaf < lists::saturating_sub_usize(path.len(), 1) {
         return true;
     }
     path::has_parent_path(path)
@@ -187,7 +188,7 @@ fn directory_span(kind: PathKind, branch: &[u8], first: &[u8]) -> Span
         PathKind::Inside => {
             let rest = strip_separators(rest_after(branch, first));
             Span {
-                at: lists::minus(branch.len(), rest.len()),
+                at: lists::saturating_sub_usize(branch.len(), rest.len()),
                 len: rest.len(),
             }
         }

@@ -19,8 +19,8 @@ use Rattle.tables.specs.Rows.{rowAt, dirAt, noPath, rootAt, has}
 use Rattle.tables.specs.Model.{Optional, absent, present, presentIf, Directory, single, absolute, stored, pathIn, File, Store, directoryText, fileOf, viewOf}
 use Rattle.tables.proofs.Tabled.{length-tabled, getD-tabled}
 use Rattle.rules.specs.Rules.{firstOf, outcomeOf}
-use Rattle.rules.specs.Bounds.{badLength, indexOf}
-use Rattle.rules.specs.Questions.{badPieceLength, noDirectory, short, askedHeld, askedDirectory, askedFile, askedLink}
+use Rattle.rules.specs.Bounds.{badLength, clampedOf}
+use Rattle.rules.specs.Questions.{badPieceLength, noDirectory, short, heldAnswer, directoryAnswer, fileAnswer, linkAnswer}
 use Rattle.answers.specs.Answers.{timeOf, rootOf, isAbsolute, internalPath, symlinkPath}
 use Rattle.rules.proofs.Deciding.{fileNumber, linkNumber}
 
@@ -40,9 +40,9 @@ linkIn name absent = []
 linkIn name (present t) = appended name t
 
 -- an open set answers about each of its files where the tables hold them
-pub asked-value : {A : Type 0} (fs : FileStorage) (k : ℕ) (held : Bool) (a : ℕ → A) → badLength (fs .«piece_length») ≡ false
-    → k < fs .«num_files» → held ≡ true → askedFile fs (pos k) held a ≡ value (a k)
-asked-value fs k held a e h q = rw (e, lt-ltb k (fs .«num_files») h, q)
+pub file-answered : {A : Type 0} (fs : FileStorage) (k : ℕ) (held : Bool) (a : ℕ → A) → badLength (fs .«piece_length») ≡ false
+    → k < fs .«num_files» → held ≡ true → fileAnswer fs (pos k) held a ≡ value (a k)
+file-answered fs k held a e h q = rw (e, lt-ltb k (fs .«num_files») h, q)
 
 -- an answer that is a place, as the text that stands there
 abbrev pub textSaid : List ℕ → Outcome Span → Outcome (List ℕ)
@@ -58,18 +58,18 @@ said n text s = text-if (eqb n 0) n text s
 
 -- a question whose answer is a place is the same question for the text there: of the set, a directory, a file, a link
 module _ (fs : FileStorage) (held : Bool) (text : List ℕ) where
-  pub set-text : (s : Span) → textSaid text (askedHeld fs held s) ≡ askedHeld fs held (textAt text s)
+  pub set-text : (s : Span) → textSaid text (heldAnswer fs held s) ≡ heldAnswer fs held (textAt text s)
   set-text s = said (firstOf (badPieceLength fs ∷ short held ∷ [])) text s
 
-  pub directory-text : (i : ℕ) (s : Span) → textSaid text (askedDirectory fs i held s) ≡ askedDirectory fs i held (textAt text s)
+  pub directory-text : (i : ℕ) (s : Span) → textSaid text (directoryAnswer fs i held s) ≡ directoryAnswer fs i held (textAt text s)
   directory-text i s = said (firstOf (badPieceLength fs ∷ noDirectory fs i ∷ short held ∷ [])) text s
 
-  pub file-text : (z : ℤ) (a : ℕ → Span) → textSaid text (askedFile fs z held a) ≡ askedFile fs z held (λ k. textAt text (a k))
-  file-text z a = said (fileNumber fs z held) text (a (indexOf z))
+  pub file-text : (z : ℤ) (a : ℕ → Span) → textSaid text (fileAnswer fs z held a) ≡ fileAnswer fs z held (λ k. textAt text (a k))
+  file-text z a = said (fileNumber fs z held) text (a (clampedOf z))
 
   pub link-text : (z : ℤ) (linked : ℕ → Bool) (a : ℕ → Span)
-      → textSaid text (askedLink fs z linked held a) ≡ askedLink fs z linked held (λ k. textAt text (a k))
-  link-text z linked a = said (linkNumber fs z linked held) text (a (indexOf z))
+      → textSaid text (linkAnswer fs z linked held a) ≡ linkAnswer fs z linked held (λ k. textAt text (a k))
+  link-text z linked a = said (linkNumber fs z linked held) text (a (clampedOf z))
 
 -- by whether a bit of the flags is set, and by what the path index says
 root-if : (b : Bool) (x d : List ℕ) → cond b x d ≡ orElse (presentIf b x) d

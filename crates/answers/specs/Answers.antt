@@ -11,7 +11,7 @@ use Rattle.tables.specs.declared.rows.Row.{Row}
 use Rattle.tables.specs.Span.{textAt}
 pub use Rattle.tables.specs.Rows.{isAbsolute, isInside}
 pub use Rattle.tables.specs.Model.{internalPath}
-use Rattle.tables.specs.Rows.{rowAt, rootAt, has}
+use Rattle.tables.specs.Rows.{rowAt, rootAt, has, linkHeldBit, rootBit}
 use Rattle.path.specs.Join.{appended}
 
 -- a modified time: 0 behind those held
@@ -20,9 +20,9 @@ timeOf fs times k = getD (take (fs .«num_mtimes») times) k (pos 0)
 
 -- a root, 32 zero bytes where there is none
 abbrev pub rootOf : List ℕ → List ℕ → ℕ → List ℕ
-rootOf rows roots k = cond (has (rowAt rows k .flags) 128) (rootAt roots k) (replicate 32 0)
+rootOf rows roots k = cond (has (rowAt rows k .flags) rootBit) (rootAt roots k) (replicate 32 0)
 
 -- `symlink`: the set's name and the link text joined; nothing where no link text is held
 abbrev pub symlinkPath : FileStorage → List ℕ → Row → List ℕ
 symlinkPath fs text r =
-    cond (has (r .flags) 16) (appended (textAt text (fs .name)) (textAt text (r .link))) []
+    cond (has (r .flags) linkHeldBit) (appended (textAt text (fs .name)) (textAt text (r .link))) []

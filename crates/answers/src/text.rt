@@ -1,14 +1,14 @@
 // Answers about one file that are texts: a place in the text area, or a path composed into a lent buffer.
 // They rely on the refusals of `rules`, on the total accessors of `tables` and on the joins of `path`.
+ghost use mathlib.Core.Bool.{_&&_};
 ghost use mathlib.Core.Path.{_≡_};
 ghost use Prim.Native.Nat.{_/_};
 ghost use lib.Dec.{leb};
 ghost use Rattle.types.specs.Refusals.{usizeSays};
-ghost use Rattle.rules.specs.Rules.{both};
 ghost use Rattle.tables.specs.Rows.{rowAt, has};
 ghost use Rattle.path.specs.Join.{Joined};
 ghost use Rattle.rules.specs.Results.{spanSays};
-ghost use Rattle.rules.specs.Questions.{askedFile, askedLink, rowsHeld, dirsHeld, textHeld};
+ghost use Rattle.rules.specs.Questions.{fileAnswer, linkAnswer, rowsHeld, dirsHeld, textHeld};
 ghost use Rattle.rules.specs.Composed.{composedIf, composedFile};
 ghost use Rattle.answers.specs.Answers.{internalPath, symlinkPath};
 use rules::SpanResult;
@@ -23,7 +23,7 @@ use types::UsizeResult;
 
 // Whether so many words of rows and so many bytes of text hold the set's files and texts.
 fn are_held(fs: FileStorage, words: usize, bytes: usize) -> bool
-    ensures { λ r. ⌜ r ≡ both (leb (fs .«num_files») (words / 8)) (leb (fs .«text_len») bytes) ⌝ }
+    ensures { λ r. ⌜ r ≡ (leb (fs .«num_files») (words / 8) && leb (fs .«text_len») bytes) ⌝ }
 {
     are_both(
         is_held(fs.num_files, words / 8),
@@ -33,7 +33,7 @@ fn are_held(fs: FileStorage, words: usize, bytes: usize) -> bool
 
 // The number of a file whose link text a question is about, or why the question isn't answered.
 fn link_in(fs: FileStorage, rows: &[u64], index: FileIndex, held: bool) -> UsizeResult
-    ensures { λ r. ⌜ usizeSays r ≡ askedLink fs (index .0) (λ k. has (rowAt (now (rows .entry)) k .flags) 16) held (λ k. k) ⌝ }
+    ensures { λ r. ⌜ usizeSays r ≡ linkAnswer fs (index .0) (λ k. has (rowAt (now (rows .entry)) k .flags) 16) held (λ k. k) ⌝ }
 {
     match file_in(fs, index, true) {
         UsizeResult::Ok(k) => {
@@ -73,7 +73,7 @@ fn put_link(fs: FileStorage, text: &[u8], row: Row, buf: &mut [u8]) -> UsizeResu
 
 // Where a file's name lies in the text area.
 pub fn file_name(fs: FileStorage, rows: &[u64], text: &[u8], index: FileIndex) -> SpanResult
-    ensures { λ r. ⌜ spanSays r ≡ askedFile fs (index .0) (both (rowsHeld fs (now (rows .entry))) (textHeld fs (now (text .entry)))) (λ k. rowAt (now (rows .entry)) k .name) ⌝ }
+    ensures { λ r. ⌜ spanSays r ≡ fileAnswer fs (index .0) (rowsHeld fs (now (rows .entry)) && textHeld fs (now (text .entry))) (λ k. rowAt (now (rows .entry)) k .name) ⌝ }
 {
     let held = are_held(fs, rows.len(), text.len());
     match file_in(fs, index, held) {
@@ -88,7 +88,7 @@ pub fn file_name(fs: FileStorage, rows: &[u64], text: &[u8], index: FileIndex) -
 
 // Where a file's link text lies in the text area; 15 where it holds none.
 pub fn internal_symlink(fs: FileStorage, rows: &[u64], text: &[u8], index: FileIndex) -> SpanResult
-    ensures { λ r. ⌜ spanSays r ≡ askedLink fs (index .0) (λ k. has (rowAt (now (rows .entry)) k .flags) 16) (both (rowsHeld fs (now (rows .entry))) (textHeld fs (now (text .entry)))) (λ k. rowAt (now (rows .entry)) k .link) ⌝ }
+    ensures { λ r. ⌜ spanSays r ≡ linkAnswer fs (index .0) (λ k. has (rowAt (now (rows .entry)) k .flags) 16) (rowsHeld fs (now (rows .entry)) && textHeld fs (now (text .entry))) (λ k. rowAt (now (rows .entry)) k .link) ⌝ }
 {
     let held = are_held(fs, rows.len(), text.len());
     match link_in(fs, rows, index, held) {
@@ -109,7 +109,7 @@ pub fn symlink(
     index: FileIndex,
     buf: &mut [u8],
 ) -> UsizeResult
-    ensures { λ r. ⌜ _≡_ {A = Joined} (record { says = usizeSays r; buf = now (buf .exit) }) (composedFile fs (index .0) (both (rowsHeld fs (now (rows .entry))) (textHeld fs (now (text .entry)))) (λ k. symlinkPath fs (now (text .entry)) (rowAt (now (rows .entry)) k)) (now (buf .entry))) ⌝ }
+    ensures { λ r. ⌜ _≡_ {A = Joined} (record { says = usizeSays r; buf = now (buf .exit) }) (composedFile fs (index .0) (rowsHeld fs (now (rows .entry)) && textHeld fs (now (text .entry))) (λ k. symlinkPath fs (now (text .entry)) (rowAt (now (rows .entry)) k)) (now (buf .entry))) ⌝ }
 {
     let held = are_held(fs, rows.len(), text.len());
     match file_in(fs, index, held) {
@@ -127,7 +127,7 @@ pub fn internal_file_path(
     index: FileIndex,
     buf: &mut [u8],
 ) -> UsizeResult
-    ensures { λ r. ⌜ _≡_ {A = Joined} (record { says = usizeSays r; buf = now (buf .exit) }) (composedFile fs (index .0) (both (rowsHeld fs (now (rows .entry))) (both (dirsHeld fs (now (dirs .entry))) (textHeld fs (now (text .entry))))) (λ k. internalPath (now (dirs .entry)) (now (text .entry)) (rowAt (now (rows .entry)) k)) (now (buf .entry))) ⌝ }
+    ensures { λ r. ⌜ _≡_ {A = Joined} (record { says = usizeSays r; buf = now (buf .exit) }) (composedFile fs (index .0) (rowsHeld fs (now (rows .entry)) && (dirsHeld fs (now (dirs .entry)) && textHeld fs (now (text .entry)))) (λ k. internalPath (now (dirs .entry)) (now (text .entry)) (rowAt (now (rows .entry)) k)) (now (buf .entry))) ⌝ }
 {
     let places = are_both(
         is_held(fs.num_paths, dirs.len() / 2),

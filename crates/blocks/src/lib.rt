@@ -86,9 +86,9 @@ pub fn map_block_core(
         (mapBlock fs (now (rows .entry)) (piece .0) offset size
         (now («out_file» .entry)) (now («out_offset» .entry)) (now («out_size» .entry))) ⌝ }
 {
-    let room = lists::least(
+    let room = lists::min_usize(
         out_file.len(),
-        lists::least(out_offset.len(), out_size.len()),
+        lists::min_usize(out_offset.len(), out_size.len()),
     );
     let plan = layout::plan_block(fs, rows, piece, offset, size, room);
     let from = plan.from;

@@ -19,7 +19,7 @@ use Rattle.rules.specs.Bounds.{badLength}
 use Rattle.additions.specs.Addition.{Addition, added}
 use Rattle.trim.specs.Trim.{tailPad}
 use Rattle.plan.specs.Write.{storeAdded}
-use Rattle.storage.specs.Opening.{empty, opened, fresh}
+use Rattle.storage.specs.Opening.{newStorage, opened, newModel}
 use Rattle.change.specs.Changes.{Changed, changedIf}
 use Rattle.change.specs.Rooms.{roomsOf, holds}
 use Rattle.plan.specs.Outcomes.{addingNumber}
@@ -117,20 +117,20 @@ module _ {ℓ} (P : Made → Store → Type ℓ) (s : Store) (marks stage path :
 -- ---- opening
 
 module _ (n : ℕ) (s : Store) (e : opened (pos n) ≡ value (s .fs)) where
-  opened-is : (0 < n) × (empty n ≡ s .fs)
+  opened-is : (0 < n) × (newStorage n ≡ s .fs)
   opened-is = at (eqb n 0) refl e
     where
-      at : (b : Bool) → eqb n 0 ≡ b → cond b (refused 1) (value (empty n)) ≡ value (s .fs) → (0 < n) × (empty n ≡ s .fs)
+      at : (b : Bool) → eqb n 0 ≡ b → cond b (refused 1) (value (newStorage n)) ≡ value (s .fs) → (0 < n) × (newStorage n ≡ s .fs)
       at true q e = let z : _≡_ {A = ℕ} 0 1 = cc in absurd (omega arith)
       at false q e = (omega (arith, eqb-false n 0 q), cc)
 
   abbrev with-record : FileStorage → Store
   with-record fs = record { fs = fs; rows = s .rows; roots = s .roots; times = s .times; dirs = s .dirs; text = s .text }
 
-  opened-store : with-record (empty n) ≡ s
+  opened-store : with-record (newStorage n) ≡ s
   opened-store = ap with-record (opened-is .1)
 
-  opened-view : fresh n ≡ viewOf s
+  opened-view : newModel n ≡ viewOf s
   opened-view = sym (view-opened n (s .rows) (s .roots) (s .times) (s .dirs) (s .text)) ∙ ap viewOf opened-store
 
   agrees-opened : n ≤ 2147483647 → Agrees n [] s

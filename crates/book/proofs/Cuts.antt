@@ -12,7 +12,7 @@ use Rattle.types.specs.declared.index.FileSlice.{FileSlice}
 use Rattle.tables.specs.Model.{Store}
 use Rattle.mapping.specs.Table.{Filled, recordOf, blockMapped}
 use Rattle.book.specs.Slices.{slice, meets}
-use Rattle.book.specs.Demand.{Asking, Asks}
+use Rattle.book.specs.Demand.{MapCall, Cut}
 
 -- a cut: the blocks' sizes, none of them 0
 abbrev pub Nonempty : List ℕ → Type 0
@@ -27,7 +27,7 @@ module _ (n : ℕ) (sizes : List ℕ) (s : Store) (from : ℕ → ℕ) (low : (t
   abbrev answered : ℕ → ℕ → Filled
   answered t m = blockMapped (s .fs) (s .rows) (pos (from t)) (pos (t - from t * n)) (pos m) (lentFor t m)
 
-  abbrev asking : ℕ → ℕ → Asking
+  abbrev asking : ℕ → ℕ → MapCall
   asking t m =
       record {
         piece = from t;
@@ -40,9 +40,9 @@ module _ (n : ℕ) (sizes : List ℕ) (s : Store) (from : ℕ → ℕ) (low : (t
 
   -- the questions of a cut from byte t to byte e
   pub record Cut (t e : ℕ) (ms : List ℕ) : Type 0 where
-    pub askings : List Asking
-    pub blocks : map (λ (q : Asking). q .size) askings ≡ ms
-    pub asked : Asks n sizes s t e askings
+    pub askings : List MapCall
+    pub blocks : map (λ (q : MapCall). q .size) askings ≡ ms
+    pub asked : Cut n sizes s t e askings
 
   pub cut-asked : (t e : ℕ) (ms : List ℕ) → Nonempty ms → t + sum ms ≡ e → Cut t e ms
   cut-asked t e [] h k = record { askings = []; blocks = refl; asked = omega arith }

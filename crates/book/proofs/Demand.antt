@@ -28,13 +28,13 @@ use Rattle.rules.specs.Rules.{Rule, firstOf}
 use Rattle.rules.specs.Bounds.{badLength, limit}
 use Rattle.rules.specs.Questions.{rowsHeld, badPieceLength, manyPieces, noPiece, noFile, badRange, short}
 use Rattle.sound.specs.Sound.{Sound}
-use Rattle.rules.specs.Results.{Asked}
+use Rattle.rules.specs.Results.{SignedRequest}
 use Rattle.layout.specs.Mapping.{Slice, blockOf}
 use Rattle.mapping.specs.Table.{Filled, filled, recordOf, blockMapped}
-use Rattle.files.specs.Request.{fileMapped}
+use Rattle.files.specs.Given.{fileMapped}
 use Rattle.rules.proofs.Rules.{Passed}
 use Rattle.book.specs.Slices.{joined, bytesIn, meets}
-use Rattle.book.specs.Demand.{Asking, counted, sliceOf, given, Ask, Asks, Back, Block, Blocks, allGiven, Demand3}
+use Rattle.book.specs.Demand.{MapCall, counted, sliceOf, slicesGiven, ValidCall, Cut, Back, Block, Blocks, allSlicesGiven, Demand3}
 use Rattle.book.proofs.Walks.{walk, walk-ascends, cut, join-blocks}
 use Rattle.book.proofs.Blocks.{walk-bytes, walk-meets, Lies, Lie, lies-at, walk-lie, walk-content}
 use Rattle.book.proofs.Tables.{Holds, held-in-order, slices-are, records-are}
@@ -139,16 +139,16 @@ module _ {n : ℕ} {xs : List ℕ} {fs : FileStorage} {rows : List ℕ} (h : Hol
 
 module _ {n : ℕ} {xs : List ℕ} (s : Store) (h : Holds n xs (s .fs) (s .rows)) (few : ceiling (sum xs) n ≤ 2147483647) where
   -- what a block's call gives
-  call-is : (t : ℕ) (q : Asking) → Ask n xs s t q → t + q .size ≤ sum xs
+  call-is : (t : ℕ) (q : MapCall) → ValidCall n xs s t q → t + q .size ≤ sum xs
       → _≡_ {A = Filled} (record { says = q .says; table = q .left }) (record { says = value (meets xs t (q .size)); table = sets (q .lent) 0 (map recordOf (walk 0 xs t (q .size))) })
   call-is t q a l =
       let e = block-answered h few (q .piece) (q .offset) (q .size) (q .lent) (omega (arith, a .place, a .nonempty)) (rw (a .place) (a .room)) in
       a .call ∙ (rw (a .place) at e)
 
-  answer-is : (t : ℕ) (q : Asking) → Ask n xs s t q → t + q .size ≤ sum xs → q .says ≡ value (meets xs t (q .size))
+  answer-is : (t : ℕ) (q : MapCall) → ValidCall n xs s t q → t + q .size ≤ sum xs → q .says ≡ value (meets xs t (q .size))
   answer-is t q a l = ap (λ (f : Filled). f .says) (call-is t q a l)
 
-  given-is : (t : ℕ) (q : Asking) → Ask n xs s t q → t + q .size ≤ sum xs → given q ≡ walk 0 xs t (q .size)
+  given-is : (t : ℕ) (q : MapCall) → ValidCall n xs s t q → t + q .size ≤ sum xs → slicesGiven q ≡ walk 0 xs t (q .size)
   given-is t q a l =
       let r : List FileSlice = map recordOf (walk 0 xs t (q .size)) in
       let d : meets xs t (q .size) ≡ length r = sym (length-map (walk 0 xs t (q .size)) recordOf ∙ walk-meets xs t (q .size)) in
@@ -157,7 +157,7 @@ module _ {n : ℕ} {xs : List ℕ} (s : Store) (h : Holds n xs (s .fs) (s .rows)
       ap (map sliceOf) (part-sets r (q .lent) 0 (omega (arith, d, a .room))) ∙
       records-are xs t (walk 0 xs t (q .size)) (h .few) (walk-lie xs t (q .size))
 
-  plain-is : (t : ℕ) (q : Asking) → Ask n xs s t q → t + q .size ≤ sum xs → take (counted (q .says)) (q .left) ≡ map recordOf (given q)
+  plain-is : (t : ℕ) (q : MapCall) → ValidCall n xs s t q → t + q .size ≤ sum xs → take (counted (q .says)) (q .left) ≡ map recordOf (slicesGiven q)
   plain-is t q a l =
       let r : List FileSlice = map recordOf (walk 0 xs t (q .size)) in
       let d : meets xs t (q .size) ≡ length r = sym (length-map (walk 0 xs t (q .size)) recordOf ∙ walk-meets xs t (q .size)) in
@@ -166,7 +166,7 @@ module _ {n : ℕ} {xs : List ℕ} (s : Store) (h : Holds n xs (s .fs) (s .rows)
       part-sets r (q .lent) 0 (omega (arith, d, a .room)) ∙
       ap (map recordOf) (sym (given-is t q a l))
 
-  back-is : (t : ℕ) (p : Slice) → Lies xs t p → (m : ℕ) (r : Outcome Asked) → r ≡ fileMapped (s .fs) (s .rows) (pos (p .file)) (pos (p .offset)) (pos m) → Back n t r
+  back-is : (t : ℕ) (p : Slice) → Lies xs t p → (m : ℕ) (r : Outcome SignedRequest) → r ≡ fileMapped (s .fs) (s .rows) (pos (p .file)) (pos (p .offset)) (pos m) → Back n t r
   back-is t p w m r e =
       record {
         piece = t / n;
@@ -177,7 +177,7 @@ module _ {n : ℕ} {xs : List ℕ} (s : Store) (h : Holds n xs (s .fs) (s .rows)
         inside = mod-lt t (h .some);
       }
 
-  block-is : (t : ℕ) (q : Asking) → Ask n xs s t q → t + q .size ≤ sum xs → Block n xs s t q
+  block-is : (t : ℕ) (q : MapCall) → ValidCall n xs s t q → t + q .size ≤ sum xs → Block n xs s t q
   block-is t q a l =
       let e = given-is t q a l in
       record {
@@ -186,22 +186,22 @@ module _ {n : ℕ} {xs : List ℕ} (s : Store) (h : Holds n xs (s .fs) (s .rows)
         ascending = rw e (walk-ascends 0 xs t (q .size));
         all = rw e (walk-bytes 0 xs t (q .size) l);
         each =
-            λ (b : List Slice) (p : Slice) (c : List Slice) (d : given q ≡ b ++ p ∷ c).
+            λ (b : List Slice) (p : Slice) (c : List Slice) (d : slicesGiven q ≡ b ++ p ∷ c).
             let w : Lies xs (t + bytesIn b) p = lies-at xs t b p c (subst (Lie xs t) (sym e ∙ d) (walk-lie xs t (q .size))) in
             record { nonempty = w .nonempty; first = w .first; back = back-is (t + bytesIn b) p w };
         content = λ (cs : List (List ℕ)) (d : map length cs ≡ xs). rw e (walk-content cs xs t (q .size) d);
       }
 
-  abbrev sizesAsked : List Asking → List ℕ
-  sizesAsked qs = map (λ (q : Asking). q .size) qs
+  abbrev sizesAsked : List MapCall → List ℕ
+  sizesAsked qs = map (λ (q : MapCall). q .size) qs
 
   -- blocks in a row from byte t to byte e: each as above, together the walks over them, and all the bytes between
-  record InRow (t e : ℕ) (qs : List Asking) : Type 0 where
+  record InRow (t e : ℕ) (qs : List MapCall) : Type 0 where
     blocks : Blocks n xs s t qs
-    slices : allGiven qs ≡ cut xs t (sizesAsked qs)
+    slices : allSlicesGiven qs ≡ cut xs t (sizesAsked qs)
     bytes : t + sum (sizesAsked qs) ≡ e
 
-  row-is : (t e : ℕ) (qs : List Asking) → Asks n xs s t e qs → e ≤ sum xs → InRow t e qs
+  row-is : (t e : ℕ) (qs : List MapCall) → Cut n xs s t e qs → e ≤ sum xs → InRow t e qs
   row-is t e [] a l = record { blocks = tt; slices = refl; bytes = omega arith }
   row-is t e (q ∷ qs) (a, bs) l =
       let r = row-is (t + q .size) e qs bs l in
@@ -212,7 +212,7 @@ module _ {n : ℕ} {xs : List ℕ} (s : Store) (h : Holds n xs (s .fs) (s .rows)
         bytes = omega (arith, r .bytes);
       }
 
-  pub demand-met : (qs : List Asking) → Asks n xs s 0 (sum xs) qs → Demand3 n xs s qs
+  pub demand-met : (qs : List MapCall) → Cut n xs s 0 (sum xs) qs → Demand3 n xs s qs
   demand-met qs a =
       let r = row-is 0 (sum xs) qs a (omega arith) in
       record {
@@ -221,7 +221,7 @@ module _ {n : ℕ} {xs : List ℕ} (s : Store) (h : Holds n xs (s .fs) (s .rows)
       }
 
 -- demand 3 on a set in order whose files have these sizes
-pub demand-of : (n : ℕ) (sizes : List ℕ) (s : Store) (qs : List Asking) → Sound s → s .fs .«piece_length» ≡ n → 0 < n → n ≤ 2147483647
+pub demand-of : (n : ℕ) (sizes : List ℕ) (s : Store) (qs : List MapCall) → Sound s → s .fs .«piece_length» ≡ n → 0 < n → n ≤ 2147483647
     → map (λ (f : File). f .size) (viewOf s .files) ≡ sizes → ceiling (sum sizes) n ≤ 2147483647
-    → Asks n sizes s 0 (sum sizes) qs → Demand3 n sizes s qs
+    → Cut n sizes s 0 (sum sizes) qs → Demand3 n sizes s qs
 demand-of n sizes s qs w e p q d few a = demand-met s (held-in-order n sizes s w e p q d) few qs a

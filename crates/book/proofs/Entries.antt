@@ -1,7 +1,7 @@
 -- What the book keeps of a set is, after an addition and after a trim, what the book enters for it, and after a cleaning what
 -- it was. All on the model; it relies on what the search for a tail pad finds, and on what a cleaning keeps of each file.
 use mathlib.Core.Path.{_≡_, refl, sym, ap, ap₂, _∙_}
-use mathlib.Core.Bool.{Bool, true, false, cond, not}
+use mathlib.Core.Bool.{Bool, true, false, cond, not, _&&_, _||_}
 use mathlib.Core.List.{List, [], _∷_, _++_, map, map-append, map-map}
 use Prim.Native.Nat.{ℕ, zero, suc, _+_, _-_, _%_, _≤_, _<_}
 use native.Mathlib.Nat.{mod-lt}
@@ -13,7 +13,6 @@ use native.Mathlib.Numerals.{add-one}
 use Rattle.lists.specs.Lists.{sum}
 use Rattle.path.specs.Join.{isEmpty}
 use Rattle.tables.specs.Model.{Optional, absent, present, File, Model}
-use Rattle.rules.specs.Rules.{both, either}
 use Rattle.additions.specs.Addition.{Addition, added, fileAdded, padAdded, padTo, padAfter, padOf, sizeAdded, flagsKept, keeps, isPresent, isV2}
 use Rattle.trim.specs.Trim.{tailPad, sizeAt, beginningAt, trimmedIf, trimmedOf}
 use Rattle.additions.proofs.Rules.{pad-none, pad-some}
@@ -84,14 +83,14 @@ module _ (m : Model) (a : Addition) (total : m .total ≡ sum (sizes m)) where
 
   version-is : isV2 m a ≡ versionAfter (bookOf m) a
   version-is =
-      ap₂ (λ (d o : Bool). cond (both d o) (isPresent (a .root)) (m .v2))
-      (ap (both (ltb 0 (sizeAdded a))) (empty-link (a .link)))
-      (ap₂ (λ (t k : ℕ). either (eqb t 0) (eqb (m .links) k)) bytes-is (sym (length-rows (m .files))))
+      ap₂ (λ (d o : Bool). cond (d && o) (isPresent (a .root)) (m .v2))
+      (ap (_&&_ (ltb 0 (sizeAdded a))) (empty-link (a .link)))
+      (ap₂ (λ (t k : ℕ). (eqb t 0 || eqb (m .links) k)) bytes-is (sym (length-rows (m .files))))
 
   links-is : added m a .links ≡ linksAfter (bookOf m) a
   links-is =
-      ap (λ (b : Bool). m .links + cond (both b (ltb (m .links) 32766)) 1 0) (held-link (a .link))
-      ∙ link-counted (both (hasLink a) (ltb (m .links) 32766)) (m .links)
+      ap (λ (b : Bool). m .links + cond (b && ltb (m .links) 32766) 1 0) (held-link (a .link))
+      ∙ link-counted (hasLink a && ltb (m .links) 32766) (m .links)
 
   module _ (some : 0 < m .pieceLength) where
     rows-is : rowsOf (added m a .files) ≡ afterAddition (bookOf m) a .rows

@@ -13,8 +13,8 @@ use Rattle.tables.specs.declared.storage.FileStorage.{FileStorage}
 use Rattle.tables.specs.Rows.{filled}
 use Rattle.tables.specs.Model.{absent, present, Store, tabled}
 use Rattle.additions.specs.Addition.{Addition}
-use Rattle.storage.specs.Opening.{empty}
-use Rattle.plan.specs.Write.{placeFrom}
+use Rattle.storage.specs.Opening.{newStorage}
+use Rattle.plan.specs.Write.{directoryIndexFrom}
 use Rattle.links.specs.Clean.{step, walk}
 use Rattle.renames.specs.Renames.{renamesFrom, orderedFrom}
 use Rattle.renames.specs.Imports.{Naming}
@@ -42,7 +42,7 @@ storage files links used total trimmed =
       trimmed = trimmed;
     }
 
--- the file's root; the places of other roots are empty
+-- the file's root; the places of other roots are newStorage
 abbrev root : List ℕ
 root = replicate 32 1
 
@@ -54,7 +54,7 @@ tables fs rows text =
 abbrev start : Store
 start =
     record {
-      fs = empty 16384;
+      fs = newStorage 16384;
       rows = replicate 24 0;
       roots = replicate 96 0;
       times = [];
@@ -145,15 +145,15 @@ abbrev Comes : Store → Renames → Known → Came → Store → Renames → Ty
 Comes s r k o t q = answerOf s r k ≡ record { came = o; store = t; names = q }
 
 file-added : Comes start unnamed (adding (file (pos 10000))) done one unnamed
-unfolding tabled filled placeFrom digitsWithin
+unfolding tabled filled directoryIndexFrom digitsWithin
 file-added = refl
 
 file-refused : Comes one unnamed (adding (file (negsuc 0))) (refused 2) one unnamed
-unfolding tabled filled placeFrom
+unfolding tabled filled directoryIndexFrom
 file-refused = refl
 
 link-added : Comes one unnamed (adding link) done two unnamed
-unfolding tabled filled placeFrom
+unfolding tabled filled directoryIndexFrom
 link-added = refl
 
 clean-refused : Comes two unnamed (cleaning [] [] []) (refused 10) two unnamed

@@ -21,7 +21,7 @@ use Rattle.tables.specs.declared.storage.FileStorage.{FileStorage}
 use Rattle.tables.specs.Rows.{rowAt, has}
 use Rattle.tables.specs.Model.{Store, viewOf}
 use Rattle.tables.proofs.Words.{row-ext, dir-ext, root-ext}
-use Rattle.sound.specs.Sound.{Place, setName, dirName, fileName, linkText, nowhere, spanOf, textAtRow, sizeOfRow, padOfRow, Sound}
+use Rattle.sound.specs.Sound.{TextId, setName, dirName, fileName, linkText, nowhere, spanOf, textAtRow, sizeOfRow, padOfRow, Sound}
 use Rattle.sound.proofs.Common.{sum-same}
 use Rattle.sound.proofs.Added.Texts.{Extends, set-name-kept, dirs-kept, files-kept}
 use Rattle.book.specs.Calls.{SameSet, Renames, SameRenames}
@@ -72,7 +72,7 @@ module _ (s t : Store) (ok : Sound s) (same : SameSet s t) where
       }
 
   -- every place is where it was
-  span-kept : (p : Place) → spanOf lent p ≡ spanOf s p
+  span-kept : (p : TextId) → spanOf lent p ≡ spanOf s p
   span-kept setName = refl
   span-kept (dirName k) = here k _ _ _ nowhere (alike .dirs k)
   span-kept (fileName k) = here k _ _ _ nowhere (λ h. ap (λ (r : Row). r .name) (alike .rows k h))

@@ -5,7 +5,7 @@
 --     rename-answer, import-answer    what the two calls answer
 use Prim.Native.Nat.{ℕ, zero, suc, _+_, _-_, _*_, _/_, _≤_, _<_}
 use mathlib.Core.Path.{_≡_, refl, sym, ap, subst, _∙_}
-use mathlib.Core.Bool.{Bool, true, false, cond, not}
+use mathlib.Core.Bool.{Bool, true, false, cond, not, _&&_}
 use mathlib.Core.List.{List, [], _∷_}
 use native.Mathlib.Omega.{arith}
 use borrow.Author.Tests.{eqb-true, ltb-true, ltb-false, le-leb}
@@ -16,8 +16,8 @@ use lib.Seq.{sets, getD-take}
 use Rattle.types.specs.Refusals.{value, refused}
 use Rattle.tables.specs.Model.{Store, fileOf, viewOf}
 use Rattle.tables.proofs.Tabled.{length-tabled}
-use Rattle.rules.specs.Rules.{Rule, when, firstOf, both}
-use Rattle.rules.specs.Bounds.{badLength, isBelow, indexOf}
+use Rattle.rules.specs.Rules.{Rule, when, firstOf}
+use Rattle.rules.specs.Bounds.{badLength, isBelow, clampedOf}
 use Rattle.renames.specs.Renames.{Renamed, renamesOf, orderedFrom, inOrder, withRename, renamedTo, lacksRoom, stateOf, wordsOf, textsOf}
 use Rattle.renames.specs.Renames as renames
 use Rattle.renames.specs.Imports.{Naming, fullPath, imported, hasNegative}
@@ -40,7 +40,7 @@ Ordered r = inOrder (r .rf) (r .entries) (r .text) ≡ true
 -- ---- what a change leaves
 
 -- a file's number is small
-small-index : (n : ℕ) (z : ℤ) → n ≤ 65535 → isBelow n z ≡ true → indexOf z ≤ 2147483647
+small-index : (n : ℕ) (z : ℤ) → n ≤ 65535 → isBelow n z ≡ true → clampedOf z ≤ 2147483647
 small-index n (pos k) h e = omega (arith, ltb-true k n e)
 small-index n (negsuc k) h e = omega arith
 
@@ -57,8 +57,8 @@ module _ (r : Renames) (o : Ordered r) where
 
   -- so is what a change makes of it
   after : (k : ℕ) (rs : List Renamed) → (k ≡ 0 → (Rises 0 rs) × (Small rs) × (lacksRoom rs (r .entries) (r .text) ≡ false))
-      → (c : renames.Changed) → c ≡ renames.changedIf k rs (r .entries) (r .text) → Ordered (renamesAfter r c)
-  after k rs f c e = subst (λ (x : renames.Changed). Ordered (renamesAfter r x)) (sym e) (at (eqb k 0) refl)
+      → (c : renames.RenamesChanged) → c ≡ renames.renamesChangedIf k rs (r .entries) (r .text) → Ordered (renamesAfter r c)
+  after k rs f c e = subst (λ (x : renames.RenamesChanged). Ordered (renamesAfter r x)) (sym e) (at (eqb k 0) refl)
     where
       at : (b : Bool) → eqb k 0 ≡ b
           → Ordered (renamesAfter r (cond b (record { says = value (stateOf rs); entries = sets (r .entries) 0 (wordsOf rs); text = sets (r .text) 0 (textsOf rs) }) (record { says = refused k; entries = r .entries; text = r .text })))
@@ -97,7 +97,7 @@ unfolding orderedFrom
 ordered-same zero i least left e d h = refl
 ordered-same (suc n) i least left e d h =
     rw (h (i * 3) (omega arith), h (i * 3 + 1) (omega arith), h (i * 3 + 2) (omega arith))
-    (ap (λ (b : Bool). both (both (leb least (getD e (i * 3) 0)) (leb (getD e (i * 3) 0) 2147483647)) (both (leb (getD e (i * 3 + 1) 0) 2) (both (leb (getD e (i * 3 + 2) 0) left) b)))
+    (ap (λ (b : Bool). ((leb least (getD e (i * 3) 0) && leb (getD e (i * 3) 0) 2147483647) && (leb (getD e (i * 3 + 1) 0) 2 && (leb (getD e (i * 3 + 2) 0) left && b))))
     (ordered-same n (i + 1) (getD e (i * 3) 0 + 1) (left - getD e (i * 3 + 2) 0) e d (λ j g. h j (omega arith))))
 
 lent-ordered : (r q : Renames) → SameRenames r q → Ordered r → Ordered q
@@ -146,10 +146,10 @@ names-in-order (calls.lending {made} {s} {t} {r} {q} p same also) = lent-ordered
 
 -- ---- what is refused
 
-came-names : (k : ℕ) (rs : List Renamed) (e t : List ℕ) → cameOf (renames.changedIf k rs e t .says) ≡ cameBy k
+came-names : (k : ℕ) (rs : List Renamed) (e t : List ℕ) → cameOf (renames.renamesChangedIf k rs e t .says) ≡ cameBy k
 came-names k rs e t = at (eqb k 0)
   where
-    at : (b : Bool) → cameOf (cond {A = renames.Changed} b (record { says = value (stateOf rs); entries = sets e 0 (wordsOf rs); text = sets t 0 (textsOf rs) }) (record { says = refused k; entries = e; text = t }) .says) ≡ cond b books.done (books.refused k)
+    at : (b : Bool) → cameOf (cond {A = renames.RenamesChanged} b (record { says = value (stateOf rs); entries = sets e 0 (wordsOf rs); text = sets t 0 (textsOf rs) }) (record { says = refused k; entries = e; text = t }) .says) ≡ cond b books.done (books.refused k)
     at true = refl
     at false = refl
 

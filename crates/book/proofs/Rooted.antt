@@ -3,7 +3,7 @@
 -- additions in `model`.
 use mathlib.Core.Path.{_≡_, refl, sym, ap, _∙_}
 use mathlib.Core.Logic.{_⊎_, inl, inr}
-use mathlib.Core.Bool.{Bool, true, false, cond, not}
+use mathlib.Core.Bool.{Bool, true, false, cond, not, _||_}
 use mathlib.Core.List.{List}
 use Prim.Native.Nat.{ℕ, _+_, _*_, _≤_, _<_, min}
 use native.Mathlib.Omega.{arith}
@@ -16,12 +16,12 @@ use Rattle.tables.specs.Rows.{rowAt, rootAt, putRoot, putRow, has}
 use Rattle.tables.specs.Model.{Optional, absent, present, presentIf, Model, Store, fileOf, viewOf}
 use Rattle.tables.proofs.Tabled.{tabled-same, length-tabled}
 use Rattle.tables.proofs.Words.{row-back, length-root, root-ext, root-back, length-put-root, length-put-row}
-use Rattle.rules.specs.Rules.{firstOf, either}
+use Rattle.rules.specs.Rules.{firstOf}
 use Rattle.additions.specs.Addition.{Addition, added, addingRules, padOf, filesOf}
 use Rattle.plan.specs.Write.{storeAdded, rowAdded, padRow, textAfter}
 use Rattle.change.specs.Rooms.{roomsOf, holds}
 use Rattle.plan.specs.Outcomes.{addingNumber}
-use Rattle.sound.specs.Sound.{Place, setName, dirName, fileName, linkText, spanOf, Sound}
+use Rattle.sound.specs.Sound.{TextId, setName, dirName, fileName, linkText, spanOf, Sound}
 use Rattle.sound.proofs.Added.Answer.{Fits, fits}
 use Rattle.sound.proofs.Added.Whole.{count-files}
 use Rattle.sound.proofs.Added.{view-added, sound-added}
@@ -55,7 +55,7 @@ sound-roots s roots e ok =
       indexed = ok .indexed;
     }
   where
-    span-same : (p : Place) → spanOf (withRoots s roots) p ≡ spanOf s p
+    span-same : (p : TextId) → spanOf (withRoots s roots) p ≡ spanOf s p
     span-same setName = refl
     span-same (dirName k) = refl
     span-same (fileName k) = refl
@@ -93,10 +93,10 @@ abbrev numberWith : Store → Model → Addition → ℕ → ℕ
 numberWith s m a files =
     firstOf
     (addingRules m a
-    (either (not (holds s))
-    (either (ltb (min 65535 (roomsOf s .files)) files)
-    (either (ltb (min 65535 (roomsOf s .directories)) (length (added m a .directories)))
-    (either (ltb (roomsOf s .times) (length (added m a .times))) (ltb (roomsOf s .text) (textAfter (s .fs) m a)))))))
+    (not (holds s)
+    || (ltb (min 65535 (roomsOf s .files)) files
+    || (ltb (min 65535 (roomsOf s .directories)) (length (added m a .directories))
+    || (ltb (roomsOf s .times) (length (added m a .times)) || ltb (roomsOf s .text) (textAfter (s .fs) m a))))))
 
 same-number : (s : Store) (m : Model) (a : Addition) (r q : List ℕ) → addingNumber s m (withRoot a (present q)) ≡ addingNumber s m (withRoot a (present r))
 same-number s m a r q =

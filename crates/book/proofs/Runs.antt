@@ -1,4 +1,4 @@
--- The relation of calls is not empty: on every store each call that it knows has exactly one outcome and store after it,
+-- The relation of calls is not newStorage: on every store each call that it knows has exactly one outcome and store after it,
 -- from every newly opened set, whatever its tables hold, every list of calls has a run, a refused call can be made again on
 -- longer tables, and after every list of calls an addition is refused as document 01's table says. Relies on the
 -- definitions, on Agree.antt and on Lent.antt, and on `model` for what an addition and a cleaning answer.
@@ -18,7 +18,7 @@ use Rattle.rules.specs.Rules.{Rule, when, firstOf}
 use Rattle.rules.specs.Bounds.{badLength, isBelow}
 use Rattle.additions.specs.Addition.{Addition, added, addingRules, lacks, textOf}
 use Rattle.trim.specs.Trim.{tailPad}
-use Rattle.storage.specs.Opening.{empty, opened}
+use Rattle.storage.specs.Opening.{newStorage, opened}
 use Rattle.plan.specs.Write.{storeAdded}
 use Rattle.change.specs.Changes.{Changed, changedIf}
 use Rattle.change.specs.Rooms.{roomsOf}
@@ -69,7 +69,7 @@ pub record Answer : Type 0 where
 abbrev pub changing : Store → Renames → Changed → Answer
 changing s r c = record { came = cameOf (c .says); store = storeAfter (s .fs) c; names = r }
 
-abbrev pub naming : Store → Renames → renames.Changed → Answer
+abbrev pub naming : Store → Renames → renames.RenamesChanged → Answer
 naming s r c = record { came = cameOf (c .says); store = s; names = renamesAfter r c }
 
 -- what the function called says, and leaves
@@ -172,7 +172,7 @@ pub record Played (n : ℕ) (s : Store) (r : Renames) (ks : List Known) : Type 0
   pub leads : Leads n (reachOf s r ks .made) (reachOf s r ks .store) (reachOf s r ks .names)
 
 -- a set can be opened with every piece length from 1 on
-pub opens : (n : ℕ) → 0 < n → opened (pos n) ≡ value (empty n)
+pub opens : (n : ℕ) → 0 < n → opened (pos n) ≡ value (newStorage n)
 opens n h = rw (ne-eqb n 0 (λ e. omega arith))
 
 pub played : (n : ℕ) (s : Store) (r : Renames) → opened (pos n) ≡ value (s .fs) → n ≤ 2147483647 → r .rf ≡ noEntries → (ks : List Known) → Played n s r ks
@@ -195,13 +195,13 @@ still-clean : (s : Store) (marks stage path : List ℕ) (i : ℕ) → cameOf (cl
 still-clean s marks stage path i =
     after-clean (λ (m : Made) (u : Store). m .came ≡ refused i → u ≡ s) s marks stage path (λ z h e. cc) (λ k e. refl) (cleanStored (lent (s .fs) (s .rows) (s .dirs) (s .text)) marks stage path) refl
 
-still-names : (k : ℕ) (rs : List Renamed) (r : Renames) (i : ℕ) → cameOf (renames.changedIf k rs (r .entries) (r .text) .says) ≡ refused i → renamesAfter r (renames.changedIf k rs (r .entries) (r .text)) ≡ r
+still-names : (k : ℕ) (rs : List Renamed) (r : Renames) (i : ℕ) → cameOf (renames.renamesChangedIf k rs (r .entries) (r .text) .says) ≡ refused i → renamesAfter r (renames.renamesChangedIf k rs (r .entries) (r .text)) ≡ r
 still-names k rs r i e = at (eqb k 0) e
   where
-    yes : renames.Changed
+    yes : renames.RenamesChanged
     yes = record { says = value (stateOf rs); entries = sets (r .entries) 0 (wordsOf rs); text = sets (r .text) 0 (textsOf rs) }
 
-    no : renames.Changed
+    no : renames.RenamesChanged
     no = record { says = outcomes.refused k; entries = r .entries; text = r .text }
 
     at : (b : Bool) → cameOf (cond b yes no .says) ≡ refused i → renamesAfter r (cond b yes no) ≡ r

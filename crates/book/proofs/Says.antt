@@ -33,7 +33,7 @@ use Rattle.renames.specs.Renames as renames
 use Rattle.renames.specs.Results.{renamesSays}
 use Rattle.renames.specs.Imports.{Naming, namings, importFilenames}
 use Rattle.rules.specs.Results.{requestSays}
-use Rattle.files.specs.Request.{fileMapped}
+use Rattle.files.specs.Given.{fileMapped}
 use Rattle.mapping.specs.Table.{Filled, blockMapped}
 use Rattle.storage.proofs.open
 use Rattle.storage.proofs.open.Kinds as open-kinds
@@ -168,7 +168,7 @@ module _ (κs : Lifetimes.Lfts 3) (a : World.ArgsD rename_file.signature κs) (r
   abbrev pub named : Naming
   named = record { file = a .1 .1 .1 .1 .0 .0; name = now (a .1 .1 .1 .1 .1 .0) }
 
-  abbrev pub renamedBy : renames.Changed
+  abbrev pub renamedBy : renames.RenamesChanged
   renamedBy = record { says = renamesSays r; entries = now (s .1 .1 .0); text = now (s .1 .1 .1 .0) }
 
   pub rename-says : rename-reads.Learnt κs a r s → renamedBy ≡ renameFile (a .0) (a .1 .0) (now (a .1 .1 .0)) (now (a .1 .1 .1 .0)) (named .file) (named .name)
@@ -190,7 +190,7 @@ module _ (κs : Lifetimes.Lfts 5) (a : World.ArgsD import_filenames.signature κ
   abbrev pub allNamed : List Naming
   allNamed = namings (now (a .1 .1 .1 .1 .0)) (now (a .1 .1 .1 .1 .1 .0)) (now (a .1 .1 .1 .1 .1 .1 .0))
 
-  abbrev pub importedBy : renames.Changed
+  abbrev pub importedBy : renames.RenamesChanged
   importedBy = record { says = renamesSays r; entries = now (s .1 .1 .0); text = now (s .1 .1 .1 .0) }
 
   pub import-says : import-reads.Learnt κs a r s → importedBy ≡ importFilenames (a .0) (a .1 .0) (now (a .1 .1 .0)) (now (a .1 .1 .1 .0)) allNamed

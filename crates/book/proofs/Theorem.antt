@@ -12,10 +12,10 @@ use Rattle.types.specs.Refusals.{refused}
 use Rattle.types.specs.declared.index.FileSlice.{FileSlice}
 use Rattle.tables.specs.Model.{Store}
 use Rattle.mapping.specs.Table.{blockMapped}
-use Rattle.files.specs.Request.{fileMapped}
+use Rattle.files.specs.Given.{fileMapped}
 use Rattle.book.specs.Book.{Made, sizesOf, bytesOf, book}
 use Rattle.book.specs.Calls.{Renames, Leads}
-use Rattle.book.specs.Demand.{Asking, Asks, Demand3}
+use Rattle.book.specs.Demand.{MapCall, Cut, Demand3}
 use Rattle.book.proofs.Tables.{Holds, held-in-order}
 use Rattle.book.proofs.Agree.{agrees, sizes-agree}
 use Rattle.book.proofs.Demand.{demand-of, many-blocks, many-files}
@@ -23,9 +23,9 @@ use Rattle.book.proofs.Demand.{demand-of, many-blocks, many-files}
 -- 'one claim about the whole list': the calls `made`, refused ones included, led to the tables s; the blocks of `qs` cut the
 -- book's bytes, from 0 to the last
 pub demand-3 :
-    (n : ℕ) (made : List Made) (s : Store) (r : Renames) (qs : List Asking) → Leads n made s r →
+    (n : ℕ) (made : List Made) (s : Store) (r : Renames) (qs : List MapCall) → Leads n made s r →
     ceiling (bytesOf (book n made .rows)) n ≤ 2147483647 →
-    Asks n (sizesOf (book n made .rows)) s 0 (bytesOf (book n made .rows)) qs →
+    Cut n (sizesOf (book n made .rows)) s 0 (bytesOf (book n made .rows)) qs →
     Demand3 n (sizesOf (book n made .rows)) s qs
 demand-3 n made s r qs p few a =
     let g = agrees p in

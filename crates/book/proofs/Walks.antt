@@ -1,5 +1,5 @@
 -- A walk over files given by their sizes: s bytes are skipped, and the next n are taken, a slice a file. Two walks of which
--- one begins where the other ends join into one, so blocks in a row join to each file once, whole. It relies on nothing but
+-- one begins where the other ends join into one, so blocks in a row join to each file once, wholeFiles. It relies on nothing but
 -- the definitions of slices.
 --     walk                the slices of n bytes from byte s on
 --     walk-ascends        one slice a file at most, in file order
@@ -15,7 +15,7 @@ use lib.Dec.{eqb}
 use borrow.Author.Tests.{eqb-true, eqb-false, eq-eqb, ne-eqb}
 use Rattle.lists.specs.Lists.{sum}
 use Rattle.layout.specs.Mapping.{Slice, before}
-use Rattle.book.specs.Slices.{slice, joinedTo, joined, wholeFrom, whole, AscendingFrom}
+use Rattle.book.specs.Slices.{slice, joinedTo, joined, wholeFrom, wholeFiles, AscendingFrom}
 
 -- the files from number f on: s bytes are skipped, then n are taken
 abbrev pub walk : ℕ → List ℕ → ℕ → ℕ → List Slice
@@ -173,5 +173,5 @@ join-cut xs t (n ∷ ns) =
     joined-append (walk 0 xs t n) (cut xs (t + n) ns) ∙ ap (onto (walk 0 xs t n)) (join-cut xs (t + n) ns) ∙
     walk-join 0 xs t n (sum ns)
 
-pub join-blocks : (xs ns : List ℕ) → sum ns ≡ sum xs → joined (cut xs 0 ns) ≡ whole xs
+pub join-blocks : (xs ns : List ℕ) → sum ns ≡ sum xs → joined (cut xs 0 ns) ≡ wholeFiles xs
 join-blocks xs ns e = join-cut xs 0 ns ∙ walk-whole 0 xs (sum ns) e

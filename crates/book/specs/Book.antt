@@ -2,13 +2,12 @@
 -- calls were refused'. Nothing here speaks of the port's tables or of its model; it relies on the records of the calls'
 -- arguments in `storage` and `renames`.
 use Prim.Native.Nat.{ℕ, _+_, _-_, _%_}
-use mathlib.Core.Bool.{Bool, true, false, cond, not}
+use mathlib.Core.Bool.{Bool, true, false, cond, not, _&&_, _||_}
 use mathlib.Core.List.{List, [], _∷_, _++_, map}
 use lib.Dec.{eqb, ltb}
 use lib.ListN.{length}
 use Rattle.lists.specs.Lists.{sum}
-use Rattle.rules.specs.Rules.{both, either}
-use Rattle.rules.specs.Bounds.{sizeOf}
+use Rattle.rules.specs.Bounds.{clampedOf}
 use Rattle.additions.specs.Addition.{Addition, isPresent}
 use Rattle.renames.specs.Imports.{Naming}
 
@@ -56,7 +55,7 @@ hasLink a = ltb 0 (length (a .link))
 -- 'a nonempty file without link text, while the sizes sum to 0 or there are as many link texts as rows'
 abbrev pub fixes : Book → Addition → Bool
 fixes b a =
-    both (both (ltb 0 (sizeOf (a .size))) (not (hasLink a))) (either (eqb (bytesOf (b .rows)) 0) (eqb (b .links) (length (b .rows))))
+    (ltb 0 (clampedOf (a .size)) && not (hasLink a)) && (eqb (bytesOf (b .rows)) 0 || eqb (b .links) (length (b .rows)))
 
 -- 'sets v2 if it has a root, else v1'
 abbrev pub versionAfter : Book → Addition → Bool
@@ -64,22 +63,22 @@ versionAfter b a = cond (fixes b a) (isPresent (a .root)) (b .v2)
 
 -- 'A row of the file's size follows, marked if flag 1 is given'
 abbrev pub rowFor : Addition → Row
-rowFor a = record { size = sizeOf (a .size); marked = eqb (a .flags % 2) 1 }
+rowFor a = record { size = clampedOf (a .size); marked = eqb (a .flags % 2) 1 }
 
 -- 'In v2, if the sum is then no multiple of the piece length, a marked row fills it up to the next'
 abbrev pub filling : ℕ → Bool → ℕ → List Row
-filling n v2 bytes = cond (both v2 (not (eqb (bytes % n) 0))) (record { size = n - bytes % n; marked = true } ∷ []) []
+filling n v2 bytes = cond (v2 && not (eqb (bytes % n) 0)) (record { size = n - bytes % n; marked = true } ∷ []) []
 
 -- 'a link text is counted, up to 32766'
 abbrev pub linksAfter : Book → Addition → ℕ
-linksAfter b a = cond (both (hasLink a) (ltb (b .links) 32766)) (b .links + 1) (b .links)
+linksAfter b a = cond (hasLink a && ltb (b .links) 32766) (b .links + 1) (b .links)
 
 abbrev pub afterAddition : Book → Addition → Book
 afterAddition b a =
     record {
       pieceLength = b .pieceLength;
       v2 = versionAfter b a;
-      rows = b .rows ++ (rowFor a ∷ filling (b .pieceLength) (versionAfter b a) (bytesOf (b .rows) + sizeOf (a .size)));
+      rows = b .rows ++ (rowFor a ∷ filling (b .pieceLength) (versionAfter b a) (bytesOf (b .rows) + clampedOf (a .size)));
       links = linksAfter b a;
     }
 
@@ -87,7 +86,7 @@ afterAddition b a =
 abbrev pub trimmedRows : List Row → List Row
 trimmedRows [] = []
 trimmedRows (r ∷ rs) =
-    cond (eqb (bytesOf rs) 0) (cond (both (ltb 0 (r .size)) (r .marked)) rs (r ∷ rs)) (r ∷ trimmedRows rs)
+    cond (eqb (bytesOf rs) 0) (cond (ltb 0 (r .size) && r .marked) rs (r ∷ rs)) (r ∷ trimmedRows rs)
 
 abbrev pub afterTrim : Book → Book
 afterTrim b = record { pieceLength = b .pieceLength; v2 = b .v2; rows = trimmedRows (b .rows); links = b .links }

@@ -8,6 +8,7 @@ use Prim.Native.Nat.{ℕ, _*_, _≤_}
 use lib.IntN.{pos}
 use lib.ListN.{take}
 use Rattle.types.specs.Refusals.{Outcome, value, refused}
+use Rattle.tables.specs.Rows.{dirWidth, rootWidth, rowWidth}
 use Rattle.tables.specs.declared.storage.FileStorage.{FileStorage}
 use Rattle.tables.specs.Model.{Store}
 use Rattle.additions.specs.Addition.{Addition}
@@ -49,10 +50,10 @@ cleanedBy s c =
 -- was copied over
 pub record SameSet (s t : Store) : Type 0 where
   pub fs : t .fs ≡ s .fs
-  pub rows : take (s .fs .«num_files» * 8) (t .rows) ≡ take (s .fs .«num_files» * 8) (s .rows)
-  pub roots : take (s .fs .«num_files» * 32) (t .roots) ≡ take (s .fs .«num_files» * 32) (s .roots)
+  pub rows : take (s .fs .«num_files» * rowWidth) (t .rows) ≡ take (s .fs .«num_files» * rowWidth) (s .rows)
+  pub roots : take (s .fs .«num_files» * rootWidth) (t .roots) ≡ take (s .fs .«num_files» * rootWidth) (s .roots)
   pub times : take (s .fs .«num_mtimes») (t .times) ≡ take (s .fs .«num_mtimes») (s .times)
-  pub dirs : take (s .fs .«num_paths» * 2) (t .dirs) ≡ take (s .fs .«num_paths» * 2) (s .dirs)
+  pub dirs : take (s .fs .«num_paths» * dirWidth) (t .dirs) ≡ take (s .fs .«num_paths» * dirWidth) (s .dirs)
   pub text : take (s .fs .«text_len») (t .text) ≡ take (s .fs .«text_len») (s .text)
 
 -- the renames: their record, and the tables that they lie in
@@ -69,7 +70,7 @@ abbrev pub keptNames : Outcome RenamedFiles → RenamedFiles → RenamedFiles
 keptNames (value new) old = new
 keptNames (refused k) old = old
 
-abbrev pub renamesAfter : Renames → renames.Changed → Renames
+abbrev pub renamesAfter : Renames → renames.RenamesChanged → Renames
 renamesAfter r c = record { rf = keptNames (c .says) (r .rf); entries = c .entries; text = c .text }
 
 -- other tables may be lent for the renames, too
@@ -84,6 +85,6 @@ pub data Leads (n : ℕ) : List Made → Store → Renames → Type 0 where
   addition : {made : List Made} {s : Store} {r : Renames} (a : Addition) (c : Changed) → Leads n made s r → c ≡ addStored s a → Leads n (call (book.add a) c ∷ made) (storeAfter (s .fs) c) r
   trim : {made : List Made} {s : Store} {r : Renames} (c : Changed) → Leads n made s r → c ≡ trimStored s → Leads n (call book.trim c ∷ made) (storeAfter (s .fs) c) r
   cleaning : {made : List Made} {s : Store} {r : Renames} (marks stage path : List ℕ) (c : Cleaned) → Leads n made s r → c ≡ cleanStored (lent (s .fs) (s .rows) (s .dirs) (s .text)) marks stage path → Leads n (call book.clean (cleanedBy s c) ∷ made) (storeAfter (s .fs) (cleanedBy s c)) r
-  renaming : {made : List Made} {s : Store} {r : Renames} (x : Naming) (c : renames.Changed) → Leads n made s r → c ≡ renameFile (s .fs) (r .rf) (r .entries) (r .text) (x .file) (x .name) → Leads n (record { call = book.rename x; came = cameOf (c .says) } ∷ made) s (renamesAfter r c)
-  importing : {made : List Made} {s : Store} {r : Renames} (xs : List Naming) (c : renames.Changed) → Leads n made s r → c ≡ importFilenames (s .fs) (r .rf) (r .entries) (r .text) xs → Leads n (record { call = book.«import» xs; came = cameOf (c .says) } ∷ made) s (renamesAfter r c)
+  renaming : {made : List Made} {s : Store} {r : Renames} (x : Naming) (c : renames.RenamesChanged) → Leads n made s r → c ≡ renameFile (s .fs) (r .rf) (r .entries) (r .text) (x .file) (x .name) → Leads n (record { call = book.rename x; came = cameOf (c .says) } ∷ made) s (renamesAfter r c)
+  importing : {made : List Made} {s : Store} {r : Renames} (xs : List Naming) (c : renames.RenamesChanged) → Leads n made s r → c ≡ importFilenames (s .fs) (r .rf) (r .entries) (r .text) xs → Leads n (record { call = book.«import» xs; came = cameOf (c .says) } ∷ made) s (renamesAfter r c)
   lending : {made : List Made} {s t : Store} {r q : Renames} → Leads n made s r → SameSet s t → SameRenames r q → Leads n made t q

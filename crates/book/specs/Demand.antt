@@ -9,15 +9,15 @@ use Rattle.lists.specs.Lists.{sum, partOf}
 use Rattle.types.specs.Refusals.{Outcome, value, refused}
 use Rattle.types.specs.declared.index.FileSlice.{FileSlice}
 use Rattle.tables.specs.Model.{Store}
-use Rattle.rules.specs.Bounds.{sizeOf}
-use Rattle.rules.specs.Results.{Asked}
+use Rattle.rules.specs.Bounds.{clampedOf}
+use Rattle.rules.specs.Results.{SignedRequest}
 use Rattle.layout.specs.Mapping.{Slice}
-use Rattle.files.specs.Request.{fileMapped}
+use Rattle.files.specs.Given.{fileMapped}
 use Rattle.mapping.specs.Table.{Filled, recordOf, blockMapped}
-use Rattle.book.specs.Slices.{slice, joined, whole as wholeFiles, bytesIn, AscendingFrom, meets, endToEnd, contentOf}
+use Rattle.book.specs.Slices.{slice, joined, wholeFiles as wholeFiles, bytesIn, AscendingFrom, meets, endToEnd, contentOf}
 
 -- a call of `map_block`: what it was asked, the table lent to it, and what came of it
-pub record Asking : Type 0 where
+pub record MapCall : Type 0 where
   pub piece : ℕ
   pub offset : ℕ
   pub size : ℕ
@@ -31,26 +31,26 @@ counted (value n) = n
 counted (refused k) = 0
 
 abbrev pub sliceOf : FileSlice → Slice
-sliceOf p = slice (sizeOf (p .«file_index» .0)) (sizeOf (p .offset)) (sizeOf (p .size))
+sliceOf p = slice (clampedOf (p .«file_index» .0)) (clampedOf (p .offset)) (clampedOf (p .size))
 
-abbrev pub given : Asking → List Slice
-given q = map sliceOf (take (counted (q .says)) (q .left))
+abbrev pub slicesGiven : MapCall → List Slice
+slicesGiven q = map sliceOf (take (counted (q .says)) (q .left))
 
 -- 'A block here has any size above 0, asked from any piece starting at or before it', with a table that has a place for each
 -- file that the block meets
-pub record Ask (pieceLength : ℕ) (sizes : List ℕ) (s : Store) (t : ℕ) (q : Asking) : Type 0 where
+pub record ValidCall (pieceLength : ℕ) (sizes : List ℕ) (s : Store) (t : ℕ) (q : MapCall) : Type 0 where
   pub place : q .piece * pieceLength + q .offset ≡ t
   pub nonempty : 0 < q .size
   pub room : meets sizes t (q .size) ≤ length (q .lent)
   pub call : _≡_ {A = Filled} (record { says = q .says; table = q .left }) (blockMapped (s .fs) (s .rows) (pos (q .piece)) (pos (q .offset)) (pos (q .size)) (q .lent))
 
 -- consecutive blocks from byte t to byte e
-abbrev pub Asks : ℕ → List ℕ → Store → ℕ → ℕ → List Asking → Type 0
-Asks n sizes s t e [] = t ≡ e
-Asks n sizes s t e (q ∷ qs) = Ask n sizes s t q × Asks n sizes s (t + q .size) e qs
+abbrev pub Cut : ℕ → List ℕ → Store → ℕ → ℕ → List MapCall → Type 0
+Cut n sizes s t e [] = t ≡ e
+Cut n sizes s t e (q ∷ qs) = ValidCall n sizes s t q × Cut n sizes s (t + q .size) e qs
 
 -- the answer of `map_file` is the piece that holds a byte of the set, and the byte's place in it
-pub record Back (pieceLength byte : ℕ) (r : Outcome Asked) : Type 0 where
+pub record Back (pieceLength byte : ℕ) (r : Outcome SignedRequest) : Type 0 where
   pub piece : ℕ
   pub start : ℕ
   pub length : ℕ
@@ -62,27 +62,27 @@ pub record Back (pieceLength byte : ℕ) (r : Outcome Asked) : Type 0 where
 pub record Right (pieceLength : ℕ) (sizes : List ℕ) (s : Store) (byte : ℕ) (p : Slice) : Type 0 where
   pub nonempty : 0 < p .size
   pub first : sum (take (p .file) sizes) + p .offset ≡ byte
-  pub back : (n : ℕ) (r : Outcome Asked) → r ≡ fileMapped (s .fs) (s .rows) (pos (p .file)) (pos (p .offset)) (pos n) → Back pieceLength byte r
+  pub back : (n : ℕ) (r : Outcome SignedRequest) → r ≡ fileMapped (s .fs) (s .rows) (pos (p .file)) (pos (p .offset)) (pos n) → Back pieceLength byte r
 
 -- what must hold of a block at byte t
-pub record Block (pieceLength : ℕ) (sizes : List ℕ) (s : Store) (t : ℕ) (q : Asking) : Type 0 where
+pub record Block (pieceLength : ℕ) (sizes : List ℕ) (s : Store) (t : ℕ) (q : MapCall) : Type 0 where
   pub answered : q .says ≡ value (meets sizes t (q .size))
   -- the table's records are those of the slices, so no number in them is negative
-  pub plain : take (counted (q .says)) (q .left) ≡ map recordOf (given q)
-  pub ascending : AscendingFrom 0 (given q)
-  pub all : bytesIn (given q) ≡ q .size
-  pub each : (a : List Slice) (p : Slice) (b : List Slice) → given q ≡ a ++ p ∷ b → Right pieceLength sizes s (t + bytesIn a) p
+  pub plain : take (counted (q .says)) (q .left) ≡ map recordOf (slicesGiven q)
+  pub ascending : AscendingFrom 0 (slicesGiven q)
+  pub all : bytesIn (slicesGiven q) ≡ q .size
+  pub each : (a : List Slice) (p : Slice) (b : List Slice) → slicesGiven q ≡ a ++ p ∷ b → Right pieceLength sizes s (t + bytesIn a) p
   -- whatever the files hold, the slices stand for the block's bytes
-  pub content : (cs : List (List ℕ)) → map length cs ≡ sizes → contentOf cs (given q) ≡ partOf (endToEnd cs) t (q .size)
+  pub content : (cs : List (List ℕ)) → map length cs ≡ sizes → contentOf cs (slicesGiven q) ≡ partOf (endToEnd cs) t (q .size)
 
-abbrev pub Blocks : ℕ → List ℕ → Store → ℕ → List Asking → Type 0
+abbrev pub Blocks : ℕ → List ℕ → Store → ℕ → List MapCall → Type 0
 Blocks n sizes s t [] = Unit {0}
 Blocks n sizes s t (q ∷ qs) = Block n sizes s t q × Blocks n sizes s (t + q .size) qs
 
-abbrev pub allGiven : List Asking → List Slice
-allGiven [] = []
-allGiven (q ∷ qs) = given q ++ allGiven qs
+abbrev pub allSlicesGiven : List MapCall → List Slice
+allSlicesGiven [] = []
+allSlicesGiven (q ∷ qs) = slicesGiven q ++ allSlicesGiven qs
 
-pub record Demand3 (pieceLength : ℕ) (sizes : List ℕ) (s : Store) (qs : List Asking) : Type 0 where
-  pub whole : joined (allGiven qs) ≡ wholeFiles sizes
+pub record Demand3 (pieceLength : ℕ) (sizes : List ℕ) (s : Store) (qs : List MapCall) : Type 0 where
+  pub whole : joined (allSlicesGiven qs) ≡ wholeFiles sizes
   pub blocks : Blocks pieceLength sizes s 0 qs

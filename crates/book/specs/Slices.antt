@@ -1,4 +1,4 @@
--- Slices of files that lie end to end (BEP 3): what it is to join them, what each file once and whole is, and which bytes
+-- Slices of files that lie end to end (BEP 3): what it is to join them, what each file once and wholeFiles is, and which bytes
 -- they stand for. The files are given by their sizes. It relies on the record of a slice in `layout`.
 use Prim.Native.Nat.{ℕ, zero, suc, _+_, _-_, _≤_, min, max}
 use mathlib.Core.Bool.{cond, _&&_}
@@ -22,13 +22,13 @@ abbrev pub joined : List Slice → List Slice
 joined [] = []
 joined (a ∷ r) = joinedTo a (joined r)
 
--- each nonempty file once, whole: 'Whole is offset 0 and the row's size'; the files are numbered from k
+-- each nonempty file once, wholeFiles: 'Whole is offset 0 and the row's size'; the files are numbered from k
 abbrev pub wholeFrom : ℕ → List ℕ → List Slice
 wholeFrom k [] = []
 wholeFrom k (x ∷ xs) = cond (eqb x 0) (wholeFrom (suc k) xs) (slice k 0 x ∷ wholeFrom (suc k) xs)
 
-abbrev pub whole : List ℕ → List Slice
-whole xs = wholeFrom 0 xs
+abbrev pub wholeFiles : List ℕ → List Slice
+wholeFiles xs = wholeFrom 0 xs
 
 abbrev pub bytesIn : List Slice → ℕ
 bytesIn [] = 0

@@ -87,7 +87,7 @@ fn length_column() -> Lengths {
 
 // The first n numbers, or as many as there are.
 fn first_of(numbers: &[i32], n: usize) -> &[i32] {
-    let to = lists::least(n, numbers.len());
+    let to = lists::min_usize(n, numbers.len());
     &numbers[0..to]
 }
 
@@ -114,7 +114,7 @@ fn read_pairs(line: &[u8], files: &mut Files, lengths: &mut Lengths, names: &mut
 
 // The last n bytes of a line, or as many as there are.
 fn last(line: &[u8], n: usize) -> &[u8] {
-    lists::part(line, lists::minus(line.len(), n), n)
+    lists::part(line, lists::saturating_sub_usize(line.len(), n), n)
 }
 
 // Reads the first two words as pair `count`, whose name goes after `used` bytes of names, and gives where it
@@ -137,6 +137,6 @@ fn read_pair(
         return Decoded::Malformed;
     };
     files[count] = file;
-    lengths[count] = lists::minus(end, used) as u64;
+    lengths[count] = lists::saturating_sub_usize(end, used) as u64;
     Decoded::Bytes(end)
 }

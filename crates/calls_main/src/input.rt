@@ -82,9 +82,9 @@ fn step(block: &mut Buffer, line: &mut Buffer, cursor: Cursor) -> Cursor {
 fn take(block: &[u8], line: &mut [u8], cursor: Cursor) -> Cursor {
     let at = cursor.at;
     let length = cursor.length;
-    let rest = lists::part(block, at, lists::minus(cursor.end, at));
+    let rest = lists::part(block, at, lists::saturating_sub_usize(cursor.end, at));
     let n = scan::before_first(rest, b'\n');
-    lists::copy_behind(line, length, lists::part(rest, 0, n));
+    lists::copy_after(line, length, lists::part(rest, 0, n));
     Cursor {
         at: plus(at, plus(n, 1)),
         end: cursor.end,

@@ -2,7 +2,7 @@
 // set, and a set is lent the start of its own. The rows of files have the entries of renames after them, and the
 // texts of sets those of renames. Relies on the accessors of `lists`.
 ghost use Prim.Native.Nat.{_≤_};
-use lists::least;
+use lists::min_usize;
 
 // The tables: rows of files and entries of renames, roots, times, directories, and texts of sets and of renames.
 pub(crate) type Rows = [u64; 11264];
@@ -43,8 +43,8 @@ struct Bounds {
 fn inside(length: usize, place: Place) -> Bounds
     ensures { λ r. ⌜ (r .start ≤ r .end) × (r .end ≤ length) ⌝ }
 {
-    let from = least(place.start, length);
-    let to = from + least(place.count, length - from);
+    let from = min_usize(place.start, length);
+    let to = from + min_usize(place.count, length - from);
     Bounds {
         start: from,
         end: to,
@@ -100,7 +100,7 @@ pub(crate) fn bytes_of(table: &mut [u8], place: Place) -> &mut [u8] {
 // 256 entries of three words, and 65536 bytes.
 pub(crate) fn of_set(place: usize, files: usize, dirs: usize, text: usize) -> Places {
     let at = place % 4;
-    let most = least(files, 256);
+    let most = min_usize(files, 256);
     Places {
         rows: Place {
             start: at * 2048,
@@ -116,11 +116,11 @@ pub(crate) fn of_set(place: usize, files: usize, dirs: usize, text: usize) -> Pl
         },
         dirs: Place {
             start: at * 512,
-            count: least(dirs, 256) * 2,
+            count: min_usize(dirs, 256) * 2,
         },
         text: Place {
             start: at * 262144,
-            count: least(text, 262144),
+            count: min_usize(text, 262144),
         },
         entries: Place {
             start: 8192 + at * 768,

@@ -26,7 +26,7 @@ pub(crate) fn word(line: &[u8], number: usize, target: &mut Buffer, used: usize)
 
 // The bytes of a buffer from one place up to another.
 pub(crate) fn between(bytes: &Buffer, from: usize, to: usize) -> &[u8] {
-    lists::part(bytes, from, lists::minus(to, from))
+    lists::part(bytes, from, lists::saturating_sub_usize(to, from))
 }
 
 // Writes the bytes that a word stands for after the first `used` bytes of `target`, which has room for those of a line.

@@ -92,7 +92,7 @@ fn has_form(line: &[u8], form: &[u8]) -> bool {
     if !lists::same(word(line, 0), word(form, 0)) {
         return false;
     }
-    if lists::byte(form, lists::minus(form.len(), 1)) == b'.' {
+    if lists::byte(form, lists::saturating_sub_usize(form.len(), 1)) == b'.' {
         return true;
     }
     !has(line, count(form))

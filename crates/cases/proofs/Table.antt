@@ -5,11 +5,11 @@ use Rattle.tables.specs.Rows.{filled}
 use Rattle.tables.specs.Model.{tabled}
 use Rattle.layout.specs.Search.{halved}
 use Rattle.layout.specs.Mapping.{walk}
-use Rattle.plan.specs.Write.{placeFrom}
+use Rattle.plan.specs.Write.{directoryIndexFrom}
 use Rattle.links.specs.Clean.{step}
 use Rattle.links.specs.Clean as links
 use Rattle.cases.specs.Cases.{table, allHold}
 
 pub starred : allHold table ≡ true
-unfolding halved walk filled tabled placeFrom step links.walk
+unfolding halved walk filled tabled directoryIndexFrom step links.walk
 starred = refl

@@ -15,7 +15,7 @@ pub record Case : Type 0 where
   pub expected : Outcome (List ℤ)
 
 -- a set's piece length and additions, and the cases struck on it
-pub record Bench : Type 0 where
+pub record Scenario : Type 0 where
   pub pieceLength : ℕ
   pub additions : List Addition
   pub cases : List Case
@@ -32,8 +32,8 @@ file letter size root =
 abbrev pub setA : List Addition
 setA = file 97 7 absent ∷ file 98 0 absent ∷ file 99 15 absent ∷ file 100 0 absent ∷ []
 
-abbrev pub asked : Question → Outcome (List ℤ) → Case
-asked q e = record { question = q; expected = e }
+abbrev pub case : Question → Outcome (List ℤ) → Case
+case q e = record { question = q; expected = e }
 
 abbrev pub says : List ℕ → Outcome (List ℤ)
 says ns = value (signed ns)
@@ -45,41 +45,41 @@ says ns = value (signed ns)
 abbrev pub casesOfA : List Case
 casesOfA =
     -- offsets 0, 7, 7, 22; 3 pieces
-    asked (fileOffset (pos 0)) (says (0 ∷ [])) ∷
-    asked (fileOffset (pos 1)) (says (7 ∷ [])) ∷
-    asked (fileOffset (pos 2)) (says (7 ∷ [])) ∷
-    asked (fileOffset (pos 3)) (says (22 ∷ [])) ∷
-    asked numPieces (says (3 ∷ [])) ∷
+    case (fileOffset (pos 0)) (says (0 ∷ [])) ∷
+    case (fileOffset (pos 1)) (says (7 ∷ [])) ∷
+    case (fileOffset (pos 2)) (says (7 ∷ [])) ∷
+    case (fileOffset (pos 3)) (says (22 ∷ [])) ∷
+    case numPieces (says (3 ∷ [])) ∷
     -- piece 0, offset 5, size 4: file 0 at 5 for 2, file 2 at 0 for 2
-    asked (mapBlock (pos 0) (pos 5) (pos 4)) (says (2 ∷ 0 ∷ 5 ∷ 2 ∷ 2 ∷ 0 ∷ 2 ∷ [])) ∷
+    case (mapBlock (pos 0) (pos 5) (pos 4)) (says (2 ∷ 0 ∷ 5 ∷ 2 ∷ 2 ∷ 0 ∷ 2 ∷ [])) ∷
     -- piece 2, offset 0, size 10: file 2 at 13 for 2; offset 2, size 0: none
-    asked (mapBlock (pos 2) (pos 0) (pos 10)) (says (1 ∷ 2 ∷ 13 ∷ 2 ∷ [])) ∷
-    asked (mapBlock (pos 2) (pos 2) (pos 0)) (says (0 ∷ [])) ∷
+    case (mapBlock (pos 2) (pos 0) (pos 10)) (says (1 ∷ 2 ∷ 13 ∷ 2 ∷ [])) ∷
+    case (mapBlock (pos 2) (pos 2) (pos 0)) (says (0 ∷ [])) ∷
     -- offset 7 is in file 2; offset 22 gives 14
-    asked (fileIndexAtOffset (pos 7)) (says (2 ∷ [])) ∷
-    asked (fileIndexAtOffset (pos 22)) (refused 14) ∷
+    case (fileIndexAtOffset (pos 7)) (says (2 ∷ [])) ∷
+    case (fileIndexAtOffset (pos 22)) (refused 14) ∷
     -- `map_file` of 1 at 0: piece 0, start 7; of 3: 3, 0, 0
-    asked (mapFile (pos 1) (pos 0) (pos 5)) (says (0 ∷ 7 ∷ 5 ∷ [])) ∷
-    asked (mapFile (pos 3) (pos 0) (pos 5)) (says (3 ∷ 0 ∷ 0 ∷ [])) ∷
+    case (mapFile (pos 1) (pos 0) (pos 5)) (says (0 ∷ 7 ∷ 5 ∷ [])) ∷
+    case (mapFile (pos 3) (pos 0) (pos 5)) (says (3 ∷ 0 ∷ 0 ∷ [])) ∷
     -- exclusive pieces of file 2: 1 to 2; inclusive: 0 to 3 (end not included)
-    asked (exclusive (pos 2)) (says (1 ∷ 2 ∷ [])) ∷
-    asked (inclusive (pos 2)) (says (0 ∷ 3 ∷ [])) ∷
+    case (exclusive (pos 2)) (says (1 ∷ 2 ∷ [])) ∷
+    case (inclusive (pos 2)) (says (0 ∷ 3 ∷ [])) ∷
     -- `piece_size2` of 0 is 7, of 2 is 2
-    asked (pieceSize2 (pos 0)) (says (7 ∷ [])) ∷
-    asked (pieceSize2 (pos 2)) (says (2 ∷ [])) ∷
+    case (pieceSize2 (pos 0)) (says (7 ∷ [])) ∷
+    case (pieceSize2 (pos 2)) (says (2 ∷ [])) ∷
     []
 
 abbrev pub casesOfEmpty : List Case
 casesOfEmpty =
     -- on an empty v1 set, size 281474976710655 is taken, one more gives 3
-    asked (addFile (file 97 281474976710655 absent)) (says []) ∷
-    asked (addFile (file 97 281474976710656 absent)) (refused 3) ∷
+    case (addFile (file 97 281474976710655 absent)) (says []) ∷
+    case (addFile (file 97 281474976710656 absent)) (refused 3) ∷
     []
 
 abbrev pub casesOfV2 : List Case
 casesOfV2 =
     -- v2, length 16384, one file of 281474976710655: 4
-    asked (addFile (file 97 281474976710655 (present (replicate 32 1)))) (refused 4) ∷
+    case (addFile (file 97 281474976710655 (present (replicate 32 1)))) (refused 4) ∷
     []
 
 abbrev pub link : ℕ → List ℕ → Addition
@@ -98,14 +98,14 @@ linkedSet =
 abbrev pub casesOfLinks : List Case
 casesOfLinks =
     -- directory x, link l to `x`: link m to `l/f` stays if x/f exists
-    asked (linkAfterCleaning (pos 1)) (says (120 ∷ [])) ∷
-    asked (linkAfterCleaning (pos 2)) (says (108 ∷ 47 ∷ 102 ∷ [])) ∷
+    case (linkAfterCleaning (pos 1)) (says (120 ∷ [])) ∷
+    case (linkAfterCleaning (pos 2)) (says (108 ∷ 47 ∷ 102 ∷ [])) ∷
     -- link n to `/etc` becomes `n`
-    asked (linkAfterCleaning (pos 3)) (says (110 ∷ [])) ∷
+    case (linkAfterCleaning (pos 3)) (says (110 ∷ [])) ∷
     []
 
 -- the table
-abbrev pub table : List Bench
+abbrev pub table : List Scenario
 table =
     record { pieceLength = 10; additions = setA; cases = casesOfA } ∷
     record { pieceLength = 10; additions = []; cases = casesOfEmpty } ∷
@@ -118,6 +118,6 @@ abbrev pub holds : Store → List Case → Bool
 holds s [] = true
 holds s (c ∷ cs) = sameAnswer (answer s (c .question)) (c .expected) && holds s cs
 
-abbrev pub allHold : List Bench → Bool
+abbrev pub allHold : List Scenario → Bool
 allHold [] = true
 allHold (b ∷ bs) = holds (built (newStore (b .pieceLength)) (b .additions)) (b .cases) && allHold bs

@@ -10,18 +10,17 @@ use Rattle.types.specs.Refusals.{Outcome, value, refused}
 use Rattle.types.specs.declared.index.FileSlice.{FileSlice}
 use Rattle.tables.specs.declared.storage.FileStorage.{FileStorage}
 use Rattle.tables.specs.Span.{textAt}
-use Rattle.tables.specs.Rows.{rowAt, has}
+use Rattle.tables.specs.Rows.{rowAt, has, linkHeldBit}
 use Rattle.tables.specs.Model.{Store}
 use Rattle.additions.specs.Addition.{Addition}
-use Rattle.storage.specs.Opening.{empty}
+use Rattle.storage.specs.Opening.{newStorage}
 use Rattle.change.specs.Changes.{Changed}
 use Rattle.plan.specs.Outcomes.{addStored}
-use Rattle.rules.specs.Rules.{both}
-use Rattle.rules.specs.Questions.{askedFile, askedLink, rowsHeld, textHeld}
+use Rattle.rules.specs.Questions.{fileAnswer, linkAnswer, rowsHeld, textHeld}
 use Rattle.lookup.specs.Lookup.{lent}
 use Rattle.cleaning.specs.Cleaning.{Cleaned, cleanStored}
-use Rattle.rules.specs.Results.{Range, Asked}
-use Rattle.files.specs.Request.{fileMapped}
+use Rattle.rules.specs.Results.{Range, SignedRequest}
+use Rattle.files.specs.Given.{fileMapped}
 use Rattle.mapping.specs.Table.{Filled, recordOf, blockMapped}
 use Rattle.layout.specs.Given.{numPiecesGiven, pieceSize2Given, fileAtOffsetGiven}
 use Rattle.files.specs.Given.{exclusiveGiven, inclusiveGiven}
@@ -30,7 +29,7 @@ use Rattle.files.specs.Given.{exclusiveGiven, inclusiveGiven}
 abbrev pub newStore : ℕ → Store
 newStore n =
     record {
-      fs = empty n;
+      fs = newStorage n;
       rows = replicate 32 0;
       roots = replicate 128 0;
       times = [];
@@ -63,7 +62,7 @@ cleaned s = by (cleanStored (lent (s .fs) (s .rows) (s .dirs) (s .text)) (replic
 -- the link text of a file
 abbrev pub linkIn : Store → ℤ → Outcome (List ℕ)
 linkIn s z =
-    askedLink (s .fs) z (λ k. has (rowAt (s .rows) k .flags) 16) (both (rowsHeld (s .fs) (s .rows)) (textHeld (s .fs) (s .text)))
+    linkAnswer (s .fs) z (λ k. has (rowAt (s .rows) k .flags) linkHeldBit) (rowsHeld (s .fs) (s .rows) && textHeld (s .fs) (s .text))
     (λ k. textAt (s .text) (rowAt (s .rows) k .link))
 
 pub data Question : Type 0 where
@@ -89,7 +88,7 @@ one z = z ∷ []
 abbrev pub ends : Range → List ℤ
 ends r = r .begin ∷ r .end ∷ []
 
-abbrev pub request : Asked → List ℤ
+abbrev pub request : SignedRequest → List ℤ
 request r = r .piece ∷ r .start ∷ r .length ∷ []
 
 -- the table's first records, as many as the answer says: file, offset and size of each
@@ -102,7 +101,7 @@ slices r = numbers (λ (n : ℕ). pos n ∷ sliceNumbers (take n (r .table))) (r
 
 abbrev pub answer : Store → Question → Outcome (List ℤ)
 answer s (addFile a) = numbers (λ (fs : FileStorage). []) (addStored s a .says)
-answer s (fileOffset z) = numbers one (askedFile (s .fs) z (rowsHeld (s .fs) (s .rows)) (λ k. pos (rowAt (s .rows) k .offset)))
+answer s (fileOffset z) = numbers one (fileAnswer (s .fs) z (rowsHeld (s .fs) (s .rows)) (λ k. pos (rowAt (s .rows) k .offset)))
 answer s numPieces = numbers one (numPiecesGiven (s .fs))
 answer s (mapBlock p o n) = slices (blockMapped (s .fs) (s .rows) p o n lentSlices)
 answer s (fileIndexAtOffset o) = numbers one (fileAtOffsetGiven (s .fs) (s .rows) o)

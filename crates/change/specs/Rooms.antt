@@ -1,11 +1,10 @@
 -- How much the lent tables hold, and whether that is what a set's record counts. It relies on the tables of `tables`.
 use Prim.Native.Nat.{ℕ, _/_, min}
-use mathlib.Core.Bool.{Bool}
+use mathlib.Core.Bool.{Bool, _&&_}
 use lib.Dec.{leb}
 use lib.ListN.{length}
 use Rattle.tables.specs.declared.storage.FileStorage.{FileStorage}
 use Rattle.tables.specs.Model.{Store}
-use Rattle.rules.specs.Rules.{both}
 use Rattle.change.specs.declared.rooms.Rooms.{Rooms}
 
 -- a file row has 8 words, a root 32 bytes, a directory row 2 words
@@ -26,10 +25,10 @@ dirsRoom rooms = min 65535 (rooms .directories)
 -- the tables hold what the set's record counts
 abbrev pub holdsIn : FileStorage → Rooms → Bool
 holdsIn fs rooms =
-    both (leb (fs .«num_files») (filesRoom rooms))
-    (both (leb (fs .«num_paths») (dirsRoom rooms))
-    (both (leb (fs .«num_mtimes») (rooms .times))
-    (both (leb (fs .«text_len») (rooms .text)) (leb (fs .«size_on_disk») (fs .«total_size»)))))
+    leb (fs .«num_files») (filesRoom rooms)
+    && (leb (fs .«num_paths») (dirsRoom rooms)
+    && (leb (fs .«num_mtimes») (rooms .times)
+    && (leb (fs .«text_len») (rooms .text) && leb (fs .«size_on_disk») (fs .«total_size»))))
 
 abbrev pub holds : Store → Bool
 holds s = holdsIn (s .fs) (roomsOf s)

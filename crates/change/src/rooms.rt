@@ -1,7 +1,7 @@
 // How much the lent tables hold, and whether that is what a set counts. Relies on specs/Rooms.antt and proofs/Held.antt.
 ghost use mathlib.Core.Path.{_≡_};
 ghost use Rattle.change.specs.Rooms.{roomsIn, filesRoom, dirsRoom, holdsIn};
-use lists::least;
+use lists::min_usize;
 use tables::FileStorage;
 
 // How many files, directories, times and bytes of text the lent tables have places for.
@@ -17,7 +17,7 @@ pub fn rooms_in(rows: usize, roots: usize, times: usize, dirs: usize, text: usiz
     ensures { λ r. ⌜ r ≡ roomsIn rows roots times dirs text ⌝ }
 {
     Rooms {
-        files: least(rows / 8, roots / 32),
+        files: min_usize(rows / 8, roots / 32),
         directories: dirs / 2,
         times,
         text,
@@ -28,14 +28,14 @@ pub fn rooms_in(rows: usize, roots: usize, times: usize, dirs: usize, text: usiz
 pub fn files_room(rooms: Rooms) -> usize
     ensures { λ r. ⌜ r ≡ filesRoom rooms ⌝ }
 {
-    least(65535, rooms.files)
+    min_usize(65535, rooms.files)
 }
 
 // How many directories a set may have: no more than 65535.
 pub fn dirs_room(rooms: Rooms) -> usize
     ensures { λ r. ⌜ r ≡ dirsRoom rooms ⌝ }
 {
-    least(65535, rooms.directories)
+    min_usize(65535, rooms.directories)
 }
 
 // Whether the lent tables hold what a set counts.

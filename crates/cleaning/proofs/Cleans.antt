@@ -15,13 +15,13 @@ use Rattle.types.specs.declared.refusal.Refusal.{Refusal}
 use Rattle.tables.specs.Model.{Store}
 use Rattle.lookup.specs.Lookup.{Entry, isFlagged, entriesOf, directoriesOf}
 use Rattle.lookup.specs.Space.{linkCount}
-use Rattle.lookup.specs.Rows.{entryAt, entriesFrom}
+use Rattle.lookup.specs.private.Rows.{entryAt, entriesFrom}
 use Rattle.lookup.proofs.Rows.{flagged-at, entries-all}
 use Rattle.links.specs.Judging.{verdictOf, verdictsFor, verdicts, judgingNumber, Judged, judged}
 use Rattle.links.proofs.Judgements.{verdicts-set, roomy}
 use Rattle.texts.proofs.OneLink.{cond-yes, cond-no}
 use Rattle.cleaning.specs.Cleaning.{fileVerdictsFor, fileVerdicts, emptied, rewritten, cleanedStore, textNeeded, Cleaned, cleanedTo, cleanStored}
-use Rattle.cleaning.specs.Writing.{flagsIn, verdictsBy, allVerdicts, neededBy, cleanedBy}
+use Rattle.cleaning.specs.private.Writing.{flagsIn, verdictsBy, allVerdicts, neededBy, cleanedBy}
 
 -- ---- verdicts
 

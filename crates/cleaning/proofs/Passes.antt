@@ -21,8 +21,8 @@ use Rattle.tables.proofs.Filled.{word-filled, word-behind}
 use Rattle.lookup.specs.Lookup.{entryOf, isFlagged}
 use Rattle.links.specs.Judging.{textBy}
 use Rattle.texts.specs.Texts.{rowLowered, rowsLowered, linked, cutOut, goneAt, relinked}
-use Rattle.cleaning.specs.Cleaning.{hasPlace, writtenAt, rewrittenAt, emptied, rewritten}
-use Rattle.cleaning.specs.Writing.{flagsIn, verdictBy, markAfter, verdictsBy, passed, emptiedAt}
+use Rattle.cleaning.specs.Cleaning.{textFits, writtenAt, rewrittenAt, emptied, rewritten}
+use Rattle.cleaning.specs.private.Writing.{flagsIn, verdictBy, markAfter, verdictsBy, passed, emptiedAt}
 
 -- ---- flags stay
 
@@ -73,8 +73,8 @@ emptied-keeps v s i j = kept-if (eqb v 1) (relinked s i []) s s j (flags-relinke
 pub rewritten-keeps : (n : ℕ) → Keeps (rewrittenAt n)
 rewritten-keeps n v s i j =
     let t = textBy v (entryOf (fileOf s i)) in
-    kept-if (eqb v 0) s (cond (hasPlace n v s i) (writtenAt v s i) s) s j refl
-    (kept-if (hasPlace n v s i) (writtenAt v s i) s s j
+    kept-if (eqb v 0) s (cond (textFits n v s i) (writtenAt v s i) s) s j refl
+    (kept-if (textFits n v s i) (writtenAt v s i) s s j
     (kept-if (eqb v 0) s (cond (eqb v 1) (linked s i t) (relinked s i t)) s j refl
     (kept-if (eqb v 1) (linked s i t) (relinked s i t) s j (flags-linked s i t j) (flags-relinked s i t j)))
     refl)

@@ -21,7 +21,7 @@ use Rattle.links.specs.Judging.{textBy}
 use Rattle.texts.specs.Texts.{ownText, textBeside, linkSpan}
 use Rattle.texts.proofs.NewTexts.{own-parts, beside-parts}
 use Rattle.cleaning.specs.Cleaning.{keptAfter, newBytes}
-use Rattle.cleaning.specs.Writing.{verdictBy, markAfter, verdictsBy, leafSpan, goneBytes, newLength, leftBy, sumBy, neededBy}
+use Rattle.cleaning.specs.private.Writing.{verdictBy, markAfter, verdictsBy, leafSpan, goneBytes, newLength, leftBy, sumBy, neededBy}
 use Rattle.cleaning.proofs.Passes.{verdicts-turn, verdicts-end, mark-behind}
 
 -- ---- a new text by its parts

@@ -37,13 +37,13 @@ writtenAt v s i =
     (cond (eqb v 1) (linked s i (textBy v (entryOf (fileOf s i)))) (relinked s i (textBy v (entryOf (fileOf s i)))))
 
 -- in tables that the other calls leave every new text has its place, once there is room for all; n is the stage's length
-abbrev pub hasPlace : ℕ → ℕ → Store → ℕ → Bool
-hasPlace n v s i =
+abbrev pub textFits : ℕ → ℕ → Store → ℕ → Bool
+textFits n v s i =
     cond (eqb v 1) (ownFits s i (textBy v (entryOf (fileOf s i)))) (besideFits n s i (textBy v (entryOf (fileOf s i))))
 
 -- in tables of any other content, a text that does not have its place is not written
 abbrev pub rewrittenAt : ℕ → ℕ → Store → ℕ → Store
-rewrittenAt n v s i = cond (eqb v 0) s (cond (hasPlace n v s i) (writtenAt v s i) s)
+rewrittenAt n v s i = cond (eqb v 0) s (cond (textFits n v s i) (writtenAt v s i) s)
 
 abbrev pub rewritten : ℕ → List ℕ → ℕ → Store → Store
 rewritten n [] i s = s

@@ -5,7 +5,7 @@ ghost use mathlib.Core.List.{[]};
 ghost use Rattle.change.specs.Changes.{storageSays};
 ghost use Rattle.lookup.specs.Lookup.{lent};
 ghost use Rattle.cleaning.specs.Cleaning.{Cleaned, cleanStored};
-ghost use Rattle.cleaning.specs.Writing.{allVerdicts, cleanedBy};
+ghost use Rattle.cleaning.specs.private.Writing.{allVerdicts, cleanedBy};
 use crate::rewrite::rewrite_links;
 use crate::room::lacks_room;
 use change::StorageResult;

@@ -5,7 +5,7 @@ ghost use lib.ListN.{length};
 ghost use Rattle.tables.specs.Model.{Store};
 ghost use Rattle.lookup.specs.Lookup.{lent};
 ghost use Rattle.cleaning.specs.Cleaning.{rewrittenAt, emptied, rewritten};
-ghost use Rattle.cleaning.specs.Writing.{flagsIn, verdictsBy, emptiedAt};
+ghost use Rattle.cleaning.specs.private.Writing.{flagsIn, verdictsBy, emptiedAt};
 use crate::verdicts::mark_after;
 use crate::verdicts::verdict_of;
 use tables::FileStorage;

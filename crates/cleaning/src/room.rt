@@ -8,10 +8,10 @@ ghost use lib.ListN.{length};
 ghost use Rattle.tables.specs.Span.{clip};
 ghost use Rattle.tables.specs.Rows.{rowAt};
 ghost use Rattle.lookup.specs.Lookup.{lent};
-ghost use Rattle.cleaning.specs.Writing.{flagsIn, verdictsBy, allVerdicts, leafSpan, goneBytes, newLength, leftBy, sumBy, neededBy};
+ghost use Rattle.cleaning.specs.private.Writing.{flagsIn, verdictsBy, allVerdicts, leafSpan, goneBytes, newLength, leftBy, sumBy, neededBy};
 use crate::verdicts::mark_after;
 use crate::verdicts::verdict_of;
-use lists::minus;
+use lists::saturating_sub_usize;
 use tables::FileStorage;
 use tables::Row;
 use tables::Span;
@@ -24,7 +24,7 @@ fn left_after(used: usize, link: Span, verdict: u8, left: usize) -> usize
         return left;
     }
     let gone = tables::clipped(used, link);
-    minus(left, gone.len)
+    saturating_sub_usize(left, gone.len)
 }
 
 // What is left of the text held once the old texts of the first n files that change are gone.

@@ -2,7 +2,7 @@
 // Relies on the accessors of `lists` and `tables`.
 ghost use mathlib.Core.Path.{_≡_};
 ghost use Prim.Native.Nat.{_+_, _^_, _<_};
-ghost use Rattle.cleaning.specs.Writing.{verdictBy, markAfter};
+ghost use Rattle.cleaning.specs.private.Writing.{verdictBy, markAfter};
 
 // The verdict on a file, whose mark is the k-th if it is a flagged link.
 pub(crate) fn verdict_of(flags: u64, marks: &[u8], k: usize) -> u8

@@ -2,7 +2,7 @@
 -- turn. They rely on the definitions of specs/Compatible.antt.
 use Prim.Native.Nat.{ℕ, suc, _+_, _-_, _≤_, _<_}
 use mathlib.Core.Path.{_≡_, refl, sym, ap₂, _∙_}
-use mathlib.Core.Bool.{Bool, true, false, cond, not}
+use mathlib.Core.Bool.{Bool, true, false, cond, not, _&&_, _||_}
 use mathlib.Core.List.{List, [], _∷_}
 use native.Mathlib.Nat.{sub-zero}
 use native.Mathlib.Omega.{arith}
@@ -10,14 +10,14 @@ use borrow.Author.Tests.{eq-eqb, ne-eqb, not-true, not-false}
 use Rattle.lists.specs.Lists.{equal}
 use Rattle.path.specs.Join.{appended}
 use Rattle.types.specs.Refusals.{Outcome, value, refused}
-use Rattle.rules.specs.Rules.{when, firstOf, outcomeOf, both, either}
+use Rattle.rules.specs.Rules.{when, firstOf, outcomeOf}
 use Rattle.tables.specs.declared.storage.FileStorage.{FileStorage}
 use Rattle.tables.specs.declared.rows.Row.{Row}
 use Rattle.tables.specs.Span.{textAt}
 use Rattle.tables.specs.Rows.{rowAt, has}
 use Rattle.answers.specs.Answers.{symlinkPath}
 use Rattle.names.proofs.Paths.{nowhere}
-use Rattle.compatible.specs.Compatible.{Names, pathIn, linkIn, sameNamed, sameFile, sameFrom, compatible}
+use Rattle.compatible.specs.Compatible.{NamedSet, pathOf, linkOf, sameNamed, sameFile, sameFrom, compatible}
 
 -- two composed paths, compared
 pub compared : (r : Bool) (a b c d e f p q : List ℕ) → r ≡ equal (appended (appended a b) c) (appended (appended d e) f)
@@ -34,35 +34,35 @@ link-is fs text r = at (has (r .flags) 16)
     at false = refl
 
 -- two files, by size, path, offset, and the link where it is flagged; `t` is what a call said of their paths
-module _ (a b : Names) (r q : Row) where
+module _ (a b : NamedSet) (r q : Row) where
   pub other-size : (r .size ≡ q .size → ⊥) → false ≡ sameNamed a b r q
   other-size e = rw (ne-eqb (r .size) (q .size) e)
 
-  module _ (e : r .size ≡ q .size) (t : Bool) (h : t ≡ equal (pathIn a r) (pathIn b q)) where
+  module _ (e : r .size ≡ q .size) (t : Bool) (h : t ≡ equal (pathOf a r) (pathOf b q)) where
     pub other-path : not t ≡ true → false ≡ sameNamed a b r q
     other-path f = rw (eq-eqb (r .size) (q .size) e, ← h, not-true t f)
 
     module _ (f : not t ≡ false) where
-      path-same : equal (pathIn a r) (pathIn b q) ≡ true
+      path-same : equal (pathOf a r) (pathOf b q) ≡ true
       path-same = sym h ∙ not-false t f
 
       pub other-offset : (r .offset ≡ q .offset → ⊥) → false ≡ sameNamed a b r q
       other-offset g = rw (eq-eqb (r .size) (q .size) e, path-same, ne-eqb (r .offset) (q .offset) g)
 
       module _ (g : r .offset ≡ q .offset) (l : Bool) (k : l ≡ has (r .flags) 8) where
-        pub by-link : l ≡ true → (s : Bool) → s ≡ equal (linkIn a r) (linkIn b q) → s ≡ sameNamed a b r q
+        pub by-link : l ≡ true → (s : Bool) → s ≡ equal (linkOf a r) (linkOf b q) → s ≡ sameNamed a b r q
         by-link w s v = v ∙ rw (eq-eqb (r .size) (q .size) e, path-same, eq-eqb (r .offset) (q .offset) g, sym k ∙ w)
 
         pub no-link : l ≡ false → true ≡ sameNamed a b r q
         no-link w = rw (eq-eqb (r .size) (q .size) e, path-same, eq-eqb (r .offset) (q .offset) g, sym k ∙ w)
 
 -- what is said of the two files of a number
-pub said : (a b : Names) (r q : Row) (k : ℕ) (t s : Bool) → r ≡ rowAt (a .rows) k → q ≡ rowAt (b .rows) k → t ≡ sameFile a b r q → t ≡ s
+pub said : (a b : NamedSet) (r q : Row) (k : ℕ) (t s : Bool) → r ≡ rowAt (a .rows) k → q ≡ rowAt (b .rows) k → t ≡ sameFile a b r q → t ≡ s
     → sameFile a b (rowAt (a .rows) k) (rowAt (b .rows) k) ≡ s
 said a b r q k t s e f g h = ap₂ (sameFile a b) (sym e) (sym f) ∙ sym g ∙ h
 
 -- the files in turn
-module _ (a b : Names) (n k : ℕ) where
+module _ (a b : NamedSet) (n k : ℕ) where
   more : k < n → n - k ≡ suc (n - (k + 1))
   more h = omega arith
 
@@ -82,7 +82,7 @@ module _ (a b : Names) (n k : ℕ) where
   same-end h = let e : n - k ≡ 0 = omega arith in rw e
 
 -- two sets, by their counts, totals and piece lengths
-module _ (a b : Names) where
+module _ (a b : NamedSet) where
   pub other-count : (a .fs .«num_files» ≡ b .fs .«num_files» → ⊥) → false ≡ compatible a b
   other-count e = rw (ne-eqb (a .fs .«num_files») (b .fs .«num_files») e)
 
@@ -100,7 +100,7 @@ module _ (a b : Names) where
 -- the refusals before, and the answer
 module _ (p q h k v : Bool) where
   abbrev answer : Outcome Bool
-  answer = outcomeOf (firstOf (when (either p q) 1 ∷ when (not (both h k)) 10 ∷ [])) v
+  answer = outcomeOf (firstOf (when (p || q) 1 ∷ when (not (h && k)) 10 ∷ [])) v
 
   pub first-bad : p ≡ true → refused 1 ≡ answer
   first-bad e = rw e

@@ -19,7 +19,7 @@ use Rattle.compatible.specs.declared.walk.Step.{Step}
 use Rattle.compatible.specs.declared.walk.Step.the-variants.{Byte, End}
 use Rattle.compatible.specs.declared.walk.Meeting.{Meeting}
 use Rattle.compatible.specs.declared.walk.Meeting.the-variants as meeting
-use Rattle.compatible.specs.Walk.{ended, cutFirst, cutSecond, startOf, restFrom, stepIn, stepLast, stepSecond, stepFrom, meetingOf}
+use Rattle.compatible.specs.private.Walk.{ended, cutFirst, cutSecond, walkStart, restFrom, stepIn, stepLast, stepSecond, stepFrom, meetingOf}
 use Rattle.names.proofs.Composed.{append-none, dropped, kept-appended, closed-appended}
 
 -- the length and the bytes of a part with the separator that may follow it
@@ -152,7 +152,7 @@ three a (y ∷ b) (x ∷ c) e =
     ∙ glued-some (appended a (y ∷ b)) (x ∷ c) (kept-appended a (y ∷ b) e) refl
 
 -- from its start on the whole path is left
-pub whole-left : (a b c : List ℕ) → restFrom (ended a (cutFirst a b c)) (ended b (cutSecond b c)) c (startOf a b) ≡ appended (appended a b) c
+pub whole-left : (a b c : List ℕ) → restFrom (ended a (cutFirst a b c)) (ended b (cutSecond b c)) c (walkStart a b) ≡ appended (appended a b) c
 whole-left a b c = at (isAlone a) (isAlone b) refl refl
   where
     at : (s t : Bool) → isAlone a ≡ s → isAlone b ≡ t

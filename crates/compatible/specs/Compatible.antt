@@ -2,21 +2,21 @@
 -- aside. It is not symmetric: a link is compared only where the first set flags it as one. It relies on the paths of
 -- Paths.antt of `names` and on the rows of `tables`.
 use Prim.Native.Nat.{ℕ, zero, suc, _+_}
-use mathlib.Core.Bool.{Bool, true, cond, not}
+use mathlib.Core.Bool.{Bool, true, cond, not, _&&_, _||_}
 use mathlib.Core.List.{List, [], _∷_}
 use lib.Dec.{eqb, ltb}
 use Rattle.lists.specs.Lists.{equal}
 use Rattle.types.specs.Refusals.{Outcome}
 use Rattle.tables.specs.declared.storage.FileStorage.{FileStorage}
 use Rattle.tables.specs.declared.rows.Row.{Row}
-use Rattle.tables.specs.Rows.{rowAt, has}
-use Rattle.rules.specs.Rules.{when, firstOf, outcomeOf, both, either}
+use Rattle.tables.specs.Rows.{rowAt, has, padBit, symlinkBit}
+use Rattle.rules.specs.Rules.{when, firstOf, outcomeOf}
 use Rattle.rules.specs.Bounds.{badLength}
 use Rattle.answers.specs.Answers.{symlinkPath}
 use Rattle.names.specs.Paths.{filePath, namesHeld}
 
 -- one of the two sets, as a call brings it
-pub record Names : Type 0 where
+pub record NamedSet : Type 0 where
   pub fs : FileStorage
   pub rows : List ℕ
   pub dirs : List ℕ
@@ -24,44 +24,44 @@ pub record Names : Type 0 where
 
 -- a file that is no pad and not empty
 abbrev pub isRelevant : Row → Bool
-isRelevant r = both (not (has (r .flags) 1)) (ltb 0 (r .size))
+isRelevant r = not (has (r .flags) padBit) && ltb 0 (r .size)
 
-abbrev pub pathIn : Names → Row → List ℕ
-pathIn s r = filePath (s .fs) (s .dirs) (s .text) [] r
+abbrev pub pathOf : NamedSet → Row → List ℕ
+pathOf s r = filePath (s .fs) (s .dirs) (s .text) [] r
 
-abbrev pub linkIn : Names → Row → List ℕ
-linkIn s r = symlinkPath (s .fs) (s .text) r
+abbrev pub linkOf : NamedSet → Row → List ℕ
+linkOf s r = symlinkPath (s .fs) (s .text) r
 
 -- size, path and offset are the same, and so is the link where the first is flagged as one
-abbrev pub sameNamed : Names → Names → Row → Row → Bool
+abbrev pub sameNamed : NamedSet → NamedSet → Row → Row → Bool
 sameNamed a b r q =
-    both (eqb (r .size) (q .size))
-    (both (equal (pathIn a r) (pathIn b q))
-    (both (eqb (r .offset) (q .offset)) (cond (has (r .flags) 8) (equal (linkIn a r) (linkIn b q)) true)))
+    eqb (r .size) (q .size)
+    && (equal (pathOf a r) (pathOf b q)
+    && (eqb (r .offset) (q .offset) && cond (has (r .flags) symlinkBit) (equal (linkOf a r) (linkOf b q)) true))
 
 -- both files count or neither does, and where they count they are the same
-abbrev pub sameFile : Names → Names → Row → Row → Bool
-sameFile a b r q = cond (isRelevant r) (both (isRelevant q) (sameNamed a b r q)) (not (isRelevant q))
+abbrev pub sameFile : NamedSet → NamedSet → Row → Row → Bool
+sameFile a b r q = cond (isRelevant r) (isRelevant q && sameNamed a b r q) (not (isRelevant q))
 
 -- the n files from number k on
-unfoldable pub sameFrom : ℕ → ℕ → Names → Names → Bool
+unfoldable pub sameFrom : ℕ → ℕ → NamedSet → NamedSet → Bool
 sameFrom zero k a b = true
-sameFrom (suc n) k a b = both (sameFile a b (rowAt (a .rows) k) (rowAt (b .rows) k)) (sameFrom n (k + 1) a b)
+sameFrom (suc n) k a b = sameFile a b (rowAt (a .rows) k) (rowAt (b .rows) k) && sameFrom n (k + 1) a b
 
-abbrev pub compatible : Names → Names → Bool
+abbrev pub compatible : NamedSet → NamedSet → Bool
 compatible a b =
-    both (eqb (a .fs .«num_files») (b .fs .«num_files»))
-    (both (eqb (a .fs .«total_size») (b .fs .«total_size»))
-    (both (eqb (a .fs .«piece_length») (b .fs .«piece_length»)) (sameFrom (a .fs .«num_files») 0 a b)))
+    eqb (a .fs .«num_files») (b .fs .«num_files»)
+    && (eqb (a .fs .«total_size») (b .fs .«total_size»)
+    && (eqb (a .fs .«piece_length») (b .fs .«piece_length») && sameFrom (a .fs .«num_files») 0 a b))
 
-abbrev pub heldIn : Names → Bool
+abbrev pub heldIn : NamedSet → Bool
 heldIn s = namesHeld (s .fs) (s .rows) (s .dirs) (s .text)
 
 -- refusals 1 and 10, of either set
-abbrev pub filesCompatible : Names → Names → Outcome Bool
+abbrev pub filesCompatible : NamedSet → NamedSet → Outcome Bool
 filesCompatible a b =
     outcomeOf
     (firstOf
-    (when (either (badLength (a .fs .«piece_length»)) (badLength (b .fs .«piece_length»))) 1 ∷
-    when (not (both (heldIn a) (heldIn b))) 10 ∷ []))
+    (when (badLength (a .fs .«piece_length») || badLength (b .fs .«piece_length»)) 1 ∷
+    when (not (heldIn a && heldIn b)) 10 ∷ []))
     (compatible a b)

@@ -1,11 +1,10 @@
 -- A composed path read byte by byte from its three parts: places in it, what is left from a place on, and one step. It relies on
 -- the tests of a join of `path`.
 use Prim.Native.Nat.{ℕ, _+_}
-use mathlib.Core.Bool.{Bool, false, cond, not}
+use mathlib.Core.Bool.{Bool, false, cond, not, _&&_}
 use mathlib.Core.List.{List, [], _∷_, _++_}
 use lib.Dec.{eqb, ltb}
 use lib.ListN.{length, getD, drop}
-use Rattle.rules.specs.Rules.{both}
 use Rattle.path.specs.Join.{isAlone, isEmpty, isClosed}
 use Rattle.compatible.specs.declared.walk.Place.{Place}
 use Rattle.compatible.specs.declared.walk.Step.{Step}
@@ -19,14 +18,14 @@ ended part cut = part ++ cond cut (47 ∷ []) []
 
 -- whether a separator follows the first part, and the second
 abbrev pub cutFirst : List ℕ → List ℕ → List ℕ → Bool
-cutFirst a b c = cond (both (isEmpty b) (isEmpty c)) false (not (isClosed a))
+cutFirst a b c = cond (isEmpty b && isEmpty c) false (not (isClosed a))
 
 abbrev pub cutSecond : List ℕ → List ℕ → Bool
 cutSecond b c = cond (isEmpty b) false (cond (isEmpty c) false (not (isClosed b)))
 
 -- where the composed path begins: a part that stands alone is dropped while nothing is kept before it
-abbrev pub startOf : List ℕ → List ℕ → Place
-startOf a b = cond (isAlone a) (cond (isAlone b) (record { part = 2; at = 0 }) (record { part = 1; at = 0 })) (record { part = 0; at = 0 })
+abbrev pub walkStart : List ℕ → List ℕ → Place
+walkStart a b = cond (isAlone a) (cond (isAlone b) (record { part = 2; at = 0 }) (record { part = 1; at = 0 })) (record { part = 0; at = 0 })
 
 -- what is left of three lists in a row from a place on
 abbrev pub restFrom : List ℕ → List ℕ → List ℕ → Place → List ℕ

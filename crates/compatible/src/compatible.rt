@@ -4,7 +4,7 @@ ghost use mathlib.Core.Path.{_≡_};
 ghost use mathlib.Core.Bool.{cond};
 ghost use mathlib.Core.List.{[]};
 ghost use Rattle.lists.specs.Lists.{equal};
-ghost use Rattle.tables.specs.Rows.{has};
+ghost use Rattle.tables.specs.Rows.{has, linkHeldBit};
 ghost use Rattle.rules.specs.Results.{boolSays};
 ghost use Rattle.answers.specs.Answers.{symlinkPath};
 ghost use Rattle.names.specs.Paths.{filePath, namesHeld};
@@ -32,7 +32,7 @@ fn is_held(fs: FileStorage, rows: &[u64], dirs: &[u64], text: &[u8]) -> bool
 
 // A span, or nowhere where the file holds no link text.
 fn link_span(flags: u64, place: Span) -> Span
-    ensures { λ r. ⌜ r ≡ cond (has flags 16) place (record { at = 0; len = 0 }) ⌝ }
+    ensures { λ r. ⌜ r ≡ cond (has flags linkHeldBit) place (record { at = 0; len = 0 }) ⌝ }
 {
     if tables::holds_link(flags) {
         return place;

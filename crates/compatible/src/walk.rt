@@ -4,7 +4,7 @@ ghost use mathlib.Core.Path.{_≡_};
 ghost use lib.ListN.{length, getD};
 ghost use Rattle.lists.specs.Lists.{equal};
 ghost use Rattle.path.specs.Join.{appended};
-ghost use Rattle.compatible.specs.Walk.{ended, cutFirst, cutSecond, startOf, restFrom, stepLast, stepSecond, stepFrom, meetingOf};
+ghost use Rattle.compatible.specs.private.Walk.{ended, cutFirst, cutSecond, walkStart, restFrom, stepLast, stepSecond, stepFrom, meetingOf};
 use path::is_alone;
 use path::is_closed;
 
@@ -191,7 +191,7 @@ fn is_cut_second(second: &[u8], last: &[u8]) -> bool
 
 // Where the composed path begins.
 fn start(first: &[u8], second: &[u8]) -> Place
-    ensures { λ r. ⌜ r ≡ startOf (now (first .entry)) (now (second .entry)) ⌝ }
+    ensures { λ r. ⌜ r ≡ walkStart (now (first .entry)) (now (second .entry)) ⌝ }
 {
     if !is_alone(first) {
         return Place { part: 0, at: 0 };

@@ -2,31 +2,27 @@
 -- Assumes nothing.
 --     is-table   a list whose 256 entries pass the test is the table
 use mathlib.Core.Path.{_≡_, _∙_, subst, sym}
-use mathlib.Core.Bool.{Bool, true, false}
+use mathlib.Core.Bool.{Bool, true, false, _&&_}
 use mathlib.Core.List.{List, [], _∷_}
 use Prim.Native.Nat.{ℕ, zero, suc, _+_, _<_}
 use native.Mathlib.Nat.{add-zero, zero-add, add-suc, suc-add, le-of-suc-le-suc, not-suc-le-zero}
 use lib.Dec.{T, eqb, eqb→eq}
 use lib.ListN.{length, getD}
 use Rattle.crc32c.specs.Crc.{bits}
-use Rattle.crc32c.specs.Table.{IsTable}
+use Rattle.crc32c.specs.private.Table.{IsTable}
 
-abbrev both : Bool → Bool → Bool
-both true b = b
-both false b = false
-
-both-left : (a b : Bool) → T (both a b) → T a
+both-left : (a b : Bool) → T (a && b) → T a
 both-left true b t = tt
 both-left false b t = t
 
-both-right : (a b : Bool) → T (both a b) → T b
+both-right : (a b : Bool) → T (a && b) → T b
 both-right true b t = t
 both-right false b t = absurd t
 
 -- the test f passes at each entry of the list and its place, counted from i
 abbrev every : (ℕ → ℕ → Bool) → ℕ → List ℕ → Bool
 every f i [] = true
-every f i (x ∷ xs) = both (f i x) (every f (suc i) xs)
+every f i (x ∷ xs) = f i x && every f (suc i) xs
 
 from : (f : ℕ → ℕ → Bool) (xs : List ℕ) (i : ℕ) → T (every f i xs) → (k : ℕ) → k < length xs → T (f (i + k) (getD xs k 0))
 from f [] i t k h = absurd (not-suc-le-zero h)

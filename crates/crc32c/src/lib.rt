@@ -4,7 +4,7 @@
 ghost use mathlib.Core.Path.{_≡_};
 ghost use mathlib.Core.List.{map};
 ghost use Rattle.crc32c.specs.Crc.{byteStep, feed, crcOf, crcFrom, lower};
-ghost use Rattle.crc32c.specs.Table.{IsTable};
+ghost use Rattle.crc32c.specs.private.Table.{IsTable};
 use crate::table::TABLE;
 
 mod table;

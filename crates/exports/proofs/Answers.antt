@@ -3,8 +3,8 @@ use Prim.Native.Nat.{ℕ}
 use mathlib.Core.Path.{_≡_}
 use mathlib.Core.List.{List}
 use Rattle.change.specs.Changes.{Changed}
-use Rattle.exports.specs.State.{Exported, exported, numberSaid, stateSaid}
+use Rattle.exports.specs.State.{Exported, exported, numberReturned, stateAfter}
 
-pub answered : (state words : List ℕ) (n : ℕ) (made known : Changed) → made ≡ known → n ≡ numberSaid (made .says) → words ≡ stateSaid (made .says) state
+pub answered : (state words : List ℕ) (n : ℕ) (made known : Changed) → made ≡ known → n ≡ numberReturned (made .says) → words ≡ stateAfter (made .says) state
     → _≡_ {A = Exported} (record { number = n; state = words; rows = made .rows; roots = made .roots; times = made .times; dirs = made .dirs; text = made .text }) (exported state known)
 answered state words n made known e p q = rw (p, q, e)

@@ -46,7 +46,7 @@ use Rattle.tables.proofs.storage.FileStorage.Laws as FS′
 use Rattle.mapping.specs.Table.{Filled, blockMapped}
 use Rattle.mapping.proofs.map_block as map-block
 use Rattle.exports.specs.State.{storageOf}
-use Rattle.exports.specs.Layout.{countSaid}
+use Rattle.exports.specs.Layout.{countReturned}
 use Rattle.exports.proofs.storage_at as storage-at
 use Rattle.exports.proofs.questions.count_in as count-in
 
@@ -147,13 +147,13 @@ module _ {M : Type 1} (𝓤 : URA M) (H : Heap 𝓤) (A : Atoms 𝓤) (W : Given
     count-goes g =
         qed W [] ∵ nothing ! $ nothing ! $ nothing ! $ owned ! UR.the-row (Is UR.the-row) (EL.makes UR.the-type UR′.the-plain 𝓤 H A) r _ g $ fjoin ! $ move ! (1 ∷ 0 ∷ []) $ join ! $ join ! $ done !
 
-    count-told : (z : ℤ) → ent 𝓤 (ensured 𝓤 H A count-in.ended (count-in.clauses 𝓤 H A mem run) tt (r, tt) tt z) (fact 𝓤 (z ≡ countSaid (usizeSays r)))
-    count-told z = exE 𝓤 _ (λ ws. snd∗ 𝓤 (sem 𝓤 H A (lasts count-in.ended tt (r, tt) ws)) (fact 𝓤 (z ≡ countSaid (usizeSays r))))
+    count-told : (z : ℤ) → ent 𝓤 (ensured 𝓤 H A count-in.ended (count-in.clauses 𝓤 H A mem run) tt (r, tt) tt z) (fact 𝓤 (z ≡ countReturned (usizeSays r)))
+    count-told z = exE 𝓤 _ (λ ws. snd∗ 𝓤 (sem 𝓤 H A (lasts count-in.ended tt (r, tt) ws)) (fact 𝓤 (z ≡ countReturned (usizeSays r))))
 
-    pub count-gives : (w : Val) → ent 𝓤 (CountIn 𝓤 H A mem run .post to-count w) (H .⇛ (guard 𝓤 (Is i64 (countSaid (usizeSays r)) (w ∷ [])) (emp 𝓤)))
+    pub count-gives : (w : Val) → ent 𝓤 (CountIn 𝓤 H A mem run .post to-count w) (H .⇛ (guard 𝓤 (Is i64 (countReturned (usizeSays r)) (w ∷ [])) (emp 𝓤)))
     count-gives w =
         qed W (raw (CountIn 𝓤 H A mem run .post to-count w) ∷ []) ∵ updating ! $
         use1 W (later (some (λ (z : ℤ). (‵ ftrue ⊛ ‵ (i64 .own z (w ∷ []))) ⊛ raw (ensured 𝓤 H A count-in.ended (count-in.clauses 𝓤 H A mem run) tt (r, tt) tt z)))) (id⊢ 𝓤 _) $ await ! tt $ pick ! (λ z.
-        split ! $ move ! (1 ∷ []) $ use1 W (raw (fact 𝓤 (z ≡ countSaid (usizeSays r)))) (count-told z) $ heard ! (z ≡ countSaid (usizeSays r)) (λ e.
+        split ! $ move ! (1 ∷ []) $ use1 W (raw (fact 𝓤 (z ≡ countReturned (usizeSays r)))) (count-told z) $ heard ! (z ≡ countReturned (usizeSays r)) (λ e.
         split ! $ move ! (1 ∷ []) $ peeks ! i64 (Is i64) (shows 𝓤 H A i64) z (w ∷ []) (λ is.
         at-once ! $ check ! (subst (λ (c : ℤ). Is i64 c (w ∷ [])) e is) $ keep ! (1 ∷ []) $ done !)))

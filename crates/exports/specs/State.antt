@@ -12,14 +12,14 @@ use Rattle.tables.specs.declared.storage.FileStorage.{FileStorage}
 use Rattle.tables.specs.declared.rows.Presence.{Presence}
 use Rattle.tables.specs.declared.rows.Presence.the-variants.{Absent, Present}
 use Rattle.tables.specs.Model.{Store, storeOf}
-use Rattle.storage.specs.Opening.{empty}
+use Rattle.storage.specs.Opening.{newStorage}
 use Rattle.change.specs.Changes.{Changed}
 
 -- the set that the words hold; where they are not all there, one of piece length 0, which every change and every question
 -- refuses by 1
 abbrev pub storageOf : List ℕ → FileStorage
 storageOf w =
-    cond (ltb (length w) 12) (empty 0)
+    cond (ltb (length w) 12) (newStorage 0)
     (record {
       «piece_length» = getD w 0 0;
       v2 = not (eqb (getD w 1 0) 0);
@@ -76,19 +76,19 @@ pub record Exported : Type 0 where
   pub dirs : List ℕ
   pub text : List ℕ
 
-abbrev pub numberSaid : Outcome FileStorage → ℕ
-numberSaid (value fs) = 0
-numberSaid (refused k) = k
+abbrev pub numberReturned : Outcome FileStorage → ℕ
+numberReturned (value fs) = 0
+numberReturned (refused k) = k
 
-abbrev pub stateSaid : Outcome FileStorage → List ℕ → List ℕ
-stateSaid (value fs) state = stateWith fs state
-stateSaid (refused k) state = state
+abbrev pub stateAfter : Outcome FileStorage → List ℕ → List ℕ
+stateAfter (value fs) state = stateWith fs state
+stateAfter (refused k) state = state
 
 abbrev pub exported : List ℕ → Changed → Exported
 exported state c =
     record {
-      number = numberSaid (c .says);
-      state = stateSaid (c .says) state;
+      number = numberReturned (c .says);
+      state = stateAfter (c .says) state;
       rows = c .rows;
       roots = c .roots;
       times = c .times;

@@ -7,7 +7,7 @@ ghost use Rattle.change.specs.Changes.{storageSays};
 ghost use Rattle.additions.specs.Addition.{optionalOf};
 ghost use Rattle.plan.specs.Outcomes.{addStored};
 ghost use Rattle.trim.specs.Removal.{trimStored};
-ghost use Rattle.exports.specs.State.{Exported, exported, storageOf, storeAt, stateWith, bit, presenceOf, numberSaid, stateSaid};
+ghost use Rattle.exports.specs.State.{Exported, exported, storageOf, storeAt, stateWith, bit, presenceOf, numberReturned, stateAfter};
 
 mod questions;
 mod slices;
@@ -93,8 +93,8 @@ fn presence_of(n: u8) -> Presence
 
 // Writes the record that an answer holds, and gives the number of its refusal, 0 for none.
 fn put_answer(state: &mut [u64], answer: StorageResult) -> u32
-    ensures { λ r. ⌜ r ≡ numberSaid (storageSays answer) ⌝ }
-    ensures { λ _. ⌜ now (state .exit) ≡ stateSaid (storageSays answer) (now (state .entry)) ⌝ }
+    ensures { λ r. ⌜ r ≡ numberReturned (storageSays answer) ⌝ }
+    ensures { λ _. ⌜ now (state .exit) ≡ stateAfter (storageSays answer) (now (state .entry)) ⌝ }
 {
     match answer {
         StorageResult::Ok(fs) => {

@@ -5,11 +5,11 @@ ghost use lib.IntN.{pos, negℤ};
 ghost use Rattle.types.specs.Refusals.{usizeSays};
 ghost use Rattle.rules.specs.Results.{fileSays, requestSays};
 ghost use Rattle.blocks.specs.Block.{mapBlock};
-ghost use Rattle.files.specs.Request.{fileMapped};
+ghost use Rattle.files.specs.Given.{fileMapped};
 ghost use Rattle.files.specs.List.{filesMapped};
 ghost use Rattle.layout.specs.Given.{fileAtOffsetGiven};
 ghost use Rattle.exports.specs.State.{storageOf};
-ghost use Rattle.exports.specs.Layout.{countSaid, placeSaid, BlockSaid, blockSaid, requestSaid, ListSaid, listSaid};
+ghost use Rattle.exports.specs.Layout.{countReturned, fileReturned, BlockReturned, blockReturned, requestReturned, ListReturned, listReturned};
 use crate::storage_at;
 use rules::FileResult;
 use rules::RequestResult;
@@ -33,7 +33,7 @@ fn wide(x: i32) -> i64
 
 // How many there are, or minus the number of the refusal.
 pub(crate) fn count_in(answer: UsizeResult) -> i64
-    ensures { λ r. ⌜ r ≡ countSaid (usizeSays answer) ⌝ }
+    ensures { λ r. ⌜ r ≡ countReturned (usizeSays answer) ⌝ }
 {
     match answer {
         UsizeResult::Ok(n) => types::signed64(n as u64),
@@ -43,7 +43,7 @@ pub(crate) fn count_in(answer: UsizeResult) -> i64
 
 // The number of a file, or minus the number of the refusal.
 fn file_in(answer: FileResult) -> i64
-    ensures { λ r. ⌜ r ≡ placeSaid (fileSays answer) ⌝ }
+    ensures { λ r. ⌜ r ≡ fileReturned (fileSays answer) ⌝ }
 {
     match answer {
         FileResult::Ok(f) => wide(f.0),
@@ -62,7 +62,7 @@ pub struct FileRequest {
 
 // A request, or zeros and the number of the refusal.
 fn request_in(answer: RequestResult) -> FileRequest
-    ensures { λ r. ⌜ r ≡ requestSaid (requestSays answer) ⌝ }
+    ensures { λ r. ⌜ r ≡ requestReturned (requestSays answer) ⌝ }
 {
     match answer {
         RequestResult::Ok(r) => FileRequest {
@@ -92,14 +92,14 @@ pub extern "C" fn niflathen_map_block(
     out_offset: &mut [u64],
     out_size: &mut [u64],
 ) -> i64
-    ensures { λ r. ⌜ _≡_ {A = BlockSaid}
+    ensures { λ r. ⌜ _≡_ {A = BlockReturned}
         (record {
           answer = r;
           file = now («out_file» .exit);
           offset = now («out_offset» .exit);
           size = now («out_size» .exit);
         })
-        (blockSaid
+        (blockReturned
         (mapBlock (storageOf (now (state .entry))) (now (rows .entry)) piece offset size
         (now («out_file» .entry)) (now («out_offset» .entry)) (now («out_size» .entry)))) ⌝ }
 {
@@ -119,7 +119,7 @@ pub extern "C" fn niflathen_map_block(
 #[no_mangle]
 pub extern "C" fn niflathen_file_index_at_offset(state: &[u64], rows: &[u64], offset: i64) -> i64
     ensures { λ r. ⌜ r ≡
-        placeSaid (fileAtOffsetGiven (storageOf (now (state .entry))) (now (rows .entry)) offset) ⌝ }
+        fileReturned (fileAtOffsetGiven (storageOf (now (state .entry))) (now (rows .entry)) offset) ⌝ }
 {
     file_in(layout::file_index_at_offset(storage_at(state), rows, offset))
 }
@@ -134,7 +134,7 @@ pub extern "C" fn niflathen_map_file(
     size: i32,
 ) -> FileRequest
     ensures { λ r. ⌜ r ≡
-        requestSaid (fileMapped (storageOf (now (state .entry))) (now (rows .entry)) index offset size) ⌝ }
+        requestReturned (fileMapped (storageOf (now (state .entry))) (now (rows .entry)) index offset size) ⌝ }
 {
     request_in(files::map_file(storage_at(state), rows, FileIndex(index), offset, size))
 }
@@ -149,8 +149,8 @@ pub extern "C" fn niflathen_map_files(
     sizes: &[i32],
     answers: &mut [u32],
 ) -> i64
-    ensures { λ r. ⌜ _≡_ {A = ListSaid} (record { answer = r; answers = now (answers .exit) })
-        (listSaid
+    ensures { λ r. ⌜ _≡_ {A = ListReturned} (record { answer = r; answers = now (answers .exit) })
+        (listReturned
         (filesMapped (storageOf (now (state .entry))) (now (rows .entry)) (now (files .entry)) (now (offsets .entry))
         (now (sizes .entry)) (now (answers .entry)))) ⌝ }
 {

@@ -3,7 +3,7 @@
 ghost use mathlib.Core.Path.{_≡_};
 ghost use Rattle.mapping.specs.Table.{blockMapped};
 ghost use Rattle.exports.specs.State.{storageOf};
-ghost use Rattle.exports.specs.Layout.{SlicesSaid, slicesSaid};
+ghost use Rattle.exports.specs.Layout.{SlicesReturned, slicesReturned};
 use crate::questions::count_in;
 use crate::storage_at;
 use types::FileSlice;
@@ -19,8 +19,8 @@ pub extern "C" fn niflathen_map_block_slices(
     size: i64,
     out: &mut [FileSlice],
 ) -> i64
-    ensures { λ r. ⌜ _≡_ {A = SlicesSaid} (record { answer = r; table = now (out .exit) })
-        (slicesSaid
+    ensures { λ r. ⌜ _≡_ {A = SlicesReturned} (record { answer = r; table = now (out .exit) })
+        (slicesReturned
         (blockMapped (storageOf (now (state .entry))) (now (rows .entry)) piece offset size (now (out .entry)))) ⌝ }
 {
     count_in(mapping::map_block(

@@ -1,11 +1,11 @@
 -- What is known of a file once no rule stopped a question about it, and the decision of `map_file` in two parts. They rely on the rules in
 -- order of `rules`.
 --     file-known, file-counted            the file is one of the set's, and the set's pieces can be counted
---     past-held, past-index, asked-past   a negative number's file is past the end of every set that a table holds
+--     past-held, past-index, bytes-past   a negative number's file is past the end of every set that a table holds
 --     asked-apart                         a question about bytes of a file is answered where the set and the question pass
 use Prim.Native.Nat.{ℕ, suc, _+_, _-_, _*_, _%_, _^_, _≤_, _<_}
 use mathlib.Core.Path.{_≡_, refl, sym, ap, _∙_}
-use mathlib.Core.Bool.{Bool, true, false, cond, not, true≢false}
+use mathlib.Core.Bool.{Bool, true, false, cond, not, true≢false, _&&_}
 use mathlib.Core.List.{List, [], _∷_, _++_}
 use native.Mathlib.Nat.{mul-le-mul, suc-mul}
 use native.Mathlib.Numerals.{add-one}
@@ -16,20 +16,20 @@ use mir.Syntax.{w32, w64}
 use mir.Val.{SFits, ofZ}
 use borrow.Author.Tests.{lt-ltb, le-ltb, ltb-true, ltb-false, leb-true, eqb-true, ne-eqb, not-false}
 use Rattle.tables.specs.declared.storage.FileStorage.{FileStorage}
-use Rattle.rules.specs.Rules.{when, firstOf, both}
-use Rattle.rules.specs.Bounds.{badLength, indexOf, isBelow}
+use Rattle.rules.specs.Rules.{when, firstOf}
+use Rattle.rules.specs.Bounds.{badLength, clampedOf, isBelow}
 use Rattle.rules.specs.declared.decide.Check.{Check}
 use Rattle.rules.specs.declared.decide.Check.the-variants.{Go}
 use Rattle.rules.specs.Results.{checkNumber}
 use Rattle.layout.specs.Deciding.{Counted}
-use Rattle.files.specs.Deciding.{setAsked, placeAsked, bytesAsked}
+use Rattle.files.specs.private.Deciding.{setRules, positionRules, bytesRules}
 use Rattle.rules.specs.Questions.{numPieces, badPieceLength, noFile, manyPieces, badRange, short}
 use Rattle.rules.proofs.Deciding.{gone, below-is}
 use Rattle.layout.proofs.Deciding.{counted}
 
 pub record FilePassed (fs : FileStorage) (z : ℤ) (many bad tree : Bool) : Type 0 where
   pub length : badLength (fs .«piece_length») ≡ false
-  pub below : indexOf z < fs .«num_files»
+  pub below : clampedOf z < fs .«num_files»
   pub not-many : many ≡ false
   pub not-bad : bad ≡ false
   pub not-tree : tree ≡ false
@@ -57,7 +57,7 @@ low-as h e = h ∙ ap (λ (k : ℕ). pos (k % 2 ^ 31)) e
 -- the tests of the set and those of the question, apart and in their order
 asked-apart : (a b c d e : Bool)
     → eqb (firstOf (when a 1 ∷ when b 11 ∷ when c 13 ∷ when d 14 ∷ when e 10 ∷ [])) 0
-    ≡ both (eqb (firstOf (when a 1 ∷ when c 13 ∷ when e 10 ∷ [])) 0) (eqb (firstOf (when b 11 ∷ when d 14 ∷ [])) 0)
+    ≡ (eqb (firstOf (when a 1 ∷ when c 13 ∷ when e 10 ∷ [])) 0 && eqb (firstOf (when b 11 ∷ when d 14 ∷ [])) 0)
 asked-apart true b c d e = refl
 asked-apart false true true d e = refl
 asked-apart false true false d true = refl
@@ -75,16 +75,16 @@ past-held (negsuc k) n f h =
     let m : k < 2 ^ 31 = f .sfits in
     le-ltb (2 ^ 64 - suc k) n (omega arith)
 
-pub past-index : (z : ℤ) (n : ℕ) → isBelow n z ≡ true → ofZ w64 z ≡ indexOf z
+pub past-index : (z : ℤ) (n : ℕ) → isBelow n z ≡ true → ofZ w64 z ≡ clampedOf z
 past-index (pos k) n e = refl
 past-index (negsuc k) n e = absurd (true≢false (sym e))
 
 -- a question is answered where the set passes its tests and the question its own, by the number counted round
-pub asked-past : (fs : FileStorage) (z offset size : ℤ) (room : ℕ) → SFits w32 z → room < 2 ^ 63
-    → both (eqb (firstOf (setAsked fs room)) 0) (eqb (firstOf (placeAsked fs (pos (ofZ w64 z)) offset size)) 0) ≡ eqb (firstOf (bytesAsked fs z offset size room)) 0
-asked-past fs z offset size room f h = by (leb (fs .«num_files») room) refl
+pub bytes-past : (fs : FileStorage) (z offset size : ℤ) (room : ℕ) → SFits w32 z → room < 2 ^ 63
+    → (eqb (firstOf (setRules fs room)) 0 && eqb (firstOf (positionRules fs (pos (ofZ w64 z)) offset size)) 0) ≡ eqb (firstOf (bytesRules fs z offset size room)) 0
+bytes-past fs z offset size room f h = by (leb (fs .«num_files») room) refl
   where
-    apart : both (eqb (firstOf (setAsked fs room)) 0) (eqb (firstOf (placeAsked fs z offset size)) 0) ≡ eqb (firstOf (bytesAsked fs z offset size room)) 0
+    apart : (eqb (firstOf (setRules fs room)) 0 && eqb (firstOf (positionRules fs z offset size)) 0) ≡ eqb (firstOf (bytesRules fs z offset size room)) 0
     apart = sym (asked-apart (badPieceLength fs .test) (noFile fs z .test) (manyPieces fs .test) (badRange offset size .test) (short (leb (fs .«num_files») room) .test))
 
     unfit : (a b : Bool) → eqb (firstOf (when a 1 ∷ when b 13 ∷ when true 10 ∷ [])) 0 ≡ false
@@ -93,8 +93,8 @@ asked-past fs z offset size room f h = by (leb (fs .«num_files») room) refl
     unfit false false = refl
 
     by : (b : Bool) → leb (fs .«num_files») room ≡ b
-        → both (eqb (firstOf (setAsked fs room)) 0) (eqb (firstOf (placeAsked fs (pos (ofZ w64 z)) offset size)) 0) ≡ eqb (firstOf (bytesAsked fs z offset size room)) 0
+        → (eqb (firstOf (setRules fs room)) 0 && eqb (firstOf (positionRules fs (pos (ofZ w64 z)) offset size)) 0) ≡ eqb (firstOf (bytesRules fs z offset size room)) 0
     by true e = rw (past-held z (fs .«num_files») f (omega (arith, leb-true (fs .«num_files») room e))) apart
     by false e =
-        let u : eqb (firstOf (setAsked fs room)) 0 ≡ false = rw e (unfit (badPieceLength fs .test) (manyPieces fs .test)) in
+        let u : eqb (firstOf (setRules fs room)) 0 ≡ false = rw e (unfit (badPieceLength fs .test) (manyPieces fs .test)) in
         rw u (rw u at apart)

@@ -13,12 +13,12 @@ use Rattle.tables.specs.Rows.{rowAt}
 use Rattle.tables.specs.declared.storage.FileStorage.{FileStorage}
 use Rattle.rules.specs.Questions.{numPieces}
 use Rattle.files.specs.Request.{Request, requestAt, mapFile}
-use Rattle.files.specs.Files.{placeOf}
+use Rattle.files.specs.Files.{positionOf}
 use Rattle.layout.specs.Deciding.{Counted}
 
 pub record Placed (fs : FileStorage) (at : ℕ) (r : Request) : Type 0 where
   pub piece : r .piece ≤ 2147483647
-  pub place : placeOf fs r ≤ 2147483647 * 2147483647 + at
+  pub place : positionOf fs r ≤ 2147483647 * 2147483647 + at
 
 -- where the request at a place begins
 pub placed : (fs : FileStorage) (at size : ℕ) (r : Request) → Counted fs → r ≡ requestAt fs at size → Placed fs at r

@@ -14,13 +14,13 @@ abbrev pub requestOf : Place → Request
 requestOf p = record { piece = p .piece; start = p .start; length = p .length }
 
 -- the refusals of a question about bytes of file z, of a set with room for so many rows
-abbrev pub bytesAsked : FileStorage → ℤ → ℤ → ℤ → ℕ → List Rule
-bytesAsked fs z offset size room =
+abbrev pub bytesRules : FileStorage → ℤ → ℤ → ℤ → ℕ → List Rule
+bytesRules fs z offset size room =
     badPieceLength fs ∷ noFile fs z ∷ manyPieces fs ∷ badRange offset size ∷ short (leb (fs .«num_files») room) ∷ []
 
 -- those among them that ask the set alone, and those that ask the question
-abbrev pub setAsked : FileStorage → ℕ → List Rule
-setAsked fs room = badPieceLength fs ∷ manyPieces fs ∷ short (leb (fs .«num_files») room) ∷ []
+abbrev pub setRules : FileStorage → ℕ → List Rule
+setRules fs room = badPieceLength fs ∷ manyPieces fs ∷ short (leb (fs .«num_files») room) ∷ []
 
-abbrev pub placeAsked : FileStorage → ℤ → ℤ → ℤ → List Rule
-placeAsked fs z offset size = noFile fs z ∷ badRange offset size ∷ []
+abbrev pub positionRules : FileStorage → ℤ → ℤ → ℤ → List Rule
+positionRules fs z offset size = noFile fs z ∷ badRange offset size ∷ []

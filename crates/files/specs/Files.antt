@@ -1,6 +1,6 @@
 -- Document 01, 'Layout answers': answers about files' pieces, blocks and trees.
 use Prim.Native.Nat.{ℕ, zero, suc, _+_, _-_, _*_, _/_, _%_, _^_}
-use mathlib.Core.Bool.{cond}
+use mathlib.Core.Bool.{cond, _||_}
 use mathlib.Core.List.{List}
 use lib.Dec.{eqb, ltb}
 use lib.IntN.{ℤ, pos, negsuc}
@@ -8,7 +8,6 @@ use Rattle.lists.specs.Lists.{ceiling, equal}
 use Rattle.tables.specs.declared.storage.FileStorage.{FileStorage}
 use Rattle.tables.specs.Rows.{rowAt}
 use Rattle.answers.specs.Answers.{rootOf}
-use Rattle.rules.specs.Rules.{either}
 use Rattle.rules.specs.Questions.{numPieces}
 use Rattle.layout.specs.Pieces.{blocksIn}
 use Rattle.files.specs.Request.{Request}
@@ -33,24 +32,24 @@ abbrev pub lastPiece : FileStorage → List ℕ → ℕ → ℤ
 lastPiece fs rows k = lastQuotient (rowAt rows k .offset + rowAt rows k .size) (fs .«piece_length»)
 
 -- where a request begins in the set's bytes
-abbrev pub placeOf : FileStorage → Request → ℕ
-placeOf fs r = r .piece * fs .«piece_length» + r .start
+abbrev pub positionOf : FileStorage → Request → ℕ
+positionOf fs r = r .piece * fs .«piece_length» + r .start
 
 abbrev pub exclusiveBegin : Request → ℕ
 exclusiveBegin r = cond (eqb (r .start) 0) (r .piece) (r .piece + 1)
 
 -- 'an end below the begin, or of 2147483648 (negative by the Rust's cast), becomes the begin'
-abbrev pub clamped : ℕ → ℕ → ℕ
-clamped begin end = cond (either (ltb end begin) (eqb end 2147483648)) begin end
+abbrev pub endOrBegin : ℕ → ℕ → ℕ
+endOrBegin begin end = cond (ltb end begin || eqb end 2147483648) begin end
 
 -- '(piece × length + start + size + 1) / length as its end'; 'the last file ends at the piece count'
 abbrev pub exclusiveEnd : FileStorage → ℕ → ℕ → Request → ℕ
 exclusiveEnd fs k size r =
     cond (eqb (k + 1) (fs .«num_files»)) (numPieces fs)
-    (clamped (exclusiveBegin r) ((placeOf fs r + size + 1) / fs .«piece_length»))
+    (endOrBegin (exclusiveBegin r) ((positionOf fs r + size + 1) / fs .«piece_length»))
 
 abbrev pub inclusiveEnd : FileStorage → ℕ → Request → ℕ
-inclusiveEnd fs size r = afterQuotient (placeOf fs r + size) (fs .«piece_length»)
+inclusiveEnd fs size r = afterQuotient (positionOf fs r + size) (fs .«piece_length»)
 
 -- the first file whose root, 32 zeros where it has none, is the one asked for; −1 where none is
 unfoldable pub rootFrom : ℕ → ℕ → List ℕ → List ℕ → List ℕ → ℤ

@@ -10,13 +10,13 @@ use lib.Seq.{sets}
 use Rattle.types.specs.Refusals.{Outcome, value, refused}
 use Rattle.tables.specs.declared.storage.FileStorage.{FileStorage}
 use Rattle.tables.specs.Rows.{filled}
-use Rattle.rules.specs.Bounds.{sizeOf}
-use Rattle.rules.specs.Results.{Asked}
-use Rattle.files.specs.Request.{fileMapped}
+use Rattle.rules.specs.Bounds.{clampedOf}
+use Rattle.rules.specs.Results.{SignedRequest}
+use Rattle.files.specs.Given.{fileMapped}
 
 -- an answer's words: 0, piece, start and length; or the number of the refusal, and zeros
-abbrev pub answerWords : Outcome Asked → List ℕ
-answerWords (value r) = 0 ∷ sizeOf (r .piece) ∷ sizeOf (r .start) ∷ sizeOf (r .length) ∷ []
+abbrev pub answerWords : Outcome SignedRequest → List ℕ
+answerWords (value r) = 0 ∷ clampedOf (r .piece) ∷ clampedOf (r .start) ∷ clampedOf (r .length) ∷ []
 answerWords (refused k) = k ∷ 0 ∷ 0 ∷ 0 ∷ []
 
 -- the answer to question i
@@ -25,12 +25,12 @@ answerAt fs rows files offsets sizes i =
     answerWords (fileMapped fs rows (getD files i (pos 0)) (getD offsets i (pos 0)) (getD sizes i (pos 0)))
 
 -- the number of questions, or 10; and what the table of answers holds afterwards
-pub record Listed : Type 0 where
+pub record AnswersListed : Type 0 where
   pub says : Outcome ℕ
   pub answers : List ℕ
 
 -- a question for each file named; 10 where a table has no place for each of them
-abbrev pub filesMapped : FileStorage → List ℕ → List ℤ → List ℤ → List ℤ → List ℕ → Listed
+abbrev pub filesMapped : FileStorage → List ℕ → List ℤ → List ℤ → List ℤ → List ℕ → AnswersListed
 filesMapped fs rows files offsets sizes answers =
     cond (ltb (min (length offsets) (min (length sizes) (length answers / 4))) (length files))
     (record { says = refused 10; answers = answers })

@@ -3,13 +3,13 @@ use Prim.Native.Nat.{ℕ, _+_, _-_, _/_, _%_, _^_, min}
 use mathlib.Core.Bool.{cond}
 use lib.Dec.{leb}
 use Rattle.tables.specs.Rows.{rowAt}
-use Rattle.rules.specs.Questions.{numPieces, rowsHeld, asked, badPieceLength, noFile, manyPieces, badRange, short}
+use Rattle.rules.specs.Questions.{numPieces, rowsHeld, answered, badPieceLength, noFile, manyPieces, badRange, short}
 use mathlib.Core.List.{List, [], _∷_}
 use lib.IntN.{ℤ, pos}
 use Rattle.types.specs.Refusals.{Outcome}
 use Rattle.tables.specs.declared.storage.FileStorage.{FileStorage}
-use Rattle.rules.specs.Bounds.{sizeOf, indexOf}
-use Rattle.rules.specs.Results.{Asked}
+use Rattle.rules.specs.Bounds.{clampedOf, clampedOf}
+use Rattle.rules.specs.Results.{SignedRequest}
 
 -- a piece, a start within it, and a length
 pub record Request : Type 0 where
@@ -27,10 +27,10 @@ abbrev pub mapFile : FileStorage → List ℕ → ℕ → ℕ → ℕ → Reques
 mapFile fs rows k offset size = requestAt fs (rowAt rows k .offset + offset) size
 
 -- a request as three signed numbers of 32 bits
-abbrev pub signedRequest : Request → Asked
-signedRequest r = record { piece = pos (r .piece % 2 ^ 31); start = pos (r .start % 2 ^ 31); length = pos (r .length % 2 ^ 31) }
+abbrev pub asSigned : Request → SignedRequest
+asSigned r = record { piece = pos (r .piece % 2 ^ 31); start = pos (r .start % 2 ^ 31); length = pos (r .length % 2 ^ 31) }
 
-abbrev pub fileMapped : FileStorage → List ℕ → ℤ → ℤ → ℤ → Outcome Asked
+abbrev pub fileMapped : FileStorage → List ℕ → ℤ → ℤ → ℤ → Outcome SignedRequest
 fileMapped fs rows z offset size =
-    asked (badPieceLength fs ∷ noFile fs z ∷ manyPieces fs ∷ badRange offset size ∷ short (rowsHeld fs rows) ∷ [])
-    (signedRequest (mapFile fs rows (indexOf z) (sizeOf offset) (sizeOf size)))
+    answered (badPieceLength fs ∷ noFile fs z ∷ manyPieces fs ∷ badRange offset size ∷ short (rowsHeld fs rows) ∷ [])
+    (asSigned (mapFile fs rows (clampedOf z) (clampedOf offset) (clampedOf size)))

@@ -1,7 +1,7 @@
 // Answers about files' pieces, blocks and trees, and `map_file`. They rely on `merkle` for the nodes and
 // on `types` for signed numbers; each tests its refusals first (`rules`).
 ghost use mathlib.Core.Path.{_≡_};
-ghost use mathlib.Core.Bool.{false, not};
+ghost use mathlib.Core.Bool.{false, not, _&&_};
 ghost use mathlib.Core.List.{[], _∷_};
 ghost use Prim.Native.Nat.{_+_, _-_, _*_, _/_, _%_, _^_, _<_};
 ghost use lib.Dec.{eqb};
@@ -11,16 +11,17 @@ ghost use Rattle.types.specs.Refusals.{numberOf, usizeSays};
 ghost use Rattle.lists.specs.Lists.{equal};
 ghost use Rattle.tables.specs.Rows.{rowAt};
 ghost use Rattle.merkle.specs.Width.{widthOf, hasTree};
-ghost use Rattle.rules.specs.Rules.{when, firstOf, both};
-ghost use Rattle.rules.specs.Questions.{rowsHeld, rootsHeld, asked, badPieceLength, noFile, manyPieces, noTree, short};
-ghost use Rattle.rules.specs.Bounds.{indexOf};
+ghost use Rattle.rules.specs.Rules.{when, firstOf};
+ghost use Rattle.rules.specs.Questions.{rowsHeld, rootsHeld, answered, badPieceLength, noFile, manyPieces, noTree, short};
+ghost use Rattle.rules.specs.Bounds.{clampedOf};
 ghost use Rattle.answers.specs.Answers.{rootOf};
 ghost use Rattle.rules.specs.Results.{i32Says, i64Says, pieceSays, fileSays, pieceRangeSays, numberRangeSays, requestSays};
-ghost use Rattle.files.specs.Request.{requestAt, mapFile, fileMapped};
+ghost use Rattle.files.specs.Request.{requestAt, mapFile};
+ghost use Rattle.files.specs.Given.{fileMapped};
 ghost use Rattle.files.specs.Given.{exclusiveGiven, inclusiveGiven};
 ghost use Rattle.layout.specs.Deciding.{Counted};
-ghost use Rattle.files.specs.Deciding.{requestOf, bytesAsked, setAsked, placeAsked};
-ghost use Rattle.files.specs.Files.{lastQuotient, low31, afterQuotient, firstPiece, lastPiece, placeOf, exclusiveBegin, clamped, exclusiveEnd, inclusiveEnd, rootFrom, fileForRoot, piecesOf, blocksOf};
+ghost use Rattle.files.specs.private.Deciding.{requestOf, bytesRules, setRules, positionRules};
+ghost use Rattle.files.specs.Files.{lastQuotient, low31, afterQuotient, firstPiece, lastPiece, positionOf, exclusiveBegin, endOrBegin, exclusiveEnd, inclusiveEnd, rootFrom, fileForRoot, piecesOf, blocksOf};
 use crate::number::file_or_past;
 use lists::div;
 use lists::div_ceil;
@@ -164,7 +165,7 @@ fn exclusive_begin(r: Place) -> u64
 
 // The end, or the begin where the end is below it or 2147483648.
 fn clamp(begin: u64, end: u64) -> u64
-    ensures { λ r. ⌜ r ≡ clamped begin end ⌝ }
+    ensures { λ r. ⌜ r ≡ endOrBegin begin end ⌝ }
 {
     if end < begin {
         return begin;
@@ -178,7 +179,7 @@ fn clamp(begin: u64, end: u64) -> u64
 // Where the request's bytes begin, and `size` behind that.
 fn place_behind(fs: FileStorage, r: Place, size: u64) -> u64
     requires { ⌜ r .piece * fs .«piece_length» + r .start + size < 2 ^ 64 ⌝ }
-    ensures { λ e. ⌜ e ≡ placeOf fs (requestOf r) + size ⌝ }
+    ensures { λ e. ⌜ e ≡ positionOf fs (requestOf r) + size ⌝ }
 {
     r.piece * fs.piece_length + r.start + size
 }
@@ -236,7 +237,7 @@ fn is_no_width(leaves: u64) -> bool
 
 // The first node of the layer of a file's leaves.
 fn first_node(fs: FileStorage, rows: &[u64], index: FileIndex, leaves: u64) -> UsizeResult
-    ensures { λ r. ⌜ usizeSays r ≡ asked (badPieceLength fs ∷ noFile fs (index .0) ∷ noTree fs (rowAt (now (rows .entry)) (indexOf (index .0))) ∷ when (not (hasTree leaves)) 16 ∷ short (rowsHeld fs (now (rows .entry))) ∷ []) (widthOf leaves - 1) ⌝ }
+    ensures { λ r. ⌜ usizeSays r ≡ answered (badPieceLength fs ∷ noFile fs (index .0) ∷ noTree fs (rowAt (now (rows .entry)) (clampedOf (index .0))) ∷ when (not (hasTree leaves)) 16 ∷ short (rowsHeld fs (now (rows .entry))) ∷ []) (widthOf leaves - 1) ⌝ }
 {
     let no_tree = is_either(is_no_tree(fs, rows, index.get()), is_no_width(leaves));
     match ask_file(fs, index, false, false, no_tree, rows.len() / 8) {
@@ -269,7 +270,7 @@ fn find_root(rows: &[u64], roots: &[u8], n: usize, root: Sha256Hash) -> FileInde
 
 // The first piece of a file.
 pub fn piece_index_at_file(fs: FileStorage, rows: &[u64], index: FileIndex) -> PieceResult
-    ensures { λ r. ⌜ pieceSays r ≡ asked (badPieceLength fs ∷ noFile fs (index .0) ∷ manyPieces fs ∷ short (rowsHeld fs (now (rows .entry))) ∷ []) (pos (firstPiece fs (now (rows .entry)) (indexOf (index .0)) % 2 ^ 31)) ⌝ }
+    ensures { λ r. ⌜ pieceSays r ≡ answered (badPieceLength fs ∷ noFile fs (index .0) ∷ manyPieces fs ∷ short (rowsHeld fs (now (rows .entry))) ∷ []) (pos (firstPiece fs (now (rows .entry)) (clampedOf (index .0)) % 2 ^ 31)) ⌝ }
 {
     match ask_file(fs, index, has_many(fs), false, false, rows.len() / 8) {
         Check::Go => PieceResult::Ok(PieceIndex::new(div(
@@ -292,7 +293,7 @@ fn last_piece_of(fs: FileStorage, rows: &[u64], k: usize) -> PieceIndex
 
 // The last piece of a file, −1 for an empty file at 0 where the piece length is 1.
 pub fn last_piece_index_at_file(fs: FileStorage, rows: &[u64], index: FileIndex) -> PieceResult
-    ensures { λ r. ⌜ pieceSays r ≡ asked (badPieceLength fs ∷ noFile fs (index .0) ∷ manyPieces fs ∷ short (rowsHeld fs (now (rows .entry))) ∷ []) (low31 (lastPiece fs (now (rows .entry)) (indexOf (index .0)))) ⌝ }
+    ensures { λ r. ⌜ pieceSays r ≡ answered (badPieceLength fs ∷ noFile fs (index .0) ∷ manyPieces fs ∷ short (rowsHeld fs (now (rows .entry))) ∷ []) (low31 (lastPiece fs (now (rows .entry)) (clampedOf (index .0)))) ⌝ }
 {
     match ask_file(fs, index, has_many(fs), false, false, rows.len() / 8) {
         Check::Go => PieceResult::Ok(last_piece_of(fs, rows, index.get())),
@@ -302,7 +303,7 @@ pub fn last_piece_index_at_file(fs: FileStorage, rows: &[u64], index: FileIndex)
 
 // How many pieces a file has that starts on a piece.
 pub fn file_num_pieces(fs: FileStorage, rows: &[u64], index: FileIndex) -> I32Result
-    ensures { λ r. ⌜ i32Says r ≡ asked (badPieceLength fs ∷ noFile fs (index .0) ∷ manyPieces fs ∷ noTree fs (rowAt (now (rows .entry)) (indexOf (index .0))) ∷ short (rowsHeld fs (now (rows .entry))) ∷ []) (pos (piecesOf fs (now (rows .entry)) (indexOf (index .0)) % 2 ^ 31)) ⌝ }
+    ensures { λ r. ⌜ i32Says r ≡ answered (badPieceLength fs ∷ noFile fs (index .0) ∷ manyPieces fs ∷ noTree fs (rowAt (now (rows .entry)) (clampedOf (index .0))) ∷ short (rowsHeld fs (now (rows .entry))) ∷ []) (pos (piecesOf fs (now (rows .entry)) (clampedOf (index .0)) % 2 ^ 31)) ⌝ }
 {
     match ask_file(
         fs,
@@ -319,7 +320,7 @@ pub fn file_num_pieces(fs: FileStorage, rows: &[u64], index: FileIndex) -> I32Re
 
 // A file's pieces, counted from 0.
 pub fn file_piece_range(fs: FileStorage, rows: &[u64], index: FileIndex) -> I32RangeResult
-    ensures { λ r. ⌜ numberRangeSays r ≡ asked (badPieceLength fs ∷ noFile fs (index .0) ∷ manyPieces fs ∷ noTree fs (rowAt (now (rows .entry)) (indexOf (index .0))) ∷ short (rowsHeld fs (now (rows .entry))) ∷ []) (record { begin = pos 0; end = pos (piecesOf fs (now (rows .entry)) (indexOf (index .0)) % 2 ^ 31) }) ⌝ }
+    ensures { λ r. ⌜ numberRangeSays r ≡ answered (badPieceLength fs ∷ noFile fs (index .0) ∷ manyPieces fs ∷ noTree fs (rowAt (now (rows .entry)) (clampedOf (index .0))) ∷ short (rowsHeld fs (now (rows .entry))) ∷ []) (record { begin = pos 0; end = pos (piecesOf fs (now (rows .entry)) (clampedOf (index .0)) % 2 ^ 31) }) ⌝ }
 {
     match ask_file(
         fs,
@@ -339,7 +340,7 @@ pub fn file_piece_range(fs: FileStorage, rows: &[u64], index: FileIndex) -> I32R
 
 // How many blocks a file has that starts on a piece.
 pub fn file_num_blocks(fs: FileStorage, rows: &[u64], index: FileIndex) -> I64Result
-    ensures { λ r. ⌜ i64Says r ≡ asked (badPieceLength fs ∷ noFile fs (index .0) ∷ noTree fs (rowAt (now (rows .entry)) (indexOf (index .0))) ∷ short (rowsHeld fs (now (rows .entry))) ∷ []) (pos (blocksOf (now (rows .entry)) (indexOf (index .0)))) ⌝ }
+    ensures { λ r. ⌜ i64Says r ≡ answered (badPieceLength fs ∷ noFile fs (index .0) ∷ noTree fs (rowAt (now (rows .entry)) (clampedOf (index .0))) ∷ short (rowsHeld fs (now (rows .entry))) ∷ []) (pos (blocksOf (now (rows .entry)) (clampedOf (index .0)))) ⌝ }
 {
     match ask_file(
         fs,
@@ -356,14 +357,14 @@ pub fn file_num_blocks(fs: FileStorage, rows: &[u64], index: FileIndex) -> I64Re
 
 // The first node of the layer of pieces in a file's tree.
 pub fn file_first_piece_node(fs: FileStorage, rows: &[u64], index: FileIndex) -> UsizeResult
-    ensures { λ r. ⌜ usizeSays r ≡ asked (badPieceLength fs ∷ noFile fs (index .0) ∷ noTree fs (rowAt (now (rows .entry)) (indexOf (index .0))) ∷ when (not (hasTree (piecesOf fs (now (rows .entry)) (indexOf (index .0))))) 16 ∷ short (rowsHeld fs (now (rows .entry))) ∷ []) (widthOf (piecesOf fs (now (rows .entry)) (indexOf (index .0))) - 1) ⌝ }
+    ensures { λ r. ⌜ usizeSays r ≡ answered (badPieceLength fs ∷ noFile fs (index .0) ∷ noTree fs (rowAt (now (rows .entry)) (clampedOf (index .0))) ∷ when (not (hasTree (piecesOf fs (now (rows .entry)) (clampedOf (index .0))))) 16 ∷ short (rowsHeld fs (now (rows .entry))) ∷ []) (widthOf (piecesOf fs (now (rows .entry)) (clampedOf (index .0))) - 1) ⌝ }
 {
     first_node(fs, rows, index, pieces_of(fs, rows, index.get()))
 }
 
 // The first node of the layer of blocks in a file's tree.
 pub fn file_first_block_node(fs: FileStorage, rows: &[u64], index: FileIndex) -> UsizeResult
-    ensures { λ r. ⌜ usizeSays r ≡ asked (badPieceLength fs ∷ noFile fs (index .0) ∷ noTree fs (rowAt (now (rows .entry)) (indexOf (index .0))) ∷ when (not (hasTree (blocksOf (now (rows .entry)) (indexOf (index .0))))) 16 ∷ short (rowsHeld fs (now (rows .entry))) ∷ []) (widthOf (blocksOf (now (rows .entry)) (indexOf (index .0))) - 1) ⌝ }
+    ensures { λ r. ⌜ usizeSays r ≡ answered (badPieceLength fs ∷ noFile fs (index .0) ∷ noTree fs (rowAt (now (rows .entry)) (clampedOf (index .0))) ∷ when (not (hasTree (blocksOf (now (rows .entry)) (clampedOf (index .0))))) 16 ∷ short (rowsHeld fs (now (rows .entry))) ∷ []) (widthOf (blocksOf (now (rows .entry)) (clampedOf (index .0))) - 1) ⌝ }
 {
     first_node(fs, rows, index, blocks_of(rows, index.get()))
 }
@@ -375,7 +376,7 @@ pub fn file_index_for_root(
     roots: &[u8],
     root: Sha256Hash,
 ) -> FileResult
-    ensures { λ r. ⌜ fileSays r ≡ asked (badPieceLength fs ∷ short (both (rowsHeld fs (now (rows .entry))) (rootsHeld fs (now (roots .entry)))) ∷ []) (low31 (fileForRoot fs (now (rows .entry)) (now (roots .entry)) root)) ⌝ }
+    ensures { λ r. ⌜ fileSays r ≡ answered (badPieceLength fs ∷ short (rowsHeld fs (now (rows .entry)) && rootsHeld fs (now (roots .entry))) ∷ []) (low31 (fileForRoot fs (now (rows .entry)) (now (roots .entry)) root)) ⌝ }
 {
     let held = are_both(
         is_held(fs.num_files, rows.len() / 8),
@@ -408,7 +409,7 @@ fn offset_of(rows: &[u64], k: usize) -> u64
 
 // Whether a set's own tests let it answer questions about bytes of its files.
 fn is_fit(fs: FileStorage, room: usize) -> bool
-    ensures { λ r. ⌜ r ≡ eqb (firstOf (setAsked fs room)) 0 ⌝ }
+    ensures { λ r. ⌜ r ≡ eqb (firstOf (setRules fs room)) 0 ⌝ }
 {
     if is_bad_length(fs.piece_length) {
         return false;
@@ -421,7 +422,7 @@ fn is_fit(fs: FileStorage, room: usize) -> bool
 
 // Whether a question's own tests let it be answered.
 fn is_asked(fs: FileStorage, k: usize, offset: i64, size: i32) -> bool
-    ensures { λ r. ⌜ r ≡ eqb (firstOf (placeAsked fs (pos k) offset size)) 0 ⌝ }
+    ensures { λ r. ⌜ r ≡ eqb (firstOf (positionRules fs (pos k) offset size)) 0 ⌝ }
 {
     if k < fs.num_files {
         return !is_bad_range(offset, is_negative32(size));
@@ -431,8 +432,8 @@ fn is_asked(fs: FileStorage, k: usize, offset: i64, size: i32) -> bool
 
 // Why a question about bytes of a file that is not answered is refused; it never gets to `Go`.
 fn refused_bytes(fs: FileStorage, index: FileIndex, offset: i64, size: i32, room: usize) -> Refusal
-    requires { ⌜ eqb (firstOf (bytesAsked fs (index .0) offset size room)) 0 ≡ false ⌝ }
-    ensures { λ r. ⌜ numberOf r ≡ firstOf (bytesAsked fs (index .0) offset size room) ⌝ }
+    requires { ⌜ eqb (firstOf (bytesRules fs (index .0) offset size room)) 0 ≡ false ⌝ }
+    ensures { λ r. ⌜ numberOf r ≡ firstOf (bytesRules fs (index .0) offset size room) ⌝ }
 {
     match first_refusal(
         is_bad_length(fs.piece_length),

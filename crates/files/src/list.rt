@@ -7,9 +7,9 @@ ghost use lib.ListN.{length};
 ghost use lib.Seq.{sets};
 ghost use Rattle.types.specs.Refusals.{usizeSays};
 ghost use Rattle.tables.specs.Rows.{filled};
-ghost use Rattle.rules.specs.Bounds.{sizeOf};
+ghost use Rattle.rules.specs.Bounds.{clampedOf};
 ghost use Rattle.rules.specs.Results.{requestSays};
-ghost use Rattle.files.specs.List.{Listed, answerWords, answerAt, filesMapped};
+ghost use Rattle.files.specs.List.{AnswersListed, answerWords, answerAt, filesMapped};
 use crate::file::map_file;
 use rules::RequestResult;
 use tables::FileStorage;
@@ -31,7 +31,7 @@ fn put_words(answers: &mut [u32], at: usize, w0: u32, w1: u32, w2: u32, w3: u32)
 
 // An `i32` as a word, 0 where it is negative.
 fn word32(x: i32) -> u32
-    ensures { λ r. ⌜ r ≡ sizeOf x ⌝ }
+    ensures { λ r. ⌜ r ≡ clampedOf x ⌝ }
 {
     clamped32(x) as u32
 }
@@ -85,10 +85,13 @@ pub fn map_files(
     sizes: &[i32],
     answers: &mut [u32],
 ) -> UsizeResult
-    ensures { λ r. ⌜ _≡_ {A = Listed} (record { says = usizeSays r; answers = now (answers .exit) }) (filesMapped fs (now (rows .entry)) (now (files .entry)) (now (offsets .entry)) (now (sizes .entry)) (now (answers .entry))) ⌝ }
+    ensures { λ r. ⌜ _≡_ {A = AnswersListed} (record { says = usizeSays r; answers = now (answers .exit) }) (filesMapped fs (now (rows .entry)) (now (files .entry)) (now (offsets .entry)) (now (sizes .entry)) (now (answers .entry))) ⌝ }
 {
     let n = files.len();
-    let room = lists::least(offsets.len(), lists::least(sizes.len(), answers.len() / 4));
+    let room = lists::min_usize(
+        offsets.len(),
+        lists::min_usize(sizes.len(), answers.len() / 4),
+    );
     if room < n {
         return UsizeResult::Err(Refusal::NoRoom);
     }

@@ -13,7 +13,7 @@ use borrow.Author.Tests.{le-ltb, le-leb, lt-leb, leb-true}
 use Rattle.lists.proofs.Orders.{le-or-lt}
 use Rattle.lists.proofs.Parts.{take-clipped}
 use Rattle.hashes.specs.Hashes.{ascending}
-use Rattle.hashes.specs.Gathering.{above, Holds}
+use Rattle.hashes.specs.private.Gathering.{above, TableHolds}
 use Rattle.hashes.proofs.Inserting.{first-places, above-next}
 
 above-zero : (hs : List ℕ) → above 0 hs ≡ hs
@@ -32,7 +32,7 @@ pub record Counting (hs : List ℕ) (room left n : ℕ) (table : List ℕ) : Typ
   pub same : leb (length (ascending (above bound hs))) left ≡ leb (length (ascending hs)) room
 
 module _ (hs : List ℕ) (room : ℕ) where
-  counting : (b left n : ℕ) (old table : List ℕ) → Holds old (ascending (above b hs)) table n
+  counting : (b left n : ℕ) (old table : List ℕ) → TableHolds old (ascending (above b hs)) table n
       → leb (length (ascending (above b hs))) left ≡ leb (length (ascending hs)) room → Counting hs room left n table
   counting b left n old table h e =
       let s = ascending (above b hs) in
@@ -46,12 +46,12 @@ module _ (hs : List ℕ) (room : ℕ) where
         same = e;
       }
 
-  pub counted-first : (n : ℕ) (old table : List ℕ) → Holds old (ascending (above 0 hs)) table n → Counting hs room room n table
+  pub counted-first : (n : ℕ) (old table : List ℕ) → TableHolds old (ascending (above 0 hs)) table n → Counting hs room room n table
   counted-first n old table h = counting 0 room n old table h (ap (λ (l : List ℕ). leb (length (ascending l)) room) (above-zero hs))
 
   module _ (left n : ℕ) (table : List ℕ) (c : Counting hs room left n table) where
     pub counted-next : (m b : ℕ) (after : List ℕ) → n ≡ length table → 0 < n → n ≤ left → b ≡ getD table (n - 1) 0 + 1
-        → Holds table (ascending (above b hs)) after m → Counting hs room (left - n) m after
+        → TableHolds table (ascending (above b hs)) after m → Counting hs room (left - n) m after
     counted-next m b after f z k q h =
         let s = ascending (above (c .bound) hs) in
         let ct = c .count in
@@ -73,7 +73,7 @@ module _ (hs : List ℕ) (room : ℕ) where
         ap (λ (j : ℕ). leb j left) e ∙ c .same
 
 -- a table that all hashes fit holds all of them
-pub all-stored : (hs out after : List ℕ) (n : ℕ) → Holds out (ascending (above 0 hs)) after n → leb (length (ascending hs)) (length out) ≡ true
+pub all-stored : (hs out after : List ℕ) (n : ℕ) → TableHolds out (ascending (above 0 hs)) after n → leb (length (ascending hs)) (length out) ≡ true
     → (after ≡ sets out 0 (ascending hs)) × (n ≡ length (ascending hs))
 all-stored hs out after n h e =
     let z = above-zero hs in

@@ -23,7 +23,7 @@ use Rattle.tables.specs.Model.{tabled}
 use Rattle.tables.proofs.Tabled.{length-tabled, getD-tabled}
 use Rattle.names.specs.Paths.{led, hashOf}
 use Rattle.hashes.specs.Hashes.{beginningsFrom, beginnings, joinedLists, directoryHashes, hashesOf}
-use Rattle.hashes.specs.Gathering.{hashesBehind, hashesWithin}
+use Rattle.hashes.specs.private.Gathering.{hashesAfter, hashesWithin}
 
 pub empty-list : (d : List ℕ) → length d ≡ 0 → d ≡ []
 empty-list [] h = refl
@@ -114,7 +114,7 @@ abbrev pub hashesFrom : ℕ → List ℕ → ℕ → List ℕ
 hashesFrom state d k = map (λ (b : List ℕ). crcFrom state (map lower b)) (beginningsBehind (take k d) (drop k d))
 
 module _ (state : ℕ) (d : List ℕ) (x k : ℕ) (e : x ≡ crcFrom state (map lower (take k d))) where
-  pub hashes-first : 0 < length d → k ≡ 0 + length (beforeFirst (drop 0 d)) → hashesBehind state d ≡ (x ∷ []) ++ hashesFrom state d k
+  pub hashes-first : 0 < length d → k ≡ 0 + length (beforeFirst (drop 0 d)) → hashesAfter state d ≡ (x ∷ []) ++ hashesFrom state d k
   hashes-first h q = rw e (ap (map (λ (b : List ℕ). crcFrom state (map lower b))) (begin-first d k h q))
 
   pub hashes-next : (j : ℕ) → j < length d → k ≡ (j + 1) + length (beforeFirst (drop (j + 1) d)) → hashesFrom state d j ≡ (x ∷ []) ++ hashesFrom state d k
@@ -138,7 +138,7 @@ map-same : (f g : List ℕ → ℕ) → ((b : List ℕ) → f b ≡ g b) → (bs
 map-same f g e [] = refl
 map-same f g e (b ∷ bs) = cc (e b, map-same f g e bs)
 
-behind-lead : (name d : List ℕ) → hashesBehind (hashOf (led name)) d ≡ directoryHashes name d
+behind-lead : (name d : List ℕ) → hashesAfter (hashOf (led name)) d ≡ directoryHashes name d
 behind-lead name d =
     map-same (λ (b : List ℕ). crcFrom (hashOf (led name)) (map lower b)) (λ (b : List ℕ). hashOf (led name ++ b)) (λ b. crc-lower 0 (led name) b) (beginnings d)
 
@@ -149,4 +149,4 @@ map-same-lists f g e (d ∷ ds) = cc (e d, map-same-lists f g e ds)
 pub all-within : (fs : FileStorage) (dirs text : List ℕ) → hashesWithin (hashOf (led (textAt text (fs .name)))) dirs text (fs .«num_paths») ≡ hashesOf fs dirs text
 all-within fs dirs text =
     let name = textAt text (fs .name) in
-    ap joinedLists (map-same-lists (hashesBehind (hashOf (led name))) (directoryHashes name) (behind-lead name) (tabled (fs .«num_paths») (λ i. textAt text (dirAt dirs i))))
+    ap joinedLists (map-same-lists (hashesAfter (hashOf (led name))) (directoryHashes name) (behind-lead name) (tabled (fs .«num_paths») (λ i. textAt text (dirAt dirs i))))

@@ -8,7 +8,7 @@
 use Prim.Native.Nat.{ℕ, zero, suc, _+_, _-_, _≤_, _<_, min}
 use mathlib.Core.Path.{_≡_, refl, sym, ap, _∙_}
 use mathlib.Core.Logic.{_⊎_, inl, inr, ⊎-elim}
-use mathlib.Core.Bool.{Bool, true, false, cond, false≢true}
+use mathlib.Core.Bool.{Bool, true, false, cond, false≢true, _&&_}
 use mathlib.Core.List.{List, [], _∷_, _++_}
 use native.Mathlib.Nat.{sub-zero, zero-add}
 use native.Mathlib.Omega.{arith}
@@ -20,9 +20,8 @@ use Rattle.lists.specs.Lists.{partOf}
 use Rattle.lists.proofs.Parts.{drop-take, part-length}
 use Rattle.lists.proofs.Orders.{le-or-lt}
 use Rattle.lists.proofs.Runs.{sets-append, sets-cut, sets-over, part-sets}
-use Rattle.rules.specs.Rules.{both}
 use Rattle.hashes.specs.Hashes.{inserted, ascending}
-use Rattle.hashes.specs.Gathering.{above, gathered, belowCount, Rising, Begun, Holds}
+use Rattle.hashes.specs.private.Gathering.{above, gathered, belowCount, Rising, Begun, TableHolds}
 
 -- how two numbers stand to each other
 data Order (a b : ℕ) : Type 0 where
@@ -276,7 +275,7 @@ pub going : (b : ℕ) (gs : List ℕ) (n : ℕ) (l : List ℕ) → Begun n l →
 going b gs n l p = record { begun = p; stored = refl; counted = refl }
 
 pub gone-on : (b : ℕ) {gs : List ℕ} (hs rest : List ℕ) {n m : ℕ} {l k final : List ℕ} {count : ℕ} → Going b gs n l final count → gs ≡ hs ++ rest
-    → Holds l (gathered b hs (take n l)) k m → Going b rest m k final count
+    → TableHolds l (gathered b hs (take n l)) k m → Going b rest m k final count
 gone-on b {gs} hs rest {n} {m} {l} {k} g e h =
     let xs = gathered b hs (take n l) in
     let w : gathered b gs (take n l) ≡ gathered b rest xs = rw e (gathered-append b hs rest (take n l)) in
@@ -304,25 +303,25 @@ arrived b n {l} g =
     (sym (sets-own l n w) ∙ g .stored, omega (arith, length-take n l, g .counted))
 
 -- both of two tests hold
-are-both : (a b : Bool) → both a b ≡ true → (a ≡ true) × (b ≡ true)
+are-both : (a b : Bool) → (a && b) ≡ true → (a ≡ true) × (b ≡ true)
 are-both true b e = (refl, e)
 are-both false b e = absurd (false≢true e)
 
 -- a table as it was, of which n places are taken
-pub kept : (n : ℕ) (l : List ℕ) → n ≤ length l → Holds l (take n l) l n
+pub kept : (n : ℕ) (l : List ℕ) → n ≤ length l → TableHolds l (take n l) l n
 kept n l h = record { stored = sym (sets-own l n h); count = omega (arith, length-take n l) }
 
 -- one number put into a table at its place p, or there already
 module _ (l : List ℕ) (n h p : ℕ) (w : Begun n l) (e : p ≡ belowCount h (take n l)) where
-  pub stays : (t : Bool) → t ≡ both (ltb p n) (eqb (getD l p 0) h) → t ≡ true → Holds l (inserted h (take n l)) l n
+  pub stays : (t : Bool) → t ≡ (ltb p n && eqb (getD l p 0) h) → t ≡ true → TableHolds l (inserted h (take n l)) l n
   stays t d y =
       let b = are-both (ltb p n) (eqb (getD l p 0) h) (sym d ∙ y) in
       let q = ltb-true p n (b .0) in
       let f = found h (take n l) (rw (← e) (omega (arith, length-take n l, w .within))) (rw (← e, getD-take n l p 0 q) (eqb-true (getD l p 0) h (b .1))) in
       rw f (kept n l (w .within))
 
-  pub goes : (t : Bool) (k : List ℕ) (r : ℕ) → t ≡ both (ltb p n) (eqb (getD l p 0) h) → t ≡ false → k ≡ sets l p (h ∷ partOf l p (n - p)) → r ≡ min (length l) (n + 1)
-      → Holds l (inserted h (take n l)) k r
+  pub goes : (t : Bool) (k : List ℕ) (r : ℕ) → t ≡ (ltb p n && eqb (getD l p 0) h) → t ≡ false → k ≡ sets l p (h ∷ partOf l p (n - p)) → r ≡ min (length l) (n + 1)
+      → TableHolds l (inserted h (take n l)) k r
   goes t k r d y s c =
       let u = take n l in
       let m = w .within in

@@ -2,7 +2,7 @@
 -- relies on what a decision says (proofs/Deciding.antt of `rules`).
 use Prim.Native.Nat.{ℕ, _/_}
 use mathlib.Core.Path.{_≡_, refl, sym, ap, _∙_}
-use mathlib.Core.Bool.{Bool, true, false, not, false≢true, true≢false}
+use mathlib.Core.Bool.{Bool, true, false, not, false≢true, true≢false, _&&_}
 use mathlib.Core.List.{List, [], _∷_}
 use lib.Dec.{eqb, leb}
 use lib.ListN.{length}
@@ -11,22 +11,22 @@ use Rattle.types.specs.declared.refusal.Refusal.{Refusal}
 use Rattle.tables.specs.declared.storage.FileStorage.{FileStorage}
 use Rattle.tables.specs.declared.span.Span.{Span}
 use Rattle.tables.specs.Span.{textAt}
-use Rattle.rules.specs.Rules.{when, firstOf, both}
+use Rattle.rules.specs.Rules.{when, firstOf}
 use Rattle.rules.specs.Bounds.{badLength}
 use Rattle.rules.specs.declared.result.SpanResult.{SpanResult}
 use Rattle.rules.specs.declared.result.SpanResult.the-variants.{Ok, Err}
 use Rattle.rules.specs.Results.{spanSays}
-use Rattle.rules.specs.Questions.{askedHeld, dirsHeld, textHeld}
+use Rattle.rules.specs.Questions.{heldAnswer, dirsHeld, textHeld}
 use Rattle.rules.proofs.Deciding.{allowed, denied}
 use Rattle.names.specs.Paths.{led, hashOf}
-use Rattle.hashes.specs.Hashes.{hashesOf, ascending, Listed, listed, allPathHashes}
-use Rattle.hashes.specs.Gathering.{above, Holds, hashesWithin}
+use Rattle.hashes.specs.Hashes.{hashesOf, ascending, HashesListed, listed, allPathHashes}
+use Rattle.hashes.specs.private.Gathering.{above, TableHolds, hashesWithin}
 use Rattle.hashes.proofs.Counting.{all-stored}
 use Rattle.hashes.proofs.Hashing.{all-within}
 
 -- the number of the first refusal of all, of those of the name, and of those behind
 abbrev allNumber : Bool → Bool → Bool → Bool → ℕ
-allNumber bad dirs text room = firstOf (when bad 1 ∷ when (not (both dirs text)) 10 ∷ when (not room) 10 ∷ [])
+allNumber bad dirs text room = firstOf (when bad 1 ∷ when (not (dirs && text)) 10 ∷ when (not room) 10 ∷ [])
 
 abbrev nameNumber : Bool → Bool → ℕ
 nameNumber bad text = firstOf (when bad 1 ∷ when (not text) 10 ∷ [])
@@ -46,31 +46,31 @@ unnamed false dirs true room e = absurd (true≢false e)
 unnamed false true false room e = refl
 unnamed false false false room e = refl
 
-refused-is : (k n : ℕ) (hs out : List ℕ) → n ≡ k → eqb k 0 ≡ false → _≡_ {A = Listed} (record { says = refused n; table = out }) (listed k hs out)
+refused-is : (k n : ℕ) (hs out : List ℕ) → n ≡ k → eqb k 0 ≡ false → _≡_ {A = HashesListed} (record { says = refused n; table = out }) (listed k hs out)
 refused-is k n hs out e z = rw (z, e)
 
 -- the refusals behind, decided by whether the directories are held and by a test t of the room
 module _ (hs out : List ℕ) (held t : Bool) (q : t ≡ leb (length (ascending hs)) (length out)) where
-  abbrev outcome : Listed
+  abbrev outcome : HashesListed
   outcome = listed (restNumber held (leb (length (ascending hs)) (length out))) (ascending hs) out
 
-  pub not-held : held ≡ false → _≡_ {A = Listed} (record { says = refused 10; table = out }) outcome
+  pub not-held : held ≡ false → _≡_ {A = HashesListed} (record { says = refused 10; table = out }) outcome
   not-held e = rw e
 
-  pub no-room : held ≡ true → t ≡ false → _≡_ {A = Listed} (record { says = refused 10; table = out }) outcome
+  pub no-room : held ≡ true → t ≡ false → _≡_ {A = HashesListed} (record { says = refused 10; table = out }) outcome
   no-room e f = rw (e, ← q, f)
 
-  pub all-put : held ≡ true → t ≡ true → (n : ℕ) (after : List ℕ) → Holds out (ascending (above 0 hs)) after n
-      → _≡_ {A = Listed} (record { says = value n; table = after }) outcome
+  pub all-put : held ≡ true → t ≡ true → (n : ℕ) (after : List ℕ) → TableHolds out (ascending (above 0 hs)) after n
+      → _≡_ {A = HashesListed} (record { says = value n; table = after }) outcome
   all-put e f n after h =
       let w = all-stored hs out after n h (sym q ∙ f) in
       rw (e, ← q, f, w .0, w .1)
 
-module _ (fs : FileStorage) (dirs text out : List ℕ) (d : SpanResult) (p : spanSays d ≡ askedHeld fs (textHeld fs text) (fs .name)) where
+module _ (fs : FileStorage) (dirs text out : List ℕ) (d : SpanResult) (p : spanSays d ≡ heldAnswer fs (textHeld fs text) (fs .name)) where
   abbrev room : Bool
   room = leb (length (ascending (hashesOf fs dirs text))) (length out)
 
-  pub listed-value : (s : Span) → d ≡ Ok s → (state : ℕ) → state ≡ hashOf (led (textAt text s)) → (o : Listed)
+  pub listed-value : (s : Span) → d ≡ Ok s → (state : ℕ) → state ≡ hashOf (led (textAt text s)) → (o : HashesListed)
       → o
       ≡ listed
       (firstOf
@@ -85,7 +85,7 @@ module _ (fs : FileStorage) (dirs text out : List ℕ) (d : SpanResult) (p : spa
       let a : hashesWithin state dirs text (fs .«num_paths») ≡ hashesOf fs dirs text = rw (h, v .1) (all-within fs dirs text) in
       (rw a at q) ∙ ap (λ (n : ℕ). listed n (ascending (hashesOf fs dirs text)) out) (named (badLength (fs .«piece_length»)) (dirsHeld fs dirs) (textHeld fs text) room (v .0))
 
-  pub listed-refused : (x : Refusal) → d ≡ Err x → _≡_ {A = Listed} (record { says = refused (numberOf x); table = out }) (allPathHashes fs dirs text out)
+  pub listed-refused : (x : Refusal) → d ≡ Err x → _≡_ {A = HashesListed} (record { says = refused (numberOf x); table = out }) (allPathHashes fs dirs text out)
   listed-refused x e =
       let k = nameNumber (badLength (fs .«piece_length»)) (textHeld fs text) in
       let v = denied k (fs .name) (eqb k 0) (numberOf x) (ap spanSays (sym e) ∙ p) in

@@ -40,14 +40,14 @@ pub record Begun (n : ℕ) (table : List ℕ) : Type 0 where
   pub rising : Rising 0 (take n table)
 
 -- `after` is the table with the numbers xs in its first places, as many of them as there is room for, and n is how many
-pub record Holds (table xs after : List ℕ) (n : ℕ) : Type 0 where
+pub record TableHolds (table xs after : List ℕ) (n : ℕ) : Type 0 where
   pub stored : after ≡ sets table 0 xs
   pub count : n ≡ min (length table) (length xs)
 
 -- the hashes of a directory's beginnings, from the hash of what stands before the directory
-abbrev pub hashesBehind : ℕ → List ℕ → List ℕ
-hashesBehind state d = map (λ (b : List ℕ). crcFrom state (map lower b)) (beginnings d)
+abbrev pub hashesAfter : ℕ → List ℕ → List ℕ
+hashesAfter state d = map (λ (b : List ℕ). crcFrom state (map lower b)) (beginnings d)
 
 -- those of the first n directories
 abbrev pub hashesWithin : ℕ → List ℕ → List ℕ → ℕ → List ℕ
-hashesWithin state dirs text n = joinedLists (map (hashesBehind state) (tabled n (λ i. textAt text (dirAt dirs i))))
+hashesWithin state dirs text n = joinedLists (map (hashesAfter state) (tabled n (λ i. textAt text (dirAt dirs i))))

@@ -2,7 +2,7 @@
 -- separator, behind the set's name. 'unordered sets and maps come out ascending', each hash once. It relies on the hash of a
 -- path in Paths.antt of `names`.
 use Prim.Native.Nat.{ℕ}
-use mathlib.Core.Bool.{cond, not}
+use mathlib.Core.Bool.{cond, not, _&&_}
 use mathlib.Core.List.{List, [], _∷_, _++_, map}
 use lib.Dec.{eqb, ltb, leb}
 use lib.ListN.{length}
@@ -13,7 +13,7 @@ use Rattle.tables.specs.declared.storage.FileStorage.{FileStorage}
 use Rattle.tables.specs.Span.{textAt}
 use Rattle.tables.specs.Rows.{dirAt}
 use Rattle.tables.specs.Model.{tabled}
-use Rattle.rules.specs.Rules.{when, firstOf, both}
+use Rattle.rules.specs.Rules.{when, firstOf}
 use Rattle.rules.specs.Bounds.{badLength}
 use Rattle.rules.specs.Questions.{dirsHeld, textHeld}
 use Rattle.names.specs.Paths.{led, hashOf}
@@ -52,20 +52,20 @@ ascending [] = []
 ascending (h ∷ hs) = inserted h (ascending hs)
 
 -- the answer, and what the lent table holds after it
-pub record Listed : Type 0 where
+pub record HashesListed : Type 0 where
   pub says : Outcome ℕ
   pub table : List ℕ
 
-abbrev pub listed : ℕ → List ℕ → List ℕ → Listed
+abbrev pub listed : ℕ → List ℕ → List ℕ → HashesListed
 listed k hs out =
     cond (eqb k 0) (record { says = value (length hs); table = sets out 0 hs }) (record { says = refused k; table = out })
 
 -- `all_path_hashes` into a lent table, refusals 1 and 10
-abbrev pub allPathHashes : FileStorage → List ℕ → List ℕ → List ℕ → Listed
+abbrev pub allPathHashes : FileStorage → List ℕ → List ℕ → List ℕ → HashesListed
 allPathHashes fs dirs text out =
     listed
     (firstOf
-    (when (badLength (fs .«piece_length»)) 1 ∷ when (not (both (dirsHeld fs dirs) (textHeld fs text))) 10 ∷
+    (when (badLength (fs .«piece_length»)) 1 ∷ when (not (dirsHeld fs dirs && textHeld fs text)) 10 ∷
     when (not (leb (length (ascending (hashesOf fs dirs text))) (length out))) 10 ∷ []))
     (ascending (hashesOf fs dirs text))
     out

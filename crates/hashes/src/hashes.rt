@@ -4,7 +4,7 @@
 // `answers` for the refusals, and on the laws of proofs/Inserting.antt and proofs/Hashing.antt.
 ghost use mathlib.Core.Path.{_≡_};
 ghost use mathlib.Core.List.{[], _∷_, map};
-ghost use mathlib.Core.Bool.{not};
+ghost use mathlib.Core.Bool.{not, _&&_};
 ghost use Prim.Native.Nat.{_+_, _-_, _/_, _≤_, _<_};
 ghost use lib.Dec.{eqb, ltb, leb};
 ghost use lib.ListN.{length, getD, take, drop};
@@ -13,10 +13,10 @@ ghost use Rattle.lists.specs.Lists.{partOf};
 ghost use Rattle.path.specs.Split.{beforeFirst};
 ghost use Rattle.crc32c.specs.Crc.{crcFrom, lower};
 ghost use Rattle.types.specs.Refusals.{usizeSays};
-ghost use Rattle.rules.specs.Rules.{both, when, firstOf};
+ghost use Rattle.rules.specs.Rules.{when, firstOf};
 ghost use Rattle.names.specs.Paths.{led, hashOf};
-ghost use Rattle.hashes.specs.Hashes.{inserted, ascending, Listed, listed, allPathHashes};
-ghost use Rattle.hashes.specs.Gathering.{above, gathered, belowCount, Begun, Holds, hashesBehind, hashesWithin};
+ghost use Rattle.hashes.specs.Hashes.{inserted, ascending, HashesListed, listed, allPathHashes};
+ghost use Rattle.hashes.specs.private.Gathering.{above, gathered, belowCount, Begun, TableHolds, hashesAfter, hashesWithin};
 use names::hash_led;
 use rules::SpanResult;
 use tables::FileStorage;
@@ -44,7 +44,7 @@ fn place_of(table: &[u32], n: usize, h: u32) -> usize
 // Whether one of the first n places, that at p, holds h.
 fn is_there(table: &[u32], n: usize, p: usize, h: u32) -> bool
     requires { ⌜ n ≤ length (now table) ⌝ }
-    ensures { λ r. ⌜ r ≡ both (ltb p n) (eqb (getD (now (table .entry)) p 0) h) ⌝ }
+    ensures { λ r. ⌜ r ≡ (ltb p n && eqb (getD (now (table .entry)) p 0) h) ⌝ }
 {
     if p < n {
         return table[p] == h;
@@ -74,7 +74,7 @@ fn push(table: &mut [u32], p: usize, n: usize, h: u32)
 // Puts h among the first n places, where it isn't there yet.
 fn insert(table: &mut [u32], n: usize, h: u32) -> usize
     requires { ⌜ Begun n (now table) ⌝ }
-    ensures { λ r. ⌜ Holds (now (table .entry)) (inserted h (take n (now (table .entry)))) (now (table .exit)) r ⌝ }
+    ensures { λ r. ⌜ TableHolds (now (table .entry)) (inserted h (take n (now (table .entry)))) (now (table .exit)) r ⌝ }
 {
     let p = place_of(table, n, h);
     if is_there(table, n, p, h) {
@@ -90,7 +90,7 @@ fn insert(table: &mut [u32], n: usize, h: u32) -> usize
 // The same of a hash at or above the bound.
 fn keep(table: &mut [u32], n: usize, bound: u64, h: u32) -> usize
     requires { ⌜ Begun n (now table) ⌝ }
-    ensures { λ r. ⌜ Holds (now (table .entry)) (gathered bound (h ∷ []) (take n (now (table .entry)))) (now (table .exit)) r ⌝ }
+    ensures { λ r. ⌜ TableHolds (now (table .entry)) (gathered bound (h ∷ []) (take n (now (table .entry)))) (now (table .exit)) r ⌝ }
 {
     if (h as u64) < bound {
         return n;
@@ -123,7 +123,7 @@ struct Kept {
 // each directory starts from it.
 fn keep_dir(table: &mut [u32], n: usize, bound: u64, state: u32, d: &[u8]) -> Kept
     requires { ⌜ Begun n (now table) ⌝ }
-    ensures { λ r. ⌜ Holds (now (table .entry)) (gathered bound (hashesBehind state (now (d .entry))) (take n (now (table .entry)))) (now (table .exit)) (r .held) × (r .state ≡ crcFrom state (map lower (now (d .entry)))) ⌝ }
+    ensures { λ r. ⌜ TableHolds (now (table .entry)) (gathered bound (hashesAfter state (now (d .entry))) (take n (now (table .entry)))) (now (table .exit)) (r .held) × (r .state ≡ crcFrom state (map lower (now (d .entry)))) ⌝ }
 {
     if d.len() == 0 {
         return Kept { held: n, state };
@@ -150,7 +150,7 @@ fn gather(
     text: &[u8],
     count: usize,
 ) -> usize
-    ensures { λ r. ⌜ Holds (now (table .entry)) (ascending (above bound (hashesWithin state (now (dirs .entry)) (now (text .entry)) count))) (now (table .exit)) r ⌝ }
+    ensures { λ r. ⌜ TableHolds (now (table .entry)) (ascending (above bound (hashesWithin state (now (dirs .entry)) (now (text .entry)) count))) (now (table .exit)) r ⌝ }
 {
     let mut kept = Kept { held: 0, state };
     let mut i = 0;
@@ -206,7 +206,7 @@ fn fits(room: usize, state: u32, dirs: &[u64], text: &[u8], count: usize) -> boo
 
 // Puts the hashes of the first `count` directories into `out`, or refuses it where a table is too short.
 fn put_hashes(state: u32, dirs: &[u64], text: &[u8], count: usize, out: &mut [u32]) -> UsizeResult
-    ensures { λ r. ⌜ _≡_ {A = Listed} (record { says = usizeSays r; table = now (out .exit) }) (listed (firstOf (when (not (leb count (length (now (dirs .entry)) / 2))) 10 ∷ when (not (leb (length (ascending (hashesWithin state (now (dirs .entry)) (now (text .entry)) count))) (length (now (out .entry))))) 10 ∷ [])) (ascending (hashesWithin state (now (dirs .entry)) (now (text .entry)) count)) (now (out .entry))) ⌝ }
+    ensures { λ r. ⌜ _≡_ {A = HashesListed} (record { says = usizeSays r; table = now (out .exit) }) (listed (firstOf (when (not (leb count (length (now (dirs .entry)) / 2))) 10 ∷ when (not (leb (length (ascending (hashesWithin state (now (dirs .entry)) (now (text .entry)) count))) (length (now (out .entry))))) 10 ∷ [])) (ascending (hashesWithin state (now (dirs .entry)) (now (text .entry)) count)) (now (out .entry))) ⌝ }
 {
     if dirs.len() / 2 < count {
         return UsizeResult::Err(Refusal::NoRoom);
@@ -220,7 +220,7 @@ fn put_hashes(state: u32, dirs: &[u64], text: &[u8], count: usize, out: &mut [u3
 // The hash of each directory and of each part of one that stands before a separator, behind the set's name:
 // in `out`, ascending, each once.
 pub fn all_path_hashes(fs: FileStorage, dirs: &[u64], text: &[u8], out: &mut [u32]) -> UsizeResult
-    ensures { λ r. ⌜ _≡_ {A = Listed} (record { says = usizeSays r; table = now (out .exit) }) (allPathHashes fs (now (dirs .entry)) (now (text .entry)) (now (out .entry))) ⌝ }
+    ensures { λ r. ⌜ _≡_ {A = HashesListed} (record { says = usizeSays r; table = now (out .exit) }) (allPathHashes fs (now (dirs .entry)) (now (text .entry)) (now (out .entry))) ⌝ }
 {
     match answers::name(fs, text) {
         SpanResult::Ok(place) => {

@@ -19,7 +19,7 @@ use borrow.Author.Tests.{lt-ltb, le-ltb, ltb-true, ltb-false, leb-true, eqb-true
 use Rattle.lists.proofs.Quotients.{ceiling-covers}
 use Rattle.tables.specs.declared.storage.FileStorage.{FileStorage}
 use Rattle.rules.specs.Rules.{when, firstOf}
-use Rattle.rules.specs.Bounds.{indexOf, isBelow}
+use Rattle.rules.specs.Bounds.{clampedOf, isBelow}
 use Rattle.rules.specs.declared.decide.Check.{Check}
 use Rattle.rules.specs.declared.decide.Check.the-variants.{Go}
 use Rattle.rules.specs.Results.{checkNumber}
@@ -50,7 +50,7 @@ size-le fs p h = at (eqb (p + 1) (numPieces fs)) refl
         omega arith
     at false e = omega arith
 
-inside : (fs : FileStorage) (z : ℤ) (p : ℕ) → p ≡ indexOf z → Counted fs → noPiece fs z .test ≡ false → Inside fs p
+inside : (fs : FileStorage) (z : ℤ) (p : ℕ) → p ≡ clampedOf z → Counted fs → noPiece fs z .test ≡ false → Inside fs p
 inside fs z p e c n =
     let b : p < numPieces fs = rw e (below-is (numPieces fs) z (not-false (isBelow (numPieces fs) z) n)) in
     record {
@@ -67,7 +67,7 @@ pieces-known fs p e =
     let q = gone (badPieceLength fs ∷ manyPieces fs ∷ []) refl p e in
     counted fs (q .0) (q .1 .0)
 
-pub piece-known : (fs : FileStorage) (z : ℤ) (bad held : Bool) {d : Check} (p : ℕ) → p ≡ indexOf z
+pub piece-known : (fs : FileStorage) (z : ℤ) (bad held : Bool) {d : Check} (p : ℕ) → p ≡ clampedOf z
     → checkNumber d ≡ firstOf (badPieceLength fs ∷ manyPieces fs ∷ noPiece fs z ∷ when bad 14 ∷ short held ∷ []) → d ≡ Go → Inside fs p
 piece-known fs z bad held p h c e =
     let q = gone (badPieceLength fs ∷ manyPieces fs ∷ noPiece fs z ∷ when bad 14 ∷ short held ∷ []) refl c e in

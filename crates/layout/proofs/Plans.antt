@@ -19,7 +19,7 @@ use Rattle.types.specs.declared.refusal.UsizeResult.{UsizeResult}
 use Rattle.types.specs.declared.refusal.UsizeResult.the-variants.{Ok, Err}
 use Rattle.tables.specs.declared.storage.FileStorage.{FileStorage}
 use Rattle.rules.specs.Rules.{Rule, firstOf}
-use Rattle.rules.specs.Bounds.{sizeOf, indexOf}
+use Rattle.rules.specs.Bounds.{clampedOf, clampedOf}
 use Rattle.rules.specs.Questions.{rowsHeld, badPieceLength, manyPieces, noPiece, badRange, short}
 use Rattle.layout.specs.declared.start.Cursor.{Cursor}
 use Rattle.layout.specs.Pieces.{startOf}
@@ -111,7 +111,7 @@ module _ (fs : FileStorage) (rows : List ℕ) (z offset size : ℤ) where
   block = blockOf fs rows z offset size
 
   abbrev start : Cursor
-  start = cursorAt fs rows (startOf fs (indexOf z) + sizeOf offset) (sizeOf size)
+  start = cursorAt fs rows (startOf fs (clampedOf z) + clampedOf offset) (clampedOf size)
 
   abbrev rules : List Rule
   rules = badPieceLength fs ∷ manyPieces fs ∷ noPiece fs z ∷ badRange offset size ∷ short (rowsHeld fs rows) ∷ []

@@ -11,7 +11,7 @@ use Rattle.types.specs.declared.refusal.Refusal.{Refusal}
 use Rattle.tables.specs.declared.storage.FileStorage.{FileStorage}
 use Rattle.tables.specs.Rows.{rowAt}
 use Rattle.rules.specs.Rules.{firstOf}
-use Rattle.rules.specs.Bounds.{sizeOf, indexOf}
+use Rattle.rules.specs.Bounds.{clampedOf, clampedOf}
 use Rattle.rules.specs.Questions.{rowsHeld, badPieceLength, manyPieces, noPiece, badRange, short}
 use Rattle.rules.specs.declared.decide.Check.{Check}
 use Rattle.rules.specs.declared.decide.Check.the-variants.{Go, Stop}
@@ -32,9 +32,9 @@ cursor-is fs rows target size ek eo es er el = rw (el, er, es, eo, ek)
 module _ (fs : FileStorage) (rows : List ℕ) (z offset size : ℤ) (d : Check)
     (p : checkNumber d ≡ firstOf (badPieceLength fs ∷ manyPieces fs ∷ noPiece fs z ∷ badRange offset size ∷ short (rowsHeld fs rows) ∷ [])) where
   decided : (n : ℕ) → checkNumber d ≡ n
-      → blockStart fs rows z offset size ≡ started n (blockOf fs rows z offset size) (cursorAt fs rows (startOf fs (indexOf z) + sizeOf offset) (sizeOf size))
+      → blockStart fs rows z offset size ≡ started n (blockOf fs rows z offset size) (cursorAt fs rows (startOf fs (clampedOf z) + clampedOf offset) (clampedOf size))
   decided n q =
-      ap (λ (k : ℕ). started k (blockOf fs rows z offset size) (cursorAt fs rows (startOf fs (indexOf z) + sizeOf offset) (sizeOf size)))
+      ap (λ (k : ℕ). started k (blockOf fs rows z offset size) (cursorAt fs rows (startOf fs (clampedOf z) + clampedOf offset) (clampedOf size)))
       (sym p ∙ q)
 
   pub start-stopped : (e : Refusal) → d ≡ Stop e → none (numberOf e) ≡ blockStart fs rows z offset size
@@ -42,6 +42,6 @@ module _ (fs : FileStorage) (rows : List ℕ) (z offset size : ℤ) (d : Check)
       let k : eqb (numberOf e) 0 ≡ false = numbered e in
       sym (decided (numberOf e) (ap checkNumber q) ∙ rw k)
 
-  pub start-answered : (t n : ℕ) {m : Started} → t ≡ startOf fs (indexOf z) + sizeOf offset → n ≡ sizeOf size → d ≡ Go
+  pub start-answered : (t n : ℕ) {m : Started} → t ≡ startOf fs (clampedOf z) + clampedOf offset → n ≡ clampedOf size → d ≡ Go
       → m ≡ all (slicesOf fs rows t n) (cursorAt fs rows t n) → m ≡ blockStart fs rows z offset size
   start-answered t n et en q h = (rw (et, en) at h) ∙ sym (decided 0 (ap checkNumber q))

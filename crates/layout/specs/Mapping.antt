@@ -7,7 +7,7 @@ use lib.IntN.{ℤ}
 use Rattle.tables.specs.declared.storage.FileStorage.{FileStorage}
 use Rattle.tables.specs.Rows.{rowAt}
 use Rattle.rules.specs.Rules.{Rule}
-use Rattle.rules.specs.Bounds.{sizeOf, indexOf}
+use Rattle.rules.specs.Bounds.{clampedOf, clampedOf}
 use Rattle.rules.specs.Questions.{rowsHeld, badPieceLength, manyPieces, noPiece, badRange, short}
 use Rattle.layout.specs.Pieces.{startOf}
 use Rattle.layout.specs.Search.{fileFound}
@@ -43,7 +43,7 @@ slicesOf fs rows target size = slicesAt fs rows (fileFound rows (fs .«num_files
 
 -- 'target is piece × length + offset'
 abbrev pub blockOf : FileStorage → List ℕ → ℤ → ℤ → ℤ → List Slice
-blockOf fs rows z offset size = slicesOf fs rows (startOf fs (indexOf z) + sizeOf offset) (sizeOf size)
+blockOf fs rows z offset size = slicesOf fs rows (startOf fs (clampedOf z) + clampedOf offset) (clampedOf size)
 
 -- `map_block`'s refusals, in order, in front of the last, which is for room
 abbrev pub blockRules : FileStorage → List ℕ → ℤ → ℤ → ℤ → List Rule → List Rule

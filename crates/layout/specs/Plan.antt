@@ -9,7 +9,7 @@ use lib.ListN.{length}
 use Rattle.types.specs.Refusals.{Outcome, value, refused}
 use Rattle.tables.specs.declared.storage.FileStorage.{FileStorage}
 use Rattle.rules.specs.Rules.{firstOf}
-use Rattle.rules.specs.Bounds.{sizeOf, indexOf}
+use Rattle.rules.specs.Bounds.{clampedOf, clampedOf}
 use Rattle.layout.specs.declared.start.Cursor.{Cursor}
 use Rattle.rules.specs.Questions.{short}
 use Rattle.layout.specs.Pieces.{startOf}
@@ -39,4 +39,4 @@ blockPlan fs rows z offset size room =
     planned
     (firstOf (blockRules fs rows z offset size (short (leb (length (blockOf fs rows z offset size)) room) ∷ [])))
     (blockOf fs rows z offset size)
-    (cursorAt fs rows (startOf fs (indexOf z) + sizeOf offset) (sizeOf size))
+    (cursorAt fs rows (startOf fs (clampedOf z) + clampedOf offset) (clampedOf size))

@@ -5,8 +5,8 @@ ghost use mathlib.Core.List.{[], _∷_};
 ghost use Prim.Native.Nat.{_+_, _-_, _*_, _/_, _%_, _^_, _≤_, _<_};
 ghost use lib.IntN.{pos};
 ghost use lib.ListN.{length};
-ghost use Rattle.rules.specs.Bounds.{indexOf};
-ghost use Rattle.rules.specs.Questions.{rowsHeld, asked, numPieces, badPieceLength, manyPieces, noPiece, short};
+ghost use Rattle.rules.specs.Bounds.{clampedOf};
+ghost use Rattle.rules.specs.Questions.{rowsHeld, answered, numPieces, badPieceLength, manyPieces, noPiece, short};
 ghost use Rattle.rules.specs.Results.{i32Says, pieceSays, fileSays, pieceRangeSays, fileRangeSays};
 ghost use Rattle.layout.specs.Pieces.{lessOne, startOf, pieceSize, pieceSize2, blocksIn, fileAtPiece, lastFileAtPiece};
 ghost use Rattle.layout.specs.Given.{numPiecesGiven, pieceSize2Given, fileAtOffsetGiven};
@@ -101,7 +101,7 @@ pub fn num_pieces(fs: FileStorage) -> I32Result
 
 // The last piece, −1 where there is none.
 pub fn last_piece(fs: FileStorage) -> PieceResult
-    ensures { λ r. ⌜ pieceSays r ≡ asked (badPieceLength fs ∷ manyPieces fs ∷ []) (lessOne (numPieces fs)) ⌝ }
+    ensures { λ r. ⌜ pieceSays r ≡ answered (badPieceLength fs ∷ manyPieces fs ∷ []) (lessOne (numPieces fs)) ⌝ }
 {
     match ask_pieces(fs) {
         Check::Go => PieceResult::Ok(last_of(count_pieces(fs))),
@@ -111,7 +111,7 @@ pub fn last_piece(fs: FileStorage) -> PieceResult
 
 // All pieces.
 pub fn piece_range(fs: FileStorage) -> PieceRangeResult
-    ensures { λ r. ⌜ pieceRangeSays r ≡ asked (badPieceLength fs ∷ manyPieces fs ∷ []) (record { begin = pos 0; end = pos (numPieces fs) }) ⌝ }
+    ensures { λ r. ⌜ pieceRangeSays r ≡ answered (badPieceLength fs ∷ manyPieces fs ∷ []) (record { begin = pos 0; end = pos (numPieces fs) }) ⌝ }
 {
     match ask_pieces(fs) {
         Check::Go => PieceRangeResult::Ok(PieceIndexRange {
@@ -124,7 +124,7 @@ pub fn piece_range(fs: FileStorage) -> PieceRangeResult
 
 // All files.
 pub fn file_range(fs: FileStorage) -> FileRangeResult
-    ensures { λ r. ⌜ fileRangeSays r ≡ asked (badPieceLength fs ∷ []) (record { begin = pos 0; end = pos (fs .«num_files» % 2 ^ 31) }) ⌝ }
+    ensures { λ r. ⌜ fileRangeSays r ≡ answered (badPieceLength fs ∷ []) (record { begin = pos 0; end = pos (fs .«num_files» % 2 ^ 31) }) ⌝ }
 {
     match ask_set(fs, false, true) {
         Check::Go => FileRangeResult::Ok(FileIndexRange {
@@ -137,7 +137,7 @@ pub fn file_range(fs: FileStorage) -> FileRangeResult
 
 // The size of a piece: the piece length, but for the last.
 pub fn piece_size(fs: FileStorage, piece: PieceIndex) -> I32Result
-    ensures { λ r. ⌜ i32Says r ≡ asked (badPieceLength fs ∷ manyPieces fs ∷ noPiece fs (piece .0) ∷ []) (pos (pieceSize fs (indexOf (piece .0)) % 2 ^ 31)) ⌝ }
+    ensures { λ r. ⌜ i32Says r ≡ answered (badPieceLength fs ∷ manyPieces fs ∷ noPiece fs (piece .0) ∷ []) (pos (pieceSize fs (clampedOf (piece .0)) % 2 ^ 31)) ⌝ }
 {
     match ask_piece(fs, piece, false, true) {
         Check::Go => I32Result::Ok(types::signed32(size_of(fs, piece.get() as u64))),
@@ -157,7 +157,7 @@ pub fn piece_size2(fs: FileStorage, rows: &[u64], piece: PieceIndex) -> I32Resul
 
 // How many blocks such a cut piece has.
 pub fn blocks_in_piece2(fs: FileStorage, rows: &[u64], piece: PieceIndex) -> I32Result
-    ensures { λ r. ⌜ i32Says r ≡ asked (badPieceLength fs ∷ manyPieces fs ∷ noPiece fs (piece .0) ∷ short (rowsHeld fs (now (rows .entry))) ∷ []) (pos (blocksIn (pieceSize2 fs (now (rows .entry)) (indexOf (piece .0))) % 2 ^ 31)) ⌝ }
+    ensures { λ r. ⌜ i32Says r ≡ answered (badPieceLength fs ∷ manyPieces fs ∷ noPiece fs (piece .0) ∷ short (rowsHeld fs (now (rows .entry))) ∷ []) (pos (blocksIn (pieceSize2 fs (now (rows .entry)) (clampedOf (piece .0))) % 2 ^ 31)) ⌝ }
 {
     match ask_piece(fs, piece, false, is_held(fs.num_files, rows.len() / 8)) {
         Check::Go => I32Result::Ok(types::signed32(div_ceil(
@@ -170,7 +170,7 @@ pub fn blocks_in_piece2(fs: FileStorage, rows: &[u64], piece: PieceIndex) -> I32
 
 // How many blocks a piece of full length has.
 pub fn blocks_per_piece(fs: FileStorage) -> I32Result
-    ensures { λ r. ⌜ i32Says r ≡ asked (badPieceLength fs ∷ []) (pos (blocksIn (fs .«piece_length») % 2 ^ 31)) ⌝ }
+    ensures { λ r. ⌜ i32Says r ≡ answered (badPieceLength fs ∷ []) (pos (blocksIn (fs .«piece_length») % 2 ^ 31)) ⌝ }
 {
     match ask_set(fs, false, true) {
         Check::Go => I32Result::Ok(types::signed32(div_ceil(fs.piece_length, 16384))),
@@ -196,7 +196,7 @@ pub fn file_index_at_offset(fs: FileStorage, rows: &[u64], offset: i64) -> FileR
 
 // The file at the start of a piece.
 pub fn file_index_at_piece(fs: FileStorage, rows: &[u64], piece: PieceIndex) -> FileResult
-    ensures { λ r. ⌜ fileSays r ≡ asked (badPieceLength fs ∷ manyPieces fs ∷ noPiece fs (piece .0) ∷ short (rowsHeld fs (now (rows .entry))) ∷ []) (pos (fileAtPiece fs (now (rows .entry)) (indexOf (piece .0)) % 2 ^ 31)) ⌝ }
+    ensures { λ r. ⌜ fileSays r ≡ answered (badPieceLength fs ∷ manyPieces fs ∷ noPiece fs (piece .0) ∷ short (rowsHeld fs (now (rows .entry))) ∷ []) (pos (fileAtPiece fs (now (rows .entry)) (clampedOf (piece .0)) % 2 ^ 31)) ⌝ }
 {
     match ask_piece(fs, piece, false, is_held(fs.num_files, rows.len() / 8)) {
         Check::Go => FileResult::Ok(FileIndex::new(
@@ -208,7 +208,7 @@ pub fn file_index_at_piece(fs: FileStorage, rows: &[u64], piece: PieceIndex) -> 
 
 // The file at the last byte of a piece.
 pub fn last_file_index_at_piece(fs: FileStorage, rows: &[u64], piece: PieceIndex) -> FileResult
-    ensures { λ r. ⌜ fileSays r ≡ asked (badPieceLength fs ∷ manyPieces fs ∷ noPiece fs (piece .0) ∷ short (rowsHeld fs (now (rows .entry))) ∷ []) (pos (lastFileAtPiece fs (now (rows .entry)) (indexOf (piece .0)) % 2 ^ 31)) ⌝ }
+    ensures { λ r. ⌜ fileSays r ≡ answered (badPieceLength fs ∷ manyPieces fs ∷ noPiece fs (piece .0) ∷ short (rowsHeld fs (now (rows .entry))) ∷ []) (pos (lastFileAtPiece fs (now (rows .entry)) (clampedOf (piece .0)) % 2 ^ 31)) ⌝ }
 {
     match ask_piece(fs, piece, false, is_held(fs.num_files, rows.len() / 8)) {
         Check::Go => FileResult::Ok(FileIndex::new(

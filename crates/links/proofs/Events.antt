@@ -10,10 +10,10 @@ use lib.Seq.{map-set-same}
 use Rattle.tables.specs.Model.{Store, directoryText}
 use Rattle.lookup.specs.Lookup.{isDirectory, covers, known, entriesOf, directoriesOf}
 use Rattle.lookup.specs.Space.{directoryLength, space}
-use Rattle.lookup.specs.Rows.{entryAt, entriesFrom, directoriesFrom}
+use Rattle.lookup.specs.private.Rows.{entryAt, entriesFrom, directoriesFrom}
 use Rattle.lookup.proofs.Rows.{entries-all, entries-cons, entries-none, directories-hit, directories-end}
-use Rattle.links.specs.Clean.{to, leadAt, without, cut, weight, left}
-use Rattle.links.specs.Walking.{lead, verdict, anyAt, leadMark, leadText, openOf, walkOf, fresh, Joined}
+use Rattle.links.specs.Clean.{to, leadAt, withoutLink, partEnd, weight, left}
+use Rattle.links.specs.private.Walking.{lead, verdict, anyAt, leadMark, leadText, openOf, walkOf, untraversed, JoinedAt}
 use Rattle.links.proofs.Walk.{lead-less}
 use Rattle.links.proofs.Turns.{turn-end, turn-dir, turn-dir-stop, turn-link, turn-link-stop, turn-link-less}
 use Rattle.links.proofs.Scans.{Here, here, Scan, scan-turn, scan-hit, scan-none, space-at, used-off, used-fresh, used-some, in-marks, mark-small}
@@ -46,7 +46,7 @@ module _ (s : Store) (ms path : List ℕ) (at e : ℕ) where
       pub no-dir : paths ≤ d → isDirectory (directoriesOf s) partAt ≡ false
       no-dir k = sym i ∙ directories-end s partAt paths d k
 
-      module _ (k : d < paths) (c : covers (directoryText s d) partAt ≡ true) (m : next ≡ cut (drop at path) (e + 1)) where
+      module _ (k : d < paths) (c : covers (directoryText s d) partAt ≡ true) (m : next ≡ partEnd (drop at path) (e + 1)) where
         is-dir : isDirectory (directoriesOf s) partAt ≡ true
         is-dir = sym i ∙ directories-hit s partAt paths d k c
 
@@ -93,7 +93,7 @@ module _ (s : Store) (ms path : List ℕ) (at e : ℕ) where
       pub link-staged : directoryLength (entryAt s i .directory) + length (entryAt s i .text) + 2 ≤ space (entriesOf s)
       link-staged = rw (entries-all s) at (space-at s n 0 i (omega arith) (omega (arith, x .row)) (taken .flag))
 
-      hit : (leadAt (openOf (entriesOf s) ms) partAt ≡ to (leadText m (entryAt s i))) × (without partAt (openOf (entriesOf s) ms) ≡ openOf (entriesOf s) (set ms k (m + 2)))
+      hit : (leadAt (openOf (entriesOf s) ms) partAt ≡ to (leadText m (entryAt s i))) × (withoutLink partAt (openOf (entriesOf s) ms) ≡ openOf (entriesOf s) (set ms k (m + 2)))
       hit =
           let g = taken in
           rw (g .is)
@@ -109,15 +109,15 @@ module _ (s : Store) (ms path : List ℕ) (at e : ℕ) where
       link-short y = omega (arith, light)
 
       -- its lead is the same but for the use
-      pub link-marks : map fresh (set ms k (m + 2)) ≡ map fresh ms
-      link-marks = map-set-same fresh ms k (m + 2) 0 (let g = taken in rw (g .is) (used-fresh (getD ms k 0) (g .leads)))
+      pub link-marks : map untraversed (set ms k (m + 2)) ≡ map untraversed ms
+      link-marks = map-set-same untraversed ms k (m + 2) 0 (let g = taken in rw (g .is) (used-fresh (getD ms k 0) (g .leads)))
 
       -- once its text stands for the part: room for the others, and the walk goes on from there
-      module _ (path′ : List ℕ) (r e′ : ℕ) (j : Joined path at e (leadText m (entryAt s i)) path′ r) where
+      module _ (path′ : List ℕ) (r e′ : ℕ) (j : JoinedAt path at e (leadText m (entryAt s i)) path′ r) where
         pub link-room : weight (openOf (entriesOf s) ms) ≤ at → weight (openOf (entriesOf s) (set ms k (m + 2))) ≤ r
         link-room y = omega (arith, light, j .room)
 
-        module _ (y : e′ ≡ cut (drop r path′) 0) where
+        module _ (y : e′ ≡ partEnd (drop r path′) 0) where
           pub link-on : walkOf (entriesOf s) (directoriesOf s) (set ms k (m + 2)) (drop r path′) e′ ≡ goesOn
           link-on = turn-link (isDirectory (directoriesOf s)) (known (entriesOf s) (directoriesOf s)) (openOf (entriesOf s) ms) (drop at path) e (long (x .before-end)) (leadText m (entryAt s i)) (x .no-directory) (hit .0) (openOf (entriesOf s) (set ms k (m + 2))) (drop r path′) e′ (hit .1) (j .is) y
 
@@ -132,7 +132,7 @@ pub record Over (ends : List ℕ → Bool) (ms₀ stage₀ path₀ : List ℕ) (
   pub marks-long : length ms ≡ length ms₀
   pub stage-long : length stage ≡ length stage₀
   pub path-long : length path ≡ length path₀
-  pub marks-fresh : map fresh (map lead ms) ≡ map fresh (map lead ms₀)
+  pub marks-fresh : map untraversed (map lead ms) ≡ map untraversed (map lead ms₀)
   pub verdicts-kept : map verdict ms ≡ map verdict ms₀
   pub stopped : e < length path - at → false ≡ answer
   pub ended : length path - at ≤ e → ends (drop at path) ≡ answer

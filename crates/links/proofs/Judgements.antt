@@ -2,7 +2,7 @@
 -- of rules in order (`rules`).
 use Prim.Native.Nat.{ℕ, _+_, _*_, _≤_}
 use mathlib.Core.Path.{_≡_, refl, sym, ap, _∙_}
-use mathlib.Core.Bool.{Bool, true, false, cond, not}
+use mathlib.Core.Bool.{Bool, true, false, cond, not, _&&_, _||_}
 use mathlib.Core.List.{List, [], _∷_, _++_}
 use native.Mathlib.Omega.{arith}
 use lib.Dec.{ltb}
@@ -17,14 +17,14 @@ use Rattle.types.specs.declared.refusal.UsizeResult.{UsizeResult}
 use Rattle.types.specs.declared.refusal.UsizeResult.the-variants as usize
 use Rattle.types.proofs.Refusals.{numbered}
 use Rattle.tables.specs.Model.{Store}
-use Rattle.rules.specs.Rules.{Rule, when, outcomeOf, both, either}
+use Rattle.rules.specs.Rules.{Rule, when, outcomeOf}
 use Rattle.rules.specs.Bounds.{badLength}
 use Rattle.rules.proofs.Rules.{passed, either-false, outcome-value, outcome-refused}
 use Rattle.rules.specs.Questions.{rowsHeld, dirsHeld, textHeld}
 use Rattle.lookup.specs.Lookup.{Entry, entriesOf, directoriesOf}
 use Rattle.lookup.specs.Space.{space, linkCount, lacksSpace}
 use Rattle.links.specs.Judging.{verdictOf, verdictsFor, verdicts, judgingNumber, Judged, judged}
-use Rattle.links.specs.Walking.{firstMarks}
+use Rattle.links.specs.private.Walking.{firstMarks}
 use Rattle.links.proofs.Marking.{length-marks}
 
 -- one verdict a flagged link
@@ -58,7 +58,7 @@ module _ (s : Store) where
     rules : List Rule
     rules =
         when (badLength (s .fs .«piece_length»)) 1 ∷
-        when (not (both (rowsHeld (s .fs) (s .rows)) (both (dirsHeld (s .fs) (s .dirs)) (textHeld (s .fs) (s .text))))) 10 ∷
+        when (not (rowsHeld (s .fs) (s .rows) && (dirsHeld (s .fs) (s .dirs) && textHeld (s .fs) (s .text)))) 10 ∷
         when (lacksSpace (entriesOf s) marks stage path) 10 ∷
         []
 
@@ -72,7 +72,7 @@ module _ (s : Store) where
     unfolding rules
     roomy e =
         let p = passed rules refl (sym e) in
-        let a = either-false (ltb marks (linkCount (entriesOf s))) (either (ltb stage (space (entriesOf s))) (ltb path (2 * space (entriesOf s)))) (p .1 .1 .0) in
+        let a = either-false (ltb marks (linkCount (entriesOf s))) (ltb stage (space (entriesOf s)) || ltb path (2 * space (entriesOf s))) (p .1 .1 .0) in
         let b = either-false (ltb stage (space (entriesOf s))) (ltb path (2 * space (entriesOf s))) (a .1) in
         record {
           marked = ltb-false marks (linkCount (entriesOf s)) (a .0);

@@ -2,7 +2,7 @@
 -- still to come. They rely on the definitions of Judging.antt.
 use Prim.Native.Nat.{ℕ, _+_}
 use mathlib.Core.Path.{_≡_, refl}
-use mathlib.Core.Bool.{Bool, true, false, cond, not, false≢true, true≢false}
+use mathlib.Core.Bool.{Bool, true, false, cond, not, false≢true, true≢false, _&&_}
 use mathlib.Core.List.{List, [], _∷_}
 use native.Mathlib.Omega.{arith}
 use native.Mathlib.Numerals.{add-one}
@@ -16,12 +16,11 @@ use Rattle.tables.specs.declared.rows.Row.{Row}
 use Rattle.tables.specs.Span.{textAt}
 use Rattle.tables.specs.Rows.{dirAt, has, isInside}
 use Rattle.tables.specs.Model.{single, absolute, stored, Store, directoryOf}
-use Rattle.rules.specs.Rules.{both}
 use Rattle.lookup.specs.Lookup.{Entry, Seen, nothing, file, link, fileAt, isDirectory, seenCode}
 use Rattle.lookup.specs.Space.{linkCount}
 use Rattle.lookup.proofs.Rows.{branchIn}
 use Rattle.links.specs.Judging.{settledMark, relativeMark, firstMark}
-use Rattle.links.specs.Walking.{firstMarks}
+use Rattle.links.specs.private.Walking.{firstMarks}
 
 -- ---- what stands at a path, by its number
 
@@ -58,12 +57,12 @@ module _ (b : Bool) (x : Seen) (other : ℕ) where
 
 -- by its directory: none, or one that its text is taken from
 module _ (files : List Entry) (ds : List (List ℕ)) (t : List ℕ) (other : ℕ) where
-  kinds-not : (a b : Bool) (d : List ℕ) (o : Bool) → both (not a) (not b) ≡ false → other ≡ relativeMark files ds (cond a single (cond b absolute (stored d o))) t other
+  kinds-not : (a b : Bool) (d : List ℕ) (o : Bool) → (not a && not b) ≡ false → other ≡ relativeMark files ds (cond a single (cond b absolute (stored d o))) t other
   kinds-not true b d o e = refl
   kinds-not false true d o e = refl
   kinds-not false false d o e = absurd (true≢false e)
 
-  kinds-in : (a b : Bool) (text : List ℕ) (c : Span) (y : List ℕ) (o : Bool) → both (not a) (not b) ≡ true → y ≡ appended (textAt text (cond (both (not a) (not b)) c (record { at = 0; len = 0 }))) t
+  kinds-in : (a b : Bool) (text : List ℕ) (c : Span) (y : List ℕ) (o : Bool) → (not a && not b) ≡ true → y ≡ appended (textAt text (cond (not a && not b) c (record { at = 0; len = 0 }))) t
       → settledMark (isDirectory ds y) (fileAt files y) other ≡ relativeMark files ds (cond a single (cond b absolute (stored (textAt text c) o))) t other
   kinds-in true b text c y o e q = absurd (false≢true e)
   kinds-in false true text c y o e q = absurd (false≢true e)

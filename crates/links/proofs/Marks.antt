@@ -12,11 +12,11 @@ use Rattle.lists.proofs.Equality.{equal-true}
 use Rattle.path.specs.Split.{isComplete}
 use Rattle.path.specs.Join.{appended}
 use Rattle.tables.specs.Model.{Directory, single, absolute, stored, pathIn}
-use Rattle.lookup.specs.Lookup.{Entry, own, isDirectory, Seen, nothing, file, link, fileAt}
+use Rattle.lookup.specs.Lookup.{Entry, ownPath, isDirectory, Seen, nothing, file, link, fileAt}
 use Rattle.lookup.specs.Space.{space}
 use Rattle.links.specs.Clean.{First, firstPass, direct, settled, relative, Link, Lead, none, to, leadAt, unless, linkOf, linksOf, weight}
 use Rattle.links.specs.Judging.{settledMark, directMark, relativeMark, firstMark}
-use Rattle.links.specs.Walking.{lead, firstMarks, leadText, leading, butLater, anyAt, opened, openOf, fresh, Ready}
+use Rattle.links.specs.private.Walking.{lead, firstMarks, leadText, leading, butLater, anyAt, openLink, openOf, untraversed, Ready}
 use Rattle.links.proofs.Room.{links-fit}
 
 -- a lead m says of a link what the first pass says
@@ -49,13 +49,13 @@ low-leads (suc (suc zero)) h = refl
 low-leads (suc (suc (suc m))) h = absurd (omega arith)
 
 -- one link more: it stands at p just where it is open there
-any-one : (f : Entry) (m : ℕ) (p : List ℕ) (ls : List Link) (any : List ℕ → Bool) → m ≤ 2 → any p ≡ isTo (leadAt ls p) → cond (ltb 0 m) (cond (equal (own f) p) true (any p)) (any p) ≡ isTo (leadAt (opened (butLater (any (own f)) (leading m)) m f ls) p)
-any-one f m p ls any h r = rw (low-leads m h) (go (leading m) (equal (own f) p) (any (own f)) refl refl)
+any-one : (f : Entry) (m : ℕ) (p : List ℕ) (ls : List Link) (any : List ℕ → Bool) → m ≤ 2 → any p ≡ isTo (leadAt ls p) → cond (ltb 0 m) (cond (equal (ownPath f) p) true (any p)) (any p) ≡ isTo (leadAt (openLink (butLater (any (ownPath f)) (leading m)) m f ls) p)
+any-one f m p ls any h r = rw (low-leads m h) (go (leading m) (equal (ownPath f) p) (any (ownPath f)) refl refl)
   where
-    at-own : equal (own f) p ≡ true → any (own f) ≡ true → true ≡ any p
-    at-own x y = sym (rw (equal-true (own f) p x) at y)
+    at-own : equal (ownPath f) p ≡ true → any (ownPath f) ≡ true → true ≡ any p
+    at-own x y = sym (rw (equal-true (ownPath f) p x) at y)
 
-    go : (l c a : Bool) → equal (own f) p ≡ c → any (own f) ≡ a → cond l (cond c true (any p)) (any p) ≡ isTo (leadAt (opened (butLater a l) m f ls) p)
+    go : (l c a : Bool) → equal (ownPath f) p ≡ c → any (ownPath f) ≡ a → cond l (cond c true (any p)) (any p) ≡ isTo (leadAt (openLink (butLater a l) m f ls) p)
     go false c true x y = r
     go false c false x y = r
     go true true true x y = at-own x y ∙ r
@@ -79,7 +79,7 @@ module _ (files : List Entry) (dirs : List (List ℕ)) where
       near absolute e = base
       near (stored d outside) e = settled-says f (isDirectory dirs (appended d (f .text))) (fileAt files (appended d (f .text))) (appended d (f .text)) other 25 (ap (λ (p : Directory). pathIn p (f .text)) e) base
 
-      go : (b : Bool) → Says f (cond b (record { text = own f; leads = false; walked = false }) (direct (fileAt files (f .text)) (isDirectory dirs (f .text)) (f .text) (relative files dirs (f .directory) (f .text) other))) (lead (cond b 8 (directMark (fileAt files (f .text)) (isDirectory dirs (f .text)) (relativeMark files dirs (f .directory) (f .text) 25))))
+      go : (b : Bool) → Says f (cond b (record { text = ownPath f; leads = false; walked = false }) (direct (fileAt files (f .text)) (isDirectory dirs (f .text)) (f .text) (relative files dirs (f .directory) (f .text) other))) (lead (cond b 8 (directMark (fileAt files (f .text)) (isDirectory dirs (f .text)) (relativeMark files dirs (f .directory) (f .text) 25))))
       go true = record { leads = refl; text = λ q. absurd (false≢true q) }
       go false = direct-says f (fileAt files (f .text)) (isDirectory dirs (f .text)) (relative files dirs (f .directory) (f .text) other) (relativeMark files dirs (f .directory) (f .text) 25) (near (f .directory) refl)
 
@@ -123,7 +123,7 @@ module _ (files : List Entry) (dirs : List (List ℕ)) where
       m : ℕ
       m = firstMark files dirs f
 
-      go : (b : Bool) → anyAt fs (map lead ms) p ≡ isTo (leadAt (openOf fs (map lead ms)) p) → cond b (cond (ltb 0 (getD (map lead (cond b (m ∷ ms) ms)) 0 0)) (cond (equal (own f) p) true (anyAt fs (drop 1 (map lead (cond b (m ∷ ms) ms))) p)) (anyAt fs (drop 1 (map lead (cond b (m ∷ ms) ms))) p)) (anyAt fs (map lead (cond b (m ∷ ms) ms)) p) ≡ isTo (leadAt (cond b (opened (butLater (anyAt fs (drop 1 (map lead (cond b (m ∷ ms) ms))) (own f)) (leading (getD (map lead (cond b (m ∷ ms) ms)) 0 0))) (getD (map lead (cond b (m ∷ ms) ms)) 0 0) f (openOf fs (drop 1 (map lead (cond b (m ∷ ms) ms))))) (openOf fs (map lead (cond b (m ∷ ms) ms)))) p)
+      go : (b : Bool) → anyAt fs (map lead ms) p ≡ isTo (leadAt (openOf fs (map lead ms)) p) → cond b (cond (ltb 0 (getD (map lead (cond b (m ∷ ms) ms)) 0 0)) (cond (equal (ownPath f) p) true (anyAt fs (drop 1 (map lead (cond b (m ∷ ms) ms))) p)) (anyAt fs (drop 1 (map lead (cond b (m ∷ ms) ms))) p)) (anyAt fs (map lead (cond b (m ∷ ms) ms)) p) ≡ isTo (leadAt (cond b (openLink (butLater (anyAt fs (drop 1 (map lead (cond b (m ∷ ms) ms))) (ownPath f)) (leading (getD (map lead (cond b (m ∷ ms) ms)) 0 0))) (getD (map lead (cond b (m ∷ ms) ms)) 0 0) f (openOf fs (drop 1 (map lead (cond b (m ∷ ms) ms))))) (openOf fs (map lead (cond b (m ∷ ms) ms)))) p)
       go true r = any-one f (lead m) p (openOf fs (map lead ms)) (anyAt fs (map lead ms)) (first-low f) r
       go false r = r
 
@@ -135,14 +135,14 @@ module _ (files : List Entry) (dirs : List (List ℕ)) where
       ms : List ℕ
       ms = firstMarks files dirs fs
 
-      open-one : (x : Lead) (r : First) (m : ℕ) (l : Bool) → leading m ≡ l → (l ≡ true → leadText m f ≡ r .text) → opened (butLater (isTo x) (leading m)) m f (openOf fs (map lead ms)) ≡ cond l (unless x (record { path = own f; text = r .text }) (openOf fs (map lead ms))) (openOf fs (map lead ms))
+      open-one : (x : Lead) (r : First) (m : ℕ) (l : Bool) → leading m ≡ l → (l ≡ true → leadText m f ≡ r .text) → openLink (butLater (isTo x) (leading m)) m f (openOf fs (map lead ms)) ≡ cond l (unless x (record { path = ownPath f; text = r .text }) (openOf fs (map lead ms))) (openOf fs (map lead ms))
       open-one none r m true e h = rw (e, h refl)
       open-one none r m false e h = rw e
       open-one (to t) r m true e h = refl
       open-one (to t) r m false e h = refl
 
-      go : (b : Bool) (r : First) (m : ℕ) → Says f r (lead m) → openOf fs (map lead ms) ≡ linksOf files dirs fs → cond b (opened (butLater (anyAt fs (drop 1 (map lead (cond b (m ∷ ms) ms))) (own f)) (leading (getD (map lead (cond b (m ∷ ms) ms)) 0 0))) (getD (map lead (cond b (m ∷ ms) ms)) 0 0) f (openOf fs (drop 1 (map lead (cond b (m ∷ ms) ms))))) (openOf fs (map lead (cond b (m ∷ ms) ms))) ≡ linkOf b (own f) r (linksOf files dirs fs)
-      go true r m s h = rw (any-open fs (own f)) (open-one (leadAt (openOf fs (map lead ms)) (own f)) r (lead m) (r .leads) (s .leads) (s .text) ∙ rw h)
+      go : (b : Bool) (r : First) (m : ℕ) → Says f r (lead m) → openOf fs (map lead ms) ≡ linksOf files dirs fs → cond b (openLink (butLater (anyAt fs (drop 1 (map lead (cond b (m ∷ ms) ms))) (ownPath f)) (leading (getD (map lead (cond b (m ∷ ms) ms)) 0 0))) (getD (map lead (cond b (m ∷ ms) ms)) 0 0) f (openOf fs (drop 1 (map lead (cond b (m ∷ ms) ms))))) (openOf fs (map lead (cond b (m ∷ ms) ms))) ≡ linkOf b (ownPath f) r (linksOf files dirs fs)
+      go true r m s h = rw (any-open fs (ownPath f)) (open-one (leadAt (openOf fs (map lead ms)) (ownPath f)) r (lead m) (r .leads) (s .leads) (s .text) ∙ rw h)
       go false r m s h = h
 
   -- with the first pass's leads, a stage of document 01's sum and a path of twice the sum, every text of a flagged link can be walked
@@ -155,20 +155,20 @@ module _ (files : List Entry) (dirs : List (List ℕ)) where
       }
 
   -- none of them is a use
-  fresh-first : (fs : List Entry) → map fresh (firstLeads fs) ≡ firstLeads fs
+  fresh-first : (fs : List Entry) → map untraversed (firstLeads fs) ≡ firstLeads fs
   fresh-first [] = refl
   fresh-first (f ∷ fs) = go (f .flagged) (fresh-first fs)
     where
-      low : (m : ℕ) → m ≤ 2 → fresh m ≡ m
+      low : (m : ℕ) → m ≤ 2 → untraversed m ≡ m
       low zero h = refl
       low (suc zero) h = refl
       low (suc (suc zero)) h = refl
       low (suc (suc (suc m))) h = absurd (omega arith)
 
-      go : (b : Bool) → map fresh (firstLeads fs) ≡ firstLeads fs → map fresh (map lead (cond b (firstMark files dirs f ∷ firstMarks files dirs fs) (firstMarks files dirs fs))) ≡ map lead (cond b (firstMark files dirs f ∷ firstMarks files dirs fs) (firstMarks files dirs fs))
+      go : (b : Bool) → map untraversed (firstLeads fs) ≡ firstLeads fs → map untraversed (map lead (cond b (firstMark files dirs f ∷ firstMarks files dirs fs) (firstMarks files dirs fs))) ≡ map lead (cond b (firstMark files dirs f ∷ firstMarks files dirs fs) (firstMarks files dirs fs))
       go true h = rw (low (lead (firstMark files dirs f)) (first-low f), h)
       go false h = h
 
   -- the leads that a walk left, without their use
-  pub leads-back : (ms ms′ : List ℕ) → ms ≡ firstLeads files → map fresh ms′ ≡ map fresh ms → map fresh ms′ ≡ ms
+  pub leads-back : (ms ms′ : List ℕ) → ms ≡ firstLeads files → map untraversed ms′ ≡ map untraversed ms → map untraversed ms′ ≡ ms
   leads-back ms ms′ e h = h ∙ rw e (fresh-first files)

@@ -6,7 +6,7 @@ use native.Mathlib.Omega.{arith}
 use native.Mathlib.Numerals.{add-one}
 use lib.ListN.{length, getD, set, take, drop, drop-of-length-le, length-map}
 use lib.Seq.{drop-cons, getD-at, set-at, take-suc, append-snoc, take-all, length-take-le, map-set-same}
-use Rattle.links.specs.Walking.{lead, verdict, fresh}
+use Rattle.links.specs.private.Walking.{lead, verdict, untraversed}
 
 -- ---- maps of marks
 
@@ -79,19 +79,19 @@ marks-from (x ∷ a) (y ∷ b) h k =
 
 -- ---- a lead without its use
 
-pub fresh-low : (m : ℕ) → m < 3 → m ≡ fresh m
+pub fresh-low : (m : ℕ) → m < 3 → m ≡ untraversed m
 fresh-low zero h = refl
 fresh-low (suc zero) h = refl
 fresh-low (suc (suc zero)) h = refl
 fresh-low (suc (suc (suc m))) h = absurd (omega arith)
 
-pub fresh-high : (m : ℕ) → 3 ≤ m → m - 2 ≡ fresh m
+pub fresh-high : (m : ℕ) → 3 ≤ m → m - 2 ≡ untraversed m
 fresh-high zero h = absurd (omega arith)
 fresh-high (suc zero) h = absurd (omega arith)
 fresh-high (suc (suc zero)) h = absurd (omega arith)
 fresh-high (suc (suc (suc m))) h = omega arith
 
-pub fresh-small : (m : ℕ) → fresh m ≤ m
+pub fresh-small : (m : ℕ) → untraversed m ≤ m
 fresh-small zero = omega arith
 fresh-small (suc zero) = omega arith
 fresh-small (suc (suc zero)) = omega arith

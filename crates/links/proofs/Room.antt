@@ -8,7 +8,7 @@ use lib.ListN.{length}
 use Rattle.path.specs.Split.{isComplete}
 use Rattle.path.specs.Join.{appended}
 use Rattle.tables.specs.Model.{Directory, single, absolute, stored}
-use Rattle.lookup.specs.Lookup.{Entry, own, Seen, nothing, file, link, fileAt, isDirectory}
+use Rattle.lookup.specs.Lookup.{Entry, ownPath, Seen, nothing, file, link, fileAt, isDirectory}
 use Rattle.lookup.specs.Space.{directoryLength, space}
 use Rattle.links.specs.Clean.{First, settled, direct, relative, firstPass, linkOf, linksOf, Lead, none, to, leadAt, unless, weight}
 use Rattle.links.proofs.Walk.{append-short}
@@ -48,7 +48,7 @@ module _ (files : List Entry) (dirs : List (List ℕ)) where
       near absolute e = base
       near (stored d outside) e = settled-fits f (isDirectory dirs (appended d (f .text))) (fileAt files (appended d (f .text))) (appended d (f .text)) other (omega (arith, append-short d (f .text), ap directoryLength e)) base
 
-      go : (b : Bool) → Fits f (cond b (record { text = own f; leads = false; walked = false }) (direct (fileAt files (f .text)) (isDirectory dirs (f .text)) (f .text) (relative files dirs (f .directory) (f .text) other)))
+      go : (b : Bool) → Fits f (cond b (record { text = ownPath f; leads = false; walked = false }) (direct (fileAt files (f .text)) (isDirectory dirs (f .text)) (f .text) (relative files dirs (f .directory) (f .text) other)))
       go true = record { leading = λ q. absurd (false≢true q); given = λ q. absurd (false≢true q) }
       go false = direct-fits f (fileAt files (f .text)) (isDirectory dirs (f .text)) (f .text) (relative files dirs (f .directory) (f .text) other) (omega arith) (near (f .directory) refl)
 
@@ -57,11 +57,11 @@ module _ (files : List Entry) (dirs : List (List ℕ)) where
   links-fit [] = omega arith
   links-fit (f ∷ fs) = go (f .flagged) (firstPass files dirs f) (first-fits f) (links-fit fs)
     where
-      add : (r : First) (l : Bool) (x : Lead) → Fits f r → r .leads ≡ l → weight (linksOf files dirs fs) ≤ space fs → weight (cond l (unless x (record { path = own f; text = r .text }) (linksOf files dirs fs)) (linksOf files dirs fs)) ≤ directoryLength (f .directory) + length (f .text) + 2 + space fs
+      add : (r : First) (l : Bool) (x : Lead) → Fits f r → r .leads ≡ l → weight (linksOf files dirs fs) ≤ space fs → weight (cond l (unless x (record { path = ownPath f; text = r .text }) (linksOf files dirs fs)) (linksOf files dirs fs)) ≤ directoryLength (f .directory) + length (f .text) + 2 + space fs
       add r true none h e k = omega (arith, h .leading e)
       add r true (to t) h e k = omega arith
       add r false x h e k = omega arith
 
-      go : (b : Bool) (r : First) → Fits f r → weight (linksOf files dirs fs) ≤ space fs → weight (linkOf b (own f) r (linksOf files dirs fs)) ≤ cond b (directoryLength (f .directory) + length (f .text) + 2) 0 + space fs
-      go true r h k = add r (r .leads) (leadAt (linksOf files dirs fs) (own f)) h refl k
+      go : (b : Bool) (r : First) → Fits f r → weight (linksOf files dirs fs) ≤ space fs → weight (linkOf b (ownPath f) r (linksOf files dirs fs)) ≤ cond b (directoryLength (f .directory) + length (f .text) + 2) 0 + space fs
+      go true r h k = add r (r .leads) (leadAt (linksOf files dirs fs) (ownPath f)) h refl k
       go false r h k = omega arith

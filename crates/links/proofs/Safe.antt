@@ -1,5 +1,5 @@
 -- Document 02 (xii): after a cleaning no flagged link's text is absolute, unless the link was added by an absolute path; and where a
--- text becomes the link's own path. These laws rely on those of proofs/Room.antt.
+-- text becomes the link's ownPath path. These laws rely on those of proofs/Room.antt.
 use Prim.Native.Nat.{ℕ}
 use mathlib.Core.Path.{_≡_, refl, ap, sym, _∙_}
 use mathlib.Core.Bool.{Bool, true, false, cond, true≢false}
@@ -7,7 +7,7 @@ use mathlib.Core.List.{List, [], _∷_, _++_}
 use Rattle.path.specs.Split.{isComplete}
 use Rattle.path.specs.Join.{isAlone, isEmpty, isClosed, appended}
 use Rattle.tables.specs.Model.{Directory, single, absolute, stored, pathIn}
-use Rattle.lookup.specs.Lookup.{Entry, own, Seen, nothing, file, link, fileAt, isDirectory}
+use Rattle.lookup.specs.Lookup.{Entry, ownPath, Seen, nothing, file, link, fileAt, isDirectory}
 use Rattle.links.specs.Clean.{First, settled, direct, relative, firstPass, linksOf, resolves, cleanText}
 use Rattle.links.proofs.Room.{first-fits}
 
@@ -29,8 +29,8 @@ Placed single n = isComplete n ≡ false
 Placed absolute n = isComplete n ≡ true
 Placed (stored d outside) n = (isComplete d ≡ false) × (isComplete n ≡ false)
 
--- the own path of a link that was not added by an absolute path
-own-relative : (f : Entry) → Placed (f .directory) (f .name) → (f .directory ≡ absolute → ⊥) → isComplete (own f) ≡ false
+-- the ownPath path of a link that was not added by an absolute path
+own-relative : (f : Entry) → Placed (f .directory) (f .name) → (f .directory ≡ absolute → ⊥) → isComplete (ownPath f) ≡ false
 own-relative f h r = go (f .directory) h r
   where
     go : (p : Directory) → Placed p (f .name) → (p ≡ absolute → ⊥) → isComplete (pathIn p (f .name)) ≡ false
@@ -63,7 +63,7 @@ module _ (files : List Entry) (dirs : List (List ℕ)) (f : Entry) (h : Placed (
       near absolute h k = k
       near (stored d outside) h k = settled-relative (isDirectory dirs (appended d (f .text))) (fileAt files (appended d (f .text))) (appended d (f .text)) other (append-relative d (f .text) (h .0) k) k
 
-      go : (b : Bool) → isComplete (f .text) ≡ b → isComplete (cond b (record { text = own f; leads = false; walked = false }) (direct (fileAt files (f .text)) (isDirectory dirs (f .text)) (f .text) (relative files dirs (f .directory) (f .text) other)) .text) ≡ false
+      go : (b : Bool) → isComplete (f .text) ≡ b → isComplete (cond b (record { text = ownPath f; leads = false; walked = false }) (direct (fileAt files (f .text)) (isDirectory dirs (f .text)) (f .text) (relative files dirs (f .directory) (f .text) other)) .text) ≡ false
       go true k = own-relative f h r
       go false k = direct-relative (fileAt files (f .text)) (isDirectory dirs (f .text)) (f .text) (relative files dirs (f .directory) (f .text) other) k (near (f .directory) h k)
 
@@ -71,25 +71,25 @@ module _ (files : List Entry) (dirs : List (List ℕ)) (f : Entry) (h : Placed (
   pub clean-relative : isComplete (cleanText files dirs f) ≡ false
   clean-relative = go (firstPass files dirs f .walked) (resolves files dirs (linksOf files dirs files) (firstPass files dirs f .text))
     where
-      go : (a b : Bool) → isComplete (cond a (cond b (firstPass files dirs f .text) (own f)) (firstPass files dirs f .text)) ≡ false
+      go : (a b : Bool) → isComplete (cond a (cond b (firstPass files dirs f .text) (ownPath f)) (firstPass files dirs f .text)) ≡ false
       go true true = first-relative
       go true false = own-relative f h r
       go false b = first-relative
 
--- ---- own paths
+-- ---- ownPath paths
 
--- why link f holds its own path after a cleaning: its text was that path, it was absolute, it named the link itself from the link's
+-- why link f holds its ownPath path after a cleaning: its text was that path, it was absolute, it named the link itself from the link's
 -- directory, or it was walked, and the walk stopped or ended at neither a file nor a directory
 pub data Own (files : List Entry) (dirs : List (List ℕ)) (f : Entry) : Type 0 where
-  was-own : f .text ≡ own f → Own files dirs f
+  was-own : f .text ≡ ownPath f → Own files dirs f
   was-absolute : isComplete (f .text) ≡ true → Own files dirs f
-  named-itself : pathIn (f .directory) (f .text) ≡ own f → Own files dirs f
+  named-itself : pathIn (f .directory) (f .text) ≡ ownPath f → Own files dirs f
   not-resolved : firstPass files dirs f .walked ≡ true → resolves files dirs (linksOf files dirs files) (f .text) ≡ false → Own files dirs f
 
 module _ (files : List Entry) (dirs : List (List ℕ)) (f : Entry) where
   -- what the first pass leaves and is not walked
   Left : First → Type 0
-  Left r = r .walked ≡ false → r .text ≡ own f → Own files dirs f
+  Left r = r .walked ≡ false → r .text ≡ ownPath f → Own files dirs f
 
   settled-own : (b : Bool) (s : Seen) (t : List ℕ) (o : First) → pathIn (f .directory) (f .text) ≡ t → Left o → Left (settled b s t o)
   unfolding Left
@@ -120,16 +120,16 @@ module _ (files : List Entry) (dirs : List (List ℕ)) (f : Entry) where
       near absolute e = none
       near (stored d outside) e = settled-own (isDirectory dirs (appended d (f .text))) (fileAt files (appended d (f .text))) (appended d (f .text)) other (ap (λ (x : Directory). pathIn x (f .text)) e) none
 
-      go : (b : Bool) → isComplete (f .text) ≡ b → Left (cond b (record { text = own f; leads = false; walked = false }) (direct (fileAt files (f .text)) (isDirectory dirs (f .text)) (f .text) (relative files dirs (f .directory) (f .text) other)))
+      go : (b : Bool) → isComplete (f .text) ≡ b → Left (cond b (record { text = ownPath f; leads = false; walked = false }) (direct (fileAt files (f .text)) (isDirectory dirs (f .text)) (f .text) (relative files dirs (f .directory) (f .text) other)))
       go true e = λ w q. was-absolute e
       go false e = direct-own (fileAt files (f .text)) (isDirectory dirs (f .text)) (relative files dirs (f .directory) (f .text) other) (near (f .directory) refl)
 
-  -- a text becomes the link's own path only so
-  pub clean-own : cleanText files dirs f ≡ own f → Own files dirs f
+  -- a text becomes the link's ownPath path only so
+  pub clean-own : cleanText files dirs f ≡ ownPath f → Own files dirs f
   unfolding Left
   clean-own q = go (firstPass files dirs f .walked) (resolves files dirs (linksOf files dirs files) (firstPass files dirs f .text)) refl refl q
     where
-      go : (a b : Bool) → firstPass files dirs f .walked ≡ a → resolves files dirs (linksOf files dirs files) (firstPass files dirs f .text) ≡ b → cond a (cond b (firstPass files dirs f .text) (own f)) (firstPass files dirs f .text) ≡ own f → Own files dirs f
+      go : (a b : Bool) → firstPass files dirs f .walked ≡ a → resolves files dirs (linksOf files dirs files) (firstPass files dirs f .text) ≡ b → cond a (cond b (firstPass files dirs f .text) (ownPath f)) (firstPass files dirs f .text) ≡ ownPath f → Own files dirs f
       go true true w e q = was-own (sym (first-fits files dirs f .given w) ∙ q)
       go true false w e q = not-resolved w (ap (resolves files dirs (linksOf files dirs files)) (sym (first-fits files dirs f .given w)) ∙ e)
       go false b w e q = first-own w q

@@ -13,12 +13,12 @@ use Rattle.lists.specs.Lists.{equal}
 use Rattle.lists.proofs.Equality.{equal-true}
 use Rattle.tables.specs.Rows.{rowAt}
 use Rattle.tables.specs.Model.{Store, internalPath}
-use Rattle.lookup.specs.Lookup.{Entry, own, isFlagged}
+use Rattle.lookup.specs.Lookup.{Entry, ownPath, isFlagged}
 use Rattle.lookup.specs.Space.{directoryLength, space}
-use Rattle.lookup.specs.Rows.{entryAt, entriesFrom}
+use Rattle.lookup.specs.private.Rows.{entryAt, entriesFrom}
 use Rattle.lookup.proofs.Rows.{flagged-at, own-at}
-use Rattle.links.specs.Clean.{Link, none, to, leadAt, without}
-use Rattle.links.specs.Walking.{anyAt, butLater, linkAt, leading, leadMark, leadText, opened, openOf, fresh}
+use Rattle.links.specs.Clean.{Link, none, to, leadAt, withoutLink}
+use Rattle.links.specs.private.Walking.{anyAt, butLater, linkAt, leading, leadMark, leadText, openLink, openOf, untraversed}
 
 -- ---- one link
 
@@ -42,14 +42,14 @@ mark-small (suc (suc (suc m))) h = absurd (false≢true h)
 pub record Here (f : Entry) (m : ℕ) (p : List ℕ) (later : Bool) (r : ℕ) : Type 0 where
   pub flag : f .flagged ≡ true
   pub leads : leading m ≡ true
-  pub at : equal (own f) p ≡ true
+  pub at : equal (ownPath f) p ≡ true
   pub last : later ≡ false
   pub is : r ≡ m
 
 pub here : (f : Entry) (m : ℕ) (p : List ℕ) (later : Bool) (r : ℕ) → r ≡ leadMark f m p later → (r ≡ 0 → ⊥) → Here f m p later r
-here f m p later r e z = go (f .flagged) (leading m) (equal (own f) p) later refl refl refl refl e
+here f m p later r e z = go (f .flagged) (leading m) (equal (ownPath f) p) later refl refl refl refl e
   where
-    go : (a b c d : Bool) → f .flagged ≡ a → leading m ≡ b → equal (own f) p ≡ c → later ≡ d → r ≡ cond a (cond b (cond c (cond d 0 m) 0) 0) 0 → Here f m p later r
+    go : (a b c d : Bool) → f .flagged ≡ a → leading m ≡ b → equal (ownPath f) p ≡ c → later ≡ d → r ≡ cond a (cond b (cond c (cond d 0 m) 0) 0) 0 → Here f m p later r
     go true true true false x y w v q = record { flag = x; leads = y; at = w; last = v; is = q }
     go true true true true x y w v q = absurd (z q)
     go true true false d x y w v q = absurd (z q)
@@ -69,10 +69,10 @@ leading-yes (suc zero) z h = refl
 leading-yes (suc (suc zero)) z h = refl
 leading-yes (suc (suc (suc m))) z h = absurd (omega arith)
 
--- a link's lead at p: none for a plain file, a link that does not lead on, one before a later one, one elsewhere; else its own
+-- a link's lead at p: none for a plain file, a link that does not lead on, one before a later one, one elsewhere; else its ownPath
 module _ (f : Entry) (m : ℕ) (p : List ℕ) (later : Bool) where
   pub mark-plain : f .flagged ≡ false → 0 ≡ leadMark f m p later
-  mark-plain h = sym (cond-no (cond (leading m) (cond (equal (own f) p) (cond later 0 m) 0) 0) 0 (f .flagged) h)
+  mark-plain h = sym (cond-no (cond (leading m) (cond (equal (ownPath f) p) (cond later 0 m) 0) 0) 0 (f .flagged) h)
 
   pub mark-off : leading m ≡ false → 0 ≡ leadMark f m p later
   mark-off h = rw h (go (f .flagged))
@@ -82,7 +82,7 @@ module _ (f : Entry) (m : ℕ) (p : List ℕ) (later : Bool) where
       go false = refl
 
   pub mark-before : later ≡ true → 0 ≡ leadMark f m p later
-  mark-before l = rw l (go (f .flagged) (leading m) (equal (own f) p))
+  mark-before l = rw l (go (f .flagged) (leading m) (equal (ownPath f) p))
     where
       go : (b c d : Bool) → _≡_ {A = ℕ} 0 (cond b (cond c (cond d 0 0) 0) 0)
       go true true true = refl
@@ -90,7 +90,7 @@ module _ (f : Entry) (m : ℕ) (p : List ℕ) (later : Bool) where
       go true false d = refl
       go false c d = refl
 
-  pub mark-there : equal (own f) p ≡ false → 0 ≡ leadMark f m p later
+  pub mark-there : equal (ownPath f) p ≡ false → 0 ≡ leadMark f m p later
   mark-there q = rw q (go (f .flagged) (leading m))
     where
       go : (b c : Bool) → _≡_ {A = ℕ} 0 (cond b (cond c 0 0) 0)
@@ -98,15 +98,15 @@ module _ (f : Entry) (m : ℕ) (p : List ℕ) (later : Bool) where
       go true false = refl
       go false c = refl
 
-  pub mark-here : f .flagged ≡ true → leading m ≡ true → equal (own f) p ≡ true → later ≡ false → m ≡ leadMark f m p later
-  mark-here h k q l = sym (cond-yes (cond (leading m) (cond (equal (own f) p) (cond later 0 m) 0) 0) 0 (f .flagged) h ∙ rw (k, q, l))
+  pub mark-here : f .flagged ≡ true → leading m ≡ true → equal (ownPath f) p ≡ true → later ≡ false → m ≡ leadMark f m p later
+  mark-here h k q l = sym (cond-yes (cond (leading m) (cond (equal (ownPath f) p) (cond later 0 m) 0) 0) 0 (f .flagged) h ∙ rw (k, q, l))
 
 -- ---- the scan of the links
 
 -- what is left of the scan finds the same link, and to close that link is to take it off the list
 pub record Scan (all rest : List Entry) (ms p : List ℕ) (k : ℕ) : Type 0 where
   pub same-lead : leadAt (openOf rest (drop k ms)) p ≡ leadAt (openOf all ms) p
-  pub closing : (ms′ : List ℕ) → take k ms′ ≡ take k ms → ((q : List ℕ) → anyAt rest (drop k ms′) q ≡ anyAt rest (drop k ms) q) → without p (openOf rest (drop k ms)) ≡ openOf rest (drop k ms′) → without p (openOf all ms) ≡ openOf all ms′
+  pub closing : (ms′ : List ℕ) → take k ms′ ≡ take k ms → ((q : List ℕ) → anyAt rest (drop k ms′) q ≡ anyAt rest (drop k ms) q) → withoutLink p (openOf rest (drop k ms)) ≡ openOf rest (drop k ms′) → withoutLink p (openOf all ms) ≡ openOf all ms′
 
 -- before the first link
 pub scan-start : (all : List Entry) (ms p : List ℕ) → Scan all all ms p 0
@@ -118,12 +118,12 @@ mark-zero zero h z = false≢true h
 mark-zero (suc m) h z = omega arith
 
 -- a link that isn't taken: it doesn't lead, a later one is at its path, or it is elsewhere
-skipped : (f : Entry) (m : ℕ) (p : List ℕ) (later : List ℕ → Bool) → 0 ≡ cond (leading m) (cond (equal (own f) p) (cond (later p) 0 m) 0) 0 → butLater (later (own f)) (leading m) ≡ true → equal (own f) p ≡ false
-skipped f m p later e h = go (leading m) (equal (own f) p) (later (own f)) refl refl refl e h
+skipped : (f : Entry) (m : ℕ) (p : List ℕ) (later : List ℕ → Bool) → 0 ≡ cond (leading m) (cond (equal (ownPath f) p) (cond (later p) 0 m) 0) 0 → butLater (later (ownPath f)) (leading m) ≡ true → equal (ownPath f) p ≡ false
+skipped f m p later e h = go (leading m) (equal (ownPath f) p) (later (ownPath f)) refl refl refl e h
   where
-    go : (b c d : Bool) → leading m ≡ b → equal (own f) p ≡ c → later (own f) ≡ d → 0 ≡ cond b (cond c (cond (later p) 0 m) 0) 0 → butLater d b ≡ true → equal (own f) p ≡ false
+    go : (b c d : Bool) → leading m ≡ b → equal (ownPath f) p ≡ c → later (ownPath f) ≡ d → 0 ≡ cond b (cond c (cond (later p) 0 m) 0) 0 → butLater d b ≡ true → equal (ownPath f) p ≡ false
     go true true false x y v q h =
-        let w : later p ≡ false = rw (equal-true (own f) p y) at v in
+        let w : later p ≡ false = rw (equal-true (ownPath f) p y) at v in
         absurd (mark-zero m x (sym (rw w at q)))
     go true true true x y v q h = absurd (false≢true h)
     go true false d x y v q h = y
@@ -131,11 +131,11 @@ skipped f m p later e h = go (leading m) (equal (own f) p) (later (own f)) refl 
     go false c false x y v q h = absurd (false≢true h)
 
 -- past such a link: the same link is found, and the same one taken off
-skip-lead : (f : Entry) (m : ℕ) (p : List ℕ) (ls : List Link) (b : Bool) → (b ≡ true → equal (own f) p ≡ false) → leadAt (opened b m f ls) p ≡ leadAt ls p
+skip-lead : (f : Entry) (m : ℕ) (p : List ℕ) (ls : List Link) (b : Bool) → (b ≡ true → equal (ownPath f) p ≡ false) → leadAt (openLink b m f ls) p ≡ leadAt ls p
 skip-lead f m p ls false h = refl
 skip-lead f m p ls true h = rw (h refl)
 
-skip-without : (f : Entry) (m : ℕ) (p : List ℕ) (ls ls′ : List Link) (b : Bool) → (b ≡ true → equal (own f) p ≡ false) → without p ls ≡ ls′ → without p (opened b m f ls) ≡ opened b m f ls′
+skip-without : (f : Entry) (m : ℕ) (p : List ℕ) (ls ls′ : List Link) (b : Bool) → (b ≡ true → equal (ownPath f) p ≡ false) → withoutLink p ls ≡ ls′ → withoutLink p (openLink b m f ls) ≡ openLink b m f ls′
 skip-without f m p ls ls′ false h q = q
 skip-without f m p ls ls′ true h q = rw (h refl, q)
 
@@ -147,18 +147,18 @@ getD-here : (ms : List ℕ) (k : ℕ) → getD (drop k ms) 0 0 ≡ getD ms k 0
 getD-here ms k = getD-drop k ms 0 0 ∙ (let q : k + 0 ≡ k = omega arith in rw q)
 
 -- the open links from file f on: f is a flagged link, or it is not
-open-yes : (f : Entry) (rest : List Entry) (ms : List ℕ) (k : ℕ) → f .flagged ≡ true → openOf (f ∷ rest) (drop k ms) ≡ opened (butLater (anyAt rest (drop (k + 1) ms) (own f)) (leading (getD ms k 0))) (getD ms k 0) f (openOf rest (drop (k + 1) ms))
-open-yes f rest ms k b = cond-yes (opened (butLater (anyAt rest (drop 1 (drop k ms)) (own f)) (leading (getD (drop k ms) 0 0))) (getD (drop k ms) 0 0) f (openOf rest (drop 1 (drop k ms)))) (openOf rest (drop k ms)) (f .flagged) b ∙ rw (getD-here ms k, drop-one ms k)
+open-yes : (f : Entry) (rest : List Entry) (ms : List ℕ) (k : ℕ) → f .flagged ≡ true → openOf (f ∷ rest) (drop k ms) ≡ openLink (butLater (anyAt rest (drop (k + 1) ms) (ownPath f)) (leading (getD ms k 0))) (getD ms k 0) f (openOf rest (drop (k + 1) ms))
+open-yes f rest ms k b = cond-yes (openLink (butLater (anyAt rest (drop 1 (drop k ms)) (ownPath f)) (leading (getD (drop k ms) 0 0))) (getD (drop k ms) 0 0) f (openOf rest (drop 1 (drop k ms)))) (openOf rest (drop k ms)) (f .flagged) b ∙ rw (getD-here ms k, drop-one ms k)
 
 open-no : (f : Entry) (rest : List Entry) (ms : List ℕ) → f .flagged ≡ false → openOf (f ∷ rest) ms ≡ openOf rest ms
-open-no f rest ms b = cond-no (opened (butLater (anyAt rest (drop 1 ms) (own f)) (leading (getD ms 0 0))) (getD ms 0 0) f (openOf rest (drop 1 ms))) (openOf rest ms) (f .flagged) b
+open-no f rest ms b = cond-no (openLink (butLater (anyAt rest (drop 1 ms) (ownPath f)) (leading (getD ms 0 0))) (getD ms 0 0) f (openOf rest (drop 1 ms))) (openOf rest ms) (f .flagged) b
 
 -- whether a link stands at a path, from file f on: f is a flagged link, or it is not
-any-yes : (f : Entry) (rest : List Entry) (ms q : List ℕ) (k : ℕ) → f .flagged ≡ true → anyAt (f ∷ rest) (drop k ms) q ≡ cond (ltb 0 (getD ms k 0)) (cond (equal (own f) q) true (anyAt rest (drop (k + 1) ms) q)) (anyAt rest (drop (k + 1) ms) q)
-any-yes f rest ms q k b = cond-yes (cond (ltb 0 (getD (drop k ms) 0 0)) (cond (equal (own f) q) true (anyAt rest (drop 1 (drop k ms)) q)) (anyAt rest (drop 1 (drop k ms)) q)) (anyAt rest (drop k ms) q) (f .flagged) b ∙ rw (getD-here ms k, drop-one ms k)
+any-yes : (f : Entry) (rest : List Entry) (ms q : List ℕ) (k : ℕ) → f .flagged ≡ true → anyAt (f ∷ rest) (drop k ms) q ≡ cond (ltb 0 (getD ms k 0)) (cond (equal (ownPath f) q) true (anyAt rest (drop (k + 1) ms) q)) (anyAt rest (drop (k + 1) ms) q)
+any-yes f rest ms q k b = cond-yes (cond (ltb 0 (getD (drop k ms) 0 0)) (cond (equal (ownPath f) q) true (anyAt rest (drop 1 (drop k ms)) q)) (anyAt rest (drop 1 (drop k ms)) q)) (anyAt rest (drop k ms) q) (f .flagged) b ∙ rw (getD-here ms k, drop-one ms k)
 
 any-no : (f : Entry) (rest : List Entry) (ms q : List ℕ) → f .flagged ≡ false → anyAt (f ∷ rest) ms q ≡ anyAt rest ms q
-any-no f rest ms q b = cond-no (cond (ltb 0 (getD ms 0 0)) (cond (equal (own f) q) true (anyAt rest (drop 1 ms) q)) (anyAt rest (drop 1 ms) q)) (anyAt rest ms q) (f .flagged) b
+any-no f rest ms q b = cond-no (cond (ltb 0 (getD ms 0 0)) (cond (equal (ownPath f) q) true (anyAt rest (drop 1 ms) q)) (anyAt rest (drop 1 ms) q)) (anyAt rest ms q) (f .flagged) b
 
 -- ---- the search for a later link
 
@@ -176,7 +176,7 @@ any-turn f rest ms p k j e q = go (f .flagged) refl q
     here-not false c h = refl
 
     go : (b : Bool) → f .flagged ≡ b → j ≡ cond b 1 0 → anyAt rest (drop (k + j) ms) p ≡ anyAt (f ∷ rest) (drop k ms) p
-    go true b i = rw i (here-not (ltb 0 (getD ms k 0)) (equal (own f) p) (e ∙ cond-yes (cond (ltb 0 (getD ms k 0)) (equal (own f) p) false) false (f .flagged) b) ∙ sym (any-yes f rest ms p k b))
+    go true b i = rw i (here-not (ltb 0 (getD ms k 0)) (equal (ownPath f) p) (e ∙ cond-yes (cond (ltb 0 (getD ms k 0)) (equal (ownPath f) p) false) false (f .flagged) b) ∙ sym (any-yes f rest ms p k b))
     go false b i = let n : k + 0 ≡ k = omega arith in rw (i, n) (sym (any-no f rest (drop k ms) p b))
 
 -- at f
@@ -189,8 +189,8 @@ any-hit f rest ms p k e = go (f .flagged) refl
     here-is false c h = absurd (true≢false h)
 
     go : (b : Bool) → f .flagged ≡ b → anyAt (f ∷ rest) (drop k ms) p ≡ true
-    go true b = any-yes f rest ms p k b ∙ here-is (ltb 0 (getD ms k 0)) (equal (own f) p) (e ∙ cond-yes (cond (ltb 0 (getD ms k 0)) (equal (own f) p) false) false (f .flagged) b)
-    go false b = absurd (true≢false (e ∙ cond-no (cond (ltb 0 (getD ms k 0)) (equal (own f) p) false) false (f .flagged) b))
+    go true b = any-yes f rest ms p k b ∙ here-is (ltb 0 (getD ms k 0)) (equal (ownPath f) p) (e ∙ cond-yes (cond (ltb 0 (getD ms k 0)) (equal (ownPath f) p) false) false (f .flagged) b)
+    go false b = absurd (true≢false (e ∙ cond-no (cond (ltb 0 (getD ms k 0)) (equal (ownPath f) p) false) false (f .flagged) b))
 
 -- the first k + 1 of two lists are the same
 take-more : (k : ℕ) (a b : List ℕ) → take (k + 1) a ≡ take (k + 1) b → (take k a ≡ take k b) × (getD a k 0 ≡ getD b k 0)
@@ -207,40 +207,40 @@ scan-turn all f rest ms p k j e q s = go (f .flagged) refl q
   where
     go : (b : Bool) → f .flagged ≡ b → j ≡ cond b 1 0 → Scan all rest ms p (k + j)
     go true b i =
-        let z : 0 ≡ cond (leading (getD ms k 0)) (cond (equal (own f) p) (cond (anyAt rest (drop (k + 1) ms) p) 0 (getD ms k 0)) 0) 0 = e ∙ cond-yes (cond (leading (getD ms k 0)) (cond (equal (own f) p) (cond (anyAt rest (drop (k + 1) ms) p) 0 (getD ms k 0)) 0) 0) 0 (f .flagged) b in
+        let z : 0 ≡ cond (leading (getD ms k 0)) (cond (equal (ownPath f) p) (cond (anyAt rest (drop (k + 1) ms) p) 0 (getD ms k 0)) 0) 0 = e ∙ cond-yes (cond (leading (getD ms k 0)) (cond (equal (ownPath f) p) (cond (anyAt rest (drop (k + 1) ms) p) 0 (getD ms k 0)) 0) 0) 0 (f .flagged) b in
         let y = skipped f (getD ms k 0) p (anyAt rest (drop (k + 1) ms)) z in
         let x : leadAt (openOf (f ∷ rest) (drop k ms)) p ≡ leadAt (openOf rest (drop (k + 1) ms)) p =
-        ap (λ (l : List Link). leadAt l p) (open-yes f rest ms k b) ∙ skip-lead f (getD ms k 0) p (openOf rest (drop (k + 1) ms)) (butLater (anyAt rest (drop (k + 1) ms) (own f)) (leading (getD ms k 0))) y in
+        ap (λ (l : List Link). leadAt l p) (open-yes f rest ms k b) ∙ skip-lead f (getD ms k 0) p (openOf rest (drop (k + 1) ms)) (butLater (anyAt rest (drop (k + 1) ms) (ownPath f)) (leading (getD ms k 0))) y in
         rw i
         (record {
           same-lead = sym x ∙ s .same-lead;
           closing = λ ms′ t a w.
               s .closing ms′ (take-more k ms′ ms t .0)
               (λ q. any-yes f rest ms′ q k b ∙ rw (take-more k ms′ ms t .1, a q) (sym (any-yes f rest ms q k b)))
-              (ap (without p) (open-yes f rest ms k b)
-              ∙ skip-without f (getD ms k 0) p (openOf rest (drop (k + 1) ms)) (openOf rest (drop (k + 1) ms′)) (butLater (anyAt rest (drop (k + 1) ms) (own f)) (leading (getD ms k 0))) y w
-              ∙ sym (open-yes f rest ms′ k b ∙ rw (take-more k ms′ ms t .1, a (own f))));
+              (ap (withoutLink p) (open-yes f rest ms k b)
+              ∙ skip-without f (getD ms k 0) p (openOf rest (drop (k + 1) ms)) (openOf rest (drop (k + 1) ms′)) (butLater (anyAt rest (drop (k + 1) ms) (ownPath f)) (leading (getD ms k 0))) y w
+              ∙ sym (open-yes f rest ms′ k b ∙ rw (take-more k ms′ ms t .1, a (ownPath f))));
         })
     go false b i =
         let n : k + 0 ≡ k = omega arith in
         rw (i, n)
         (record {
           same-lead = sym (ap (λ (l : List Link). leadAt l p) (open-no f rest (drop k ms) b)) ∙ s .same-lead;
-          closing = λ ms′ t a w. s .closing ms′ t (λ q. any-no f rest (drop k ms′) q b ∙ a q ∙ sym (any-no f rest (drop k ms) q b)) (ap (without p) (open-no f rest (drop k ms) b) ∙ w ∙ sym (open-no f rest (drop k ms′) b));
+          closing = λ ms′ t a w. s .closing ms′ t (λ q. any-no f rest (drop k ms′) q b ∙ a q ∙ sym (any-no f rest (drop k ms) q b)) (ap (withoutLink p) (open-no f rest (drop k ms) b) ∙ w ∙ sym (open-no f rest (drop k ms′) b));
         })
 
 -- at a link that stands at p
-pub scan-hit : (all : List Entry) (f : Entry) (rest : List Entry) (ms p : List ℕ) (k v : ℕ) → Here f (getD ms k 0) p (anyAt rest (drop (k + 1) ms) p) (getD ms k 0) → k < length ms → leading v ≡ false → ltb 0 v ≡ true → Scan all (f ∷ rest) ms p k → (leadAt (openOf all ms) p ≡ to (leadText (getD ms k 0) f)) × (without p (openOf all ms) ≡ openOf all (set ms k v))
+pub scan-hit : (all : List Entry) (f : Entry) (rest : List Entry) (ms p : List ℕ) (k v : ℕ) → Here f (getD ms k 0) p (anyAt rest (drop (k + 1) ms) p) (getD ms k 0) → k < length ms → leading v ≡ false → ltb 0 v ≡ true → Scan all (f ∷ rest) ms p k → (leadAt (openOf all ms) p ≡ to (leadText (getD ms k 0) f)) × (withoutLink p (openOf all ms) ≡ openOf all (set ms k v))
 scan-hit all f rest ms p k v h b z g s =
-    let at : own f ≡ p = equal-true (own f) p (h .at) in
-    let l : anyAt rest (drop (k + 1) ms) (own f) ≡ false = rw at (h .last) in
+    let at : ownPath f ≡ p = equal-true (ownPath f) p (h .at) in
+    let l : anyAt rest (drop (k + 1) ms) (ownPath f) ≡ false = rw at (h .last) in
     let y : ltb 0 (getD ms k 0) ≡ true = lt-ltb 0 (getD ms k 0) (pos (getD ms k 0) (h .leads)) in
-    let o : openOf (f ∷ rest) (drop k ms) ≡ opened true (getD ms k 0) f (openOf rest (drop (k + 1) ms)) = open-yes f rest ms k (h .flag) ∙ rw (l, h .leads) in
+    let o : openOf (f ∷ rest) (drop k ms) ≡ openLink true (getD ms k 0) f (openOf rest (drop (k + 1) ms)) = open-yes f rest ms k (h .flag) ∙ rw (l, h .leads) in
     let d : drop (k + 1) (set ms k v) ≡ drop (k + 1) ms = drop-set-lt (k + 1) ms k v (omega arith) in (
       sym (s .same-lead) ∙ ap (λ (x : List Link). leadAt x p) o ∙ rw (h .at),
       s .closing (set ms k v) (take-set-le k ms k v (omega arith))
           (λ q. any-yes f rest (set ms k v) q k (h .flag) ∙ rw (getD-set-same ms k v 0 b, g, d) (sym (any-yes f rest ms q k (h .flag) ∙ rw y)))
-          (ap (without p) o ∙ rw (h .at) (sym (open-yes f rest (set ms k v) k (h .flag) ∙ rw (getD-set-same ms k v 0 b, z, d, l)))),
+          (ap (withoutLink p) o ∙ rw (h .at) (sym (open-yes f rest (set ms k v) k (h .flag) ∙ rw (getD-set-same ms k v 0 b, z, d, l)))),
     )
   where
     pos : (m : ℕ) → leading m ≡ true → 0 < m
@@ -276,7 +276,7 @@ used-off (suc zero) h = refl
 used-off (suc (suc zero)) h = refl
 used-off (suc (suc (suc m))) h = absurd (false≢true h)
 
-pub used-fresh : (m : ℕ) → leading m ≡ true → fresh (m + 2) ≡ fresh m
+pub used-fresh : (m : ℕ) → leading m ≡ true → untraversed (m + 2) ≡ untraversed m
 used-fresh zero h = absurd (false≢true h)
 used-fresh (suc zero) h = refl
 used-fresh (suc (suc zero)) h = refl

@@ -7,14 +7,14 @@ use lib.Dec.{eqb}
 use Rattle.path.specs.Split.{isComplete}
 use Rattle.path.specs.Join.{appended}
 use Rattle.tables.specs.Model.{Directory, single, absolute, stored, pathIn}
-use Rattle.lookup.specs.Lookup.{Entry, own, isDirectory, Seen, nothing, file, link, fileAt}
+use Rattle.lookup.specs.Lookup.{Entry, ownPath, isDirectory, Seen, nothing, file, link, fileAt}
 use Rattle.links.specs.Clean.{First, settled, direct, relative, firstPass, linksOf, resolves, cleanText}
 use Rattle.links.specs.Judging.{settledMark, directMark, relativeMark, firstMark, verdictOf, textBy}
 
 -- mark m and the first pass's r say the same of link f: the text then, where `goes` says whether a walked text leads on
 Tells : (List ℕ → Bool) → Entry → ℕ → First → Type 0
 Tells goes f m r =
-    textBy (cond (eqb (m / 8) 3) (cond (goes (f .text)) 0 1) (m / 8)) f ≡ cond (r .walked) (cond (goes (r .text)) (r .text) (own f)) (r .text)
+    textBy (cond (eqb (m / 8) 3) (cond (goes (f .text)) 0 1) (m / 8)) f ≡ cond (r .walked) (cond (goes (r .text)) (r .text) (ownPath f)) (r .text)
 
 module _ (goes : List ℕ → Bool) (f : Entry) where
   -- a text that is walked
@@ -22,7 +22,7 @@ module _ (goes : List ℕ → Bool) (f : Entry) where
   unfolding Tells
   walked-tells = at (goes (f .text))
     where
-      at : (b : Bool) → textBy (cond b 0 1) f ≡ cond b (f .text) (own f)
+      at : (b : Bool) → textBy (cond b 0 1) f ≡ cond b (f .text) (ownPath f)
       at true = refl
       at false = refl
 
@@ -58,7 +58,7 @@ module _ (goes : List ℕ → Bool) (f : Entry) where
     first-tells = at (isComplete (f .text))
       where
         at : (b : Bool) → Tells goes f (cond b 8 (directMark (fileAt files (f .text)) (isDirectory dirs (f .text)) (relativeMark files dirs (f .directory) (f .text) 25)))
-            (cond b (record { text = own f; leads = false; walked = false }) (direct (fileAt files (f .text)) (isDirectory dirs (f .text)) (f .text) (relative files dirs (f .directory) (f .text) other)))
+            (cond b (record { text = ownPath f; leads = false; walked = false }) (direct (fileAt files (f .text)) (isDirectory dirs (f .text)) (f .text) (relative files dirs (f .directory) (f .text) other)))
         at true = refl
         at false =
             direct-tells (fileAt files (f .text)) (isDirectory dirs (f .text)) (relativeMark files dirs (f .directory) (f .text) 25)

@@ -10,7 +10,7 @@ use lib.Dec.{ltb}
 use borrow.Author.Tests.{ltb-true}
 use Rattle.lists.specs.Lists.{equal}
 use Rattle.path.specs.Join.{isEmpty, isAlone, isClosed, glued, combined, appended}
-use Rattle.links.specs.Clean.{cut, Link, Lead, none, to, leadAt, without, Next, stop, done, on, further, through, step, follow, walk, weight, left, goes}
+use Rattle.links.specs.Clean.{partEnd, Link, Lead, none, to, leadAt, withoutLink, Next, stop, done, on, further, through, step, follow, walk, weight, left, goes}
 
 -- `glued` is no longer than its parts and one separator
 glue-short : (c : Bool) (a b : List ℕ) → length (a ++ cond c b (47 ∷ b)) ≤ length a + suc (length b)
@@ -36,11 +36,11 @@ append-short a b = go (isAlone a) (isEmpty b)
     go false false = glue-short (isClosed a) a b
 
 -- a traversed link takes its text and one more off the weight
-pub lead-less : (ls : List Link) (p t : List ℕ) → leadAt ls p ≡ to t → suc (length t) + weight (without p ls) ≤ weight ls
+pub lead-less : (ls : List Link) (p t : List ℕ) → leadAt ls p ≡ to t → suc (length t) + weight (withoutLink p ls) ≤ weight ls
 lead-less [] p t h = absurd (let z : _≡_ {A = ℕ} 0 1 = cc in omega arith)
 lead-less (l ∷ ls) p t h = go (equal (l .path) p) (λ q. lead-less ls p t q) h
   where
-    go : (b : Bool) → (leadAt ls p ≡ to t → suc (length t) + weight (without p ls) ≤ weight ls) → cond b (to (l .text)) (leadAt ls p) ≡ to t → suc (length t) + weight (cond b ls (l ∷ without p ls)) ≤ suc (length (l .text)) + weight ls
+    go : (b : Bool) → (leadAt ls p ≡ to t → suc (length t) + weight (withoutLink p ls) ≤ weight ls) → cond b (to (l .text)) (leadAt ls p) ≡ to t → suc (length t) + weight (cond b ls (l ∷ withoutLink p ls)) ≤ suc (length (l .text)) + weight ls
     go true r q = let e : l .text ≡ t = cc in omega (arith, ap length e)
     go false r q = omega (arith, r q)
 
@@ -57,7 +57,7 @@ further-less ls p e n ls′ p′ e′ h q = go (ltb e n) refl q
 through-less : (x : Lead) (ls : List Link) (p : List ℕ) (e : ℕ) (ls′ : List Link) (p′ : List ℕ) (e′ : ℕ) → e < length p → leadAt ls (take e p) ≡ x → through x ls p e ≡ on ls′ p′ e′ → left ls′ p′ e′ < left ls p e
 through-less none ls p e ls′ p′ e′ h x q = absurd (let z : _≡_ {A = ℕ} 0 1 = cc in omega arith)
 through-less (to t) ls p e ls′ p′ e′ h x q =
-    let i : without (take e p) ls ≡ ls′ = cc in
+    let i : withoutLink (take e p) ls ≡ ls′ = cc in
     let j : combined t (drop (e + 1) p) ≡ p′ = cc in
     let w = lead-less ls (take e p) t x in
     let s = combine-short t (drop (e + 1) p) in
@@ -69,8 +69,8 @@ pub step-less : (dir : List ℕ → Bool) (ls : List Link) (p : List ℕ) (e : �
 unfolding step
 step-less dir ls p e ls′ p′ e′ q = go (ltb e (length p)) (dir (take e p)) refl q
   where
-    go : (b d : Bool) → ltb e (length p) ≡ b → cond b (cond d (further ls p e (cut p (e + 1))) (through (leadAt ls (take e p)) ls p e)) done ≡ on ls′ p′ e′ → left ls′ p′ e′ < left ls p e
-    go true true b q = further-less ls p e (cut p (e + 1)) ls′ p′ e′ (ltb-true e (length p) b) q
+    go : (b d : Bool) → ltb e (length p) ≡ b → cond b (cond d (further ls p e (partEnd p (e + 1))) (through (leadAt ls (take e p)) ls p e)) done ≡ on ls′ p′ e′ → left ls′ p′ e′ < left ls p e
+    go true true b q = further-less ls p e (partEnd p (e + 1)) ls′ p′ e′ (ltb-true e (length p) b) q
     go true false b q = through-less (leadAt ls (take e p)) ls p e ls′ p′ e′ (ltb-true e (length p) b) refl q
     go false d b q = absurd (let z : _≡_ {A = ℕ} 0 1 = cc in omega arith)
 

@@ -13,7 +13,7 @@ use lib.Seq.{take-all, getD-drop, drop-drop, drop-set-lt, map-set-same, take-suc
 use Rattle.lookup.specs.Lookup.{Entry}
 use Rattle.links.specs.Clean.{linksOf, resolves}
 use Rattle.links.specs.Judging.{firstMark, verdictOf, verdictsFor}
-use Rattle.links.specs.Walking.{lead, verdict, firstMarks, walkedMark}
+use Rattle.links.specs.private.Walking.{lead, verdict, firstMarks, walkedMark}
 use Rattle.links.proofs.Packed.{map-set}
 use Rattle.links.proofs.Scans.{cond-yes, cond-no}
 

@@ -1,4 +1,4 @@
--- What the writers of the work space are proved by: a text written over a buffer, the text by which a link leads, and a text that
+-- What the writers of the work space are proved by: a text written overwritten a buffer, the text by which a link leads, and a text that
 -- takes the place of a path's first part. These laws rely on those of `lookup` about rows.
 use Prim.Native.Nat.{ℕ, zero, suc, _+_, _-_, _<_, _≤_}
 use mathlib.Core.Path.{_≡_, refl, ap, _∙_}
@@ -12,21 +12,21 @@ use borrow.Author.Tests.{le-ltb}
 use Rattle.path.specs.Join.{isAlone, isClosed, appended, combined}
 use Rattle.tables.specs.Model.{Store}
 use Rattle.lookup.specs.Space.{directoryLength}
-use Rattle.lookup.specs.Rows.{entryAt, rowText, rowBranch}
+use Rattle.lookup.specs.private.Rows.{entryAt, rowText, rowBranch}
 use Rattle.lookup.proofs.Rows.{branchAt, text-at, beside-at, length-at}
-use Rattle.links.specs.Walking.{rowLead, leadText, over, Holds, Joined}
+use Rattle.links.specs.private.Walking.{rowLead, leadText, overwritten, StandsIn, JoinedAt}
 
--- ---- a text written over a buffer
+-- ---- a text written overwritten a buffer
 
-length-over : (b : List ℕ) (at : ℕ) (t : List ℕ) → at + length t ≤ length b → length (over b at t) ≡ length b
+length-over : (b : List ℕ) (at : ℕ) (t : List ℕ) → at + length t ≤ length b → length (overwritten b at t) ≡ length b
 length-over b at t h = simp (length-append, length-take, length-drop) (omega arith)
 
 -- what stands from `at` on
-pub drop-over : (b : List ℕ) (at : ℕ) (t : List ℕ) → at ≤ length b → drop at (over b at t) ≡ t ++ drop (at + length t) b
+pub drop-over : (b : List ℕ) (at : ℕ) (t : List ℕ) → at ≤ length b → drop at (overwritten b at t) ≡ t ++ drop (at + length t) b
 drop-over b at t h = drop-at (take at b) (t ++ drop (at + length t) b) at (length-take-le at b h)
 
 -- written at the front
-pub holds : (b t b′ x : List ℕ) (r : ℕ) → r ≡ length t → length t ≤ length b → b′ ≡ over b 0 t → t ≡ x → Holds b′ r x
+pub holds : (b t b′ x : List ℕ) (r : ℕ) → r ≡ length t → length t ≤ length b → b′ ≡ overwritten b 0 t → t ≡ x → StandsIn b′ r x
 holds b t b′ x r l h e q =
     record {
       long = l ∙ ap length q;
@@ -35,7 +35,7 @@ holds b t b′ x r l h e q =
     }
 
 -- written at the end
-pub tail-is : (b t b′ : List ℕ) (at : ℕ) → length t ≤ length b → at ≡ length b - length t → b′ ≡ over b at t → drop at b′ ≡ t
+pub tail-is : (b t b′ : List ℕ) (at : ℕ) → length t ≤ length b → at ≡ length b - length t → b′ ≡ overwritten b at t → drop at b′ ≡ t
 tail-is b t b′ at h e q = rw q (drop-over b at t (omega arith) ∙ rw (drop-of-length-le b {i = at + length t} (omega arith), append-nil))
 
 -- ---- the text by which a link leads
@@ -72,12 +72,12 @@ module _ (b : List ℕ) (at e : ℕ) (t b′ : List ℕ) (r : ℕ) (h : at + e <
   behind = drop-drop (e + 1) at b ∙ (let q : at + (e + 1) ≡ at + e + 1 = omega arith in rw q)
 
   -- an empty text or `.`: the rest alone
-  pub joined-first : isAlone t ≡ true → b′ ≡ b → r ≡ at + e + 1 → Joined b at e t b′ r
+  pub joined-first : isAlone t ≡ true → b′ ≡ b → r ≡ at + e + 1 → JoinedAt b at e t b′ r
   joined-first u i j =
       record { inside = omega arith; room = omega arith; is = rw (i, j, behind) (combine-first t (drop (at + e + 1) b) u) }
 
   -- an empty rest or `.`: the text alone
-  pub joined-last : isAlone t ≡ false → isAlone (drop (at + e + 1) b) ≡ true → b′ ≡ over b r t → r ≡ length b - length t → Joined b at e t b′ r
+  pub joined-last : isAlone t ≡ false → isAlone (drop (at + e + 1) b) ≡ true → b′ ≡ overwritten b r t → r ≡ length b - length t → JoinedAt b at e t b′ r
   joined-last u v i j =
       record {
         inside = omega arith;
@@ -86,7 +86,7 @@ module _ (b : List ℕ) (at e : ℕ) (t b′ : List ℕ) (r : ℕ) (h : at + e <
       }
 
   -- a text that ends in a separator: right before the rest
-  pub joined-closed : isAlone t ≡ false → isAlone (drop (at + e + 1) b) ≡ false → isClosed t ≡ true → b′ ≡ over b r t → r ≡ at + e + 1 - length t → Joined b at e t b′ r
+  pub joined-closed : isAlone t ≡ false → isAlone (drop (at + e + 1) b) ≡ false → isClosed t ≡ true → b′ ≡ overwritten b r t → r ≡ at + e + 1 - length t → JoinedAt b at e t b′ r
   joined-closed u v w i j =
       let q : r + length t ≡ at + e + 1 = omega arith in
       record {
@@ -96,7 +96,7 @@ module _ (b : List ℕ) (at e : ℕ) (t b′ : List ℕ) (r : ℕ) (h : at + e <
       }
 
   -- any other: before a separator
-  pub joined-open : isAlone t ≡ false → isAlone (drop (at + e + 1) b) ≡ false → isClosed t ≡ false → b′ ≡ over (set b (at + e) 47) r t → r ≡ at + e - length t → Joined b at e t b′ r
+  pub joined-open : isAlone t ≡ false → isAlone (drop (at + e + 1) b) ≡ false → isClosed t ≡ false → b′ ≡ overwritten (set b (at + e) 47) r t → r ≡ at + e - length t → JoinedAt b at e t b′ r
   joined-open u v w i j =
       let q : r + length t ≡ at + e = omega arith in
       let l = length-set b (at + e) 47 in

@@ -10,7 +10,7 @@ use Rattle.lists.specs.Lists.{equal}
 use Rattle.path.specs.Split.{isComplete, lsplitAtFirst}
 use Rattle.path.specs.Join.{appended, combined}
 use Rattle.tables.specs.Model.{Optional, present, Directory, single, absolute, stored, File, Model}
-use Rattle.lookup.specs.Lookup.{Entry, entryOf, own, Seen, nothing, file, link, isDirectory, fileAt, known}
+use Rattle.lookup.specs.Lookup.{Entry, entryOf, ownPath, Seen, nothing, file, link, isDirectory, fileAt, known}
 
 -- ---- the first pass
 
@@ -41,12 +41,12 @@ relative files dirs absolute t other = other
 relative files dirs (stored d outside) t other =
     settled (isDirectory dirs (appended d t)) (fileAt files (appended d t)) (appended d t) other
 
--- an absolute text gives way to the link's own path; one that names something in the set stays, as given or from the link's
+-- an absolute text gives way to the link's ownPath path; one that names something in the set stays, as given or from the link's
 -- directory; any other is walked in the second pass
 abbrev pub firstPass : List Entry → List (List ℕ) → Entry → First
 firstPass files dirs f =
     cond (isComplete (f .text))
-    (record { text = own f; leads = false; walked = false })
+    (record { text = ownPath f; leads = false; walked = false })
     (direct (fileAt files (f .text)) (isDirectory dirs (f .text)) (f .text)
     (relative files dirs (f .directory) (f .text) (record { text = f .text; leads = true; walked = true })))
 
@@ -77,16 +77,16 @@ linkOf false p r ls = ls
 
 abbrev pub linksOf : List Entry → List (List ℕ) → List Entry → List Link
 linksOf files dirs [] = []
-linksOf files dirs (f ∷ fs) = linkOf (f .flagged) (own f) (firstPass files dirs f) (linksOf files dirs fs)
+linksOf files dirs (f ∷ fs) = linkOf (f .flagged) (ownPath f) (firstPass files dirs f) (linksOf files dirs fs)
 
 -- the links but the one at p
-abbrev pub without : List ℕ → List Link → List Link
-without p [] = []
-without p (l ∷ ls) = cond (equal (l .path) p) ls (l ∷ without p ls)
+abbrev pub withoutLink : List ℕ → List Link → List Link
+withoutLink p [] = []
+withoutLink p (l ∷ ls) = cond (equal (l .path) p) ls (l ∷ withoutLink p ls)
 
 -- where the part of a path ends that goes on at `pos`: `lsplit_path_at`, and `lsplit_path` at 0
-abbrev pub cut : List ℕ → ℕ → ℕ
-cut p pos = length (lsplitAtFirst p pos)
+abbrev pub partEnd : List ℕ → ℕ → ℕ
+partEnd p pos = length (lsplitAtFirst p pos)
 
 -- one turn of the walk: it stops, it comes to the path's end, or it goes on with the links not yet traversed, the path and
 -- the end of the part looked at
@@ -103,13 +103,13 @@ further ls p e next = cond (ltb e next) (on ls p next) stop
 abbrev pub through : Lead → List Link → List ℕ → ℕ → Next
 through none ls p e = stop
 through (to t) ls p e =
-    on (without (take e p) ls) (combined t (drop (e + 1) p)) (cut (combined t (drop (e + 1) p)) 0)
+    on (withoutLink (take e p) ls) (combined t (drop (e + 1) p)) (partEnd (combined t (drop (e + 1) p)) 0)
 
 -- 'the walk stops at the first part that is neither a directory nor an untraversed link'
 unfoldable pub step : (List ℕ → Bool) → List Link → List ℕ → ℕ → Next
 step dir ls p e =
     cond (ltb e (length p))
-    (cond (dir (take e p)) (further ls p e (cut p (e + 1))) (through (leadAt ls (take e p)) ls p e))
+    (cond (dir (take e p)) (further ls p e (partEnd p (e + 1))) (through (leadAt ls (take e p)) ls p e))
     done
 
 abbrev pub follow : Bool → (List Link → List ℕ → ℕ → Bool) → Next → Bool
@@ -135,9 +135,9 @@ abbrev pub goes : (List ℕ → Bool) → (List ℕ → Bool) → List Link → 
 goes dir ends ls p e = walk dir ends (suc (left ls p e)) ls p e
 
 abbrev pub resolves : List Entry → List (List ℕ) → List Link → List ℕ → Bool
-resolves files dirs ls t = goes (isDirectory dirs) (known files dirs) ls t (cut t 0)
+resolves files dirs ls t = goes (isDirectory dirs) (known files dirs) ls t (partEnd t 0)
 
--- a walked link whose walk stops 'then holds its own internal path'
+-- a walked link whose walk stops 'then holds its ownPath internal path'
 abbrev pub secondPass : List Entry → List (List ℕ) → List Link → List ℕ → First → List ℕ
 secondPass files dirs ls p r =
     cond (r .walked) (cond (resolves files dirs ls (r .text)) (r .text) p) (r .text)
@@ -146,7 +146,7 @@ secondPass files dirs ls p r =
 
 -- the text that a flagged link has then
 abbrev pub cleanText : List Entry → List (List ℕ) → Entry → List ℕ
-cleanText files dirs f = secondPass files dirs (linksOf files dirs files) (own f) (firstPass files dirs f)
+cleanText files dirs f = secondPass files dirs (linksOf files dirs files) (ownPath f) (firstPass files dirs f)
 
 abbrev pub linkedTo : Optional (List ℕ) → File → File
 linkedTo t f =

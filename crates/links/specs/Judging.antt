@@ -2,7 +2,7 @@
 -- judged the lent marks carry more than that (`firstMark`); afterwards they hold the verdicts alone. It relies on Clean.antt for
 -- the two passes, on `lookup` for the set that the lent tables hold, and on the rules in order of `rules`.
 use Prim.Native.Nat.{ℕ, _/_}
-use mathlib.Core.Bool.{Bool, true, false, cond, not}
+use mathlib.Core.Bool.{Bool, true, false, cond, not, _&&_}
 use mathlib.Core.List.{List, [], _∷_}
 use lib.Dec.{eqb}
 use lib.ListN.{length}
@@ -12,15 +12,15 @@ use Rattle.types.specs.Refusals.{Outcome, value, refused}
 use Rattle.path.specs.Split.{isComplete}
 use Rattle.path.specs.Join.{appended}
 use Rattle.tables.specs.Model.{Directory, single, absolute, stored, pathIn, Store}
-use Rattle.rules.specs.Rules.{when, firstOf, both}
+use Rattle.rules.specs.Rules.{when, firstOf}
 use Rattle.rules.specs.Bounds.{badLength}
 use Rattle.rules.specs.Questions.{rowsHeld, dirsHeld, textHeld}
-use Rattle.lookup.specs.Lookup.{Entry, own, Seen, nothing, file, link, isDirectory, fileAt, entriesOf, directoriesOf}
+use Rattle.lookup.specs.Lookup.{Entry, ownPath, Seen, nothing, file, link, isDirectory, fileAt, entriesOf, directoriesOf}
 use Rattle.lookup.specs.Space.{linkCount, lacksSpace}
 use Rattle.links.specs.Clean.{linksOf, resolves}
 
 -- ---- marks: m % 8 says how a walk goes through the link (0 not, 1 by its text as given, 2 by its text from its directory),
--- ---- m / 8 what becomes of its text (0 it stays, 1 the link's own path, 2 the text from its directory, 3 a walk decides)
+-- ---- m / 8 what becomes of its text (0 it stays, 1 the link's ownPath path, 2 the text from its directory, 3 a walk decides)
 
 abbrev pub settledMark : Bool → Seen → ℕ → ℕ
 settledMark true s other = 18
@@ -45,7 +45,7 @@ firstMark files dirs f =
     cond (isComplete (f .text)) 8
     (directMark (fileAt files (f .text)) (isDirectory dirs (f .text)) (relativeMark files dirs (f .directory) (f .text) 25))
 
--- ---- verdicts: 0 the text stays, 1 it becomes the link's own internal path, 2 it becomes the text from the link's directory
+-- ---- verdicts: 0 the text stays, 1 it becomes the link's ownPath internal path, 2 it becomes the text from the link's directory
 
 abbrev pub verdictOf : List Entry → List (List ℕ) → Entry → ℕ
 verdictOf files dirs f =
@@ -54,7 +54,7 @@ verdictOf files dirs f =
 
 -- the text that a verdict gives
 abbrev pub textBy : ℕ → Entry → List ℕ
-textBy v f = cond (eqb v 0) (f .text) (cond (eqb v 1) (own f) (pathIn (f .directory) (f .text)))
+textBy v f = cond (eqb v 0) (f .text) (cond (eqb v 1) (ownPath f) (pathIn (f .directory) (f .text)))
 
 -- one verdict for each flagged link
 abbrev pub verdictsFor : List Entry → List (List ℕ) → List Entry → List ℕ
@@ -71,7 +71,7 @@ abbrev pub judgingNumber : Store → ℕ → ℕ → ℕ → ℕ
 judgingNumber s marks stage path =
     firstOf
     (when (badLength (s .fs .«piece_length»)) 1 ∷
-    when (not (both (rowsHeld (s .fs) (s .rows)) (both (dirsHeld (s .fs) (s .dirs)) (textHeld (s .fs) (s .text))))) 10 ∷
+    when (not (rowsHeld (s .fs) (s .rows) && (dirsHeld (s .fs) (s .dirs) && textHeld (s .fs) (s .text)))) 10 ∷
     when (lacksSpace (entriesOf s) marks stage path) 10 ∷
     [])
 

@@ -9,8 +9,8 @@ use lib.ListN.{length, getD, take, drop}
 use Rattle.lists.specs.Lists.{equal}
 use Rattle.path.specs.Join.{appended, combined}
 use Rattle.tables.specs.Model.{pathIn}
-use Rattle.lookup.specs.Lookup.{Entry, own, isDirectory, known}
-use Rattle.lookup.specs.Rows.{rowText, rowBranch}
+use Rattle.lookup.specs.Lookup.{Entry, ownPath, isDirectory, known}
+use Rattle.lookup.specs.private.Rows.{rowText, rowBranch}
 use Rattle.lookup.specs.Space.{space}
 use Rattle.links.specs.Clean.{Link, linksOf, goes, resolves, weight}
 use Rattle.links.specs.Judging.{firstMark}
@@ -48,15 +48,15 @@ leading (suc zero) = true
 leading (suc (suc zero)) = true
 leading (suc (suc (suc m))) = false
 
-abbrev pub opened : Bool → ℕ → Entry → List Link → List Link
-opened true m f ls = record { path = own f; text = leadText m f } ∷ ls
-opened false m f ls = ls
+abbrev pub openLink : Bool → ℕ → Entry → List Link → List Link
+openLink true m f ls = record { path = ownPath f; text = leadText m f } ∷ ls
+openLink false m f ls = ls
 
 -- some flagged link of these that leads on, traversed or not, stands at p; the n-th lead is the n-th flagged link's
 abbrev pub anyAt : List Entry → List ℕ → List ℕ → Bool
 anyAt [] ms p = false
 anyAt (f ∷ fs) ms p =
-    cond (f .flagged) (cond (ltb 0 (getD ms 0 0)) (cond (equal (own f) p) true (anyAt fs (drop 1 ms) p)) (anyAt fs (drop 1 ms) p)) (anyAt fs ms p)
+    cond (f .flagged) (cond (ltb 0 (getD ms 0 0)) (cond (equal (ownPath f) p) true (anyAt fs (drop 1 ms) p)) (anyAt fs (drop 1 ms) p)) (anyAt fs ms p)
 
 abbrev pub butLater : Bool → Bool → Bool
 butLater true b = false
@@ -67,38 +67,38 @@ abbrev pub openOf : List Entry → List ℕ → List Link
 openOf [] ms = []
 openOf (f ∷ fs) ms =
     cond (f .flagged)
-    (opened (butLater (anyAt fs (drop 1 ms) (own f)) (leading (getD ms 0 0))) (getD ms 0 0) f (openOf fs (drop 1 ms)))
+    (openLink (butLater (anyAt fs (drop 1 ms) (ownPath f)) (leading (getD ms 0 0))) (getD ms 0 0) f (openOf fs (drop 1 ms)))
     (openOf fs ms)
 
 -- a lead without its use
-abbrev pub fresh : ℕ → ℕ
-fresh zero = 0
-fresh (suc zero) = 1
-fresh (suc (suc zero)) = 2
-fresh (suc (suc (suc m))) = suc m
+abbrev pub untraversed : ℕ → ℕ
+untraversed zero = 0
+untraversed (suc zero) = 1
+untraversed (suc (suc zero)) = 2
+untraversed (suc (suc (suc m))) = suc m
 
 -- whether link f with lead m leads on, traversed or not, at p
 abbrev pub linkAt : Entry → ℕ → List ℕ → Bool
-linkAt f m p = cond (f .flagged) (cond (ltb 0 m) (equal (own f) p) false) false
+linkAt f m p = cond (f .flagged) (cond (ltb 0 m) (equal (ownPath f) p) false) false
 
 -- the lead of link f with lead m, if a walk may go through it at p and no later one is there; else 0
 abbrev pub leadMark : Entry → ℕ → List ℕ → Bool → ℕ
-leadMark f m p later = cond (f .flagged) (cond (leading m) (cond (equal (own f) p) (cond later 0 m) 0) 0) 0
+leadMark f m p later = cond (f .flagged) (cond (leading m) (cond (equal (ownPath f) p) (cond later 0 m) 0) 0) 0
 
 -- ---- texts in the work space
 
 -- b with t written at its place `at`
-abbrev pub over : List ℕ → ℕ → List ℕ → List ℕ
-over b at t = take at b ++ (t ++ drop (at + length t) b)
+abbrev pub overwritten : List ℕ → ℕ → List ℕ → List ℕ
+overwritten b at t = take at b ++ (t ++ drop (at + length t) b)
 
 -- t stands in the first r bytes of b
-pub record Holds (b : List ℕ) (r : ℕ) (t : List ℕ) : Type 0 where
+pub record StandsIn (b : List ℕ) (r : ℕ) (t : List ℕ) : Type 0 where
   pub long : r ≡ length t
   pub fits : r ≤ length b
   pub is : take r b ≡ t
 
 -- the path at r of b′ is t joined to what stood behind the part of e bytes at `at` in b, and it begins no earlier than t needs
-pub record Joined (b : List ℕ) (at e : ℕ) (t : List ℕ) (b′ : List ℕ) (r : ℕ) : Type 0 where
+pub record JoinedAt (b : List ℕ) (at e : ℕ) (t : List ℕ) (b′ : List ℕ) (r : ℕ) : Type 0 where
   pub inside : r ≤ length b
   pub room : at ≤ r + length t
   pub is : drop r b′ ≡ combined t (drop (e + 1) (drop at b))
@@ -123,7 +123,7 @@ pub record Walkable (files : List Entry) (dirs : List (List ℕ)) (f : Entry) (n
   pub staged : space files ≤ length stage
   pub room : 2 * space files ≤ length path
 
--- a link's mark after the second pass: where a walk decides, the text stays or the link's own path takes its place
+-- a link's mark after the second pass: where a walk decides, the text stays or the link's ownPath path takes its place
 abbrev pub walkedMark : List Entry → List (List ℕ) → Entry → ℕ → ℕ
 walkedMark files dirs f m =
     cond (eqb (verdict m) 3) (cond (resolves files dirs (linksOf files dirs files) (f .text)) 0 1 * 8 + lead m) m

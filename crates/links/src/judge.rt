@@ -1,18 +1,19 @@
 // `judge_links`: what becomes of each flagged link's text. Refusals are decided before anything is written; then the first
 // pass marks, walks decide the rest, and the work space is cleared. It relies on first.rt, second.rt, `lookup` and the laws of
 // proofs/Judgements.antt.
+ghost use mathlib.Core.Bool.{_&&_};
 ghost use mathlib.Core.Path.{_≡_};
 ghost use mathlib.Core.List.{map};
 ghost use Prim.Native.Nat.{_*_, _≤_};
 ghost use lib.ListN.{length};
 ghost use Rattle.lists.specs.Lists.{cleared};
 ghost use Rattle.types.specs.Refusals.{usizeSays};
-ghost use Rattle.rules.specs.Rules.{both, outcomeOf};
+ghost use Rattle.rules.specs.Rules.{outcomeOf};
 ghost use Rattle.rules.specs.Questions.{rowsHeld, dirsHeld, textHeld};
 ghost use Rattle.lookup.specs.Space.{space, linkCount};
 ghost use Rattle.lookup.specs.Lookup.{lent, entriesOf};
 ghost use Rattle.links.specs.Judging.{verdicts, judgingNumber, Judged, judged};
-ghost use Rattle.links.specs.Walking.{verdict};
+ghost use Rattle.links.specs.private.Walking.{verdict};
 use crate::first::first_marks;
 use crate::second::walk_links;
 use lookup::count_links;
@@ -23,7 +24,7 @@ use types::UsizeResult;
 
 // Whether the lent tables have as many places as the set counts.
 fn is_held(fs: FileStorage, rows: &[u64], dirs: &[u64], text: &[u8]) -> bool
-    ensures { λ r. ⌜ r ≡ both (rowsHeld fs (now (rows .entry))) (both (dirsHeld fs (now (dirs .entry))) (textHeld fs (now (text .entry)))) ⌝ }
+    ensures { λ r. ⌜ r ≡ (rowsHeld fs (now (rows .entry)) && (dirsHeld fs (now (dirs .entry)) && textHeld fs (now (text .entry)))) ⌝ }
 {
     if rows.len() / 8 < fs.num_files {
         return false;

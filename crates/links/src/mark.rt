@@ -4,7 +4,7 @@ ghost use mathlib.Core.Path.{_≡_};
 ghost use mathlib.Core.List.{map};
 ghost use Prim.Native.Nat.{_+_, _*_, _<_};
 ghost use lib.ListN.{getD, set};
-ghost use Rattle.links.specs.Walking.{lead, verdict, fresh};
+ghost use Rattle.links.specs.private.Walking.{lead, verdict, untraversed};
 
 // The lead of mark k, 0 where there is none.
 pub(crate) fn lead_at(marks: &[u8], k: usize) -> u8
@@ -39,7 +39,7 @@ pub(crate) fn put_verdict(marks: &mut [u8], k: usize, v: u8)
 
 // A lead without its use.
 fn fresh_lead(m: u8) -> u8
-    ensures { λ r. ⌜ r ≡ fresh m ⌝ }
+    ensures { λ r. ⌜ r ≡ untraversed m ⌝ }
 {
     if m < 3 {
         return m;
@@ -49,7 +49,7 @@ fn fresh_lead(m: u8) -> u8
 
 // Takes the use off all leads.
 pub(crate) fn reopen(marks: &mut [u8])
-    ensures { λ _. ⌜ map lead (now (marks .exit)) ≡ map fresh (map lead (now (marks .entry))) ⌝ }
+    ensures { λ _. ⌜ map lead (now (marks .exit)) ≡ map untraversed (map lead (now (marks .entry))) ⌝ }
     ensures { λ _. ⌜ map verdict (now (marks .exit)) ≡ map verdict (now (marks .entry)) ⌝ }
 {
     let mut k = 0;

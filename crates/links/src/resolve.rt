@@ -5,9 +5,9 @@ ghost use mathlib.Core.List.{map};
 ghost use Prim.Native.Nat.{_+_, _<_, _≤_};
 ghost use lib.ListN.{length, set, drop};
 ghost use Rattle.lookup.specs.Lookup.{lent, entriesOf, directoriesOf};
-ghost use Rattle.lookup.specs.Rows.{rowText, rowBranch};
-ghost use Rattle.links.specs.Clean.{cut};
-ghost use Rattle.links.specs.Walking.{rowLead, lead, verdict, fresh, walkOf, Joined, Ready};
+ghost use Rattle.lookup.specs.private.Rows.{rowText, rowBranch};
+ghost use Rattle.links.specs.Clean.{partEnd};
+ghost use Rattle.links.specs.private.Walking.{rowLead, lead, verdict, untraversed, walkOf, JoinedAt, Ready};
 use crate::mark::put_lead;
 use crate::scan::lead_mark;
 use crate::work::lead_text;
@@ -19,7 +19,7 @@ use tables::FileStorage;
 
 // Where the part of the path from `at` on ends that goes on at `pos`.
 fn cut_at(path: &[u8], at: usize, pos: usize) -> usize
-    ensures { λ r. ⌜ r ≡ cut (drop at (now (path .entry))) pos ⌝ }
+    ensures { λ r. ⌜ r ≡ partEnd (drop at (now (path .entry))) pos ⌝ }
 {
     path::lsplit_path_at_first(lists::part(path, at, path.len()), pos).len()
 }
@@ -40,7 +40,7 @@ fn traverse(
     m: u8,
 ) -> usize
     requires { ⌜ (m ≤ 2) × (length (rowBranch (now rows) (now dirs) (now text) i) + length (rowText (now rows) (now text) i) + 1 ≤ length (now stage)) × (at + e < length (now path)) × (length (rowLead (now rows) (now dirs) (now text) i m) ≤ at) ⌝ }
-    ensures { λ r. ⌜ Joined (now (path .entry)) at e (rowLead (now (rows .entry)) (now (dirs .entry)) (now (text .entry)) i m) (now (path .exit)) r ⌝ }
+    ensures { λ r. ⌜ JoinedAt (now (path .entry)) at e (rowLead (now (rows .entry)) (now (dirs .entry)) (now (text .entry)) i m) (now (path .exit)) r ⌝ }
     ensures { λ _. ⌜ map lead (now (marks .exit)) ≡ set (map lead (now (marks .entry))) k (m + 2) ⌝ }
     ensures { λ _. ⌜ map verdict (now (marks .exit)) ≡ map verdict (now (marks .entry)) ⌝ }
 {
@@ -62,8 +62,8 @@ pub(crate) fn resolve(
     from: usize,
 ) -> bool
     requires { ⌜ Ready (entriesOf (lent fs (now rows) (now dirs) (now text))) (map lead (now marks)) (now stage) (now path) from ⌝ }
-    ensures { λ r. ⌜ r ≡ walkOf (entriesOf (lent fs (now (rows .entry)) (now (dirs .entry)) (now (text .entry)))) (directoriesOf (lent fs (now (rows .entry)) (now (dirs .entry)) (now (text .entry)))) (map lead (now (marks .entry))) (drop from (now (path .entry))) (cut (drop from (now (path .entry))) 0) ⌝ }
-    ensures { λ _. ⌜ map fresh (map lead (now (marks .exit))) ≡ map fresh (map lead (now (marks .entry))) ⌝ }
+    ensures { λ r. ⌜ r ≡ walkOf (entriesOf (lent fs (now (rows .entry)) (now (dirs .entry)) (now (text .entry)))) (directoriesOf (lent fs (now (rows .entry)) (now (dirs .entry)) (now (text .entry)))) (map lead (now (marks .entry))) (drop from (now (path .entry))) (partEnd (drop from (now (path .entry))) 0) ⌝ }
+    ensures { λ _. ⌜ map untraversed (map lead (now (marks .exit))) ≡ map untraversed (map lead (now (marks .entry))) ⌝ }
     ensures { λ _. ⌜ map verdict (now (marks .exit)) ≡ map verdict (now (marks .entry)) ⌝ }
 {
     let mut at = from;

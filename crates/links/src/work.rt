@@ -2,8 +2,8 @@
 // text.rt, `lookup` and the laws of proofs/Written.antt.
 ghost use Prim.Native.Nat.{_+_, _<_, _≤_};
 ghost use lib.ListN.{length};
-ghost use Rattle.lookup.specs.Rows.{rowText, rowBranch};
-ghost use Rattle.links.specs.Walking.{rowLead, Holds, Joined};
+ghost use Rattle.lookup.specs.private.Rows.{rowText, rowBranch};
+ghost use Rattle.links.specs.private.Walking.{rowLead, StandsIn, JoinedAt};
 use crate::text::append_in;
 use crate::text::put_at;
 use lookup::directory_of;
@@ -19,7 +19,7 @@ pub(crate) fn lead_text(
     buf: &mut [u8],
 ) -> usize
     requires { ⌜ length (rowBranch (now rows) (now dirs) (now text) i) + length (rowText (now rows) (now text) i) + 1 ≤ length (now buf) ⌝ }
-    ensures { λ r. ⌜ Holds (now (buf .exit)) r (rowLead (now (rows .entry)) (now (dirs .entry)) (now (text .entry)) i m) ⌝ }
+    ensures { λ r. ⌜ StandsIn (now (buf .exit)) r (rowLead (now (rows .entry)) (now (dirs .entry)) (now (text .entry)) i m) ⌝ }
 {
     let row = tables::row_at(rows, i);
     let t = link_text(text, row);
@@ -34,7 +34,7 @@ pub(crate) fn lead_text(
 // beginning. What stands behind the part does not move.
 pub(crate) fn substitute(path: &mut [u8], at: usize, e: usize, t: &[u8]) -> usize
     requires { ⌜ (at + e < length (now path)) × (length (now t) ≤ at) ⌝ }
-    ensures { λ r. ⌜ Joined (now (path .entry)) at e (now (t .entry)) (now (path .exit)) r ⌝ }
+    ensures { λ r. ⌜ JoinedAt (now (path .entry)) at e (now (t .entry)) (now (path .exit)) r ⌝ }
 {
     let end = at + e;
     let rest = end + 1;

@@ -3,7 +3,7 @@
 -- laws of Printed.antt and Steps.antt.
 use Prim.Native.Nat.{ℕ, suc, _+_, _*_, _%_, _≤_}
 use mathlib.Core.Path.{_≡_, refl, sym, ap, subst, _∙_}
-use mathlib.Core.Bool.{Bool, true, false, cond, not}
+use mathlib.Core.Bool.{Bool, true, false, cond, not, _&&_, _||_}
 use mathlib.Core.List.{List, [], _∷_, _++_}
 use native.Mathlib.Omega.{arith}
 use lib.Dec.{eqb, ltb, leb}
@@ -14,13 +14,13 @@ use Rattle.lists.specs.Lists.{equal, any, ceiling}
 use Rattle.lists.specs.Decimal.{decimal, column}
 use Rattle.lists.proofs.Decimals.{decimal-few, column-length}
 use Rattle.types.specs.Refusals.{Outcome, value, refused}
-use Rattle.path.specs.Split.{isSeparator, isComplete, trimmedFrom, trimmed, beforeLast, behindLast, behindFirst, rsplitBranch, rsplitLeaf, lsplitFirst, lsplitRest, hasParent}
+use Rattle.path.specs.Split.{isSeparator, isComplete, trimmedFrom, trimmed, beforeLast, afterLast, afterFirst, rsplitBranch, rsplitLeaf, lsplitFirst, lsplitRest, hasParent}
 use Rattle.path.specs.Join.{isEmpty, Joined, joinedIf, fits}
 use Rattle.tables.specs.Model.{Optional, absent, present, Directory, single, absolute, stored, File, Model}
-use Rattle.rules.specs.Rules.{firstOf, both, either}
+use Rattle.rules.specs.Rules.{firstOf}
 use Rattle.rules.specs.Bounds.{limit, isNegative, badLength}
-use Rattle.additions.specs.Addition.{Addition, limitedName, badName, disagree, filesOf, unled, under, pathName, storedName, placeFor, newName, fileAdded, padAdded, padDirectory, padOf, sizeAdded, added, lacks, textOf, addingRules, addedTo}
-use Rattle.storage.specs.Opening.{fresh}
+use Rattle.additions.specs.Addition.{Addition, limitedName, badName, disagree, filesOf, withoutLeading, directoryUnder, pathName, storedName, directoryAdded, newName, fileAdded, padAdded, padDirectory, padOf, sizeAdded, added, lacks, textOf, addingRules, addedTo}
+use Rattle.storage.specs.Opening.{newModel}
 use Rattle.listing_input.specs.Form.{FileEntry, linesFrom, lines, pieceLengthIn, fileIn}
 use Rattle.listing.specs.Run.{additionOf, goOn, readAs, runFrom, openedAs, runLines, run, places, listing}
 use Rattle.listing_output.specs.Output.{Run, listed, stopped, pieces, internalPath, fileLine, fileLines, totalsLine, printed}
@@ -44,19 +44,19 @@ before-last-few : (p : List ℕ) → length (beforeLast p) ≤ length p
 before-last-few [] = omega arith
 before-last-few (c ∷ t) = cond-few (any isSeparator t) (c ∷ beforeLast t) [] (suc (length t)) (omega (arith, before-last-few t)) (omega arith)
 
-behind-last-few : (p : List ℕ) → length (behindLast p) ≤ length p
+behind-last-few : (p : List ℕ) → length (afterLast p) ≤ length p
 behind-last-few [] = omega arith
 behind-last-few (c ∷ t) =
-    cond-few (any isSeparator t) (behindLast t) (cond (isSeparator c) t (c ∷ t)) (suc (length t)) (omega (arith, behind-last-few t))
+    cond-few (any isSeparator t) (afterLast t) (cond (isSeparator c) t (c ∷ t)) (suc (length t)) (omega (arith, behind-last-few t))
     (cond-few (isSeparator c) t (c ∷ t) (suc (length t)) (omega arith) (omega arith))
 
-behind-first-few : (p : List ℕ) → length (behindFirst p) ≤ length p
+behind-first-few : (p : List ℕ) → length (afterFirst p) ≤ length p
 behind-first-few [] = omega arith
-behind-first-few (c ∷ t) = cond-few (isSeparator c) t (behindFirst t) (suc (length t)) (omega arith) (omega (arith, behind-first-few t))
+behind-first-few (c ∷ t) = cond-few (isSeparator c) t (afterFirst t) (suc (length t)) (omega arith) (omega (arith, behind-first-few t))
 
-unled-few : (p : List ℕ) → length (unled p) ≤ length p
+unled-few : (p : List ℕ) → length (withoutLeading p) ≤ length p
 unled-few [] = omega arith
-unled-few (c ∷ t) = cond-few (isSeparator c) (unled t) (c ∷ t) (suc (length t)) (omega (arith, unled-few t)) (omega arith)
+unled-few (c ∷ t) = cond-few (isSeparator c) (withoutLeading t) (c ∷ t) (suc (length t)) (omega (arith, unled-few t)) (omega arith)
 
 branch-part-few : (p : List ℕ) → length (rsplitBranch p) ≤ length p
 branch-part-few p = omega (arith, before-last-few (trimmed isSeparator p), trimmed-few isSeparator p)
@@ -73,12 +73,12 @@ directoryLength single = 0
 directoryLength absolute = 0
 directoryLength (stored d outside) = length d
 
-under-few : (b : Bool) (branch : List ℕ) → directoryLength (cond b (stored (unled (lsplitRest branch)) false) (stored branch true)) ≤ length branch
+under-few : (b : Bool) (branch : List ℕ) → directoryLength (cond b (stored (withoutLeading (lsplitRest branch)) false) (stored branch true)) ≤ length branch
 unfolding directoryLength
 under-few true branch = omega (arith, unled-few (lsplitRest branch), rest-part-few branch)
 under-few false branch = omega arith
 
-place-few : (a b : Bool) (name path : List ℕ) → directoryLength (cond a absolute (cond b single (under name (rsplitBranch path)))) ≤ length path
+place-few : (a b : Bool) (name path : List ℕ) → directoryLength (cond a absolute (cond b single (directoryUnder name (rsplitBranch path)))) ≤ length path
 unfolding directoryLength
 place-few true b name path = omega arith
 place-few false true name path = omega arith
@@ -102,7 +102,7 @@ added-path-few m a e =
     let n : f .name ≡ pathName (a .path) = ap (λ (g : Optional (List ℕ)). storedName g (a .path)) e in
     omega (
       arith,
-      inside-few (f .offset) (f .size) (f .name) (f .flags) (f .link) (f .root) (f .made) (placeFor m a),
+      inside-few (f .offset) (f .size) (f .name) (f .flags) (f .link) (f .root) (f .made) (directoryAdded m a),
       place-few (isComplete (a .path)) (isEmpty (rsplitBranch (a .path))) (newName m a) (a .path),
       ap length n,
       name-few (a .path),
@@ -153,7 +153,7 @@ last-pass : (t : Bool) → _≡_ {A = ℕ} (cond t 10 0) 0 → t ≡ false
 last-pass true e = absurd (omega arith)
 last-pass false e = refl
 
-either-none : (a b : Bool) → either a b ≡ false → a ≡ false
+either-none : (a b : Bool) → (a || b) ≡ false → a ≡ false
 either-none true b e = e
 either-none false b e = refl
 
@@ -203,8 +203,8 @@ room-left m a noRoom e =
     (ltb limit (m .total + sizeAdded a))
     (leb 4096 (length (limitedName (a .given) (a .path))))
     (badName (a .given) (a .path))
-    (both (not (hasParent (a .path))) (ltb 0 (filesOf m)))
-    (both (disagree m a) (m .v2))
+    (not (hasParent (a .path)) && ltb 0 (filesOf m))
+    (disagree m a && m .v2)
     (disagree m a)
     (ltb limit (m .total + sizeAdded a + padOf m a))
     noRoom
@@ -223,7 +223,7 @@ taken m next a e = at (eqb k 0) refl e
     at true t q =
         let z : next ≡ added m a = cc in
         let f = room-left m a noRoom (eqb-true k 0 t) in
-        (z, ltb-false 400 (filesOf (added m a)) (either-none (ltb 400 (filesOf (added m a))) (either (ltb 400 (length (added m a .directories))) (either (ltb 0 (length (added m a .times))) (ltb 65536 (textOf (added m a))))) f))
+        (z, ltb-false 400 (filesOf (added m a)) (either-none (ltb 400 (filesOf (added m a))) (ltb 400 (length (added m a .directories)) || (ltb 0 (length (added m a .times)) || ltb 65536 (textOf (added m a)))) f))
     at false t q = let z : _≡_ {A = ℕ} 0 1 = cc in absurd (omega arith)
 
 -- the lines of an input are no longer than it
@@ -292,9 +292,9 @@ unfolding pathsLength
 opened-few ls absent n e = let z : _≡_ {A = ℕ} 0 1 = cc in absurd (omega arith)
 opened-few ls (present k) n e = opens (eqb k 0) e
   where
-    opens : (b : Bool) → goOn (cond b (refused 1) (value (fresh k))) 1 (λ x. runFrom places 1 x ls) ≡ listed n → (filesOf n ≤ 400) × (pathsLength (n .files) ≤ 2 * linesLength ls + 26 * filesOf n)
+    opens : (b : Bool) → goOn (cond b (refused 1) (value (newModel k))) 1 (λ x. runFrom places 1 x ls) ≡ listed n → (filesOf n ≤ 400) × (pathsLength (n .files) ≤ 2 * linesLength ls + 26 * filesOf n)
     opens true q = let z : _≡_ {A = ℕ} 0 1 = cc in absurd (omega arith)
-    opens false q = let b = run-few ls 1 (fresh k) n (omega arith) q in (b .few, omega (arith, b .paths))
+    opens false q = let b = run-few ls 1 (newModel k) n (omega arith) q in (b .few, omega (arith, b .paths))
 
 lines-listed : (ls : List (List ℕ)) (n : Model) → runLines places ls ≡ listed n → (filesOf n ≤ 400) × (pathsLength (n .files) ≤ 2 * linesLength ls + 26 * filesOf n)
 unfolding linesLength

@@ -2,7 +2,7 @@
 -- run. They rely on the laws of `sound` for additions.
 use Prim.Native.Nat.{ℕ, _+_, _-_, _%_, _≤_, _<_, _^_}
 use mathlib.Core.Path.{_≡_, refl, sym, ap, subst, _∙_}
-use mathlib.Core.Bool.{Bool, true, false, cond}
+use mathlib.Core.Bool.{Bool, true, false, cond, _&&_}
 use mathlib.Core.List.{List, [], _∷_}
 use native.Mathlib.Omega.{arith}
 use native.Mathlib.Nat.{mod-eq-of-lt}
@@ -17,14 +17,14 @@ use Rattle.types.specs.Refusals.{Outcome, value, refused}
 use Rattle.tables.specs.declared.storage.FileStorage.{FileStorage}
 use Rattle.tables.specs.Entry.{presenceIf}
 use Rattle.tables.specs.Model.{Optional, absent, present, presentIf, Model, Store, viewOf, storeOf}
-use Rattle.rules.specs.Rules.{outcomeOf, both}
+use Rattle.rules.specs.Rules.{outcomeOf}
 use Rattle.additions.specs.Addition.{Addition, added, addedTo, optionalOf}
 use Rattle.change.specs.declared.rooms.Rooms.{Rooms}
 use Rattle.plan.specs.Write.{storeAdded}
 use Rattle.change.specs.Changes.{Changed}
 use Rattle.change.specs.Rooms.{roomsOf}
 use Rattle.plan.specs.Outcomes.{addingNumber, addStored}
-use Rattle.storage.specs.Opening.{empty, fresh}
+use Rattle.storage.specs.Opening.{newStorage, newModel}
 use Rattle.sound.specs.Sound.{Sound}
 use Rattle.sound.proofs.Added.Answer.{adding}
 use Rattle.sound.proofs.Added.{view-added, sound-added}
@@ -33,7 +33,7 @@ use Rattle.listing.specs.Run.{additionOf, counted, goOn, openedAs, readA
 use Rattle.listing_output.specs.Output.{Run, listed, stopped}
 use Rattle.listing_input.specs.Answers.{firstLine}
 use Rattle.listing.specs.declared.run.RunResult.the-variants.{Listed, Stopped}
-use Rattle.listing.specs.Steps.{openedBy, obeyed, countedBy, runSays, Placed}
+use Rattle.listing.specs.private.Steps.{openedBy, obeyed, countedBy, runSays, Placed}
 use Rattle.listing_input.proofs.Reading.{number-small, first-take, lines-next}
 
 -- a number that passed the test of the piece length
@@ -64,7 +64,7 @@ pub size-is : (line : List ℕ) (size flags : ℕ) → present (record { size = 
 size-is line size flags e =
     let q : size ≡ sizeIn (fileIn line) = ap sizeIn e in
     let b =
-    size-small (both (leb 19 (length line)) (both (eqb (getD line 15 0) 32) (eqb (getD line 18 0) 32)))
+    size-small (leb 19 (length line) && (eqb (getD line 15 0) 32 && eqb (getD line 18 0) 32))
     (numberIn (partOf line 0 15)) (onlyIf areFlags (numberIn (partOf line 16 2))) (drop 19 line)
     (λ n p. number-small (partOf line 0 15) n (omega (arith, part-length line 0 15)) p) in
     mod-eq-of-lt (omega (arith, q))
@@ -80,7 +80,7 @@ path-at true (present n) (present m) path e h =
 
 pub path-is : (line : List ℕ) (e : FileEntry) → fileIn line ≡ present e → e .path ≡ drop 19 line
 path-is line e h =
-    path-at (both (leb 19 (length line)) (both (eqb (getD line 15 0) 32) (eqb (getD line 18 0) 32)))
+    path-at (leb 19 (length line) && (eqb (getD line 15 0) 32 && eqb (getD line 18 0) 32))
     (numberIn (partOf line 0 15)) (onlyIf areFlags (numberIn (partOf line 16 2))) (drop 19 line) e h
 
 -- a root that flags give has 32 bytes
@@ -254,17 +254,17 @@ module _ (input : List ℕ) where
         stop absent q = let z : j ≡ 17 = cc in ap (λ (i : ℕ). stopped i 1) z
         stop (present m) q = at (eqb m 0) q
           where
-            at : (b : Bool) → cond b (refused 1) (value (empty m)) ≡ refused j → stopped j 1 ≡ goOn (cond b (refused 1) (value (fresh m))) 1 (λ y. runFrom places 1 y (lines (drop (n + 1) input)))
+            at : (b : Bool) → cond b (refused 1) (value (newStorage m)) ≡ refused j → stopped j 1 ≡ goOn (cond b (refused 1) (value (newModel m))) 1 (λ y. runFrom places 1 y (lines (drop (n + 1) input)))
             at true r = let z : j ≡ 1 = cc in ap (λ (i : ℕ). stopped i 1) z
             at false r = let z : _≡_ {A = ℕ} 0 1 = cc in absurd (omega arith)
 
-    pub first-goes : (fs : FileStorage) → openedBy (pieceLengthIn (partOf input 0 n)) ≡ value fs → (m : ℕ) × (fs ≡ empty m) × (runFrom places 1 (fresh m) (lines (drop (n + 1) input)) ≡ run places input)
+    pub first-goes : (fs : FileStorage) → openedBy (pieceLengthIn (partOf input 0 n)) ≡ value fs → (m : ℕ) × (fs ≡ newStorage m) × (runFrom places 1 (newModel m) (lines (drop (n + 1) input)) ≡ run places input)
     first-goes fs o = let r = go (pieceLengthIn (partOf input 0 n)) o in (r .0, r .1, r .2 ∙ run-first)
       where
-        go : (x : Optional ℕ) → openedBy x ≡ value fs → (m : ℕ) × (fs ≡ empty m) × (runFrom places 1 (fresh m) (lines (drop (n + 1) input)) ≡ readAs x 1 (λ i. goOn (openedAs i) 1 (λ y. runFrom places 1 y (lines (drop (n + 1) input)))))
+        go : (x : Optional ℕ) → openedBy x ≡ value fs → (m : ℕ) × (fs ≡ newStorage m) × (runFrom places 1 (newModel m) (lines (drop (n + 1) input)) ≡ readAs x 1 (λ i. goOn (openedAs i) 1 (λ y. runFrom places 1 y (lines (drop (n + 1) input)))))
         go absent q = let z : _≡_ {A = ℕ} 0 1 = cc in absurd (omega arith)
         go (present m) q = let r = at (eqb m 0) q in (m, r .0, r .1)
           where
-            at : (b : Bool) → cond b (refused 1) (value (empty m)) ≡ value fs → (fs ≡ empty m) × (runFrom places 1 (fresh m) (lines (drop (n + 1) input)) ≡ goOn (cond b (refused 1) (value (fresh m))) 1 (λ y. runFrom places 1 y (lines (drop (n + 1) input))))
+            at : (b : Bool) → cond b (refused 1) (value (newStorage m)) ≡ value fs → (fs ≡ newStorage m) × (runFrom places 1 (newModel m) (lines (drop (n + 1) input)) ≡ goOn (cond b (refused 1) (value (newModel m))) 1 (λ y. runFrom places 1 y (lines (drop (n + 1) input))))
             at true r = let z : _≡_ {A = ℕ} 0 1 = cc in absurd (omega arith)
-            at false r = let z : fs ≡ empty m = cc in (z, refl)
+            at false r = let z : fs ≡ newStorage m = cc in (z, refl)

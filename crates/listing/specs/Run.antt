@@ -11,7 +11,7 @@ use Rattle.types.specs.Refusals.{Outcome, value, refused}
 use Rattle.tables.specs.Model.{Optional, absent, present, presentIf, Model}
 use Rattle.additions.specs.Addition.{Addition, addedTo}
 use Rattle.change.specs.declared.rooms.Rooms.{Rooms}
-use Rattle.storage.specs.Opening.{fresh}
+use Rattle.storage.specs.Opening.{newModel}
 use Rattle.listing_input.specs.Form.{FileEntry, lines, pieceLengthIn, fileIn}
 use Rattle.listing_output.specs.Output.{Run, listed, stopped, pieces, printed}
 
@@ -48,7 +48,7 @@ runFrom rooms line m (l ∷ ls) =
 
 -- refusal 1 of opening
 abbrev pub openedAs : ℕ → Outcome Model
-openedAs n = cond (eqb n 0) (refused 1) (value (fresh n))
+openedAs n = cond (eqb n 0) (refused 1) (value (newModel n))
 
 -- 'no input is 17 at line 1'
 abbrev pub runLines : Rooms → List (List ℕ) → Run

@@ -13,7 +13,7 @@ ghost use Rattle.sound.specs.Sound.{Sound};
 ghost use Rattle.listing_input.specs.Form.{lines, pieceLengthIn, fileIn};
 ghost use Rattle.listing_output.specs.Printing.{putText};
 ghost use Rattle.listing.specs.Run.{run, runFrom, places, listing};
-ghost use Rattle.listing.specs.Steps.{openedBy, obeyed, stoppedBy, countedBy, runSays, Placed};
+ghost use Rattle.listing.specs.private.Steps.{openedBy, obeyed, stoppedBy, countedBy, runSays, Placed};
 use change::StorageResult;
 use listing_input::FileLine;
 use listing_input::Number;

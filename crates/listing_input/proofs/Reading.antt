@@ -2,7 +2,7 @@
 -- of 15 columns is.
 use Prim.Native.Nat.{ℕ, suc, _+_, _-_, _*_, _^_, _≤_, _<_}
 use mathlib.Core.Path.{_≡_, refl, sym, ap, _∙_}
-use mathlib.Core.Bool.{Bool, true, false, cond}
+use mathlib.Core.Bool.{Bool, true, false, cond, _&&_, _||_}
 use mathlib.Core.List.{List, [], _∷_, _++_, append-nil, append-assoc}
 use native.Mathlib.Omega.{arith}
 use native.Mathlib.Nat.{mul-assoc, pow-succ', pow-le-pow-right}
@@ -14,7 +14,6 @@ use borrow.Author.Tests.{eq-eqb, ne-eqb, leb-true}
 use Rattle.lists.specs.Lists.{partOf}
 use Rattle.lists.specs.Decimal.{valueFrom}
 use Rattle.path.specs.Join.{isEmpty}
-use Rattle.rules.specs.Rules.{both, either}
 use Rattle.tables.specs.Model.{Optional, absent, present, presentIf}
 use Rattle.rules.proofs.Rules.{both-true}
 use Rattle.listing_input.specs.Form.{linesFrom, lines, unblanked, isDigit, areDigits, isNumber, numberIn, onlyIf}
@@ -92,7 +91,7 @@ one-is : (t : List ℕ) → isEmpty t ≡ eqb (suc (length t)) 1
 one-is [] = refl
 one-is (c ∷ t) = sym (ne-eqb (suc (length (c ∷ t))) 1 (λ e. omega arith))
 
-pub number-is : (l : List ℕ) → (length l ≡ 0 → ⊥) → isNumber l ≡ both (areDigits l) (either (ltb 48 (getD l 0 0)) (eqb (length l) 1))
+pub number-is : (l : List ℕ) → (length l ≡ 0 → ⊥) → isNumber l ≡ (areDigits l && (ltb 48 (getD l 0 0) || eqb (length l) 1))
 number-is [] h = absurd (h refl)
 number-is (c ∷ t) h = rw (one-is t)
 
@@ -140,7 +139,7 @@ value-below v k (c ∷ t) e h =
 
 number-digits : (l : List ℕ) → isNumber l ≡ true → areDigits l ≡ true
 number-digits [] e = refl
-number-digits (c ∷ t) e = both-true (areDigits (c ∷ t)) (either (ltb 48 c) (isEmpty t)) e .0
+number-digits (c ∷ t) e = both-true (areDigits (c ∷ t)) (ltb 48 c || isEmpty t) e .0
 
 present-if : (b : Bool) (v n : ℕ) → presentIf b v ≡ present n → (b ≡ true) × (v ≡ n)
 present-if true v n e = (refl, cc)

@@ -1,6 +1,6 @@
 -- Document 01, 'The listing': the form of its lines. 10 is a line feed, 32 a blank, 48 to 57 are the digits.
 use Prim.Native.Nat.{ℕ}
-use mathlib.Core.Bool.{Bool, true, false, cond}
+use mathlib.Core.Bool.{Bool, true, false, cond, _&&_, _||_}
 use mathlib.Core.List.{List, [], _∷_, _++_}
 use lib.Dec.{eqb, ltb, leb}
 use lib.ListN.{length, getD, drop}
@@ -8,7 +8,6 @@ use Rattle.lists.specs.Lists.{partOf}
 use Rattle.lists.specs.Decimal.{valueFrom}
 use Rattle.path.specs.Join.{isEmpty}
 use Rattle.tables.specs.Model.{Optional, absent, present, presentIf}
-use Rattle.rules.specs.Rules.{both, either}
 
 -- 'Lines end in a line feed, which the last may lack': the lines of an input, `line` being what stands before it in its
 -- first line
@@ -25,16 +24,16 @@ unblanked [] = []
 unblanked (c ∷ t) = cond (eqb c 32) (unblanked t) (c ∷ t)
 
 abbrev pub isDigit : ℕ → Bool
-isDigit c = both (leb 48 c) (leb c 57)
+isDigit c = leb 48 c && leb c 57
 
 abbrev pub areDigits : List ℕ → Bool
 areDigits [] = true
-areDigits (c ∷ t) = both (isDigit c) (areDigits t)
+areDigits (c ∷ t) = isDigit c && areDigits t
 
 -- 'with no sign or leading zero': digits that begin with 0 are the single digit 0
 abbrev pub isNumber : List ℕ → Bool
 isNumber [] = false
-isNumber (c ∷ t) = both (areDigits (c ∷ t)) (either (ltb 48 c) (isEmpty t))
+isNumber (c ∷ t) = areDigits (c ∷ t) && (ltb 48 c || isEmpty t)
 
 -- 'Numbers are right-justified': blanks, then digits
 abbrev pub numberIn : List ℕ → Optional ℕ
@@ -54,7 +53,7 @@ pieceLengthIn line = provided (eqb (length line) 10) (onlyIf (λ n. leb n 214748
 
 -- 'flags in 2 (a sum of 1, 2, 4 as above and 16 …; all else is out of form)'
 abbrev pub areFlags : ℕ → Bool
-areFlags n = either (ltb n 8) (both (leb 16 n) (ltb n 24))
+areFlags n = ltb n 8 || (leb 16 n && ltb n 24)
 
 -- what a file line says
 pub record FileEntry : Type 0 where
@@ -70,5 +69,5 @@ entryOf (present size) (present flags) path = present (record { size = size; fla
 -- 'per file size in 15, blank, flags in 2 …, blank, path'
 abbrev pub fileIn : List ℕ → Optional FileEntry
 fileIn line =
-    provided (both (leb 19 (length line)) (both (eqb (getD line 15 0) 32) (eqb (getD line 18 0) 32)))
+    provided (leb 19 (length line) && (eqb (getD line 15 0) 32 && eqb (getD line 18 0) 32))
     (entryOf (numberIn (partOf line 0 15)) (onlyIf areFlags (numberIn (partOf line 16 2))) (drop 19 line))

@@ -1,7 +1,7 @@
 -- Laws of printing: runs of columns and texts are written one after the other, and a path is joined in the rest of a buffer.
 use Prim.Native.Nat.{ℕ, zero, suc, _+_, _-_, _%_, _≤_, _<_}
 use mathlib.Core.Path.{_≡_, refl, sym, ap, _∙_}
-use mathlib.Core.Bool.{Bool, true, false, cond, not}
+use mathlib.Core.Bool.{Bool, true, false, cond, not, _&&_}
 use mathlib.Core.List.{List, [], _∷_, _++_, append-assoc}
 use native.Mathlib.Omega.{arith}
 use lib.Dec.{eqb}
@@ -27,7 +27,8 @@ use Rattle.tables.specs.Rows.{rowAt, dirAt, has}
 use Rattle.tables.specs.Model.{Optional, single, absolute, stored, File, Store, tabled, fileOf, viewOf}
 use Rattle.tables.proofs.Tabled.{length-tabled, getD-tabled}
 use Rattle.listing_output.specs.Output.{listed, stopped, internalPath, fileLine, fileLines, totalsLine, printed}
-use Rattle.listing_output.specs.Printing.{fourColumns, pathIn, rowLine, bare, shown, linesOf, putText}
+use Rattle.listing_output.specs.private.Lines.{fourColumns, rowPath, rowLine, linesOf}
+use Rattle.listing_output.specs.Printing.{bare, shown, putText}
 
 -- texts in a row, each at the place after the one before
 pub sets-two : (l a b : List ℕ) (at p : ℕ) → p ≡ at + length a → sets (sets l at a) p b ≡ sets l at (a ++ b)
@@ -94,15 +95,15 @@ pub put-line-is : (l path : List ℕ) (at end a b c d : ℕ) → end ≡ at + 38
 put-line-is l path at end a b c d e =
     sets-three l (fourColumns a b c 2 d 32) path (10 ∷ []) at (at + 38) end (omega (arith, four-length a b c 2 d 32)) e
 
-pub row-line-length : (dirs text : List ℕ) (i : ℕ) (r : Row) → length (rowLine dirs text i r) ≡ 39 + length (pathIn dirs text r)
+pub row-line-length : (dirs text : List ℕ) (i : ℕ) (r : Row) → length (rowLine dirs text i r) ≡ 39 + length (rowPath dirs text r)
 row-line-length dirs text i r =
-    rw (length-append (fourColumns i (r .offset) (r .size) 2 (r .flags % 2) 32), length-append (pathIn dirs text r), four-length i (r .offset) (r .size) 2 (r .flags % 2) 32)
+    rw (length-append (fourColumns i (r .offset) (r .size) 2 (r .flags % 2) 32), length-append (rowPath dirs text r), four-length i (r .offset) (r .size) 2 (r .flags % 2) 32)
     (omega arith)
 
 -- what a row's file prints
 module _ (offset size : ℕ) (name : List ℕ) (flags : ℕ) (link root : Optional (List ℕ)) (made : Bool) (area : List ℕ) (span : Span) (outside : Bool) where
   path-in : (a b : Bool)
-      → internalPath (record { offset = offset; size = size; name = name; directory = cond a single (cond b absolute (stored (textAt area span) outside)); flags = flags; link = link; root = root; made = made }) ≡ appended (textAt area (cond (cond (not a) (not b) false) span (record { at = 0; len = 0 }))) name
+      → internalPath (record { offset = offset; size = size; name = name; directory = cond a single (cond b absolute (stored (textAt area span) outside)); flags = flags; link = link; root = root; made = made }) ≡ appended (textAt area (cond (not a && not b) span (record { at = 0; len = 0 }))) name
   path-in true b = refl
   path-in false true = refl
   path-in false false = refl
@@ -114,12 +115,12 @@ pub line-is : (s : Store) (i k : ℕ) → fileLine i (fileOf s k) ≡ rowLine (s
 line-is s i k =
     let r = rowAt (s .rows) k in
     let f = fileOf s k in
-    let p : internalPath f ≡ pathIn (s .dirs) (s .text) r =
+    let p : internalPath f ≡ rowPath (s .dirs) (s .text) r =
     path-in (r .offset) (r .size) (f .name) (f .flags) (f .link) (f .root) (f .made) (s .text) (dirAt (s .dirs) (r .«path_index»)) (has (r .flags) 32) (eqb (r .«path_index») 1073741823) (eqb (r .«path_index») 1073741822) in
     let q : r .flags % 16 % 2 ≡ r .flags % 2 = omega arith in
     ap (λ (x : List ℕ). column 5 i ++ (column 15 (r .offset) ++ (column 15 (r .size) ++ (column 2 (r .flags % 16 % 2) ++ (32 ∷ (x ++ (10 ∷ []))))))) p
-    ∙ ap (λ (n : ℕ). column 5 i ++ (column 15 (r .offset) ++ (column 15 (r .size) ++ (column 2 n ++ (32 ∷ (pathIn (s .dirs) (s .text) r ++ (10 ∷ []))))))) q
-    ∙ regroup (column 5 i) (column 15 (r .offset)) (column 15 (r .size)) (column 2 (r .flags % 2)) (pathIn (s .dirs) (s .text) r) 32 10
+    ∙ ap (λ (n : ℕ). column 5 i ++ (column 15 (r .offset) ++ (column 15 (r .size) ++ (column 2 n ++ (32 ∷ (rowPath (s .dirs) (s .text) r ++ (10 ∷ []))))))) q
+    ∙ regroup (column 5 i) (column 15 (r .offset)) (column 15 (r .size)) (column 2 (r .flags % 2)) (rowPath (s .dirs) (s .text) r) 32 10
 
 -- one file's line, and then those of the files after it
 module _ (n : ℕ) (g : ℕ → File) (i : ℕ) where
@@ -144,7 +145,7 @@ module _ (fs : FileStorage) (rows dirs text : List ℕ) (i : ℕ) where
       lines-turn (fs .«num_files») (fileOf (bare fs rows dirs text)) i h
       ∙ ap (λ (x : List ℕ). x ++ linesFrom fs rows dirs text (i + 1)) (line-is (bare fs rows dirs text) i i)
 
-  pub next-length : i < fs .«num_files» → length (linesFrom fs rows dirs text i) ≡ 39 + length (pathIn dirs text (rowAt rows i)) + length (linesFrom fs rows dirs text (i + 1))
+  pub next-length : i < fs .«num_files» → length (linesFrom fs rows dirs text i) ≡ 39 + length (rowPath dirs text (rowAt rows i)) + length (linesFrom fs rows dirs text (i + 1))
   next-length h =
       rw (next-line h, length-append (rowLine dirs text i (rowAt rows i)) (linesFrom fs rows dirs text (i + 1)), row-line-length dirs text i (rowAt rows i))
 
@@ -152,10 +153,10 @@ module _ (fs : FileStorage) (rows dirs text : List ℕ) (i : ℕ) where
   no-line h = lines-end (fs .«num_files») (fileOf (bare fs rows dirs text)) i h
 
   pub put-next : (l : List ℕ) (at : ℕ) → i < fs .«num_files»
-      → sets (sets l at (rowLine dirs text i (rowAt rows i))) (at + (39 + length (pathIn dirs text (rowAt rows i)))) (linesFrom fs rows dirs text (i + 1)) ≡ sets l at (linesFrom fs rows dirs text i)
+      → sets (sets l at (rowLine dirs text i (rowAt rows i))) (at + (39 + length (rowPath dirs text (rowAt rows i)))) (linesFrom fs rows dirs text (i + 1)) ≡ sets l at (linesFrom fs rows dirs text i)
   put-next l at h =
       rw (next-line h)
-      (sets-two l (rowLine dirs text i (rowAt rows i)) (linesFrom fs rows dirs text (i + 1)) at (at + (39 + length (pathIn dirs text (rowAt rows i)))) (ap (λ (k : ℕ). at + k) (sym (row-line-length dirs text i (rowAt rows i)))))
+      (sets-two l (rowLine dirs text i (rowAt rows i)) (linesFrom fs rows dirs text (i + 1)) at (at + (39 + length (rowPath dirs text (rowAt rows i)))) (ap (λ (k : ℕ). at + k) (sym (row-line-length dirs text i (rowAt rows i)))))
 
 -- a text that is put where it fits, or refused
 module _ (text out : List ℕ) where

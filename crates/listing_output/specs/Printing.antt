@@ -19,14 +19,14 @@ abbrev pub fourColumns : ℕ → ℕ → ℕ → ℕ → ℕ → ℕ → List �
 fourColumns a b c width d last = column 5 a ++ (column 15 b ++ (column 15 c ++ (column width d ++ (last ∷ []))))
 
 -- the directory of a row, of no bytes where the row has none
-abbrev pub directoryIn : List ℕ → List ℕ → Row → List ℕ
-directoryIn dirs text r = textAt text (directorySpan dirs r)
+abbrev pub rowDirectory : List ℕ → List ℕ → Row → List ℕ
+rowDirectory dirs text r = textAt text (directorySpan dirs r)
 
-abbrev pub pathIn : List ℕ → List ℕ → Row → List ℕ
-pathIn dirs text r = appended (directoryIn dirs text r) (textAt text (r .name))
+abbrev pub rowPath : List ℕ → List ℕ → Row → List ℕ
+rowPath dirs text r = appended (rowDirectory dirs text r) (textAt text (r .name))
 
 abbrev pub rowLine : List ℕ → List ℕ → ℕ → Row → List ℕ
-rowLine dirs text i r = fourColumns i (r .offset) (r .size) 2 (r .flags % 2) 32 ++ (pathIn dirs text r ++ (10 ∷ []))
+rowLine dirs text i r = fourColumns i (r .offset) (r .size) 2 (r .flags % 2) 32 ++ (rowPath dirs text r ++ (10 ∷ []))
 
 -- a set without its roots and times, which no line shows
 abbrev pub bare : FileStorage → List ℕ → List ℕ → List ℕ → Store

@@ -7,7 +7,8 @@ ghost use lib.Seq.{sets};
 ghost use Rattle.types.specs.Refusals.{usizeSays, numberOf};
 ghost use Rattle.path.specs.Join.{Joined, appended};
 ghost use Rattle.listing_output.specs.Output.{printed, listed, stopped};
-ghost use Rattle.listing_output.specs.Printing.{fourColumns, directoryIn, pathIn, rowLine, shown, linesOf, leftIn, putText};
+ghost use Rattle.listing_output.specs.private.Lines.{fourColumns, rowDirectory, rowPath, rowLine, linesOf, leftIn};
+ghost use Rattle.listing_output.specs.Printing.{shown, putText};
 use tables::FileStorage;
 use tables::Row;
 use types::Refusal;
@@ -41,14 +42,14 @@ fn put_path(out: &mut [u8], at: usize, dir: &[u8], name: &[u8]) -> usize
 
 // The text of a row's directory, of no bytes where the row has none.
 fn directory_in<'a>(dirs: &[u64], text: &'a [u8], row: Row) -> &'a [u8]
-    ensures { λ r. ⌜ now r ≡ directoryIn (now (dirs .entry)) (now (text .entry)) row ⌝ }
+    ensures { λ r. ⌜ now r ≡ rowDirectory (now (dirs .entry)) (now (text .entry)) row ⌝ }
 {
     tables::text_at(text, tables::directory_span(dirs, row))
 }
 
 // The length of a file's path.
 fn path_length(dirs: &[u64], text: &[u8], row: Row) -> usize
-    ensures { λ r. ⌜ r ≡ length (pathIn (now (dirs .entry)) (now (text .entry)) row) ⌝ }
+    ensures { λ r. ⌜ r ≡ length (rowPath (now (dirs .entry)) (now (text .entry)) row) ⌝ }
 {
     path::joined_length(
         directory_in(dirs, text, row),
@@ -58,8 +59,8 @@ fn path_length(dirs: &[u64], text: &[u8], row: Row) -> usize
 
 // Writes the line of file i from place `at` on, and gives the place after it.
 fn put_row_line(out: &mut [u8], at: usize, i: usize, dirs: &[u64], text: &[u8], row: Row) -> usize
-    requires { ⌜ at + (39 + length (pathIn (now dirs) (now text) row)) ≤ length (now out) ⌝ }
-    ensures { λ r. ⌜ r ≡ at + (39 + length (pathIn (now (dirs .entry)) (now (text .entry)) row)) ⌝ }
+    requires { ⌜ at + (39 + length (rowPath (now dirs) (now text) row)) ≤ length (now out) ⌝ }
+    ensures { λ r. ⌜ r ≡ at + (39 + length (rowPath (now (dirs .entry)) (now (text .entry)) row)) ⌝ }
     ensures { λ _. ⌜ now (out .exit) ≡
         sets (now (out .entry)) at (rowLine (now (dirs .entry)) (now (text .entry)) i row) ⌝ }
 {

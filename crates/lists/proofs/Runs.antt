@@ -36,19 +36,19 @@ module _ {A : Type 0} where
   fill-turn l j n i a h = let e : n - i ≡ suc (n - (i + 1)) = omega arith in rw (add-one j, e)
 
   -- a store, and a run of them, behind a first part
-  pub set-behind : (p l : List A) (i : ℕ) (a : A) → set (p ++ l) (length p + i) a ≡ p ++ set l i a
-  set-behind [] l i a = rw (zero-add i)
-  set-behind (x ∷ p) l i a = rw (suc-add (length p) i) (ap (λ (r : List A). x ∷ r) (set-behind p l i a))
+  pub set-after : (p l : List A) (i : ℕ) (a : A) → set (p ++ l) (length p + i) a ≡ p ++ set l i a
+  set-after [] l i a = rw (zero-add i)
+  set-after (x ∷ p) l i a = rw (suc-add (length p) i) (ap (λ (r : List A). x ∷ r) (set-after p l i a))
 
-  pub sets-behind : (t p l : List A) (i : ℕ) → sets (p ++ l) (length p + i) t ≡ p ++ sets l i t
-  sets-behind [] p l i = refl
-  sets-behind (x ∷ t) p l i =
-      rw (set-behind p l i x, ← add-suc (length p) i) (sets-behind t p (set l i x) (suc i))
+  pub sets-after : (t p l : List A) (i : ℕ) → sets (p ++ l) (length p + i) t ≡ p ++ sets l i t
+  sets-after [] p l i = refl
+  sets-after (x ∷ t) p l i =
+      rw (set-after p l i x, ← add-suc (length p) i) (sets-after t p (set l i x) (suc i))
 
   pub sets-drop : (l : List A) (k : ℕ) (t : List A) → k ≤ length l → sets l k t ≡ take k l ++ sets (drop k l) 0 t
   sets-drop l k t h =
       let e : length (take k l) + 0 ≡ k = omega (arith, length-take-le k l h) in
-      let q : sets (take k l ++ drop k l) (length (take k l) + 0) t ≡ take k l ++ sets (drop k l) 0 t = sets-behind t (take k l) (drop k l) 0 in
+      let q : sets (take k l ++ drop k l) (length (take k l) + 0) t ≡ take k l ++ sets (drop k l) 0 t = sets-after t (take k l) (drop k l) 0 in
       rw (take-append-drop k l, e) at q
 
   -- the rest of a slice from place k on, lent and written from its start

@@ -7,14 +7,14 @@ ghost use lib.Seq.{sets};
 ghost use Rattle.lists.specs.Lists.{partOf, cleared, equal};
 
 // The smaller of two numbers.
-pub fn least(a: usize, b: usize) -> usize
+pub fn min_usize(a: usize, b: usize) -> usize
     ensures { λ r. ⌜ r ≡ min a b ⌝ }
 {
     if a < b { a } else { b }
 }
 
 // `a - b`, or 0 where b is larger.
-pub fn minus(a: usize, b: usize) -> usize
+pub fn saturating_sub_usize(a: usize, b: usize) -> usize
     ensures { λ r. ⌜ r ≡ a - b ⌝ }
 {
     if a < b { 0 } else { a - b }
@@ -73,8 +73,8 @@ pub fn clear(bytes: &mut [u8])
 pub fn part(bytes: &[u8], at: usize, n: usize) -> &[u8]
     ensures { λ r. ⌜ now r ≡ partOf (now (bytes .entry)) at n ⌝ }
 {
-    let from = least(at, bytes.len());
-    let to = from + least(n, bytes.len() - from);
+    let from = min_usize(at, bytes.len());
+    let to = from + min_usize(n, bytes.len() - from);
     &bytes[from..to]
 }
 
@@ -100,7 +100,7 @@ pub fn same(a: &[u8], b: &[u8]) -> bool
 pub fn copy_in(target: &mut [u8], source: &[u8])
     ensures { λ _. ⌜ now (target .exit) ≡ sets (now (target .entry)) 0 (now (source .entry)) ⌝ }
 {
-    let n = least(target.len(), source.len());
+    let n = min_usize(target.len(), source.len());
     let mut i = 0;
     while i < n {
         target[i] = source[i];
@@ -110,7 +110,7 @@ pub fn copy_in(target: &mut [u8], source: &[u8])
 
 // Copies `source` behind the first `used` bytes of `target`, as much of it as there is room for: the
 // rest of the buffer is lent to the copy.
-pub fn copy_behind(target: &mut [u8], used: usize, source: &[u8])
+pub fn copy_after(target: &mut [u8], used: usize, source: &[u8])
     ensures { λ _. ⌜ now (target .exit) ≡ sets (now (target .entry)) used (now (source .entry)) ⌝ }
 {
     if used < target.len() {

@@ -5,9 +5,9 @@ ghost use Prim.Native.Nat.{_+_, _-_, _≤_, _<_};
 ghost use lib.ListN.{length, drop, replicate};
 ghost use lib.Seq.{sets};
 ghost use Rattle.lists.specs.Decimal.{decimal, column};
-use crate::access::least;
-use crate::access::minus;
+use crate::access::min_usize;
 use crate::access::put_byte;
+use crate::access::saturating_sub_usize;
 
 // How many digits a number has.
 pub fn digit_count(n: u64) -> usize
@@ -63,7 +63,7 @@ pub fn put_decimal(target: &mut [u8], at: usize, n: u64) -> usize
 fn put_blanks(target: &mut [u8], at: usize, count: usize)
     ensures { λ _. ⌜ now (target .exit) ≡ sets (now (target .entry)) at (replicate count 32) ⌝ }
 {
-    let n = least(count, minus(target.len(), at));
+    let n = min_usize(count, saturating_sub_usize(target.len(), at));
     let mut i = 0;
     while i < n {
         target[at + i] = 32;
@@ -76,9 +76,9 @@ pub fn put_column(target: &mut [u8], at: usize, width: usize, n: u64)
     ensures { λ _. ⌜ now (target .exit) ≡ sets (now (target .entry)) at (column width n) ⌝ }
 {
     let k = digit_count(n);
-    let blanks = minus(width, k);
+    let blanks = saturating_sub_usize(width, k);
     put_blanks(target, at, blanks);
-    if blanks < minus(target.len(), at) {
-        put_digits(target, at + blanks, least(width, k), n);
+    if blanks < saturating_sub_usize(target.len(), at) {
+        put_digits(target, at + blanks, min_usize(width, k), n);
     }
 }

@@ -8,14 +8,14 @@ mod number;
 
 pub use access::byte;
 pub use access::clear;
-pub use access::copy_behind;
+pub use access::copy_after;
 pub use access::copy_in;
-pub use access::least;
-pub use access::minus;
+pub use access::min_usize;
 pub use access::part;
 pub use access::put_byte;
 pub use access::put_word;
 pub use access::same;
+pub use access::saturating_sub_usize;
 pub use access::word;
 pub use decimal::digit_count;
 pub use decimal::put_column;

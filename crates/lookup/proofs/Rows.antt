@@ -2,7 +2,7 @@
 -- scan has still before it. They rely on the laws of tables by their places (`tables`).
 use Prim.Native.Nat.{ℕ, zero, suc, _+_, _-_, _%_, _/_, _<_, _≤_}
 use mathlib.Core.Path.{_≡_, refl, sym, ap, _∙_}
-use mathlib.Core.Bool.{Bool, true, false, cond, not, false≢true}
+use mathlib.Core.Bool.{Bool, true, false, cond, not, false≢true, _&&_}
 use mathlib.Core.List.{List, [], _∷_}
 use native.Mathlib.Omega.{arith}
 use native.Mathlib.Nat.{sub-zero}
@@ -17,9 +17,9 @@ use Rattle.tables.specs.Rows.{rowAt, dirAt, noPath, isAbsolute, directorySpan, 
 use Rattle.tables.specs.Model.{presentIf, single, absolute, stored, pathIn, Store, directoryText, directoryIn, internalPath, tabled}
 use Rattle.tables.proofs.Paths.{path-parts}
 use Rattle.tables.proofs.Tabled.{tabled-same}
-use Rattle.lookup.specs.Lookup.{Entry, own, isHeld, heldText, covers, isDirectory, Seen, nothing, file, link, orHere, fileAt, isThere, known, isFlagged, entriesOf, directoriesOf, seenCode}
+use Rattle.lookup.specs.Lookup.{Entry, ownPath, isHeld, heldText, covers, isDirectory, Seen, nothing, file, link, orHere, fileAt, isThere, known, isFlagged, entriesOf, directoriesOf, seenCode}
 use Rattle.lookup.specs.Space.{directoryLength}
-use Rattle.lookup.specs.Rows.{entryAt, entriesFrom, directoriesFrom}
+use Rattle.lookup.specs.private.Rows.{entryAt, entriesFrom, directoriesFrom}
 
 -- ---- a row
 
@@ -51,7 +51,7 @@ one-or-none false j h = omega arith
 
 -- a directory by its path index: of a single name, an absolute path, or a file in it
 kinds-length : (a b outside : Bool) (text : List ℕ) (c : Span)
-    → length (textAt text (cond (cond (not a) (not b) false) c (record { at = 0; len = 0 }))) ≡ directoryLength (cond a single (cond b absolute (stored (textAt text c) outside)))
+    → length (textAt text (cond (not a && not b) c (record { at = 0; len = 0 }))) ≡ directoryLength (cond a single (cond b absolute (stored (textAt text c) outside)))
 kinds-length true b outside text c = refl
 kinds-length false true outside text c = refl
 kinds-length false false outside text c = refl
@@ -69,7 +69,7 @@ module _ (s : Store) (i : ℕ) where
   abbrev pub branchAt : List ℕ
   branchAt = branchIn (s .dirs) (s .text) (rowAt (s .rows) i)
 
-  pub own-at : internalPath (s .dirs) (s .text) (rowAt (s .rows) i) ≡ own (entryAt s i)
+  pub own-at : internalPath (s .dirs) (s .text) (rowAt (s .rows) i) ≡ ownPath (entryAt s i)
   own-at = refl
 
   pub beside-at : (t : List ℕ) → appended branchAt t ≡ pathIn (entryAt s i .directory) t
@@ -151,7 +151,7 @@ stays file a b h = refl
 stays link a b h = refl
 
 module _ (s : Store) (p : List ℕ) (n : ℕ) where
-  at-row : (j : ℕ) → j < n → fileAt (entriesFrom s (n - j) j) p ≡ orHere (fileAt (entriesFrom s (n - (j + 1)) (j + 1)) p) (equal (own (entryAt s j)) p) (entryAt s j .flagged)
+  at-row : (j : ℕ) → j < n → fileAt (entriesFrom s (n - j) j) p ≡ orHere (fileAt (entriesFrom s (n - (j + 1)) (j + 1)) p) (equal (ownPath (entryAt s j)) p) (entryAt s j .flagged)
   at-row j h = rw (entries-cons s n j h)
 
   up : (j : ℕ) → j ≤ n → isThere (fileAt (entriesFrom s (n - j) j) p) ≡ true → fileAt (entriesFrom s n 0) p ≡ fileAt (entriesFrom s (n - j) j) p
@@ -159,18 +159,18 @@ module _ (s : Store) (p : List ℕ) (n : ℕ) where
   up (suc j) h k =
       let q : suc j ≡ j + 1 = omega arith in
       let k′ : isThere (fileAt (entriesFrom s (n - (j + 1)) (j + 1)) p) ≡ true = rw q at k in
-      let e : fileAt (entriesFrom s (n - j) j) p ≡ fileAt (entriesFrom s (n - (j + 1)) (j + 1)) p = at-row j (omega arith) ∙ stays (fileAt (entriesFrom s (n - (j + 1)) (j + 1)) p) (equal (own (entryAt s j)) p) (entryAt s j .flagged) k′ in
+      let e : fileAt (entriesFrom s (n - j) j) p ≡ fileAt (entriesFrom s (n - (j + 1)) (j + 1)) p = at-row j (omega arith) ∙ stays (fileAt (entriesFrom s (n - (j + 1)) (j + 1)) p) (equal (ownPath (entryAt s j)) p) (entryAt s j .flagged) k′ in
       rw q (up j (omega arith) (ap isThere e ∙ k′) ∙ e)
 
   -- the files, from the last on: file j behind which none is at p
   module _ (i j : ℕ) (q : i ≡ j + 1) (h : j < n) (inv : fileAt (entriesFrom s (n - i) i) p ≡ nothing) where
-    pub back-turn : equal (own (entryAt s j)) p ≡ false → fileAt (entriesFrom s (n - j) j) p ≡ nothing
+    pub back-turn : equal (ownPath (entryAt s j)) p ≡ false → fileAt (entriesFrom s (n - j) j) p ≡ nothing
     back-turn e = at-row j h ∙ rw (e, rw q at inv)
 
-    found : equal (own (entryAt s j)) p ≡ true → fileAt (entriesFrom s (n - j) j) p ≡ orHere nothing true (entryAt s j .flagged)
+    found : equal (ownPath (entryAt s j)) p ≡ true → fileAt (entriesFrom s (n - j) j) p ≡ orHere nothing true (entryAt s j .flagged)
     found e = at-row j h ∙ rw (e, rw q at inv)
 
-    module _ (m : n ≡ s .fs .«num_files») (e : equal (own (entryAt s j)) p ≡ true) where
+    module _ (m : n ≡ s .fs .«num_files») (e : equal (ownPath (entryAt s j)) p ≡ true) where
       from-all : isThere (fileAt (entriesFrom s (n - j) j) p) ≡ true → fileAt (entriesOf s) p ≡ fileAt (entriesFrom s (n - j) j) p
       from-all k =
           let z : entriesFrom s n 0 ≡ entriesOf s = rw m (entries-all s) in

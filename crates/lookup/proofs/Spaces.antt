@@ -2,7 +2,7 @@
 -- laws of proofs/Rows.antt.
 use Prim.Native.Nat.{ℕ, zero, suc, _+_, _-_, _*_, _/_, _<_, _≤_, min}
 use mathlib.Core.Path.{_≡_, refl, sym, ap, _∙_}
-use mathlib.Core.Bool.{Bool, true, cond}
+use mathlib.Core.Bool.{Bool, true, cond, _||_}
 use mathlib.Core.List.{List, []}
 use mathlib.Core.Logic.{_⊎_, inl, inr}
 use native.Mathlib.Omega.{arith}
@@ -13,10 +13,9 @@ use Rattle.lists.proofs.Orders.{le-or-lt}
 use Rattle.tables.specs.Span.{textAt}
 use Rattle.tables.specs.Rows.{rowAt, has}
 use Rattle.tables.specs.Model.{Store}
-use Rattle.rules.specs.Rules.{either}
 use Rattle.lookup.specs.Lookup.{Entry, isFlagged, entriesOf}
 use Rattle.lookup.specs.Space.{directoryLength, space, linkCount, lacksSpace}
-use Rattle.lookup.specs.Rows.{entryAt, entriesFrom}
+use Rattle.lookup.specs.private.Rows.{entryAt, entriesFrom}
 use Rattle.lookup.proofs.Rows.{flagged-at, text-at, branchAt, length-at, entries-cons, entries-none, entries-all}
 
 -- ---- the count
@@ -73,7 +72,7 @@ module _ (files : List Entry) (marks stage path : ℕ) where
   lacks-room h r e = rw (le-ltb marks (linkCount files) h) (at (le-or-lt (space files) stage) (le-or-lt (2 * space files) path))
     where
       at : (space files ≤ stage) ⊎ (stage < space files) → (2 * space files ≤ path) ⊎ (path < 2 * space files)
-          → eqb r 0 ≡ either (ltb stage (space files)) (ltb path (2 * space files))
+          → eqb r 0 ≡ (ltb stage (space files) || ltb path (2 * space files))
       at (inl a) (inl b) = rw (le-ltb stage (space files) a, le-ltb path (2 * space files) b) (ne-eqb r 0 (λ q. omega arith))
       at (inl a) (inr b) = rw (le-ltb stage (space files) a, lt-ltb path (2 * space files) b) (eq-eqb r 0 (omega arith))
       at (inr a) b = rw (lt-ltb stage (space files) a) (eq-eqb r 0 (omega arith))

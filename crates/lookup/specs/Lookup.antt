@@ -7,7 +7,7 @@ use lib.Dec.{eqb}
 use Rattle.lists.specs.Lists.{equal}
 use Rattle.path.specs.Split.{isSeparator}
 use Rattle.tables.specs.declared.storage.FileStorage.{FileStorage}
-use Rattle.tables.specs.Rows.{has}
+use Rattle.tables.specs.Rows.{has, linkHeldBit, symlinkBit}
 use Rattle.tables.specs.Model.{Optional, absent, present, Directory, pathIn, File, Store, fileOf, directoryText, tabled}
 
 -- ---- a file
@@ -32,13 +32,13 @@ entryOf f =
     record {
       directory = f .directory;
       name = f .name;
-      flagged = cond (has (f .flags) 8) (isHeld (f .link)) false;
+      flagged = cond (has (f .flags) symlinkBit) (isHeld (f .link)) false;
       text = heldText (f .link);
     }
 
 -- its internal path
-abbrev pub own : Entry → List ℕ
-own f = pathIn (f .directory) (f .name)
+abbrev pub ownPath : Entry → List ℕ
+ownPath f = pathIn (f .directory) (f .name)
 
 -- ---- what stands at a path
 
@@ -75,7 +75,7 @@ orHere nothing false l = nothing
 -- 'Of files with one internal path the last counts'
 abbrev pub fileAt : List Entry → List ℕ → Seen
 fileAt [] p = nothing
-fileAt (f ∷ fs) p = orHere (fileAt fs p) (equal (own f) p) (f .flagged)
+fileAt (f ∷ fs) p = orHere (fileAt fs p) (equal (ownPath f) p) (f .flagged)
 
 abbrev pub isThere : Seen → Bool
 isThere nothing = false
@@ -90,7 +90,7 @@ known files dirs p = cond (isThere (fileAt files p)) true (isDirectory dirs p)
 
 -- the flags of a flagged link: flag 8, and a text is held
 abbrev pub isFlagged : ℕ → Bool
-isFlagged flags = cond (has flags 8) (has flags 16) false
+isFlagged flags = cond (has flags symlinkBit) (has flags linkHeldBit) false
 
 -- neither roots nor times are looked at
 abbrev pub lent : FileStorage → List ℕ → List ℕ → List ℕ → Store

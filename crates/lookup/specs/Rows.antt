@@ -4,7 +4,7 @@ use Prim.Native.Nat.{ℕ, zero, suc, _+_}
 use mathlib.Core.Bool.{cond}
 use mathlib.Core.List.{List, [], _∷_}
 use Rattle.tables.specs.Span.{textAt}
-use Rattle.tables.specs.Rows.{rowAt, directorySpan, has}
+use Rattle.tables.specs.Rows.{rowAt, directorySpan, has, linkHeldBit}
 use Rattle.tables.specs.Model.{Store, fileOf, directoryText}
 use Rattle.lookup.specs.Lookup.{Entry, entryOf}
 
@@ -23,7 +23,7 @@ directoriesFrom s (suc n) i = directoryText s i ∷ directoriesFrom s n (i + 1)
 
 -- what row i says of a link: its text, and its directory (nothing for a single name and an absolute path)
 abbrev pub rowText : List ℕ → List ℕ → ℕ → List ℕ
-rowText rows text i = cond (has (rowAt rows i .flags) 16) (textAt text (rowAt rows i .link)) []
+rowText rows text i = cond (has (rowAt rows i .flags) linkHeldBit) (textAt text (rowAt rows i .link)) []
 
 abbrev pub rowBranch : List ℕ → List ℕ → List ℕ → ℕ → List ℕ
 rowBranch rows dirs text i = textAt text (directorySpan dirs (rowAt rows i))

@@ -1,12 +1,11 @@
 -- Document 01, 'Links': the work space that the flagged links of a set need, and whether what is lent is too short. It relies on the files of
 -- Lookup.antt.
 use Prim.Native.Nat.{ℕ, _+_, _*_}
-use mathlib.Core.Bool.{Bool, cond}
+use mathlib.Core.Bool.{Bool, cond, _||_}
 use mathlib.Core.List.{List, [], _∷_}
 use lib.Dec.{ltb}
 use lib.ListN.{length}
 use Rattle.tables.specs.Model.{Directory, single, absolute, stored}
-use Rattle.rules.specs.Rules.{either}
 use Rattle.lookup.specs.Lookup.{Entry}
 
 -- 'the sum, over flagged links, of directory length + text length + 2'
@@ -27,4 +26,4 @@ linkCount (f ∷ fs) = cond (f .flagged) 1 0 + linkCount fs
 -- 'Work space: 3 × the sum … and one mark a link': a stage of the sum and a path of twice the sum
 abbrev pub lacksSpace : List Entry → ℕ → ℕ → ℕ → Bool
 lacksSpace files marks stage path =
-    either (ltb marks (linkCount files)) (either (ltb stage (space files)) (ltb path (2 * space files)))
+    ltb marks (linkCount files) || (ltb stage (space files) || ltb path (2 * space files))

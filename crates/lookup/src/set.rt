@@ -6,7 +6,7 @@ ghost use mathlib.Core.List.{[]};
 ghost use lib.ListN.{take, drop};
 ghost use Rattle.lists.specs.Lists.{equal};
 ghost use Rattle.tables.specs.Span.{textAt};
-ghost use Rattle.tables.specs.Rows.{rowAt, dirAt, directorySpan, has};
+ghost use Rattle.tables.specs.Rows.{rowAt, dirAt, directorySpan, has, linkHeldBit};
 ghost use Rattle.tables.specs.Model.{internalPath};
 ghost use Rattle.lookup.specs.Lookup.{covers, isDirectory, fileAt, isThere, known, isFlagged, lent, entriesOf, directoriesOf, seenCode};
 use crate::parts::is_covered;
@@ -41,7 +41,7 @@ pub fn link_count(rows: &[u64], i: usize) -> usize
 
 // The link text of the file with that row, nothing where none is held.
 pub fn link_text(text: &[u8], row: Row) -> &[u8]
-    ensures { λ r. ⌜ now r ≡ cond (has (row .flags) 16) (textAt (now (text .entry)) (row .link)) [] ⌝ }
+    ensures { λ r. ⌜ now r ≡ cond (has (row .flags) linkHeldBit) (textAt (now (text .entry)) (row .link)) [] ⌝ }
 {
     if tables::holds_link(row.flags) {
         return tables::text_at(text, row.link);

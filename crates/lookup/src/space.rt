@@ -8,7 +8,7 @@ ghost use lib.ListN.{length};
 ghost use Rattle.tables.specs.Rows.{rowAt};
 ghost use Rattle.lookup.specs.Space.{space, linkCount, lacksSpace};
 ghost use Rattle.lookup.specs.Lookup.{isFlagged, lent, entriesOf};
-ghost use Rattle.lookup.specs.Rows.{rowText, rowBranch};
+ghost use Rattle.lookup.specs.private.Rows.{rowText, rowBranch};
 use crate::set::directory_of;
 use crate::set::is_link;
 use crate::set::link_count;
@@ -37,8 +37,8 @@ fn left_behind(rows: &[u64], dirs: &[u64], text: &[u8], i: usize, left: usize) -
         let row = tables::row_at(rows, i);
         let directory = directory_of(dirs, text, row);
         let target = link_text(text, row);
-        let rest = lists::minus(left, directory.len());
-        return lists::minus(lists::minus(rest, target.len()), 2);
+        let rest = lists::saturating_sub_usize(left, directory.len());
+        return lists::saturating_sub_usize(lists::saturating_sub_usize(rest, target.len()), 2);
     }
     left
 }
@@ -72,6 +72,6 @@ pub fn lacks_space(
     if marks < count_links(fs, rows) {
         return true;
     }
-    let room = lists::least(stage, path / 2) + 1;
+    let room = lists::min_usize(stage, path / 2) + 1;
     space_left(fs, rows, dirs, text, room) == 0
 }

@@ -2,12 +2,11 @@
 -- the laws of joins and of running hashes.
 use Prim.Native.Nat.{ℕ}
 use mathlib.Core.Path.{_≡_, refl, sym, ap, _∙_}
-use mathlib.Core.Bool.{Bool, true, false, cond, not}
+use mathlib.Core.Bool.{Bool, true, false, cond, not, _&&_}
 use mathlib.Core.List.{List, [], _∷_, _++_, map, append-assoc}
 use Rattle.path.specs.Join.{appended}
 use Rattle.crc32c.specs.Crc.{crcFrom, lower}
 use Rattle.crc32c.proofs.Parts.{crc-lower}
-use Rattle.rules.specs.Rules.{both}
 use Rattle.tables.specs.declared.storage.FileStorage.{FileStorage}
 use Rattle.tables.specs.declared.span.Span.{Span}
 use Rattle.tables.specs.declared.rows.Row.{Row}
@@ -23,7 +22,7 @@ nowhere = record { at = 0; len = 0 }
 -- by whether the path is absolute, a single name, and outside of the set's name
 module _ (text save name : List ℕ) (set dir : Span) where
   path-if : (a s o : Bool)
-      → appended (appended (appended (cond a [] save) (textAt text (cond (both (both (not s) (not a)) (not o)) set nowhere))) (textAt text (cond (both (not s) (not a)) dir nowhere))) name
+      → appended (appended (appended (cond a [] save) (textAt text (cond ((not s && not a) && not o) set nowhere))) (textAt text (cond (not s && not a) dir nowhere))) name
       ≡ cond a name (cond s (appended save name) (cond o (appended (appended save (textAt text dir)) name) (appended (appended (appended save (textAt text set)) (textAt text dir)) name)))
   path-if true true o = refl
   path-if true false o = refl
@@ -32,7 +31,7 @@ module _ (text save name : List ℕ) (set dir : Span) where
   path-if false false false = refl
 
   hashed-if : (a s o : Bool)
-      → led (cond a [] save) ++ (cond (both (both (not s) (not a)) (not o)) (textAt text set ++ (47 ∷ [])) [] ++ (led (textAt text (cond (both (not s) (not a)) dir nowhere)) ++ name))
+      → led (cond a [] save) ++ (cond ((not s && not a) && not o) (textAt text set ++ (47 ∷ [])) [] ++ (led (textAt text (cond (not s && not a) dir nowhere)) ++ name))
       ≡ cond a name (cond s (led save ++ name) (cond o (led save ++ led (textAt text dir) ++ name) (led save ++ (textAt text set ++ (47 ∷ [])) ++ led (textAt text dir) ++ name)))
   hashed-if true true o = refl
   hashed-if true false o = refl
@@ -49,7 +48,7 @@ none-if false = refl
 module _ (fs : FileStorage) (dirs text : List ℕ) (r : Row) where
   -- the spans of the set's name and of the directory, where they lead the path
   abbrev pub setSpan : Span
-  setSpan = cond (both (isInside r) (not (has (r .flags) 32))) (fs .name) nowhere
+  setSpan = cond (isInside r && not (has (r .flags) 32)) (fs .name) nowhere
 
   abbrev pub dirSpan : Span
   dirSpan = directorySpan dirs r
@@ -70,7 +69,7 @@ module _ (fs : FileStorage) (dirs text : List ℕ) (r : Row) where
       → appended (appended set dir) name ≡ filePath fs dirs text [] r
   unsaved-from f g h i j = rw (f, g, h, i, j) path-unsaved
 
-  pub hashed-is : (save : List ℕ) → led (cond (isAbsolute r) [] save) ++ (cond (both (isInside r) (not (has (r .flags) 32))) (textAt text (fs .name) ++ (47 ∷ [])) [] ++ (led (textAt text dirSpan) ++ nameOf text r)) ≡ hashedPath fs dirs text save r
+  pub hashed-is : (save : List ℕ) → led (cond (isAbsolute r) [] save) ++ (cond (isInside r && not (has (r .flags) 32)) (textAt text (fs .name) ++ (47 ∷ [])) [] ++ (led (textAt text dirSpan) ++ nameOf text r)) ≡ hashedPath fs dirs text save r
   hashed-is save = hashed-if text save (nameOf text r) (fs .name) (dirAt dirs (r .«path_index»)) (isAbsolute r) (isSingle r) (has (r .flags) 32)
 
 -- four parts fed one after the other

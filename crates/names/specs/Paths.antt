@@ -2,7 +2,7 @@
 -- puts a separator behind each part that is not empty, and behind the set's name always. It relies on the joins of
 -- `path`, the hash of `crc32c` and the questions of `rules`.
 use Prim.Native.Nat.{ℕ}
-use mathlib.Core.Bool.{Bool, cond}
+use mathlib.Core.Bool.{Bool, cond, _&&_}
 use mathlib.Core.List.{List, [], _∷_, _++_, map}
 use lib.Dec.{eqb}
 use lib.IntN.{ℤ}
@@ -12,9 +12,8 @@ use Rattle.crc32c.specs.Crc.{crcOf, lower}
 use Rattle.tables.specs.declared.storage.FileStorage.{FileStorage}
 use Rattle.tables.specs.declared.rows.Row.{Row}
 use Rattle.tables.specs.Span.{textAt}
-use Rattle.tables.specs.Rows.{rowAt, dirAt, noPath, isAbsolute, has}
-use Rattle.rules.specs.Rules.{both}
-use Rattle.rules.specs.Questions.{askedFile, rowsHeld, dirsHeld, textHeld}
+use Rattle.tables.specs.Rows.{rowAt, dirAt, noPath, isAbsolute, has, outsideBit}
+use Rattle.rules.specs.Questions.{fileAnswer, rowsHeld, dirsHeld, textHeld}
 use Rattle.rules.specs.Composed.{composedFile}
 
 -- a single name has no directory
@@ -33,7 +32,7 @@ abbrev pub filePath : FileStorage → List ℕ → List ℕ → List ℕ → Row
 filePath fs dirs text save r =
     cond (isAbsolute r) (nameOf text r)
     (cond (isSingle r) (appended save (nameOf text r))
-    (cond (has (r .flags) 32) (appended (appended save (directoryOf dirs text r)) (nameOf text r))
+    (cond (has (r .flags) outsideBit) (appended (appended save (directoryOf dirs text r)) (nameOf text r))
     (appended (appended (appended save (textAt text (fs .name))) (directoryOf dirs text r)) (nameOf text r))))
 
 -- a part and a separator, where the part is not empty
@@ -46,7 +45,7 @@ abbrev pub hashedPath : FileStorage → List ℕ → List ℕ → List ℕ → R
 hashedPath fs dirs text save r =
     cond (isAbsolute r) (nameOf text r)
     (cond (isSingle r) (led save ++ nameOf text r)
-    (cond (has (r .flags) 32) (led save ++ led (directoryOf dirs text r) ++ nameOf text r)
+    (cond (has (r .flags) outsideBit) (led save ++ led (directoryOf dirs text r) ++ nameOf text r)
     (led save ++ (textAt text (fs .name) ++ (47 ∷ [])) ++ led (directoryOf dirs text r) ++ nameOf text r)))
 
 -- 'Path hashes use CRC-32C'
@@ -55,7 +54,7 @@ hashOf t = crcOf (map lower t)
 
 -- the lent tables have as many places as the set counts
 abbrev pub namesHeld : FileStorage → List ℕ → List ℕ → List ℕ → Bool
-namesHeld fs rows dirs text = both (rowsHeld fs rows) (both (dirsHeld fs dirs) (textHeld fs text))
+namesHeld fs rows dirs text = rowsHeld fs rows && (dirsHeld fs dirs && textHeld fs text)
 
 -- `file_path` into a lent buffer, refusals 1, 11, 10
 abbrev pub filePathInto : FileStorage → List ℕ → List ℕ → List ℕ → ℤ → List ℕ → List ℕ → Joined
@@ -65,4 +64,4 @@ filePathInto fs rows dirs text z save buf =
 -- `file_path_hash`
 abbrev pub filePathHash : FileStorage → List ℕ → List ℕ → List ℕ → ℤ → List ℕ → Outcome ℕ
 filePathHash fs rows dirs text z save =
-    askedFile fs z (namesHeld fs rows dirs text) (λ k. hashOf (hashedPath fs dirs text save (rowAt rows k)))
+    fileAnswer fs z (namesHeld fs rows dirs text) (λ k. hashOf (hashedPath fs dirs text save (rowAt rows k)))

@@ -30,11 +30,11 @@ fn left_behind(left: usize, closed: bool, part: &[u8]) -> usize
     if part.len() == 0 {
         return left;
     }
-    let rest = lists::minus(left, part.len());
+    let rest = lists::saturating_sub_usize(left, part.len());
     if closed {
         return rest;
     }
-    lists::minus(rest, 1)
+    lists::saturating_sub_usize(rest, 1)
 }
 
 // The room from the last byte of the composed path on, 0 where it doesn't fit.
@@ -45,7 +45,7 @@ fn room_left(first: &[u8], second: &[u8], third: &[u8], last: &[u8], room: usize
     let closed1 = is_closed(first);
     let closed2 = is_closed_behind(closed1, second);
     let closed3 = is_closed_behind(closed2, third);
-    let left1 = lists::minus(room, lists::minus(first.len(), 1));
+    let left1 = lists::saturating_sub_usize(room, lists::saturating_sub_usize(first.len(), 1));
     let left2 = left_behind(left1, closed1, second);
     let left3 = left_behind(left2, closed2, third);
     left_behind(left3, closed3, last)
@@ -69,7 +69,7 @@ fn put_kept(first: &[u8], second: &[u8], third: &[u8], last: &[u8], buf: &mut [u
     ensures { λ r. ⌜ r ≡ length (appended (appended (appended (now (first .entry)) (now (second .entry))) (now (third .entry))) (now (last .entry))) ⌝ }
     ensures { λ _. ⌜ now (buf .exit) ≡ sets (now (buf .entry)) 0 (appended (appended (appended (now (first .entry)) (now (second .entry))) (now (third .entry))) (now (last .entry))) ⌝ }
 {
-    lists::copy_behind(buf, 0, first);
+    lists::copy_after(buf, 0, first);
     let used2 = grown(buf, first.len(), second);
     let used3 = grown(buf, used2, third);
     grown(buf, used3, last)

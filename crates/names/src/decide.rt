@@ -1,13 +1,12 @@
 // What a question about a file's names decides first, and the parts that lead a file's name: the set's name
 // and the file's directory. Relies on `rules` for the refusals and on `tables` for the places.
 ghost use mathlib.Core.Path.{_≡_};
-ghost use mathlib.Core.Bool.{cond, not};
+ghost use mathlib.Core.Bool.{cond, not, _&&_};
 ghost use Prim.Native.Nat.{_/_};
 ghost use lib.Dec.{leb};
 ghost use Rattle.types.specs.Refusals.{usizeSays};
-ghost use Rattle.rules.specs.Rules.{both};
-ghost use Rattle.tables.specs.Rows.{has, isInside};
-ghost use Rattle.rules.specs.Questions.{askedFile, rowsHeld};
+ghost use Rattle.tables.specs.Rows.{has, isInside, outsideBit};
+ghost use Rattle.rules.specs.Questions.{fileAnswer, rowsHeld};
 use rules::are_both;
 use rules::is_held;
 use tables::FileStorage;
@@ -18,7 +17,7 @@ use types::UsizeResult;
 
 // Whether `words` words of directories and `bytes` bytes of text hold the set's directories and texts.
 pub fn are_held(fs: FileStorage, words: usize, bytes: usize) -> bool
-    ensures { λ r. ⌜ r ≡ both (leb (fs .«num_paths») (words / 2)) (leb (fs .«text_len») bytes) ⌝ }
+    ensures { λ r. ⌜ r ≡ (leb (fs .«num_paths») (words / 2) && leb (fs .«text_len») bytes) ⌝ }
 {
     if words / 2 < fs.num_paths {
         return false;
@@ -29,7 +28,7 @@ pub fn are_held(fs: FileStorage, words: usize, bytes: usize) -> bool
 // The number of a file that a question is about, or why the question isn't answered; `held` says whether
 // the tables besides the rows hold what the set counts.
 pub fn file_in(fs: FileStorage, rows: &[u64], index: FileIndex, held: bool) -> UsizeResult
-    ensures { λ r. ⌜ usizeSays r ≡ askedFile fs (index .0) (both (rowsHeld fs (now (rows .entry))) held) (λ k. k) ⌝ }
+    ensures { λ r. ⌜ usizeSays r ≡ fileAnswer fs (index .0) (rowsHeld fs (now (rows .entry)) && held) (λ k. k) ⌝ }
 {
     let rows_held = is_held(fs.num_files, rows.len() / 8);
     rules::file_in(fs, index, are_both(rows_held, held))
@@ -37,7 +36,7 @@ pub fn file_in(fs: FileStorage, rows: &[u64], index: FileIndex, held: bool) -> U
 
 // Whether the set's name leads a file's path.
 pub(crate) fn is_led(row: Row) -> bool
-    ensures { λ r. ⌜ r ≡ both (isInside row) (not (has (row .flags) 32)) ⌝ }
+    ensures { λ r. ⌜ r ≡ (isInside row && not (has (row .flags) outsideBit)) ⌝ }
 {
     if tables::is_inside(row.path_index) {
         return !tables::is_outside(row.flags);
@@ -47,7 +46,7 @@ pub(crate) fn is_led(row: Row) -> bool
 
 // Where the set's name lies, nowhere where it doesn't lead the file's path.
 pub fn set_span(fs: FileStorage, row: Row) -> Span
-    ensures { λ r. ⌜ r ≡ cond (both (isInside row) (not (has (row .flags) 32))) (fs .name) (record { at = 0; len = 0 }) ⌝ }
+    ensures { λ r. ⌜ r ≡ cond (isInside row && not (has (row .flags) outsideBit)) (fs .name) (record { at = 0; len = 0 }) ⌝ }
 {
     let name = fs.name;
     if is_led(row) {

@@ -1,14 +1,13 @@
 // A file's whole path, composed into a lent buffer, and its hash, taken part by part without one. Relies on
 // decide.rt, compose.rt and `crc32c`, and on the laws of proofs/Paths.antt.
 ghost use mathlib.Core.Path.{_≡_};
-ghost use mathlib.Core.Bool.{cond, not};
+ghost use mathlib.Core.Bool.{cond, not, _&&_};
 ghost use mathlib.Core.List.{[], _∷_, _++_, map};
 ghost use lib.Dec.{eqb};
 ghost use Rattle.types.specs.Refusals.{usizeSays};
-ghost use Rattle.rules.specs.Rules.{both};
 ghost use Rattle.path.specs.Join.{Joined};
 ghost use Rattle.crc32c.specs.Crc.{crcFrom, lower};
-ghost use Rattle.tables.specs.Rows.{has, pathIsAbsolute, isInside};
+ghost use Rattle.tables.specs.Rows.{has, pathIsAbsolute, isInside, outsideBit};
 ghost use Rattle.tables.specs.Span.{textAt};
 ghost use Rattle.rules.specs.Composed.{composedIf};
 ghost use Rattle.rules.specs.Results.{u32Says};
@@ -73,7 +72,7 @@ pub fn hash_led(crc: u32, part: &[u8]) -> u32
 
 // The hash of the bytes so far and, where it leads the path, of the set's name and of a separator.
 fn hash_set(crc: u32, fs: FileStorage, text: &[u8], row: Row) -> u32
-    ensures { λ r. ⌜ r ≡ crcFrom crc (map lower (cond (both (isInside row) (not (has (row .flags) 32))) (textAt (now (text .entry)) (fs .name) ++ (47 ∷ [])) [])) ⌝ }
+    ensures { λ r. ⌜ r ≡ crcFrom crc (map lower (cond (isInside row && not (has (row .flags) outsideBit)) (textAt (now (text .entry)) (fs .name) ++ (47 ∷ [])) [])) ⌝ }
 {
     if is_led(row) {
         return hash_closed(crc, tables::text_at(text, fs.name));

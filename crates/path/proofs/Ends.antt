@@ -9,7 +9,7 @@ use lib.ListN.{length, getD, take, drop, length-drop}
 use lib.Seq.{take-all, take-length}
 use borrow.Author.Tests.{eq-eqb, ne-eqb}
 use Rattle.lists.specs.Lists.{partOf}
-use Rattle.path.specs.Split.{isSeparator, trimmedFrom, trimmed, placeIn}
+use Rattle.path.specs.Split.{isSeparator, trimmedFrom, trimmed, positionIn}
 use Rattle.path.specs.Join.{closedFrom, isClosed}
 
 -- a path without its last byte, where that passes a test that 0 fails
@@ -64,7 +64,7 @@ closed-is [] k e = refl
 closed-is (c ∷ t) k e = let q : k ≡ length t = omega arith in rw q (closed-from c t)
 
 -- place 0 stays 0 where a leading separator is skipped
-pub place-zero : (p : List ℕ) → placeIn p 0 ≡ 0
+pub place-zero : (p : List ℕ) → positionIn p 0 ≡ 0
 place-zero p = omega arith
 
 -- a part that is asked for to the end

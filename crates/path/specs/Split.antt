@@ -29,9 +29,9 @@ beforeLast [] = []
 beforeLast (c ∷ t) = cond (any isSeparator t) (c ∷ beforeLast t) []
 
 -- what stands behind the last separator: all where there is none
-abbrev pub behindLast : List ℕ → List ℕ
-behindLast [] = []
-behindLast (c ∷ t) = cond (any isSeparator t) (behindLast t) (cond (isSeparator c) t (c ∷ t))
+abbrev pub afterLast : List ℕ → List ℕ
+afterLast [] = []
+afterLast (c ∷ t) = cond (any isSeparator t) (afterLast t) (cond (isSeparator c) t (c ∷ t))
 
 -- what stands before the first separator: all where there is none
 abbrev pub beforeFirst : List ℕ → List ℕ
@@ -39,16 +39,16 @@ beforeFirst [] = []
 beforeFirst (c ∷ t) = cond (isSeparator c) [] (c ∷ beforeFirst t)
 
 -- what stands behind the first separator: nothing where there is none
-abbrev pub behindFirst : List ℕ → List ℕ
-behindFirst [] = []
-behindFirst (c ∷ t) = cond (isSeparator c) t (behindFirst t)
+abbrev pub afterFirst : List ℕ → List ℕ
+afterFirst [] = []
+afterFirst (c ∷ t) = cond (isSeparator c) t (afterFirst t)
 
 -- `rsplit_path`: branch and leaf, parted by the last separator
 abbrev pub rsplitBranch : List ℕ → List ℕ
 rsplitBranch p = beforeLast (trimmed isSeparator p)
 
 abbrev pub rsplitLeaf : List ℕ → List ℕ
-rsplitLeaf p = behindLast (trimmed isSeparator p)
+rsplitLeaf p = afterLast (trimmed isSeparator p)
 
 -- an absolute path begins with a separator
 abbrev pub isComplete : List ℕ → Bool
@@ -60,21 +60,21 @@ isComplete (c ∷ t) = isSeparator c
 abbrev pub skipped : List ℕ → List ℕ
 skipped p = drop (cond (isComplete p) 1 0) p
 
-abbrev pub placeIn : List ℕ → ℕ → ℕ
-placeIn p pos = pos - cond (isComplete p) 1 0
+abbrev pub positionIn : List ℕ → ℕ → ℕ
+positionIn p pos = pos - cond (isComplete p) 1 0
 
 abbrev pub lsplitAtFirst : List ℕ → ℕ → List ℕ
-lsplitAtFirst p pos = take (placeIn p pos) (skipped p) ++ beforeFirst (drop (placeIn p pos) (skipped p))
+lsplitAtFirst p pos = take (positionIn p pos) (skipped p) ++ beforeFirst (drop (positionIn p pos) (skipped p))
 
 abbrev pub lsplitAtRest : List ℕ → ℕ → List ℕ
-lsplitAtRest p pos = behindFirst (drop (placeIn p pos) (skipped p))
+lsplitAtRest p pos = afterFirst (drop (positionIn p pos) (skipped p))
 
 -- `lsplit_path`: a leading separator is skipped, then the first separator parts first from rest
 abbrev pub lsplitFirst : List ℕ → List ℕ
 lsplitFirst p = beforeFirst (skipped p)
 
 abbrev pub lsplitRest : List ℕ → List ℕ
-lsplitRest p = behindFirst (skipped p)
+lsplitRest p = afterFirst (skipped p)
 
 -- `has_parent_path`: a separator of either kind is left when one at the end is dropped
 abbrev pub hasParent : List ℕ → Bool

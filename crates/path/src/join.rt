@@ -1,5 +1,5 @@
 // Joins of paths in a lent buffer: what is to be written is decided first, and the buffer's unwritten
-// rest is lent to the writer of the next part. Relies on `lists::copy_behind` and the laws of proofs/Joins.antt.
+// rest is lent to the writer of the next part. Relies on `lists::copy_after` and the laws of proofs/Joins.antt.
 ghost use mathlib.Core.Path.{_≡_};
 ghost use mathlib.Core.Bool.{cond};
 ghost use mathlib.Core.List.{_∷_};
@@ -55,17 +55,17 @@ fn has_room(room: usize, used: usize, closed: bool, more: usize) -> bool
 
 // Writes a leaf behind the `used` bytes of a branch, with a separator where the branch lacks one, and
 // gives the length of the whole.
-fn put_behind(buf: &mut [u8], used: usize, closed: bool, leaf: &[u8]) -> usize
+fn put_after(buf: &mut [u8], used: usize, closed: bool, leaf: &[u8]) -> usize
     requires { ⌜ used + cond closed (length (now leaf)) (length (now leaf) + 1) ≤ length (now buf) ⌝ }
     ensures { λ r. ⌜ r ≡ used + cond closed (length (now (leaf .entry))) (length (now (leaf .entry)) + 1) ⌝ }
     ensures { λ _. ⌜ now (buf .exit) ≡ sets (now (buf .entry)) used (cond closed (now (leaf .entry)) (47 ∷ now (leaf .entry))) ⌝ }
 {
     if closed {
-        lists::copy_behind(buf, used, leaf);
+        lists::copy_after(buf, used, leaf);
         return used + leaf.len();
     }
-    lists::copy_behind(buf, used, b"/");
-    lists::copy_behind(buf, used + 1, leaf);
+    lists::copy_after(buf, used, b"/");
+    lists::copy_after(buf, used + 1, leaf);
     used + 1 + leaf.len()
 }
 
@@ -76,7 +76,7 @@ fn put_alone(buf: &mut [u8], text: &[u8]) -> UsizeResult
     if buf.len() < text.len() {
         return UsizeResult::Err(Refusal::NoRoom);
     }
-    lists::copy_behind(buf, 0, text);
+    lists::copy_after(buf, 0, text);
     UsizeResult::Ok(text.len())
 }
 
@@ -98,7 +98,7 @@ pub fn append_path(buf: &mut [u8], used: usize, leaf: &[u8]) -> UsizeResult
     if !has_room(buf.len(), used, closed, leaf.len()) {
         return UsizeResult::Err(Refusal::NoRoom);
     }
-    UsizeResult::Ok(put_behind(buf, used, closed, leaf))
+    UsizeResult::Ok(put_after(buf, used, closed, leaf))
 }
 
 // Writes the path of `left` and `right` to the start of `buf`, and gives its length.
@@ -115,8 +115,8 @@ pub fn combine_path(left: &[u8], right: &[u8], buf: &mut [u8]) -> UsizeResult
     if !has_room(buf.len(), left.len(), closed, right.len()) {
         return UsizeResult::Err(Refusal::NoRoom);
     }
-    lists::copy_behind(buf, 0, left);
-    UsizeResult::Ok(put_behind(buf, left.len(), closed, right))
+    lists::copy_after(buf, 0, left);
+    UsizeResult::Ok(put_after(buf, left.len(), closed, right))
 }
 
 // Writes `leaf` appended to `branch` to the start of `buf`, and gives its length: `append_path` where
@@ -134,6 +134,6 @@ pub fn join_path(branch: &[u8], leaf: &[u8], buf: &mut [u8]) -> UsizeResult
     if !has_room(buf.len(), branch.len(), closed, leaf.len()) {
         return UsizeResult::Err(Refusal::NoRoom);
     }
-    lists::copy_behind(buf, 0, branch);
-    UsizeResult::Ok(put_behind(buf, branch.len(), closed, leaf))
+    lists::copy_after(buf, 0, branch);
+    UsizeResult::Ok(put_after(buf, branch.len(), closed, leaf))
 }

@@ -7,7 +7,7 @@ ghost use Prim.Native.Nat.{_+_, _-_, _≤_};
 ghost use lib.ListN.{length, take, drop};
 ghost use Rattle.lists.specs.Lists.{any};
 ghost use Rattle.path.specs.Join.{isClosed};
-ghost use Rattle.path.specs.Split.{isSeparator, isEither, trimmed, beforeLast, behindLast, beforeFirst, behindFirst, rsplitBranch, rsplitLeaf, lsplitFirst, lsplitRest, lsplitAtFirst, lsplitAtRest, hasParent, isComplete, skipped, placeIn};
+ghost use Rattle.path.specs.Split.{isSeparator, isEither, trimmed, beforeLast, afterLast, beforeFirst, afterFirst, rsplitBranch, rsplitLeaf, lsplitFirst, lsplitRest, lsplitAtFirst, lsplitAtRest, hasParent, isComplete, skipped, positionIn};
 
 // Whether a path is absolute.
 pub fn is_complete(path: &[u8]) -> bool
@@ -23,7 +23,7 @@ pub fn is_complete(path: &[u8]) -> bool
 pub fn is_closed(path: &[u8]) -> bool
     ensures { λ r. ⌜ r ≡ isClosed (now (path .entry)) ⌝ }
 {
-    lists::byte(path, lists::minus(path.len(), 1)) == b'/'
+    lists::byte(path, lists::saturating_sub_usize(path.len(), 1)) == b'/'
 }
 
 // Whether a byte is `/` or `\`.
@@ -42,7 +42,7 @@ pub fn trimmed_length(path: &[u8]) -> usize
         (r ≤ length (now (path .entry))) × (take r (now (path .entry)) ≡ trimmed isSeparator (now (path .entry)))
         ⌝ }
 {
-    let last = lists::minus(path.len(), 1);
+    let last = lists::saturating_sub_usize(path.len(), 1);
     if lists::byte(path, last) == b'/' {
         return last;
     }
@@ -54,7 +54,7 @@ fn trim(path: &[u8]) -> &[u8]
     ensures { λ r. ⌜ now r ≡ trimmed isSeparator (now (path .entry)) ⌝ }
 {
     if is_closed(path) {
-        return lists::part(path, 0, lists::minus(path.len(), 1));
+        return lists::part(path, 0, lists::saturating_sub_usize(path.len(), 1));
     }
     path
 }
@@ -63,7 +63,7 @@ fn trim(path: &[u8]) -> &[u8]
 fn trim_either(path: &[u8]) -> &[u8]
     ensures { λ r. ⌜ now r ≡ trimmed isEither (now (path .entry)) ⌝ }
 {
-    let last = lists::minus(path.len(), 1);
+    let last = lists::saturating_sub_usize(path.len(), 1);
     if is_either(lists::byte(path, last)) {
         return lists::part(path, 0, last);
     }
@@ -72,7 +72,7 @@ fn trim_either(path: &[u8]) -> &[u8]
 
 // Where the leaf begins: behind the last separator, or at 0.
 fn leaf_start(path: &[u8]) -> usize
-    ensures { λ r. ⌜ (take (r - 1) (now (path .entry)) ≡ beforeLast (now (path .entry))) × (drop r (now (path .entry)) ≡ behindLast (now (path .entry))) ⌝ }
+    ensures { λ r. ⌜ (take (r - 1) (now (path .entry)) ≡ beforeLast (now (path .entry))) × (drop r (now (path .entry)) ≡ afterLast (now (path .entry))) ⌝ }
 {
     let mut i = path.len();
     while 0 < i {
@@ -88,9 +88,9 @@ fn leaf_start(path: &[u8]) -> usize
 fn first_separator(path: &[u8], from: usize) -> usize
     ensures { λ r. ⌜ r ≤ length (now (path .entry)) ⌝ }
     ensures { λ r. ⌜ take r (now (path .entry)) ≡ take from (now (path .entry)) ++ beforeFirst (drop from (now (path .entry))) ⌝ }
-    ensures { λ r. ⌜ drop (r + 1) (now (path .entry)) ≡ behindFirst (drop from (now (path .entry))) ⌝ }
+    ensures { λ r. ⌜ drop (r + 1) (now (path .entry)) ≡ afterFirst (drop from (now (path .entry))) ⌝ }
 {
-    let mut i = lists::least(from, path.len());
+    let mut i = lists::min_usize(from, path.len());
     while i < path.len() {
         if path[i] == b'/' {
             return i;
@@ -130,9 +130,9 @@ fn skip(path: &[u8]) -> &[u8]
 
 // A place in a path, counted from behind its leading separator.
 fn place_in(path: &[u8], pos: usize) -> usize
-    ensures { λ r. ⌜ r ≡ placeIn (now (path .entry)) pos ⌝ }
+    ensures { λ r. ⌜ r ≡ positionIn (now (path .entry)) pos ⌝ }
 {
-    lists::minus(pos, lead(path))
+    lists::saturating_sub_usize(pos, lead(path))
 }
 
 // What stands before the last separator, one at the end dropped.
@@ -141,7 +141,7 @@ pub fn rsplit_path_branch(path: &[u8]) -> &[u8]
 {
     let whole = trim(path);
     let k = leaf_start(whole);
-    lists::part(whole, 0, lists::minus(k, 1))
+    lists::part(whole, 0, lists::saturating_sub_usize(k, 1))
 }
 
 // What stands behind the last separator, one at the end dropped.

@@ -2,7 +2,7 @@
 -- tables mean. They rely on the laws of rules and of directories.
 use Prim.Native.Nat.{ℕ, suc, _+_, _-_, _≤_, max}
 use mathlib.Core.Path.{_≡_, refl, sym, ap, _∙_}
-use mathlib.Core.Bool.{Bool, true, false, cond, not}
+use mathlib.Core.Bool.{Bool, true, false, cond, not, _||_}
 use mathlib.Core.List.{List, [], _∷_, _++_}
 use native.Mathlib.Omega.{arith}
 use lib.Dec.{eqb, ltb}
@@ -22,7 +22,7 @@ use Rattle.tables.specs.declared.rows.Presence.the-variants.{Absent, Present}
 use Rattle.tables.specs.Span.{textAt}
 use Rattle.tables.specs.Model.{Optional, Directory, single, absolute, stored, File, Model, Store, tabled, fileOf, viewOf}
 use Rattle.tables.proofs.Tabled.{length-tabled}
-use Rattle.rules.specs.Rules.{Rule, when, firstOf, outcomeOf, either}
+use Rattle.rules.specs.Rules.{Rule, when, firstOf, outcomeOf}
 use Rattle.rules.specs.Bounds.{isNegative}
 use Rattle.rules.proofs.Rules.{orElse, first-append, outcome-refused, either-false, passed}
 use Rattle.change.specs.declared.rooms.Rooms.{Rooms}
@@ -32,9 +32,10 @@ use Rattle.additions.specs.declared.checks.Sizes.{Sizes}
 use Rattle.additions.specs.declared.parts.PathKind.{PathKind}
 use Rattle.additions.specs.declared.parts.PathKind.the-variants.{Single, Absolute, Inside, Outside}
 use Rattle.additions.specs.declared.parts.PathParts.{PathParts}
-use Rattle.additions.specs.Addition.{Addition, optionalOf, isPresent, isZero, nameAfter, unled, directoryFor, storedName, badName, decides, isOpen, keeps, isV2, withTime, withPlace, padAdded, placeFor, added, lacks, sizeRules, nameRules, kindRules, padRules, addingRules, filesOf, padOf, fileAdded, sizeAdded}
-use Rattle.additions.specs.Parts.{isHere, nameFrom, linkTextOf, setTextOf, kindFor, textUnder, directoryAt, outsideKind, nameSpan, partsOf}
-use Rattle.additions.specs.Checks.{limitedLength, sizesFor, numberRules}
+use Rattle.additions.specs.Addition.{Addition, optionalOf, isPresent, isZero, nameAfter, withoutLeading, directoryFor, storedName, badName, decides, isOpen, keeps, isV2, withTime, withDirectoryOf, padAdded, directoryAdded, added, lacks, sizeRules, nameRules, versionRules, padRules, addingRules, filesOf, padOf, fileAdded, sizeAdded}
+use Rattle.additions.specs.private.Texts.{isHere, nameFrom, linkTextOf, setTextOf, textUnder, directoryAt, outsideKind}
+use Rattle.additions.specs.Parts.{kindFor, nameSpan, partsOf}
+use Rattle.additions.specs.private.Checks.{limitedLength, sizesFor, numberRules}
 use Rattle.additions.proofs.Texts.{set-read, directory-read, name-read, name-is, limited-is, bad-is}
 use Rattle.plan.specs.declared.dirs.DirPlan.{DirPlan}
 use Rattle.plan.specs.declared.counts.Counts.{Counts}
@@ -42,9 +43,10 @@ use Rattle.plan.specs.declared.counts.FileFacts.{FileFacts}
 use Rattle.plan.specs.declared.plan.Places.{Places}
 use Rattle.plan.specs.declared.plan.TextLengths.{TextLengths}
 use Rattle.plan.specs.declared.plan.AddPlan.{AddPlan}
-use Rattle.plan.specs.Write.{setText, nameText, linkNew, isNewPlace, isOutside, oldName, textAfter}
+use Rattle.plan.specs.Write.{setText, nameText, linkNew, isNewDirectory, isOutside, oldName, textAfter}
 use Rattle.plan.specs.Outcomes.{addingNumber}
-use Rattle.plan.specs.Plan.{dirPlanOf, dirsWith, padDirPlanOf, rowFlags, countsOf, shortOf, placesFor, planFrom, planOf, dirTexts, plannedBeside, plannedFor, TextsOf}
+use Rattle.plan.specs.private.Steps.{dirPlanOf, dirsWith, padDirPlanOf, rowFlags, countsOf, shortOf, textSpansFor, planFrom, dirTexts, plannedBeside, TextsOf}
+use Rattle.plan.specs.Plan.{planOf, plannedFor}
 
 -- ---- the texts
 
@@ -52,7 +54,7 @@ abbrev kindBy : Bool → Bool → Bool → PathKind
 kindBy a b c = cond a Absolute (cond b Single (cond c Inside Outside))
 
 abbrev directoryBy : Bool → Bool → Bool → List ℕ → Directory
-directoryBy a b c branch = cond a absolute (cond b single (cond c (stored (unled (lsplitRest branch)) false) (stored branch true)))
+directoryBy a b c branch = cond a absolute (cond b single (cond c (stored (withoutLeading (lsplitRest branch)) false) (stored branch true)))
 
 placed : (a b c : Bool) (branch : List ℕ) → directoryAt (kindBy a b c) (textUnder (kindBy a b c) branch) ≡ directoryBy a b c branch
 placed true b c branch = refl
@@ -112,7 +114,7 @@ seen fs name files directories times =
     }
 
 -- the directories with a file's own
-pub with-place : (kind : PathKind) (d : List ℕ) (ds : List (List ℕ)) → dirsWith (isNewPlace (directoryAt kind d) ds) d ds ≡ withPlace (directoryAt kind d) ds
+pub with-place : (kind : PathKind) (d : List ℕ) (ds : List (List ℕ)) → dirsWith (isNewDirectory (directoryAt kind d) ds) d ds ≡ withDirectoryOf (directoryAt kind d) ds
 with-place Single d ds = refl
 with-place Absolute d ds = refl
 with-place Inside d ds = at (any (equal d) ds)
@@ -127,10 +129,10 @@ with-place Outside d ds = at (any (equal d) ds)
     at false = refl
 
 room : (r : Rooms) (n n' k h h' : ℕ) (x : Bool) → n ≡ n' → h ≡ h'
-    → either (ltb (filesRoom r) n) (either (ltb (dirsRoom r) k) (either (ltb (r .times) h) x)) ≡ either (shortOf r n' k h') x
+    → (ltb (filesRoom r) n || (ltb (dirsRoom r) k || (ltb (r .times) h || x))) ≡ (shortOf r n' k h' || x)
 room r n n' k h h' x p q = rw (p, q) (at (ltb (filesRoom r) n') (ltb (dirsRoom r) k) (ltb (r .times) h'))
   where
-    at : (a b c : Bool) → either a (either b (either c x)) ≡ either (either a (either b c)) x
+    at : (a b c : Bool) → (a || (b || (c || x))) ≡ ((a || (b || c)) || x)
     at true b c = refl
     at false true c = refl
     at false false true = refl
@@ -161,16 +163,16 @@ module _ (fs : FileStorage) (name : List ℕ) (files : List File) (ds : List (Li
   sizes = record { size = sizeAdded a; v2 = isV2 m a; pad = padOf m a }
 
   abbrev first : DirPlan
-  first = dirPlanOf (placeFor m a) ds
+  first = dirPlanOf (directoryAdded m a) ds
 
   abbrev second : DirPlan
-  second = padDirPlanOf (padOf m a) (withPlace (placeFor m a) ds)
+  second = padDirPlanOf (padOf m a) (withDirectoryOf (directoryAdded m a) ds)
 
   abbrev lengths : TextLengths
   lengths = record { «set_name» = length (setText m a); name = length (nameText m a); link = length (linkNew m a) }
 
   abbrev places : Places
-  places = placesFor fs sizes first second lengths
+  places = textSpansFor fs sizes first second lengths
 
   abbrev facts : FileFacts
   facts = record { flags = a .flags; «keeps_link» = keeps m a; untimed = isZero (a .time); «has_root» = isPresent (a .root) }
@@ -186,7 +188,7 @@ module _ (fs : FileStorage) (name : List ℕ) (files : List File) (ds : List (Li
   rulesBy limited bad noRoom =
       sizeRules (fs .«piece_length») (fs .«total_size») (isNegative (a .size)) (sizeAdded a)
       ++ (nameRules (filesOf m) limited bad (hasParent (a .path))
-      ++ (kindRules (fs .v2) (decides (sizeAdded a) (a .link)) (isOpen (fs .«total_size») (fs .«num_symlinks») (filesOf m)) (isPresent (a .root))
+      ++ (versionRules (fs .v2) (decides (sizeAdded a) (a .link)) (isOpen (fs .«total_size») (fs .«num_symlinks») (filesOf m)) (isPresent (a .root))
       ++ (padRules (fs .«total_size» + sizeAdded a) (padOf m a) ++ (when noRoom 10 ∷ []))))
 
   pub rules-are : (noRoom : Bool)
@@ -206,9 +208,8 @@ module _ (fs : FileStorage) (name : List ℕ) (files : List File) (ds : List (Li
   -- room is lacking where a count or the text's end passes it
   pub room-is : (rooms : Rooms) → length times ≡ fs .«num_mtimes»
       → lacks rooms (added m a) (textAfter fs m a)
-      ≡ either
-      (shortOf rooms (counts .«num_files») (second .count) (counts .«num_mtimes»))
-      (ltb (rooms .text) (places .end))
+      ≡ (shortOf rooms (counts .«num_files») (second .count) (counts .«num_mtimes»)
+      || ltb (rooms .text) (places .end))
   room-is rooms l =
       room rooms (filesOf (added m a)) (counts .«num_files») (second .count)
       (length (withTime (filesOf m) (a .time) times))
@@ -221,7 +222,7 @@ module _ (fs : FileStorage) (name : List ℕ) (files : List File) (ds : List (Li
       held z = rw (l, e)
 
   -- the plan
-  pub plan-is : planFrom fs sizes counts (rowFlags facts (isOutside (placeFor m a))) first second places (oldName fs) parts ≡ planOf fs m a
+  pub plan-is : planFrom fs sizes counts (rowFlags facts (isOutside (directoryAdded m a))) first second places (oldName fs) parts ≡ planOf fs m a
   plan-is = refl
 
 -- ---- the same on the model that the tables mean
@@ -250,7 +251,7 @@ module _ (s : Store) (a : Addition) where
   result = plannedFor s a
 
   abbrev unheld : Bool
-  unheld = either (not (holds s)) (lacks (roomsOf s) (added (viewOf s) a) (textAfter (s .fs) (viewOf s) a))
+  unheld = not (holds s) || lacks (roomsOf s) (added (viewOf s) a) (textAfter (s .fs) (viewOf s) a)
 
   count : length (tabled (s .fs .«num_files») (fileOf s)) ≡ s .fs .«num_files»
   count = length-tabled (s .fs .«num_files») (fileOf s)
@@ -297,7 +298,7 @@ module _ (s : Store) (a : Addition) where
       lengthsFor x y z = record { «set_name» = length x; name = length y; link = length z }
 
       abbrev place : Directory
-      place = placeFor (viewOf s) a
+      place = directoryAdded (viewOf s) a
 
       abbrev partsSeen : PathParts
       partsSeen = partsOf (s .fs .«num_files») (viewOf s .name) (a .path)

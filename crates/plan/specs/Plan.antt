@@ -2,7 +2,7 @@
 -- stand the steps that the code takes to it, which only private functions cite; proofs/Plans.antt ties them to it.
 use Prim.Native.Nat.{ℕ, _+_, _%_, _≤_, _<_, max}
 use mathlib.Core.Path.{_≡_}
-use mathlib.Core.Bool.{Bool, true, cond, not}
+use mathlib.Core.Bool.{Bool, true, cond, not, _&&_, _||_}
 use mathlib.Core.List.{List, [], _∷_, _++_}
 use lib.Dec.{eqb, ltb}
 use lib.ListN.{length}
@@ -13,7 +13,7 @@ use Rattle.tables.specs.declared.storage.FileStorage.{FileStorage}
 use Rattle.tables.specs.Span.{textAt}
 use Rattle.tables.specs.Rows.{dirAt}
 use Rattle.tables.specs.Model.{Optional, absent, present, Directory, Model, Store, viewOf, tabled}
-use Rattle.rules.specs.Rules.{both, either, outcomeOf}
+use Rattle.rules.specs.Rules.{outcomeOf}
 use Rattle.rules.specs.Bounds.{limit}
 use Rattle.change.specs.declared.rooms.Rooms.{Rooms}
 use Rattle.change.specs.Rooms.{filesRoom, dirsRoom}
@@ -21,8 +21,9 @@ use Rattle.additions.specs.declared.checks.Sizes.{Sizes}
 use Rattle.additions.specs.declared.info.FileInfo.{FileInfo}
 use Rattle.additions.specs.declared.parts.PathKind.{PathKind}
 use Rattle.additions.specs.declared.parts.PathParts.{PathParts}
-use Rattle.additions.specs.Addition.{Addition, flagsKept, keepsLink, isZero, padDirectory, withPlace, withDirectory, sizeAdded, padOf, placeFor}
-use Rattle.additions.specs.Parts.{isHere, nameFrom, linkTextOf, directoryAt, partsOf}
+use Rattle.additions.specs.Addition.{Addition, flagsKept, keepsLink, isZero, padDirectory, withDirectoryOf, withDirectory, sizeAdded, padOf, directoryAdded}
+use Rattle.additions.specs.private.Texts.{isHere, nameFrom, linkTextOf, directoryAt}
+use Rattle.additions.specs.Parts.{partsOf}
 use Rattle.plan.specs.declared.dirs.DirPlan.{DirPlan}
 use Rattle.plan.specs.declared.counts.Counts.{Counts}
 use Rattle.plan.specs.declared.counts.FileFacts.{FileFacts}
@@ -33,7 +34,7 @@ use Rattle.plan.specs.declared.plan.TextLengths.{TextLengths}
 use Rattle.plan.specs.declared.plan.AddPlan.{AddPlan}
 use Rattle.plan.specs.declared.plan.PlanResult.{PlanResult}
 use Rattle.plan.specs.declared.plan.PlanResult.the-variants.{Ok, Err}
-use Rattle.plan.specs.Write.{placeOf, indexOf, missing, missingOf, isNew, isNewPlace, isNewPad, setText, directoryNew, nameText, linkNew, padDigits, padText, oldName, kept, directoryStart, padDirectoryStart, padNameStart, textAfter, storageAdded, rowAdded}
+use Rattle.plan.specs.Write.{directoryIndex, pathIndexOf, textIfNew, newTextOf, isNew, isNewDirectory, isNewPad, setText, directoryNew, nameText, linkNew, padDigits, padText, oldName, textKept, directoryStart, padDirectoryStart, padNameStart, textAfter, storageAdded, rowAdded}
 use Rattle.plan.specs.Outcomes.{addingNumber}
 
 -- the texts of the first n directory rows
@@ -43,7 +44,7 @@ dirTexts dirs text n = tabled n (λ i. textAt text (dirAt dirs i))
 -- a directory beside those stored: its path index, whether it is new, the length of its new text, and how many there are
 -- with it
 abbrev pub dirPlanOf : Directory → List (List ℕ) → DirPlan
-dirPlanOf d ds = record { index = indexOf d ds; new = isNewPlace d ds; len = length (missingOf d ds); count = length (withPlace d ds) }
+dirPlanOf d ds = record { index = pathIndexOf d ds; new = isNewDirectory d ds; len = length (newTextOf d ds); count = length (withDirectoryOf d ds) }
 
 -- the directories with one more, where it is new
 abbrev pub dirsWith : Bool → List ℕ → List (List ℕ) → List (List ℕ)
@@ -56,9 +57,9 @@ countWith new n = n + cond new 1 0
 abbrev pub padDirPlanOf : ℕ → List (List ℕ) → DirPlan
 padDirPlanOf pad ds =
     record {
-      index = cond (eqb pad 0) 0 (placeOf padDirectory ds);
-      new = both (not (eqb pad 0)) (isNew padDirectory ds);
-      len = length (cond (eqb pad 0) [] (missing padDirectory ds));
+      index = cond (eqb pad 0) 0 (directoryIndex padDirectory ds);
+      new = (not (eqb pad 0) && isNew padDirectory ds);
+      len = length (cond (eqb pad 0) [] (textIfNew padDirectory ds));
       count = length (cond (eqb pad 0) ds (withDirectory padDirectory ds));
     }
 
@@ -103,11 +104,11 @@ countsOf fs z f =
 -- the tables have too few rows or times for these counts of files, directories and times
 abbrev pub shortOf : Rooms → ℕ → ℕ → ℕ → Bool
 shortOf rooms files dirs times =
-    either (ltb (filesRoom rooms) files) (either (ltb (dirsRoom rooms) dirs) (ltb (rooms .times) times))
+    ltb (filesRoom rooms) files || (ltb (dirsRoom rooms) dirs || ltb (rooms .times) times)
 
 -- texts of these lengths, one after the other from `start` on
-abbrev pub placesOf : ℕ → ℕ → ℕ → ℕ → ℕ → ℕ → ℕ → Places
-placesOf start set dir name link padDir pad =
+abbrev pub textSpansOf : ℕ → ℕ → ℕ → ℕ → ℕ → ℕ → ℕ → Places
+textSpansOf start set dir name link padDir pad =
     record {
       set = record { at = start; len = set };
       directory = record { at = start + set; len = dir };
@@ -118,13 +119,13 @@ placesOf start set dir name link padDir pad =
       end = start + set + dir + name + link + padDir + pad;
     }
 
-abbrev pub placesSays : PlacesResult → Optional Places
-placesSays (placed.Ok p) = present p
-placesSays placed.Full = absent
+abbrev pub textSpansSays : PlacesResult → Optional Places
+textSpansSays (placed.Ok p) = present p
+textSpansSays placed.Full = absent
 
 -- places that end within the room
-abbrev pub placedOf : ℕ → Places → Optional Places
-placedOf room p = cond (ltb room (p .end)) absent (present p)
+abbrev pub spansWithin : ℕ → Places → Optional Places
+spansWithin room p = cond (ltb room (p .end)) absent (present p)
 
 -- ---- the plan
 
@@ -172,25 +173,25 @@ planFrom fs z counts flags first second places old parts =
     }
 
 -- the places of an addition whose texts have these lengths
-abbrev pub placesFor : FileStorage → Sizes → DirPlan → DirPlan → TextLengths → Places
-placesFor fs z first second l =
-    placesOf (kept fs) (l .«set_name») (first .len) (l .name) (l .link) (second .len) (length (padDigits (z .pad)))
+abbrev pub textSpansFor : FileStorage → Sizes → DirPlan → DirPlan → TextLengths → Places
+textSpansFor fs z first second l =
+    textSpansOf (textKept fs) (l .«set_name») (first .len) (l .name) (l .link) (second .len) (length (padDigits (z .pad)))
 
 -- the plan where there is room, else refusal 10
 abbrev pub plannedIn : FileStorage → Rooms → Sizes → Counts → ℕ → DirPlan → DirPlan → TextLengths → PathParts → Outcome AddPlan
 plannedIn fs rooms z counts flags first second l parts =
     outcomeOf
     (cond
-    (either (shortOf rooms (counts .«num_files») (second .count) (counts .«num_mtimes»))
-    (ltb (rooms .text) (placesFor fs z first second l .end)))
+    (shortOf rooms (counts .«num_files») (second .count) (counts .«num_mtimes»)
+    || ltb (rooms .text) (textSpansFor fs z first second l .end))
     10
     0)
-    (planFrom fs z counts flags first second (placesFor fs z first second l) (oldName fs) parts)
+    (planFrom fs z counts flags first second (textSpansFor fs z first second l) (oldName fs) parts)
 
 -- the same of a directory's text beside the directories that are stored
 abbrev pub plannedBeside : FileStorage → Rooms → List (List ℕ) → Sizes → FileFacts → Bool → Directory → TextLengths → PathParts → Outcome AddPlan
 plannedBeside fs rooms ds z f outside d l parts =
-    plannedIn fs rooms z (countsOf fs z f) (rowFlags f outside) (dirPlanOf d ds) (padDirPlanOf (z .pad) (withPlace d ds)) l parts
+    plannedIn fs rooms z (countsOf fs z f) (rowFlags f outside) (dirPlanOf d ds) (padDirPlanOf (z .pad) (withDirectoryOf d ds)) l parts
 
 -- the lengths of the texts of an addition, whose path has these parts
 abbrev pub lengthsOf : ℕ → Presence → List ℕ → List ℕ → PathParts → List ℕ → TextLengths
@@ -206,7 +207,7 @@ lengthsOf links given filename path parts link =
 -- the texts of an addition are those of the model
 pub record TextsOf (m : Model) (a : Addition) (called : List ℕ) (kind : PathKind) (dir name link : List ℕ) : Type 0 where
   pub set-is : called ≡ setText m a
-  pub dir-is : directoryAt kind dir ≡ placeFor m a
+  pub dir-is : directoryAt kind dir ≡ directoryAdded m a
   pub name-is : name ≡ nameText m a
   pub link-is : link ≡ linkNew m a
 
@@ -221,21 +222,21 @@ planOf fs m a =
         size = padOf m a;
         name = record { at = padNameStart fs m a; len = length (padText m a) };
         link = record { at = textAfter fs m a; len = 0 };
-        «path_index» = cond (eqb (padOf m a) 0) 0 (placeOf padDirectory (withPlace (placeFor m a) (m .directories)));
+        «path_index» = cond (eqb (padOf m a) 0) 0 (directoryIndex padDirectory (withDirectoryOf (directoryAdded m a) (m .directories)));
         flags = 65;
       };
       dir = record {
-        new = isNewPlace (placeFor m a) (m .directories);
+        new = isNewDirectory (directoryAdded m a) (m .directories);
         place = fs .«num_paths»;
         text = record { at = directoryStart fs m a; len = length (directoryNew m a) };
       };
       «pad_dir» = record {
         new = isNewPad m a;
-        place = length (withPlace (placeFor m a) (m .directories));
+        place = length (withDirectoryOf (directoryAdded m a) (m .directories));
         text = record { at = padDirectoryStart fs m a; len = 4 };
       };
       old = oldName fs;
-      start = kept fs;
+      start = textKept fs;
       parts = partsOf (fs .«num_files») (m .name) (a .path);
     }
 

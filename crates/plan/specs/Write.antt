@@ -1,7 +1,7 @@
 -- What an addition writes: the tables after it, word by word, for tables of any content. The decisions are
 -- those of Addition.antt on what the tables mean (`viewOf`); here stands where each text and row goes.
 use Prim.Native.Nat.{ℕ, _+_, _-_, _%_, max}
-use mathlib.Core.Bool.{Bool, false, cond, not}
+use mathlib.Core.Bool.{Bool, false, cond, not, _&&_}
 use mathlib.Core.List.{List, [], _∷_, _++_}
 use lib.Dec.{eqb}
 use lib.IntN.{ℤ, pos}
@@ -15,33 +15,32 @@ use Rattle.tables.specs.declared.storage.FileStorage.{FileStorage}
 use Rattle.tables.specs.Span.{clip, slid}
 use Rattle.tables.specs.Rows.{putRow, putDir, noPath, pathIsAbsolute, putRoot, dirsLowered}
 use Rattle.tables.specs.Model.{Optional, absent, present, Directory, single, absolute, stored, Model, Store}
-use Rattle.rules.specs.Rules.{both}
-use Rattle.additions.specs.Addition.{Addition, filesOf, sizeAdded, keeps, isV2, padOf, placeFor, storedName, setNameOf, flagsKept, padDirectory, isAmong, withPlace, added, isPresent, isZero}
+use Rattle.additions.specs.Addition.{Addition, filesOf, sizeAdded, keeps, isV2, padOf, directoryAdded, storedName, setNameOf, flagsKept, padDirectory, isAmong, withDirectoryOf, added, isPresent, isZero}
 
 -- ---- where texts and rows go
 
 -- the place of the last directory that is `d`, or the next free one
-unfoldable pub placeFrom : ℕ → ℕ → List ℕ → List (List ℕ) → ℕ
-placeFrom found i d [] = found
-placeFrom found i d (e ∷ es) = placeFrom (cond (equal d e) i found) (i + 1) d es
+unfoldable pub directoryIndexFrom : ℕ → ℕ → List ℕ → List (List ℕ) → ℕ
+directoryIndexFrom found i d [] = found
+directoryIndexFrom found i d (e ∷ es) = directoryIndexFrom (cond (equal d e) i found) (i + 1) d es
 
-abbrev pub placeOf : List ℕ → List (List ℕ) → ℕ
-placeOf d ds = placeFrom (length ds) 0 d ds
+abbrev pub directoryIndex : List ℕ → List (List ℕ) → ℕ
+directoryIndex d ds = directoryIndexFrom (length ds) 0 d ds
 
 -- the Rust's path index of a directory among those stored
-abbrev pub indexOf : Directory → List (List ℕ) → ℕ
-indexOf single ds = noPath
-indexOf absolute ds = pathIsAbsolute
-indexOf (stored d outside) ds = placeOf d ds
+abbrev pub pathIndexOf : Directory → List (List ℕ) → ℕ
+pathIndexOf single ds = noPath
+pathIndexOf absolute ds = pathIsAbsolute
+pathIndexOf (stored d outside) ds = directoryIndex d ds
 
 -- the text of a directory that is not stored yet
-abbrev pub missing : List ℕ → List (List ℕ) → List ℕ
-missing d ds = cond (isAmong d ds) [] d
+abbrev pub textIfNew : List ℕ → List (List ℕ) → List ℕ
+textIfNew d ds = cond (isAmong d ds) [] d
 
-abbrev pub missingOf : Directory → List (List ℕ) → List ℕ
-missingOf single ds = []
-missingOf absolute ds = []
-missingOf (stored d outside) ds = missing d ds
+abbrev pub newTextOf : Directory → List (List ℕ) → List ℕ
+newTextOf single ds = []
+newTextOf absolute ds = []
+newTextOf (stored d outside) ds = textIfNew d ds
 
 abbrev pub isOutside : Directory → Bool
 isOutside single = false
@@ -53,7 +52,7 @@ abbrev pub setText : Model → Addition → List ℕ
 setText m a = cond (eqb (filesOf m) 0) (setNameOf (a .path)) []
 
 abbrev pub directoryNew : Model → Addition → List ℕ
-directoryNew m a = missingOf (placeFor m a) (m .directories)
+directoryNew m a = newTextOf (directoryAdded m a) (m .directories)
 
 abbrev pub nameText : Model → Addition → List ℕ
 nameText m a = storedName (a .given) (a .path)
@@ -62,7 +61,7 @@ abbrev pub linkNew : Model → Addition → List ℕ
 linkNew m a = cond (keeps m a) (a .link) []
 
 abbrev pub padDirectoryNew : Model → Addition → List ℕ
-padDirectoryNew m a = cond (eqb (padOf m a) 0) [] (missing padDirectory (withPlace (placeFor m a) (m .directories)))
+padDirectoryNew m a = cond (eqb (padOf m a) 0) [] (textIfNew padDirectory (withDirectoryOf (directoryAdded m a) (m .directories)))
 
 -- the name of a pad, 'the pad's size in decimal digits'; nothing where there is none
 abbrev pub padDigits : ℕ → List ℕ
@@ -80,12 +79,12 @@ abbrev pub oldName : FileStorage → Span
 oldName fs = cond (eqb (fs .«num_files») 0) (clip (fs .«text_len») (fs .name)) (record { at = 0; len = 0 })
 
 -- the text that stays: new texts begin after it
-abbrev pub kept : FileStorage → ℕ
-kept fs = fs .«text_len» - oldName fs .len
+abbrev pub textKept : FileStorage → ℕ
+textKept fs = fs .«text_len» - oldName fs .len
 
 -- where each new text begins, and where the last one ends: the text needed after the addition
 abbrev pub directoryStart : FileStorage → Model → Addition → ℕ
-directoryStart fs m a = kept fs + length (setText m a)
+directoryStart fs m a = textKept fs + length (setText m a)
 
 abbrev pub nameStart : FileStorage → Model → Addition → ℕ
 nameStart fs m a = directoryStart fs m a + length (directoryNew m a)
@@ -107,32 +106,32 @@ textAfter fs m a = padNameStart fs m a + length (padText m a)
 -- the text area: the set's old name goes where the set is named again, and the new texts follow what stays
 abbrev pub textAdded : Store → Model → Addition → List ℕ
 textAdded s m a =
-    sets (cond (eqb (s .fs .«num_files») 0) (slid (oldName (s .fs)) (s .fs .«text_len») (s .text)) (s .text)) (kept (s .fs)) (newTexts m a)
+    sets (cond (eqb (s .fs .«num_files») 0) (slid (oldName (s .fs)) (s .fs .«text_len») (s .text)) (s .text)) (textKept (s .fs)) (newTexts m a)
 
 -- whether a directory is a new row, which it may be with no bytes of text
 abbrev pub isNew : List ℕ → List (List ℕ) → Bool
 isNew d ds = not (isAmong d ds)
 
-abbrev pub isNewPlace : Directory → List (List ℕ) → Bool
-isNewPlace single ds = false
-isNewPlace absolute ds = false
-isNewPlace (stored d outside) ds = isNew d ds
+abbrev pub isNewDirectory : Directory → List (List ℕ) → Bool
+isNewDirectory single ds = false
+isNewDirectory absolute ds = false
+isNewDirectory (stored d outside) ds = isNew d ds
 
 abbrev pub putDirIf : Bool → List ℕ → ℕ → Span → List ℕ
 putDirIf new dirs i s = cond new (putDir dirs i s) dirs
 
 abbrev pub isNewPad : Model → Addition → Bool
-isNewPad m a = both (not (eqb (padOf m a) 0)) (isNew padDirectory (withPlace (placeFor m a) (m .directories)))
+isNewPad m a = not (eqb (padOf m a) 0) && isNew padDirectory (withDirectoryOf (directoryAdded m a) (m .directories))
 
 -- the directory rows: the file's, then the pad's
 abbrev pub dirsAdded : Store → Model → Addition → List ℕ
 dirsAdded s m a =
     putDirIf (isNewPad m a)
-    (putDirIf (isNewPlace (placeFor m a) (m .directories))
+    (putDirIf (isNewDirectory (directoryAdded m a) (m .directories))
     (cond (eqb (s .fs .«num_files») 0) (dirsLowered (s .dirs) (s .fs .«num_paths») (oldName (s .fs))) (s .dirs))
     (s .fs .«num_paths»)
     (record { at = directoryStart (s .fs) m a; len = length (directoryNew m a) }))
-    (length (withPlace (placeFor m a) (m .directories)))
+    (length (withDirectoryOf (directoryAdded m a) (m .directories)))
     (record { at = padDirectoryStart (s .fs) m a; len = 4 })
 
 -- the file's row: bits 16 a link text, 32 a directory outside the set's name, 128 a root
@@ -143,8 +142,8 @@ rowAdded fs m a =
       size = sizeAdded a;
       name = record { at = nameStart fs m a; len = length (nameText m a) };
       link = record { at = linkStart fs m a; len = length (linkNew m a) };
-      «path_index» = indexOf (placeFor m a) (m .directories);
-      flags = flagsKept (a .flags) (keeps m a) + cond (keeps m a) 16 0 + cond (isOutside (placeFor m a)) 32 0 + cond (isPresent (a .root)) 128 0;
+      «path_index» = pathIndexOf (directoryAdded m a) (m .directories);
+      flags = flagsKept (a .flags) (keeps m a) + cond (keeps m a) 16 0 + cond (isOutside (directoryAdded m a)) 32 0 + cond (isPresent (a .root)) 128 0;
     }
 
 -- the row of the pad that an addition makes: bits 1 a pad, 64 made here
@@ -155,7 +154,7 @@ padRow fs m a =
       size = padOf m a;
       name = record { at = padNameStart fs m a; len = length (padText m a) };
       link = record { at = textAfter fs m a; len = 0 };
-      «path_index» = placeOf padDirectory (withPlace (placeFor m a) (m .directories));
+      «path_index» = directoryIndex padDirectory (withDirectoryOf (directoryAdded m a) (m .directories));
       flags = 65;
     }
 
@@ -182,7 +181,7 @@ storageAdded fs m a =
       «num_paths» = length (added m a .directories);
       «num_symlinks» = fs .«num_symlinks» + cond (keeps m a) 1 0;
       «num_mtimes» = cond (isZero (a .time)) (fs .«num_mtimes») (max (fs .«num_mtimes») (fs .«num_files» + 1));
-      name = cond (eqb (fs .«num_files») 0) (record { at = kept fs; len = length (setText m a) }) (fs .name);
+      name = cond (eqb (fs .«num_files») 0) (record { at = textKept fs; len = length (setText m a) }) (fs .name);
       «text_len» = textAfter fs m a;
       «total_size» = fs .«total_size» + sizeAdded a + padOf m a;
       «size_on_disk» = fs .«size_on_disk» + cond (eqb (a .flags % 2) 1) 0 (sizeAdded a);

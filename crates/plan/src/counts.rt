@@ -4,7 +4,7 @@ ghost use mathlib.Core.Path.{_≡_};
 ghost use mathlib.Core.Bool.{true, cond};
 ghost use Prim.Native.Nat.{_+_, _%_, _≤_, _<_, _^_, max};
 ghost use lib.Dec.{eqb};
-ghost use Rattle.plan.specs.Plan.{Countable, bitOf, rowFlags, countsOf, shortOf};
+ghost use Rattle.plan.specs.private.Steps.{Countable, bitOf, rowFlags, countsOf, shortOf};
 use additions::Sizes;
 use change::Rooms;
 use tables::FileStorage;

@@ -1,18 +1,17 @@
 // The search for an addition's directories among those stored, from the back, as in
 // `get_or_add_path`. Relies on the accessors of `tables` and the laws of proofs/Directories.antt.
 ghost use mathlib.Core.Path.{_≡_};
-ghost use mathlib.Core.Bool.{false};
+ghost use mathlib.Core.Bool.{false, _&&_};
 ghost use Prim.Native.Nat.{_/_, _≤_, _<_};
 ghost use lib.ListN.{length};
 ghost use Rattle.lists.specs.Lists.{equal};
 ghost use Rattle.tables.specs.Span.{textAt};
 ghost use Rattle.tables.specs.Rows.{dirAt};
 ghost use Rattle.tables.specs.Model.{stored};
-ghost use Rattle.rules.specs.Rules.{both};
 ghost use Rattle.additions.specs.Addition.{padDirectory};
-ghost use Rattle.plan.specs.Write.{placeFrom, placeOf};
-ghost use Rattle.additions.specs.Parts.{directoryAt};
-ghost use Rattle.plan.specs.Plan.{dirTexts, countWith, dirPlanOf, padDirPlanOf, dirsWith};
+ghost use Rattle.plan.specs.Write.{directoryIndexFrom, directoryIndex};
+ghost use Rattle.additions.specs.private.Texts.{directoryAt};
+ghost use Rattle.plan.specs.private.Steps.{dirTexts, countWith, dirPlanOf, padDirPlanOf, dirsWith};
 use additions::PathKind;
 use tables::Span;
 
@@ -32,7 +31,7 @@ fn is_text(text: &[u8], s: Span, dir: &[u8]) -> bool
 {
     let n = dir.len();
     let at = s.at;
-    if at < lists::minus(text.len(), n) {
+    if at < lists::saturating_sub_usize(text.len(), n) {
         if s.len != n {
             return false;
         }
@@ -56,7 +55,7 @@ fn whole_row(dirs: &[u64], i: usize) -> Span
 // The place of the last of the first m directories with that text, n where there is none.
 fn find_among(dirs: &[u64], text: &[u8], m: usize, n: usize, dir: &[u8]) -> usize
     requires { ⌜ m ≤ length (now dirs) / 2 ⌝ }
-    ensures { λ r. ⌜ r ≡ placeFrom n 0 (now (dir .entry)) (dirTexts (now (dirs .entry)) (now (text .entry)) m) ⌝ }
+    ensures { λ r. ⌜ r ≡ directoryIndexFrom n 0 (now (dir .entry)) (dirTexts (now (dirs .entry)) (now (text .entry)) m) ⌝ }
 {
     let mut i = m;
     while 0 < i {
@@ -72,9 +71,9 @@ fn find_among(dirs: &[u64], text: &[u8], m: usize, n: usize, dir: &[u8]) -> usiz
 // The place of the last of n directories with that text, n where there is none; rows past the table's
 // end have the empty text and are not looked at.
 fn find_dir(dirs: &[u64], text: &[u8], n: usize, dir: &[u8]) -> usize
-    ensures { λ r. ⌜ r ≡ placeOf (now (dir .entry)) (dirTexts (now (dirs .entry)) (now (text .entry)) n) ⌝ }
+    ensures { λ r. ⌜ r ≡ directoryIndex (now (dir .entry)) (dirTexts (now (dirs .entry)) (now (text .entry)) n) ⌝ }
 {
-    let m = lists::least(n, dirs.len() / 2);
+    let m = lists::min_usize(n, dirs.len() / 2);
     if m < n && dir.len() == 0 {
         return n - 1;
     }
@@ -136,7 +135,7 @@ fn count_with(new: bool, n: usize) -> usize
 
 // Whether a file's new directory is the pads' own.
 fn is_pads(new: bool, dir: &[u8]) -> bool
-    ensures { λ r. ⌜ r ≡ both new (equal padDirectory (now (dir .entry))) ⌝ }
+    ensures { λ r. ⌜ r ≡ (new && equal padDirectory (now (dir .entry))) ⌝ }
 {
     if new {
         return lists::same(b".pad", dir);

@@ -10,9 +10,11 @@ ghost use Rattle.tables.specs.Span.{textAt};
 ghost use Rattle.tables.specs.Model.{storeOf};
 ghost use Rattle.rules.specs.Bounds.{limit};
 ghost use Rattle.change.specs.Rooms.{holdsIn};
-ghost use Rattle.additions.specs.Parts.{outsideKind, directoryAt, additionBy};
+ghost use Rattle.additions.specs.private.Texts.{outsideKind, directoryAt};
+ghost use Rattle.additions.specs.Addition.{additionOf};
 ghost use Rattle.plan.specs.Write.{padDigits, oldName};
-ghost use Rattle.plan.specs.Plan.{dirTexts, factsOf, lengthsOf, placesOf, placesSays, placedOf, planFrom, planSays, plannedIn, plannedBeside, plannedFor};
+ghost use Rattle.plan.specs.private.Steps.{dirTexts, factsOf, lengthsOf, textSpansOf, textSpansSays, spansWithin, planFrom, plannedIn, plannedBeside};
+ghost use Rattle.plan.specs.Plan.{planSays, plannedFor};
 use crate::counts::Counts;
 use crate::counts::FileFacts;
 use crate::counts::counts_after;
@@ -105,7 +107,7 @@ fn places_of(
     pad: usize,
 ) -> PlacesResult
     requires { ⌜ start ≤ room ⌝ }
-    ensures { λ r. ⌜ placesSays r ≡ placedOf room (placesOf start set dir name link «pad_dir» pad) ⌝ }
+    ensures { λ r. ⌜ textSpansSays r ≡ spansWithin room (textSpansOf start set dir name link «pad_dir» pad) ⌝ }
 {
     if room - start < set {
         return PlacesResult::Full;
@@ -268,7 +270,7 @@ fn plan_numbers(
     }
     let old = old_name(fs);
     let placed = places_of(
-        lists::minus(fs.text_len, old.len),
+        lists::saturating_sub_usize(fs.text_len, old.len),
         rooms.text,
         lengths.set_name,
         first.len,
@@ -411,7 +413,7 @@ pub fn plan_add(
         planSays r
         ≡ plannedFor
         (storeOf fs (now (rows .entry)) (now (roots .entry)) (now (times .entry)) (now (dirs .entry)) (now (text .entry)))
-        (additionBy info (now (filename .entry)) (now (path .entry)) (now («symlink_path» .entry)))
+        (additionOf info (now (filename .entry)) (now (path .entry)) (now («symlink_path» .entry)))
         ⌝ }
 {
     let parts = additions::parts_of(fs, text, path);

@@ -1,7 +1,7 @@
 -- What BEP 3, 47 and 52 say of a set holds of every set that opening, additions, trims and cleanings lead to. It relies on what
 -- the search for a tail pad finds, and on what a cleaning keeps of each file.
 use mathlib.Core.Path.{_≡_, refl, sym, ap, subst, _∙_}
-use mathlib.Core.Bool.{Bool, true, false, cond, false≢true}
+use mathlib.Core.Bool.{Bool, true, false, cond, false≢true, _&&_, _||_}
 use mathlib.Core.List.{List, [], _∷_, _++_, map, map-append, map-map}
 use Prim.Native.Nat.{ℕ, zero, suc, _+_, _-_, _*_, _/_, _%_, _≤_}
 use native.Mathlib.Omega.{arith}
@@ -14,8 +14,7 @@ use Rattle.lists.specs.Lists.{sum}
 use Rattle.lists.proofs.Sums.{sum-append}
 use Rattle.tables.specs.Model.{Optional, absent, present, presentIf, File, Model}
 use Rattle.additions.specs.Addition.{Addition, added, fileAdded, padAdded, padOf, sizeAdded, flagsKept, keeps, isPresent, filesOf, isV2, isOpen, decides, padTo, padAfter}
-use Rattle.rules.specs.Rules.{both, either}
-use Rattle.trim.specs.Trim.{tailPad, sizeAt, beginningAt, without, trimmedIf}
+use Rattle.trim.specs.Trim.{tailPad, sizeAt, beginningAt, withoutFile, trimmedIf}
 use Rattle.links.specs.Clean.{cleanedOf}
 use Rattle.sound.specs.Documents as documents
 use Rattle.sound.specs.Documents.{sizes, EndToEnd, sizeOnDisk, OnDisk, Marked, OnPiece, Each, none, more, LinkEmpty}
@@ -67,7 +66,7 @@ module _ (files : List File) (f : ℕ) (p : Last files f) where
 sizes-append : (fs gs : List File) → sum (sizesOf (fs ++ gs)) ≡ sum (sizesOf fs) + sum (sizesOf gs)
 sizes-append fs gs = rw (map-append (λ (f : File). f .size) fs gs) (sum-append (sizesOf fs) (sizesOf gs))
 
-ends-without : (m : Model) (f : ℕ) → Last (m .files) f → Ends m → Ends (without f m)
+ends-without : (m : Model) (f : ℕ) → Last (m .files) f → Ends m → Ends (withoutFile f m)
 ends-without m f p e = record { laid = laid-append rest (laid-take f (e .laid)) q; total = t ∙ s }
   where
     front : List File
@@ -159,7 +158,7 @@ disk-pad [] f e = List·getD-eq-default [] 0 {n = f} (omega arith)
 disk-pad (g ∷ fs) zero e = ap (λ (b : Bool). cond b 0 (g .size)) (eq-eqb (g .flags % 2) 1 e)
 disk-pad (g ∷ fs) (suc f) e = disk-pad fs f e
 
-disk-without : (m : Model) (f : ℕ) → TailPad (m .files) f → OnDisk m → OnDisk (without f m)
+disk-without : (m : Model) (f : ℕ) → TailPad (m .files) f → OnDisk m → OnDisk (withoutFile f m)
 disk-without m f p e =
     let o = m .total - sizeAt f (m .files) in
     let a = disk-append (take f (m .files)) (map (beginningAt o) (drop (f + 1) (m .files))) in
@@ -283,14 +282,14 @@ module _ (m : Model) (a : Addition) (total : m .total ≡ sum (sizes m)) (links 
   open-empty : isOpen (m .total) (m .links) (filesOf m) ≡ true → m .total ≡ 0
   open-empty e = at (eqb (m .total) 0) refl e
     where
-      at : (b : Bool) → eqb (m .total) 0 ≡ b → either b (eqb (m .links) (filesOf m)) ≡ true → m .total ≡ 0
+      at : (b : Bool) → eqb (m .total) 0 ≡ b → (b || eqb (m .links) (filesOf m)) ≡ true → m .total ≡ 0
       at true q e = eqb-true (m .total) 0 q
       at false q e = total ∙ all-linked (m .files) links (sym (p .counted) ∙ eqb-true (m .links) (filesOf m) e)
 
   before : isV2 m a ≡ true → (m .total % m .pieceLength ≡ 0) × Each (OnPiece (m .pieceLength)) (m .files)
-  before e = at (both (decides (sizeAdded a) (a .link)) (isOpen (m .total) (m .links) (filesOf m))) refl e
+  before e = at (decides (sizeAdded a) (a .link) && isOpen (m .total) (m .links) (filesOf m)) refl e
     where
-      at : (b : Bool) → both (decides (sizeAdded a) (a .link)) (isOpen (m .total) (m .links) (filesOf m)) ≡ b → cond b (isPresent (a .root)) (m .v2) ≡ true
+      at : (b : Bool) → (decides (sizeAdded a) (a .link) && isOpen (m .total) (m .links) (filesOf m)) ≡ b → cond b (isPresent (a .root)) (m .v2) ≡ true
           → (m .total % m .pieceLength ≡ 0) × Each (OnPiece (m .pieceLength)) (m .files)
       at true q e =
           let z = open-empty (both-true (decides (sizeAdded a) (a .link)) (isOpen (m .total) (m .links) (filesOf m)) q .1) in

@@ -4,7 +4,7 @@ use Prim.Native.Nat.{ℕ, _≤_}
 use mathlib.Core.Path.{_≡_}
 use Rattle.types.specs.Refusals.{value}
 use Rattle.tables.specs.Model.{Model}
-use Rattle.storage.specs.Opening.{fresh}
+use Rattle.storage.specs.Opening.{newModel}
 use Rattle.additions.specs.Addition.{Addition, added, addedTo}
 use Rattle.change.specs.declared.rooms.Rooms.{Rooms}
 use Rattle.trim.specs.Trim.{trimmedOf}
@@ -12,7 +12,7 @@ use Rattle.links.specs.Clean.{cleanedOf}
 
 -- models that the calls lead to; the rooms are those of whatever tables are lent at the call
 pub data Reached : Model → Type 1 where
-  opened : (n : ℕ) → 1 ≤ n → n ≤ 2147483647 → Reached (fresh n)
+  opened : (n : ℕ) → 1 ≤ n → n ≤ 2147483647 → Reached (newModel n)
   addition : {m : Model} → Reached m → (rooms : Rooms) (a : Addition) → addedTo rooms m a ≡ value (added m a) → Reached (added m a)
   trim : {m : Model} → Reached m → Reached (trimmedOf m)
   cleaning : {m : Model} → Reached m → Reached (cleanedOf m)

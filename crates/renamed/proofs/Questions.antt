@@ -2,7 +2,7 @@
 -- in the list of renames. They rely on the laws of `renames` about renames that are read back.
 use Prim.Native.Nat.{ℕ, _+_, _-_, _≤_}
 use mathlib.Core.Path.{_≡_, refl, sym, ap, _∙_}
-use mathlib.Core.Bool.{Bool, true, false, cond, not}
+use mathlib.Core.Bool.{Bool, true, false, cond, not, _&&_}
 use mathlib.Core.List.{List, [], _∷_, _++_}
 use native.Mathlib.Omega.{arith}
 use lib.Dec.{eqb}
@@ -11,7 +11,7 @@ use lib.ListN.{length, getD, take, drop, length-append, length-drop}
 use lib.Seq.{drop-append-add, length-take-le, take-length}
 use Rattle.lists.specs.Lists.{partOf, any}
 use Rattle.lists.proofs.Parts.{drop-take, part-part-within, part-length}
-use Rattle.path.specs.Split.{isSeparator, trimmed, beforeLast, behindLast, rsplitLeaf}
+use Rattle.path.specs.Split.{isSeparator, trimmed, beforeLast, afterLast, rsplitLeaf}
 use Rattle.path.proofs.Ends.{trim-yes, trim-no}
 use Rattle.path.proofs.Splits.{last-parts, leaf-all}
 use Rattle.types.specs.Refusals.{numberOf, value, refused}
@@ -21,9 +21,9 @@ use Rattle.tables.specs.declared.span.Span.{Span}
 use Rattle.tables.specs.Span.{textAt}
 use Rattle.tables.specs.Rows.{rowAt}
 use Rattle.tables.specs.Model.{Optional, absent, present}
-use Rattle.rules.specs.Rules.{outcomeOf, both}
-use Rattle.rules.specs.Bounds.{badLength, indexOf, isBelow}
-use Rattle.rules.specs.Questions.{askedFile, rowsHeld, textHeld}
+use Rattle.rules.specs.Rules.{outcomeOf}
+use Rattle.rules.specs.Bounds.{badLength, clampedOf, isBelow}
+use Rattle.rules.specs.Questions.{fileAnswer, rowsHeld, textHeld}
 use Rattle.renames.specs.declared.rename.Rename.{Rename}
 use Rattle.renames.specs.declared.rename.RenamedFiles.{RenamedFiles}
 use Rattle.renames.specs.declared.rename.FindResult.{FindResult}
@@ -32,7 +32,7 @@ use Rattle.renames.specs.Renames.{Renamed, renamesOf, inOrder}
 use Rattle.renames.specs.Results.{findSays}
 use Rattle.renames.specs.Finding.{renameFor, renameFound, findGiven}
 use Rattle.renames.proofs.Finding.{readRename, readFound, renamed-found, readAs, read-if}
-use Rattle.renamed.specs.Questions.{renamedName, NamePlace, inSet, inRenames, leafSpan, namePlace, nameGiven}
+use Rattle.renamed.specs.Questions.{renamedName, NameSpan, inSet, inRenames, leafSpan, nameSpan, nameGiven}
 
 -- ---- what a rename that was found tells
 
@@ -75,11 +75,11 @@ end-of x a b e =
     let n : length (a ++ (47 ∷ b)) - length b ≡ length a + 1 = omega (arith, length-append a (47 ∷ b)) in
     rw (e, n, drop-append-add a (47 ∷ b) 1)
 
-behind-end : (x : List ℕ) → behindLast x ≡ drop (length x - length (behindLast x)) x
+behind-end : (x : List ℕ) → afterLast x ≡ drop (length x - length (afterLast x)) x
 behind-end x = at (any isSeparator x) refl
   where
-    at : (b : Bool) → any isSeparator x ≡ b → behindLast x ≡ drop (length x - length (behindLast x)) x
-    at true q = end-of x (beforeLast x) (behindLast x) (last-parts x q)
+    at : (b : Bool) → any isSeparator x ≡ b → afterLast x ≡ drop (length x - length (afterLast x)) x
+    at true q = end-of x (beforeLast x) (afterLast x) (last-parts x q)
     at false q = let w = leaf-all x q in let z : length x - length x ≡ 0 = omega arith in rw (w, z)
 
 -- the leaf of the n bytes at a place, k of them being left once a separator at the end is dropped
@@ -88,7 +88,7 @@ module _ (l : List ℕ) (at n k : ℕ) (leaf : List ℕ) (b : k ≤ length (part
   leaf-end : leaf ≡ drop (k - length leaf) (take k (partOf l at n))
   leaf-end =
       let x = take k (partOf l at n) in
-      let s : leaf ≡ behindLast x = e ∙ rw trim in
+      let s : leaf ≡ afterLast x = e ∙ rw trim in
       let c = length-take-le k (partOf l at n) b in
       s ∙ behind-end x ∙ rw (c, ← s)
 
@@ -132,17 +132,17 @@ leaf-is l s k m name leaf e h t d =
 -- ---- what the name's place reads as
 
 -- the text at a place of a name, in the text area of the set or in that of the renames
-abbrev pub readName : List ℕ → List ℕ → NamePlace → List ℕ
+abbrev pub readName : List ℕ → List ℕ → NameSpan → List ℕ
 readName text names (inSet s) = textAt text s
 readName text names (inRenames s) = textAt names s
 
-name-if : (text t : List ℕ) (own : Span) (o : Optional Rename) → readName text t (namePlace t own o) ≡ renamedName (readFound t o) (textAt text own)
+name-if : (text t : List ℕ) (own : Span) (o : Optional Rename) → readName text t (nameSpan t own o) ≡ renamedName (readFound t o) (textAt text own)
 name-if text t own absent = refl
 name-if text t own (present r) = leaf-text t (r .name)
 
 -- a value that is known only in order
 in-order-only : {A : Type 0} (bad missing held o : Bool) (x y : A) → (o ≡ true → x ≡ y)
-    → outcomeOf (cond bad 1 (cond missing 11 (cond (not (both held o)) 10 0))) x ≡ outcomeOf (cond bad 1 (cond missing 11 (cond (not (both held o)) 10 0))) y
+    → outcomeOf (cond bad 1 (cond missing 11 (cond (not (held && o)) 10 0))) x ≡ outcomeOf (cond bad 1 (cond missing 11 (cond (not (held && o)) 10 0))) y
 in-order-only true missing held o x y h = refl
 in-order-only false true held o x y h = refl
 in-order-only false false true true x y h = ap value (h refl)
@@ -152,15 +152,15 @@ in-order-only false false false o x y h = refl
 -- the name of a file as a text: the leaf of its rename in the list of renames, or its own
 pub name-said : (fs : FileStorage) (rows text : List ℕ) (rf : RenamedFiles) (e names : List ℕ) (z : ℤ)
     → readAs (readName text names) (nameGiven fs rows text rf e names z)
-    ≡ askedFile fs z (both (both (rowsHeld fs rows) (textHeld fs text)) (inOrder rf e names))
+    ≡ fileAnswer fs z ((rowsHeld fs rows && textHeld fs text) && inOrder rf e names)
     (λ k. renamedName (renameFor k (renamesOf rf e names)) (textAt text (rowAt rows k .name)))
 name-said fs rows text rf e names z =
-    let k = indexOf z in
-    let held = both (rowsHeld fs rows) (textHeld fs text) in
+    let k = clampedOf z in
+    let held = (rowsHeld fs rows && textHeld fs text) in
     let o = inOrder rf e names in
     let own = rowAt rows k .name in
     let f = renameFound rf e k in
-    let m : ℕ = cond (badLength (fs .«piece_length»)) 1 (cond (not (isBelow (fs .«num_files») z)) 11 (cond (not (both held o)) 10 0)) in
-    read-if (readName text names) (eqb m 0) m (namePlace names own f)
-    ∙ in-order-only (badLength (fs .«piece_length»)) (not (isBelow (fs .«num_files») z)) held o (readName text names (namePlace names own f)) (renamedName (renameFor k (renamesOf rf e names)) (textAt text own))
+    let m : ℕ = cond (badLength (fs .«piece_length»)) 1 (cond (not (isBelow (fs .«num_files») z)) 11 (cond (not (held && o)) 10 0)) in
+    read-if (readName text names) (eqb m 0) m (nameSpan names own f)
+    ∙ in-order-only (badLength (fs .«piece_length»)) (not (isBelow (fs .«num_files») z)) held o (readName text names (nameSpan names own f)) (renamedName (renameFor k (renamesOf rf e names)) (textAt text own))
     (λ q. name-if text names own f ∙ ap (λ (x : Optional Renamed). renamedName x (textAt text own)) (sym (renamed-found rf e names k q)))

@@ -1,7 +1,7 @@
 -- Document 01, 'Names': what a set's names are through its renames. Refusals 1, 11, 10: 'a question on one past the end is 11,
 -- but the export gives it'. It relies on the renames of `renames` and on the questions of `rules`.
 use Prim.Native.Nat.{ℕ, _+_, _-_}
-use mathlib.Core.Bool.{Bool, true, false}
+use mathlib.Core.Bool.{Bool, true, false, _&&_}
 use mathlib.Core.List.{List}
 use lib.IntN.{ℤ}
 use lib.ListN.{length}
@@ -13,8 +13,7 @@ use Rattle.tables.specs.declared.span.Span.{Span}
 use Rattle.tables.specs.Span.{textAt}
 use Rattle.tables.specs.Rows.{rowAt, isAbsolute}
 use Rattle.tables.specs.Model.{Optional, absent, present}
-use Rattle.rules.specs.Rules.{both}
-use Rattle.rules.specs.Questions.{askedFile, rowsHeld, textHeld}
+use Rattle.rules.specs.Questions.{fileAnswer, rowsHeld, textHeld}
 use Rattle.rules.specs.Composed.{composedFile}
 use Rattle.names.specs.Paths.{filePath, namesHeld}
 use Rattle.renames.specs.declared.rename.RenameMode.{RenameMode}
@@ -40,9 +39,9 @@ renamedName absent own = own
 renamedName (present r) own = rsplitLeaf (r .name)
 
 -- where a file's name lies: in the set's text area, or in that of the renames
-pub data NamePlace : Type 0 where
-  inSet : Span → NamePlace
-  inRenames : Span → NamePlace
+pub data NameSpan : Type 0 where
+  inSet : Span → NameSpan
+  inRenames : Span → NameSpan
 
 -- the place of a text's leaf, which ends where the text does once a separator at its end is dropped
 abbrev pub leafSpan : List ℕ → Span → Span
@@ -53,9 +52,9 @@ leafSpan names s =
     }
 
 -- `file_name` as a place: that of the leaf of the rename, or the set's own
-abbrev pub namePlace : List ℕ → Span → Optional Rename → NamePlace
-namePlace names own absent = inSet own
-namePlace names own (present r) = inRenames (leafSpan names (r .name))
+abbrev pub nameSpan : List ℕ → Span → Optional Rename → NameSpan
+nameSpan names own absent = inSet own
+nameSpan names own (present r) = inRenames (leafSpan names (r .name))
 
 -- `file_absolute_path`
 abbrev pub isByItself : RenameMode → Bool
@@ -69,16 +68,16 @@ renamedAbsolute (present r) own = isByItself (r .mode)
 
 abbrev pub pathInto : FileStorage → List ℕ → List ℕ → List ℕ → RenamedFiles → List ℕ → List ℕ → ℤ → List ℕ → List ℕ → Joined
 pathInto fs rows dirs text rf entries names z save buf =
-    composedFile fs z (both (namesHeld fs rows dirs text) (inOrder rf entries names))
+    composedFile fs z (namesHeld fs rows dirs text && inOrder rf entries names)
     (λ k. renamedPath (renameFor k (renamesOf rf entries names)) (filePath fs dirs text save (rowAt rows k)) save (textAt text (fs .name)))
     buf
 
-abbrev pub nameGiven : FileStorage → List ℕ → List ℕ → RenamedFiles → List ℕ → List ℕ → ℤ → Outcome NamePlace
+abbrev pub nameGiven : FileStorage → List ℕ → List ℕ → RenamedFiles → List ℕ → List ℕ → ℤ → Outcome NameSpan
 nameGiven fs rows text rf entries names z =
-    askedFile fs z (both (both (rowsHeld fs rows) (textHeld fs text)) (inOrder rf entries names))
-    (λ k. namePlace names (rowAt rows k .name) (renameFound rf entries k))
+    fileAnswer fs z ((rowsHeld fs rows && textHeld fs text) && inOrder rf entries names)
+    (λ k. nameSpan names (rowAt rows k .name) (renameFound rf entries k))
 
 abbrev pub absoluteGiven : FileStorage → List ℕ → RenamedFiles → List ℕ → List ℕ → ℤ → Outcome Bool
 absoluteGiven fs rows rf entries names z =
-    askedFile fs z (both (rowsHeld fs rows) (inOrder rf entries names))
+    fileAnswer fs z (rowsHeld fs rows && inOrder rf entries names)
     (λ k. renamedAbsolute (renameFor k (renamesOf rf entries names)) (isAbsolute (rowAt rows k)))

@@ -3,10 +3,10 @@
 use Rattle.types.specs.Refusals.{numberOf, Outcome, value, refused}
 use Rattle.renamed.specs.declared.result.FileNameResult.{FileNameResult}
 use Rattle.renamed.specs.declared.result.FileNameResult.the-variants as name
-use Rattle.renamed.specs.Questions.{NamePlace, inSet, inRenames}
+use Rattle.renamed.specs.Questions.{NameSpan, inSet, inRenames}
 
 -- the text area that the answer names, and the place there
-abbrev pub nameSays : FileNameResult → Outcome NamePlace
+abbrev pub nameSays : FileNameResult → Outcome NameSpan
 nameSays (name.InSet s) = value (inSet s)
 nameSays (name.InRenames s) = value (inRenames s)
 nameSays (name.Err e) = refused (numberOf e)

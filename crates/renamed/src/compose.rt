@@ -1,10 +1,10 @@
 // A file's whole path through its rename, composed into a lent buffer. Relies on `renames` for the rename, on
 // `names` and `path` for joins and on the laws of proofs/Paths.antt.
+ghost use mathlib.Core.Bool.{_&&_};
 ghost use mathlib.Core.Path.{_≡_};
 ghost use Rattle.types.specs.Refusals.{usizeSays};
-ghost use Rattle.rules.specs.Rules.{both};
 ghost use Rattle.path.specs.Join.{Joined};
-ghost use Rattle.rules.specs.Questions.{askedFile};
+ghost use Rattle.rules.specs.Questions.{fileAnswer};
 ghost use Rattle.rules.specs.Composed.{composedIf};
 ghost use Rattle.names.specs.Paths.{namesHeld};
 ghost use Rattle.renames.specs.Renames.{inOrder};
@@ -32,9 +32,9 @@ fn find_through(
     index: FileIndex,
 ) -> FindResult
     ensures { λ r. ⌜ findSays r ≡
-        askedFile fs (index .0)
-        (both (namesHeld fs (now (rows .entry)) (now (dirs .entry)) (now (text .entry)))
-        (inOrder renames (now (entries .entry)) (now (names .entry))))
+        fileAnswer fs (index .0)
+        (namesHeld fs (now (rows .entry)) (now (dirs .entry)) (now (text .entry))
+        && inOrder renames (now (entries .entry)) (now (names .entry)))
         (renameFound renames (now (entries .entry))) ⌝ }
 {
     let held = are_held(fs, dirs.len(), text.len());

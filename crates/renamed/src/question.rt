@@ -24,7 +24,7 @@ fn leaf_of(names: &[u8], place: Span) -> Span
     let name = tables::text_at(names, place);
     let leaf = path::filename(name).len();
     Span {
-        at: place.at + lists::minus(path::trimmed_length(name), leaf),
+        at: place.at + lists::saturating_sub_usize(path::trimmed_length(name), leaf),
         len: leaf,
     }
 }

@@ -12,7 +12,8 @@ use Rattle.lists.proofs.Parts.{drop-take}
 use Rattle.renames.specs.declared.place.Place.{Place}
 use Rattle.renames.specs.declared.rename.RenamedFiles.{RenamedFiles}
 use Rattle.renames.specs.Renames.{Renamed, modeWord, renamesFrom, orderedFrom, wordsOf, textsOf, stateOf, withRename}
-use Rattle.renames.specs.Places.{bytesFrom, placeOf, spliced}
+use Rattle.renames.specs.Finding.{bytesFrom}
+use Rattle.renames.specs.private.Slots.{slotOf, spliced}
 use Rattle.renames.proofs.Ordered.{order-mode, order-bytes}
 use Rattle.renames.proofs.Places.{below-le, same-le, same-one, bytes-place, bytes-first}
 use Rattle.renames.proofs.Readings.{length-renames, texts-back, words-back, words-append, texts-append, with-rename}
@@ -21,7 +22,7 @@ use Rattle.renames.proofs.Splices.{sets-own}
 -- the place of a file among n entries in order, whose texts have u bytes
 module _ (n u file : ℕ) (e : List ℕ) (ordered : orderedFrom n 0 0 u e ≡ true) where
   abbrev p : Place
-  p = placeOf n file e
+  p = slotOf n file e
 
   -- how many bytes stand behind what the rename has already
   abbrev more : ℕ
@@ -40,13 +41,13 @@ module _ (n u file : ℕ) (e : List ℕ) (ordered : orderedFrom n 0 0 u e ≡ tr
   place-text = omega (arith, place-bytes)
 
   -- the same of a place that is known to be that one
-  pub place-in : (x : Place) → x ≡ placeOf n file e → (x .entry + x .same ≤ n) × (x .same ≤ 1) × (x .at + x .old ≤ u)
+  pub place-in : (x : Place) → x ≡ slotOf n file e → (x .entry + x .same ≤ n) × (x .same ≤ 1) × (x .at + x .old ≤ u)
   place-in x h = rw h (place-entry, place-one, place-text)
 
 -- the list with a rename more, and what it makes of the tables
 module _ (n u : ℕ) (r : Renamed) (e t : List ℕ) (ordered : orderedFrom n 0 0 u e ≡ true) (held : n * 3 ≤ length e) (room : u ≤ length t) where
   abbrev q : Place
-  q = placeOf n (r .file) e
+  q = slotOf n (r .file) e
 
   abbrev before : List Renamed
   before = renamesFrom (q .entry) 0 e t
@@ -119,7 +120,7 @@ module _ (n u : ℕ) (r : Renamed) (e t : List ℕ) (ordered : orderedFrom n 0 0
       (omega arith)
 
   -- the same of a place that is known to be that one
-  module _ (x : Place) (h : x ≡ placeOf n (r .file) e) where
+  module _ (x : Place) (h : x ≡ slotOf n (r .file) e) where
     pub put-state : _≡_ {A = RenamedFiles} (record { «num_renames» = n + 1 - x .same; «text_len» = u - x .old + length (r .name) }) (stateOf after)
     put-state =
         let a : x .same ≡ q .same = ap (λ (y : Place). y .same) h in

@@ -10,9 +10,9 @@ use borrow.Author.Tests.{eqb-true, not-false}
 use Rattle.types.specs.Refusals.{value}
 use Rattle.tables.specs.declared.storage.FileStorage.{FileStorage}
 use Rattle.rules.specs.Rules.{Rule, when, firstOf, outcomeOf}
-use Rattle.rules.specs.Bounds.{badLength, indexOf, isBelow}
+use Rattle.rules.specs.Bounds.{badLength, clampedOf, isBelow}
 use Rattle.rules.proofs.Rules.{Numbered, Passed, passed}
-use Rattle.rules.specs.Questions.{askedFile}
+use Rattle.rules.specs.Questions.{fileAnswer}
 use Rattle.rules.proofs.Deciding.{allowed}
 
 -- an answer that is a value: no test of a rule holds, and it is the one that is due
@@ -22,12 +22,12 @@ passes rs h x a e =
     (passed rs h (sym (eqb-true (firstOf rs) 0 (t .0))), t .1)
 
 -- the same of a question about a file
-module _ {A : Type 0} (fs : FileStorage) (z : ℤ) (held : Bool) (f : ℕ → A) (v : A) (h : value v ≡ askedFile fs z held f) where
+module _ {A : Type 0} (fs : FileStorage) (z : ℤ) (held : Bool) (f : ℕ → A) (v : A) (h : value v ≡ fileAnswer fs z held f) where
   abbrev rules : List Rule
   rules = when (badLength (fs .«piece_length»)) 1 ∷ when (not (isBelow (fs .«num_files») z)) 11 ∷ when (not held) 10 ∷ []
 
-  abbrev known : Passed rules × (v ≡ f (indexOf z))
-  known = passes rules refl v (f (indexOf z)) h
+  abbrev known : Passed rules × (v ≡ f (clampedOf z))
+  known = passes rules refl v (f (clampedOf z)) h
 
   pub asked-good : badLength (fs .«piece_length») ≡ false
   asked-good = known .0 .0
@@ -38,5 +38,5 @@ module _ {A : Type 0} (fs : FileStorage) (z : ℤ) (held : Bool) (f : ℕ → A)
   pub asked-held : held ≡ true
   asked-held = not-false held (known .0 .1 .1 .0)
 
-  pub asked-own : v ≡ f (indexOf z)
+  pub asked-own : v ≡ f (clampedOf z)
   asked-own = known .1

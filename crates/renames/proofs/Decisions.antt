@@ -2,7 +2,7 @@
 -- that of the change. These laws rely on those of proofs/Changes.antt.
 use Prim.Native.Nat.{ℕ, _+_, _-_, _*_, _/_, _≤_, _<_}
 use mathlib.Core.Path.{_≡_, refl}
-use mathlib.Core.Bool.{Bool, true, false, cond, not}
+use mathlib.Core.Bool.{Bool, true, false, cond, not, _&&_}
 use mathlib.Core.Logic.{_⊎_, inl, inr}
 use mathlib.Core.List.{List, [], _∷_}
 use native.Mathlib.Omega.{arith}
@@ -14,17 +14,18 @@ use lib.Seq.{sets}
 use Rattle.lists.proofs.Orders.{le-or-lt}
 use Rattle.types.specs.Refusals.{value, refused}
 use Rattle.tables.specs.declared.storage.FileStorage.{FileStorage}
-use Rattle.rules.specs.Rules.{when, firstOf, outcomeOf, both}
-use Rattle.rules.specs.Bounds.{badLength, indexOf, isBelow}
+use Rattle.rules.specs.Rules.{when, firstOf, outcomeOf}
+use Rattle.rules.specs.Bounds.{badLength, clampedOf, isBelow}
 use Rattle.rules.proofs.Rules.{either-false, both-true}
-use Rattle.rules.specs.Questions.{askedFile}
+use Rattle.rules.specs.Questions.{fileAnswer}
 use Rattle.rules.proofs.Deciding.{allowed, denied}
 use Rattle.renames.proofs.Deciding.{passes, asked-good, asked-there, asked-own}
 use Rattle.renames.specs.declared.rename.RenamedFiles.{RenamedFiles}
 use Rattle.renames.specs.declared.place.Place.{Place}
-use Rattle.renames.specs.Renames.{Renamed, Changed, orderedFrom, renamesOf, renamedTo, lacksRoom, inOrder, stateOf, wordsOf, textsOf, renameFile}
-use Rattle.renames.specs.Places.{placeOf}
-use Rattle.renames.specs.Changing.{inOrderIn, isShort, placeNumber, placeAsked, renameOf}
+use Rattle.renames.specs.Renames.{Renamed, RenamesChanged, orderedFrom, renamesOf, renamedTo, lacksRoom, inOrder, stateOf, wordsOf, textsOf, renameFile}
+use Rattle.renames.specs.private.Slots.{slotOf}
+use Rattle.renames.specs.Renames.{inOrderIn}
+use Rattle.renames.specs.private.Changing.{isShort, slotNumber, slotGiven, renameOf}
 use Rattle.renames.proofs.Changes.{count-after, bytes-after}
 
 -- ---- what follows the set's refusals
@@ -36,30 +37,30 @@ stops false false m i r x e = absurd (let z : _≡_ {A = ℕ} 0 1 = cc in omega 
 
 module _ (fs : FileStorage) (rf : RenamedFiles) (e : List ℕ) (room : ℕ) (z : ℤ) (len : ℕ) where
   abbrev own : Place
-  own = placeOf (rf .«num_renames») (indexOf z) e
+  own = slotOf (rf .«num_renames») (clampedOf z) e
 
   abbrev tests : Bool → Bool → ℕ
   tests o s = cond (not o) 10 (cond s 10 0)
 
-  pub place-number : (k : ℕ) → value k ≡ askedFile fs z true (λ k. k) → k ≡ indexOf z
+  pub place-number : (k : ℕ) → value k ≡ fileAnswer fs z true (λ k. k) → k ≡ clampedOf z
   place-number k h = asked-own fs z true (λ k. k) k h
 
-  pub place-goes : (k : ℕ) → value k ≡ askedFile fs z true (λ k. k) → (o s : Bool) → inOrderIn rf e room ≡ o → isShort rf own (length e) room len ≡ s
-      → outcomeOf (tests o s) own ≡ placeAsked fs rf e room z len
+  pub place-goes : (k : ℕ) → value k ≡ fileAnswer fs z true (λ k. k) → (o s : Bool) → inOrderIn rf e room ≡ o → isShort rf own (length e) room len ≡ s
+      → outcomeOf (tests o s) own ≡ slotGiven fs rf e room z len
   place-goes k h o s p q = rw (asked-good fs z true (λ k. k) k h, asked-there fs z true (λ k. k) k h, p, q)
 
-  pub place-disorder : (k : ℕ) → value k ≡ askedFile fs z true (λ k. k) → inOrderIn rf e room ≡ false → refused 10 ≡ placeAsked fs rf e room z len
+  pub place-disorder : (k : ℕ) → value k ≡ fileAnswer fs z true (λ k. k) → inOrderIn rf e room ≡ false → refused 10 ≡ slotGiven fs rf e room z len
   place-disorder k h p = place-goes k h false (isShort rf own (length e) room len) p refl
 
-  pub place-stops : (m : ℕ) → refused m ≡ askedFile fs z true (λ k. k) → refused m ≡ placeAsked fs rf e room z len
+  pub place-stops : (m : ℕ) → refused m ≡ fileAnswer fs z true (λ k. k) → refused m ≡ slotGiven fs rf e room z len
   place-stops m h =
-      stops (badLength (fs .«piece_length»)) (not (isBelow (fs .«num_files») z)) m (indexOf z) (tests (inOrderIn rf e room) (isShort rf own (length e) room len)) own h
+      stops (badLength (fs .«piece_length»)) (not (isBelow (fs .«num_files») z)) m (clampedOf z) (tests (inOrderIn rf e room) (isShort rf own (length e) room len)) own h
 
 -- what tables in order hold
 pub order-in : (rf : RenamedFiles) (e : List ℕ) (room : ℕ) → inOrderIn rf e room ≡ true
     → (rf .«num_renames» ≤ length e / 3) × (rf .«text_len» ≤ room) × (orderedFrom (rf .«num_renames») 0 0 (rf .«text_len») e ≡ true)
 order-in rf e room h =
-    let a = both-true (leb (rf .«num_renames») (length e / 3)) (both (leb (rf .«text_len») room) (orderedFrom (rf .«num_renames») 0 0 (rf .«text_len») e)) h in
+    let a = both-true (leb (rf .«num_renames») (length e / 3)) (leb (rf .«text_len») room && orderedFrom (rf .«num_renames») 0 0 (rf .«text_len») e) h in
     let b = both-true (leb (rf .«text_len») room) (orderedFrom (rf .«num_renames») 0 0 (rf .«text_len») e) (a .1) in
     (leb-true _ _ (a .0), leb-true _ _ (b .0), b .1)
 
@@ -93,12 +94,12 @@ module _ (fs : FileStorage) (rf : RenamedFiles) (e t : List ℕ) (z : ℤ) (name
   after = renamedTo z name (renamesOf rf e t)
 
   abbrev there : Place
-  there = placeOf (rf .«num_renames») (indexOf z) e
+  there = slotOf (rf .«num_renames») (clampedOf z) e
 
   room-is : inOrderIn rf e (length t) ≡ true → lacksRoom after e t ≡ isShort rf there (length e) (length t) (length name)
   room-is h =
       let o = order-in rf e (length t) h in
-      let r : Renamed = renameOf (indexOf z) name in
+      let r : Renamed = renameOf (clampedOf z) name in
       let n = rf .«num_renames» in
       let u = rf .«text_len» in
       let held : n * 3 ≤ length e = omega arith in
@@ -109,12 +110,12 @@ module _ (fs : FileStorage) (rf : RenamedFiles) (e t : List ℕ) (z : ℤ) (name
       cond (badLength (fs .«piece_length»)) 1
       (cond (not (isBelow (fs .«num_files») z)) 11 (cond (not (inOrder rf e t)) 10 (cond (lacksRoom after e t) 10 0)))
 
-  number-is : changeNumber ≡ placeNumber fs rf e (length t) z (length name)
+  number-is : changeNumber ≡ slotNumber fs rf e (length t) z (length name)
   number-is =
       rw (same-test (inOrderIn rf e (length t)) (lacksRoom after e t) (isShort rf there (length e) (length t) (length name)) room-is)
 
-  module _ (p : Place) (h : value p ≡ placeAsked fs rf e (length t) z (length name)) where
-    abbrev known : (eqb (placeNumber fs rf e (length t) z (length name)) 0 ≡ true) × (inOrderIn rf e (length t) ≡ true) × (isShort rf there (length e) (length t) (length name) ≡ false) × (p ≡ there)
+  module _ (p : Place) (h : value p ≡ slotGiven fs rf e (length t) z (length name)) where
+    abbrev known : (eqb (slotNumber fs rf e (length t) z (length name)) 0 ≡ true) × (inOrderIn rf e (length t) ≡ true) × (isShort rf there (length e) (length t) (length name) ≡ false) × (p ≡ there)
     known =
         four-passed (badLength (fs .«piece_length»)) (not (isBelow (fs .«num_files») z)) (inOrderIn rf e (length t)) (isShort rf there (length e) (length t) (length name)) p there h
 
@@ -127,13 +128,13 @@ module _ (fs : FileStorage) (rf : RenamedFiles) (e t : List ℕ) (z : ℤ) (name
         (o .2, known .3, o .0, o .1, rw (known .3) (ltb-false _ _ (s .0)), rw (known .3) (ltb-false _ _ (s .1)))
 
     pub place-changed : (rf′ : RenamedFiles) (e′ t′ : List ℕ) → rf′ ≡ stateOf after → e′ ≡ sets e 0 (wordsOf after) → t′ ≡ sets t 0 (textsOf after)
-        → _≡_ {A = Changed} (record { says = value rf′; entries = e′; text = t′ }) (renameFile fs rf e t z name)
+        → _≡_ {A = RenamesChanged} (record { says = value rf′; entries = e′; text = t′ }) (renameFile fs rf e t z name)
     place-changed rf′ e′ t′ a b d = rw (number-is, known .0, a, b, d)
 
   -- one stops it
-  pub place-refused : (m : ℕ) → refused m ≡ placeAsked fs rf e (length t) z (length name)
-      → _≡_ {A = Changed} (record { says = refused m; entries = e; text = t }) (renameFile fs rf e t z name)
+  pub place-refused : (m : ℕ) → refused m ≡ slotGiven fs rf e (length t) z (length name)
+      → _≡_ {A = RenamesChanged} (record { says = refused m; entries = e; text = t }) (renameFile fs rf e t z name)
   place-refused m h =
-      let n = placeNumber fs rf e (length t) z (length name) in
+      let n = slotNumber fs rf e (length t) z (length name) in
       let r = denied n there (eqb n 0) m h in
       rw (number-is, r .0, r .1)

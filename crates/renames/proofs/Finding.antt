@@ -2,7 +2,7 @@
 -- rely on the laws of proofs/Ordered.antt, proofs/Readings.antt and proofs/Decisions.antt.
 use Prim.Native.Nat.{ℕ, zero, suc, _+_, _-_, _*_, _%_, _^_, _≤_, _<_}
 use mathlib.Core.Path.{_≡_, refl, sym, ap, _∙_}
-use mathlib.Core.Bool.{Bool, true, false, cond, not, false≢true}
+use mathlib.Core.Bool.{Bool, true, false, cond, not, false≢true, _&&_}
 use mathlib.Core.Logic.{_⊎_, inl, inr}
 use mathlib.Core.List.{List, [], _∷_}
 use native.Mathlib.Nat.{zero-add, add-zero, mod-eq-of-lt}
@@ -17,7 +17,7 @@ use Rattle.types.specs.Refusals.{Outcome, value, refused}
 use Rattle.tables.specs.Span.{textAt}
 use Rattle.tables.specs.Model.{Optional, absent, present}
 use Rattle.rules.specs.Rules.{when, firstOf, outcomeOf}
-use Rattle.rules.specs.Bounds.{indexOf}
+use Rattle.rules.specs.Bounds.{clampedOf}
 use Rattle.renames.specs.declared.rename.RenameMode.{RenameMode}
 use Rattle.renames.specs.declared.rename.RenameMode.the-variants.{FullPath}
 use Rattle.renames.specs.declared.rename.Rename.{Rename}
@@ -25,7 +25,8 @@ use Rattle.renames.specs.declared.rename.RenamedFiles.{RenamedFiles}
 use Rattle.renames.specs.declared.place.Place.{Place}
 use Rattle.renames.specs.Renames.{Renamed, modeOf, renamesFrom, renamesOf, orderedFrom, inOrder}
 use Rattle.renames.specs.Finding.{renameIn, renameFor, renameFound, exported}
-use Rattle.renames.specs.Places.{belowFrom, bytesFrom, isNamed, placeOf}
+use Rattle.renames.specs.Finding.{belowFrom, bytesFrom, isNamed}
+use Rattle.renames.specs.private.Slots.{slotOf}
 use Rattle.renames.proofs.Ordered.{order-first, order-rest, order-entry}
 use Rattle.renames.proofs.Readings.{isNamedFrom, ltb-both}
 use Rattle.renames.proofs.Decisions.{order-in}
@@ -84,7 +85,7 @@ rename-found (suc n) i least left k e t h =
 
 -- a rename with its text
 abbrev pub readRename : List ℕ → Rename → Renamed
-readRename names r = record { file = indexOf (r .«file_index» .0); mode = r .mode; name = textAt names (r .name) }
+readRename names r = record { file = clampedOf (r .«file_index» .0); mode = r .mode; name = textAt names (r .name) }
 
 abbrev pub readFound : List ℕ → Optional Rename → Optional Renamed
 readFound names absent = absent
@@ -126,12 +127,12 @@ gone : (b : Bool) → (_≡_ {A = ℕ} (cond b 1 0) 0 → ⊥) → b ≡ true
 gone true h = refl
 gone false h = absurd (h refl)
 
-among : (b c : Bool) → cond b c false ≡ true → b ≡ true
+among : (b c : Bool) → (b && c) ≡ true → b ≡ true
 among true c h = refl
 among false c h = absurd (false≢true h)
 
 module _ (rf : RenamedFiles) (k : ℕ) (e : List ℕ) (ordered : orderedFrom (rf .«num_renames») 0 0 (rf .«text_len») e ≡ true)
-    (p : Place) (is : p ≡ placeOf (rf .«num_renames») k e) where
+    (p : Place) (is : p ≡ slotOf (rf .«num_renames») k e) where
   abbrev n : ℕ
   n = rf .«num_renames»
 

@@ -3,7 +3,7 @@
 -- proofs/Changes.antt, proofs/Kept.antt and proofs/Imported.antt.
 use Prim.Native.Nat.{ℕ, _+_, _-_, _*_, _/_, _≤_, _<_, min}
 use mathlib.Core.Path.{_≡_, refl, sym, ap, _∙_}
-use mathlib.Core.Bool.{Bool, true, false, cond, not}
+use mathlib.Core.Bool.{Bool, true, false, cond, not, _&&_}
 use mathlib.Core.List.{List, [], _∷_}
 use native.Mathlib.Nat.{add-zero}
 use native.Mathlib.Numerals.{add-one}
@@ -14,15 +14,14 @@ use lib.Seq.{sets, length-sets, length-take-le, drop-cons, drop-drop, getD-drop}
 use Rattle.lists.specs.Lists.{partOf}
 use Rattle.lists.proofs.Parts.{drop-clipped, part-length}
 use Rattle.lists.proofs.Runs.{sets-over}
-use Rattle.rules.specs.Rules.{both}
-use Rattle.rules.specs.Bounds.{indexOf, isBelow}
+use Rattle.rules.specs.Bounds.{clampedOf, isBelow}
 use Rattle.renames.specs.declared.rename.RenamedFiles.{RenamedFiles}
 use Rattle.renames.specs.declared.rename.RenameMode.the-variants.{FullPath}
 use Rattle.renames.specs.declared.place.Place.{Place}
 use Rattle.renames.specs.Renames.{Renamed, renamesOf, orderedFrom, inOrder, withRename, stateOf, wordsOf, textsOf}
-use Rattle.renames.specs.Places.{placeOf}
+use Rattle.renames.specs.private.Slots.{slotOf}
 use Rattle.renames.specs.Imports.{fullPath}
-use Rattle.renames.specs.Importing.{isListed, counts, given, withAll, withOne, Fresh}
+use Rattle.renames.specs.private.Importing.{isListed, counts, renamesGiven, withAll, withOne, Fresh}
 use Rattle.renames.proofs.Ordered.{order-mode, order-bytes}
 use Rattle.renames.proofs.Splices.{sets-self}
 use Rattle.renames.proofs.Readings.{length-renames, texts-back, words-back}
@@ -37,7 +36,7 @@ use Rattle.renames.proofs.Imported.{fresh-rest, fresh-with, with-given}
 module _ (files : ℕ) (zs : List ℤ) (lengths t : List ℕ) where
   -- the names from number i on, whose texts begin at place `at`
   abbrev pub givenFrom : ℕ → ℕ → List Renamed
-  givenFrom i at = given files (drop i zs) (drop i lengths) (drop at t)
+  givenFrom i at = renamesGiven files (drop i zs) (drop i lengths) (drop at t)
 
   abbrev pub nameAt : ℕ → ℕ → List ℕ
   nameAt i at = partOf t at (getD lengths i 0)
@@ -96,10 +95,10 @@ module _ (files : ℕ) (zs : List ℤ) (lengths t : List ℕ) where
 
 -- ---- renames that the list does not name stay so
 
-counts-new : (files : ℕ) (z : ℤ) (zs : List ℤ) → counts files z zs ≡ true → (isBelow files z ≡ true) × (isListed files zs (indexOf z) ≡ false)
-counts-new files z zs h = at (isBelow files z) (isListed files zs (indexOf z)) refl refl h
+counts-new : (files : ℕ) (z : ℤ) (zs : List ℤ) → counts files z zs ≡ true → (isBelow files z ≡ true) × (isListed files zs (clampedOf z) ≡ false)
+counts-new files z zs h = at (isBelow files z) (isListed files zs (clampedOf z)) refl refl h
   where
-    at : (b c : Bool) → isBelow files z ≡ b → isListed files zs (indexOf z) ≡ c → both b (not c) ≡ true → (b ≡ true) × (c ≡ false)
+    at : (b c : Bool) → isBelow files z ≡ b → isListed files zs (clampedOf z) ≡ c → (b && not c) ≡ true → (b ≡ true) × (c ≡ false)
     at true true p q e = absurd (let x : _≡_ {A = ℕ} 0 1 = cc in omega arith)
     at true false p q e = (refl, refl)
     at false c p q e = absurd (let x : _≡_ {A = ℕ} 0 1 = cc in omega arith)
@@ -112,7 +111,7 @@ fresh-one files z zs name rs a = at (counts files z zs) refl
     at false h = fresh-rest files z zs rs a
 
 -- a name that counts is a rename more
-pub one-comes : (files : ℕ) (z : ℤ) (zs : List ℤ) (name : List ℕ) (rs : List Renamed) (k : ℕ) → counts files z zs ≡ true → k ≡ indexOf z
+pub one-comes : (files : ℕ) (z : ℤ) (zs : List ℤ) (name : List ℕ) (rs : List Renamed) (k : ℕ) → counts files z zs ≡ true → k ≡ clampedOf z
     → withOne files z zs name rs ≡ withRename (record { file = k; mode = FullPath; name = name }) rs
 one-comes files z zs name rs k h p = rw (h, p)
 
@@ -151,8 +150,8 @@ module _ (rf : RenamedFiles) (e t : List ℕ) (ordered : inOrder rf e t ≡ true
 
   -- one rename more: there is room for it, and they are in order again
   module _ (r : Renamed) (held : length (withRename r rs) ≤ length e / 3) (room : length (textsOf (withRename r rs)) ≤ length t) where
-    pub one-room : (x : Place) → x ≡ placeOf n (r .file) e
-        → (orderedFrom n 0 0 u e ≡ true) × (x ≡ placeOf n (r .file) e) × (n ≤ length e / 3) × (u ≤ length t)
+    pub one-room : (x : Place) → x ≡ slotOf n (r .file) e
+        → (orderedFrom n 0 0 u e ≡ true) × (x ≡ slotOf n (r .file) e) × (n ≤ length e / 3) × (u ≤ length t)
         × (n + 1 - x .same ≤ length e / 3) × (u - x .old + length (r .name) ≤ length t)
     one-room x h =
         let o = order-in rf e (length t) ordered in
@@ -193,9 +192,9 @@ pub record Giving (files : ℕ) (zs : List ℤ) (lengths names : List ℕ) (fina
 
 module _ (files : ℕ) (zs : List ℤ) (lengths names : List ℕ) (e₀ t₀ : List ℕ) where
   pub giving-start : (rf : RenamedFiles) → inOrder rf e₀ t₀ ≡ true → Fresh files zs (renamesOf rf e₀ t₀)
-      → length (withAll (given files zs lengths names) (renamesOf rf e₀ t₀)) ≤ length e₀ / 3
-      → length (textsOf (withAll (given files zs lengths names) (renamesOf rf e₀ t₀))) ≤ length t₀
-      → Giving files zs lengths names (withAll (given files zs lengths names) (renamesOf rf e₀ t₀)) e₀ t₀ rf e₀ t₀ 0 0
+      → length (withAll (renamesGiven files zs lengths names) (renamesOf rf e₀ t₀)) ≤ length e₀ / 3
+      → length (textsOf (withAll (renamesGiven files zs lengths names) (renamesOf rf e₀ t₀))) ≤ length t₀
+      → Giving files zs lengths names (withAll (renamesGiven files zs lengths names) (renamesOf rf e₀ t₀)) e₀ t₀ rf e₀ t₀ 0 0
   giving-start rf o f h r =
       record {
         bound = omega arith;

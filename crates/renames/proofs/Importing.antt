@@ -20,11 +20,11 @@ use Rattle.rules.specs.Bounds.{badLength, isNegative}
 use Rattle.rules.proofs.Rules.{either-false}
 use Rattle.rules.proofs.Deciding.{denied}
 use Rattle.renames.specs.declared.rename.RenamedFiles.{RenamedFiles}
-use Rattle.renames.specs.Renames.{Renamed, Changed, renamesOf, orderedFrom, inOrder, lacksRoom, stateOf, wordsOf, textsOf}
-use Rattle.renames.specs.Places.{bytesFrom}
-use Rattle.renames.specs.Changing.{inOrderIn}
+use Rattle.renames.specs.Renames.{Renamed, RenamesChanged, renamesOf, orderedFrom, inOrder, lacksRoom, stateOf, wordsOf, textsOf}
+use Rattle.renames.specs.Finding.{bytesFrom}
+use Rattle.renames.specs.Renames.{inOrderIn}
 use Rattle.renames.specs.Imports.{namings, imported, hasNegative, importFilenames}
-use Rattle.renames.specs.Importing.{kept, given, withAll, Fresh, keptWords, keptState, isFull, importNumber, importAsked}
+use Rattle.renames.specs.private.Importing.{renamesKept, renamesGiven, withAll, Fresh, keptWords, keptState, isFull, importNumber, importAsked}
 use Rattle.renames.proofs.Ordered.{order-mode, order-bytes}
 use Rattle.renames.proofs.Decisions.{four-passed, same-test, order-in}
 use Rattle.renames.proofs.Rising.{rises-read, small-read}
@@ -85,10 +85,10 @@ module _ (fs : FileStorage) (rf : RenamedFiles) (e t : List ℕ) (zs : List ℤ)
   rs = renamesOf rf e t
 
   abbrev stays : List Renamed
-  stays = kept files zs rs
+  stays = renamesKept files zs rs
 
   abbrev comes : List Renamed
-  comes = given files zs lengths names
+  comes = renamesGiven files zs lengths names
 
   abbrev final : List Renamed
   final = imported files (namings zs lengths names) rs
@@ -125,7 +125,7 @@ module _ (fs : FileStorage) (rf : RenamedFiles) (e t : List ℕ) (zs : List ℤ)
 
   -- one refusal stops it
   pub import-refused : (m : ℕ) → refused m ≡ importAsked fs rf e (length t) zs (stateOf comes)
-      → _≡_ {A = Changed} (record { says = refused m; entries = e; text = t }) (importFilenames fs rf e t (namings zs lengths names))
+      → _≡_ {A = RenamesChanged} (record { says = refused m; entries = e; text = t }) (importFilenames fs rf e t (namings zs lengths names))
   import-refused m h =
       let n = importNumber fs rf e (length t) zs (stateOf comes) in
       let r = denied n (keptState files zs rf e) (eqb n 0) m h in
@@ -181,7 +181,7 @@ module _ (fs : FileStorage) (rf : RenamedFiles) (e t : List ℕ) (zs : List ℤ)
 
       pub import-changed : (rf′ : RenamedFiles) (e′ t′ : List ℕ) → rf′ ≡ stateOf (withAll comes (renamesOf st e₁ t₁))
           → e′ ≡ sets e₁ 0 (wordsOf (withAll comes (renamesOf st e₁ t₁))) → t′ ≡ sets t₁ 0 (textsOf (withAll comes (renamesOf st e₁ t₁)))
-          → _≡_ {A = Changed} (record { says = value rf′; entries = e′; text = t′ }) (importFilenames fs rf e t (namings zs lengths names))
+          → _≡_ {A = RenamesChanged} (record { says = value rf′; entries = e′; text = t′ }) (importFilenames fs rf e t (namings zs lengths names))
       import-changed rf′ e′ t′ a b c =
           let k : rf′ ≡ stateOf final = a ∙ ap stateOf whole in
           let l : e′ ≡ sets e 0 (wordsOf final) = b

@@ -13,8 +13,8 @@ use lib.Seq.{sets, length-sets, length-take-le, drop-drop, getD-drop}
 use Rattle.lists.specs.Lists.{partOf}
 use Rattle.lists.proofs.Runs.{sets-append, drop-sets-le}
 use Rattle.renames.specs.Renames.{Renamed, modeWord, renamesFrom, wordsOf, textsOf}
-use Rattle.renames.specs.Places.{bytesFrom}
-use Rattle.renames.specs.Importing.{isListed, kept, keptCount, keptBytes, keptWords}
+use Rattle.renames.specs.Finding.{bytesFrom}
+use Rattle.renames.specs.private.Importing.{isListed, renamesKept, keptCount, keptBytes, keptWords}
 use Rattle.renames.proofs.Readings.{mode-word}
 
 module _ (files : ℕ) (zs : List ℤ) where
@@ -27,11 +27,11 @@ module _ (files : ℕ) (zs : List ℤ) where
   one-count true r l = omega arith
   one-count false r l = omega arith
 
-  pub kept-count : (n i : ℕ) (e t : List ℕ) → length (kept files zs (renamesFrom n i e t)) ≡ keptCount files zs n i e
+  pub kept-count : (n i : ℕ) (e t : List ℕ) → length (renamesKept files zs (renamesFrom n i e t)) ≡ keptCount files zs n i e
   unfolding renamesFrom keptCount
   kept-count zero i e t = refl
   kept-count (suc n) i e t =
-      one-count (listed e i) _ (kept files zs (renamesFrom n (i + 1) e (drop (getD e (i * 3 + 2) 0) t)))
+      one-count (listed e i) _ (renamesKept files zs (renamesFrom n (i + 1) e (drop (getD e (i * 3 + 2) 0) t)))
       ∙ rw (kept-count n (i + 1) e (drop (getD e (i * 3 + 2) 0) t))
 
   one-text : (b : Bool) (r : Renamed) (l : List Renamed) → textsOf (cond b l (r ∷ l)) ≡ cond b [] (r .name) ++ textsOf l
@@ -42,12 +42,12 @@ module _ (files : ℕ) (zs : List ℤ) where
   one-length true name = refl
   one-length false name = refl
 
-  pub kept-bytes : (n i : ℕ) (e t : List ℕ) → bytesFrom n i e ≤ length t → length (textsOf (kept files zs (renamesFrom n i e t))) ≡ keptBytes files zs n i e
+  pub kept-bytes : (n i : ℕ) (e t : List ℕ) → bytesFrom n i e ≤ length t → length (textsOf (renamesKept files zs (renamesFrom n i e t))) ≡ keptBytes files zs n i e
   unfolding renamesFrom bytesFrom keptBytes
   kept-bytes zero i e t h = refl
   kept-bytes (suc n) i e t h =
       let l = getD e (i * 3 + 2) 0 in
-      let rest = kept files zs (renamesFrom n (i + 1) e (drop l t)) in
+      let rest = renamesKept files zs (renamesFrom n (i + 1) e (drop l t)) in
       let b = listed e i in
       ap length (one-text b _ rest)
       ∙ length-append (cond b [] (take l t)) (textsOf rest)
@@ -59,12 +59,12 @@ module _ (files : ℕ) (zs : List ℤ) where
   one-words false r l f m k w p q s h = rw (p, q, s, h)
 
   pub kept-words : (n i : ℕ) (e t : List ℕ) → ((j : ℕ) → i ≤ j → j < i + n → getD e (j * 3 + 1) 0 ≤ 2) → bytesFrom n i e ≤ length t
-      → wordsOf (kept files zs (renamesFrom n i e t)) ≡ keptWords files zs n i e
+      → wordsOf (renamesKept files zs (renamesFrom n i e t)) ≡ keptWords files zs n i e
   unfolding renamesFrom bytesFrom keptWords
   kept-words zero i e t m h = refl
   kept-words (suc n) i e t m h =
       let l = getD e (i * 3 + 2) 0 in
-      one-words (listed e i) _ (kept files zs (renamesFrom n (i + 1) e (drop l t))) (getD e (i * 3) 0) (getD e (i * 3 + 1) 0) l (keptWords files zs n (i + 1) e) refl
+      one-words (listed e i) _ (renamesKept files zs (renamesFrom n (i + 1) e (drop l t))) (getD e (i * 3) 0) (getD e (i * 3 + 1) 0) l (keptWords files zs n (i + 1) e) refl
       (mode-word (getD e (i * 3 + 1) 0) (m i (omega arith) (omega arith)))
       (length-take-le l t (omega arith))
       (kept-words n (i + 1) e (drop l t) (λ j a c. m j (omega arith) (omega arith)) (omega (arith, length-drop l t)))
@@ -198,7 +198,7 @@ module _ (files : ℕ) (zs : List ℤ) where
       × (from + bytesFrom (n - i) i e ≤ length t₀)
       × (length t ≡ length t₀)
       × (drop from t ≡ drop from t₀)
-      × (sets t to (textsOf (kept files zs (renamesFrom (n - i) i e (drop from t₀)))) ≡ sets t₀ 0 (textsOf (kept files zs (renamesFrom n 0 e t₀))))
+      × (sets t to (textsOf (renamesKept files zs (renamesFrom (n - i) i e (drop from t₀)))) ≡ sets t₀ 0 (textsOf (renamesKept files zs (renamesFrom n 0 e t₀))))
 
   module _ (n : ℕ) (e t₀ : List ℕ) where
     pub joined-start : bytesFrom n 0 e ≤ length t₀ → Joined n e t₀ t₀ 0 0 0
@@ -212,14 +212,14 @@ module _ (files : ℕ) (zs : List ℤ) where
     bytes-step i h = let m : n - i ≡ suc (n - (i + 1)) = omega arith in rw m
 
     texts-turn : (i from : ℕ) → i < n
-        → textsOf (kept files zs (renamesFrom (n - i) i e (drop from t₀)))
-        ≡ cond (isListed files zs (getD e (i * 3) 0)) [] (partOf t₀ from (len i)) ++ textsOf (kept files zs (renamesFrom (n - (i + 1)) (i + 1) e (drop (from + len i) t₀)))
+        → textsOf (renamesKept files zs (renamesFrom (n - i) i e (drop from t₀)))
+        ≡ cond (isListed files zs (getD e (i * 3) 0)) [] (partOf t₀ from (len i)) ++ textsOf (renamesKept files zs (renamesFrom (n - (i + 1)) (i + 1) e (drop (from + len i) t₀)))
     unfolding renamesFrom
     texts-turn i from h =
         let m : n - i ≡ suc (n - (i + 1)) = omega arith in
-        rw (m, ← drop-drop (len i) from t₀) (one-text (listed e i) _ (kept files zs (renamesFrom (n - (i + 1)) (i + 1) e (drop (len i) (drop from t₀)))))
+        rw (m, ← drop-drop (len i) from t₀) (one-text (listed e i) _ (renamesKept files zs (renamesFrom (n - (i + 1)) (i + 1) e (drop (len i) (drop from t₀)))))
 
-    texts-end : (i from : ℕ) → n ≤ i → textsOf (kept files zs (renamesFrom (n - i) i e (drop from t₀))) ≡ []
+    texts-end : (i from : ℕ) → n ≤ i → textsOf (renamesKept files zs (renamesFrom (n - i) i e (drop from t₀))) ≡ []
     unfolding renamesFrom
     texts-end i from h = let m : n - i ≡ 0 = omega arith in rw m
 
@@ -246,7 +246,7 @@ module _ (files : ℕ) (zs : List ℤ) where
         let part = partOf t from (len i) in
         let same = joined-part t i from to (a, b, h, l, d, s) in
         let k : length part ≡ len i = length-take-le (len i) (drop from t) (omega (arith, length-drop from t, bytes-step i g)) in
-        let u = sets-append part (textsOf (kept files zs (renamesFrom (n - (i + 1)) (i + 1) e (drop (from + len i) t₀)))) t to in (
+        let u = sets-append part (textsOf (renamesKept files zs (renamesFrom (n - (i + 1)) (i + 1) e (drop (from + len i) t₀)))) t to in (
           omega arith,
           omega arith,
           omega (arith, bytes-step i g),
@@ -262,5 +262,5 @@ module _ (files : ℕ) (zs : List ℤ) where
     joined-turn t t′ i from to to′ len true m g q k x y = rw (x, y, k) (joined-keep t i from to m g (not-true _ (sym q)))
     joined-turn t t′ i from to to′ len false m g q k x y = rw (x, y, k) (joined-skip t i from to m g (not-false _ (sym q)))
 
-    pub joined-end : (t : List ℕ) (i from to : ℕ) → Joined n e t₀ t i from to → n ≤ i → t ≡ sets t₀ 0 (textsOf (kept files zs (renamesFrom n 0 e t₀)))
+    pub joined-end : (t : List ℕ) (i from to : ℕ) → Joined n e t₀ t i from to → n ≤ i → t ≡ sets t₀ 0 (textsOf (renamesKept files zs (renamesFrom n 0 e t₀)))
     joined-end t i from to (a, b, h, l, d, s) g = let w = texts-end i from g in rw w at s

@@ -14,13 +14,13 @@ use lib.Seq.{sets, sets-eq, length-sets, getD-drop, drop-drop, take-append-seam,
 use Rattle.types.specs.Refusals.{value, refused}
 use Rattle.tables.specs.declared.storage.FileStorage.{FileStorage}
 use Rattle.rules.specs.Rules.{outcomeOf}
-use Rattle.rules.specs.Bounds.{badLength, indexOf, isBelow}
+use Rattle.rules.specs.Bounds.{badLength, clampedOf, isBelow}
 use Rattle.rules.proofs.Rules.{either-false}
 use Rattle.renames.specs.declared.rename.RenameMode.{RenameMode}
 use Rattle.renames.specs.declared.rename.RenameMode.the-variants.{FullPath, NoRootPath, AbsolutePath}
 use Rattle.renames.specs.declared.rename.RenamedFiles.{RenamedFiles}
-use Rattle.renames.specs.Renames.{Renamed, modeWord, modeOf, renamesFrom, renamesOf, orderedFrom, inOrder, lacksRoom, stateOf, wordsOf, textsOf, renamedTo, Changed, changedIf, renameFile}
-use Rattle.renames.specs.Changing.{renameOf}
+use Rattle.renames.specs.Renames.{Renamed, modeWord, modeOf, renamesFrom, renamesOf, orderedFrom, inOrder, lacksRoom, stateOf, wordsOf, textsOf, renamedTo, RenamesChanged, renamesChangedIf, renameFile}
+use Rattle.renames.specs.private.Changing.{renameOf}
 use Rattle.renames.proofs.Rising.{Rises, Small, rises-read, small-read, rises-with, small-with}
 use Rattle.renames.proofs.Decisions.{order-in, four-passed}
 
@@ -121,11 +121,11 @@ module _ (rs : List Renamed) (e t : List ℕ) (up : Rises 0 rs) (small : Small r
 -- ---- `rename_file`
 
 -- what a change says
-says-is : (n : ℕ) (rs : List Renamed) (e t : List ℕ) → outcomeOf n (stateOf rs) ≡ changedIf n rs e t .says
+says-is : (n : ℕ) (rs : List Renamed) (e t : List ℕ) → outcomeOf n (stateOf rs) ≡ renamesChangedIf n rs e t .says
 says-is n rs e t = at (eqb n 0)
   where
     at : (b : Bool) → cond b (value (stateOf rs)) (refused n)
-        ≡ (cond {A = Changed} b (record { says = value (stateOf rs); entries = sets e 0 (wordsOf rs); text = sets t 0 (textsOf rs) }) (record { says = refused n; entries = e; text = t })) .says
+        ≡ (cond {A = RenamesChanged} b (record { says = value (stateOf rs); entries = sets e 0 (wordsOf rs); text = sets t 0 (textsOf rs) }) (record { says = refused n; entries = e; text = t })) .says
     at true = refl
     at false = refl
 
@@ -134,7 +134,7 @@ module _ (fs : FileStorage) (rf rf′ : RenamedFiles) (e t : List ℕ) (z : ℤ)
   abbrev after : List Renamed
   after = renamedTo z name (renamesOf rf e t)
 
-  pub renamed-kept : renameFile fs rf e t z name .says ≡ value rf′ → indexOf z ≤ 2147483647
+  pub renamed-kept : renameFile fs rf e t z name .says ≡ value rf′ → clampedOf z ≤ 2147483647
       → (inOrder rf′ (renameFile fs rf e t z name .entries) (renameFile fs rf e t z name .text) ≡ true)
       × (renamesOf rf′ (renameFile fs rf e t z name .entries) (renameFile fs rf e t z name .text) ≡ after)
   renamed-kept h small =
@@ -145,7 +145,7 @@ module _ (fs : FileStorage) (rf rf′ : RenamedFiles) (e t : List ℕ) (z : ℤ)
       let k = four-passed (badLength (fs .«piece_length»)) (not (isBelow (fs .«num_files») z)) (inOrder rf e t) (lacksRoom after e t) rf′ (stateOf after) (sym (says-is n after e t ∙ h)) in
       let o = order-in rf e (length t) (k .1) in
       let s = either-false (ltb (length e / 3) (length after)) (ltb (length t) (length (textsOf after))) (k .2) in
-      let r : Renamed = renameOf (indexOf z) name in
+      let r : Renamed = renameOf (clampedOf z) name in
       let up = rises-with r (renamesOf rf e t) 0 (omega arith) (rises-read (rf .«num_renames») 0 0 (rf .«text_len») e t (o .2)) in
       let low = small-with r (renamesOf rf e t) small (small-read (rf .«num_renames») 0 0 (rf .«text_len») e t (o .2)) in
       let held = ltb-false _ _ (s .0) in

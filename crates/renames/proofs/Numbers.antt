@@ -9,10 +9,10 @@ use mir.Syntax.{w32}
 use mir.Val.{SFits}
 use Rattle.types.specs.Refusals.{value, refused}
 use Rattle.types.specs.Signed.{belowOr}
-use Rattle.rules.specs.Bounds.{indexOf, isBelow}
+use Rattle.rules.specs.Bounds.{clampedOf, isBelow}
 
 -- one of so many, and its number
-pub within-yes : (files : ℕ) (z : ℤ) (k : ℕ) → value k ≡ belowOr 11 files z → (isBelow files z ≡ true) × (k ≡ indexOf z)
+pub within-yes : (files : ℕ) (z : ℤ) (k : ℕ) → value k ≡ belowOr 11 files z → (isBelow files z ≡ true) × (k ≡ clampedOf z)
 within-yes files (pos n) k e = at (ltb n files) e
   where
     at : (b : Bool) → value k ≡ cond b (value n) (refused 11) → (b ≡ true) × (k ≡ n)
@@ -30,6 +30,6 @@ within-no files (pos n) m e = at (ltb n files) e
 within-no files (negsuc n) m e = refl
 
 -- a number of 32 bits
-pub index-small : (z : ℤ) → SFits w32 z → indexOf z ≤ 2147483647
+pub index-small : (z : ℤ) → SFits w32 z → clampedOf z ≤ 2147483647
 index-small (pos n) h = omega (arith, h .sfits)
 index-small (negsuc n) h = omega arith

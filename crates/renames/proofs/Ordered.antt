@@ -2,7 +2,7 @@
 -- definitions of specs/Renames.antt and specs/Places.antt.
 use Prim.Native.Nat.{ℕ, zero, suc, _+_, _-_, _*_, _≤_, _<_}
 use mathlib.Core.Path.{_≡_, refl, sym, _∙_}
-use mathlib.Core.Bool.{Bool, true, false, false≢true}
+use mathlib.Core.Bool.{Bool, true, false, false≢true, _&&_}
 use mathlib.Core.Logic.{⊎-elim}
 use mathlib.Core.List.{List}
 use native.Mathlib.Omega.{arith}
@@ -10,24 +10,23 @@ use borrow.Author.Tests.{leb-true, eqb-true}
 use lib.Dec.{leb}
 use lib.ListN.{getD}
 use Rattle.lists.proofs.Orders.{le-or-lt}
-use Rattle.rules.specs.Rules.{both}
 use Rattle.renames.specs.Renames.{orderedFrom}
-use Rattle.renames.specs.Places.{bytesFrom}
+use Rattle.renames.specs.Finding.{bytesFrom}
 use Rattle.rules.proofs.Rules.{both-true}
 
 -- an entry in order: its number, its mode and its text's length
 abbrev pub entryOrdered : ℕ → ℕ → ℕ → ℕ → ℕ → Bool
-entryOrdered file mode len least left = both (both (leb least file) (leb file 2147483647)) (both (leb mode 2) (leb len left))
+entryOrdered file mode len least left = (leb least file && leb file 2147483647) && (leb mode 2 && leb len left)
 
 pub entry-in : (file mode len least left : ℕ) → entryOrdered file mode len least left ≡ true
     → (least ≤ file) × (file ≤ 2147483647) × (mode ≤ 2) × (len ≤ left)
 entry-in file mode len least left e =
-    let p = both-true (both (leb least file) (leb file 2147483647)) (both (leb mode 2) (leb len left)) e in
+    let p = both-true (leb least file && leb file 2147483647) (leb mode 2 && leb len left) e in
     let a = both-true (leb least file) (leb file 2147483647) (p .0) in
     let b = both-true (leb mode 2) (leb len left) (p .1) in
     (leb-true _ _ (a .0), leb-true _ _ (a .1), leb-true _ _ (b .0), leb-true _ _ (b .1))
 
-regroup : (a b c d r : Bool) → both (both a b) (both c (both d r)) ≡ both (both (both a b) (both c d)) r
+regroup : (a b c d r : Bool) → ((a && b) && (c && (d && r))) ≡ (((a && b) && (c && d)) && r)
 regroup true true true d r = refl
 regroup true true false d r = refl
 regroup true false c d r = refl
@@ -39,8 +38,8 @@ module _ (n i least left : ℕ) (e : List ℕ) where
   first = entryOrdered (getD e (i * 3) 0) (getD e (i * 3 + 1) 0) (getD e (i * 3 + 2) 0) least left
 
   pub order-step : orderedFrom (suc n) i least left e
-      ≡ both (entryOrdered (getD e (i * 3) 0) (getD e (i * 3 + 1) 0) (getD e (i * 3 + 2) 0) least left)
-      (orderedFrom n (i + 1) (getD e (i * 3) 0 + 1) (left - getD e (i * 3 + 2) 0) e)
+      ≡ (entryOrdered (getD e (i * 3) 0) (getD e (i * 3 + 1) 0) (getD e (i * 3 + 2) 0) least left
+      && orderedFrom n (i + 1) (getD e (i * 3) 0 + 1) (left - getD e (i * 3 + 2) 0) e)
   unfolding orderedFrom
   order-step =
       regroup (leb least (getD e (i * 3) 0)) (leb (getD e (i * 3) 0) 2147483647) (leb (getD e (i * 3 + 1) 0) 2) (leb (getD e (i * 3 + 2) 0) left)

@@ -13,7 +13,7 @@ use lib.ListN.{length, getD, take, drop, length-drop}
 use lib.Seq.{take-add, drop-cons, drop-drop, length-take-le}
 use Rattle.lists.proofs.Orders.{le-or-lt}
 use Rattle.renames.specs.Renames.{Renamed, modeWord, modeOf, renamesFrom, wordsOf, textsOf, withRename}
-use Rattle.renames.specs.Places.{belowFrom, bytesFrom}
+use Rattle.renames.specs.Finding.{belowFrom, bytesFrom}
 
 -- ---- what the tables read
 

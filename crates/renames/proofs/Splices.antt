@@ -9,8 +9,8 @@ use lib.Seq.{sets, sets-eq, take-nil, take-take, take-set-le, take-suc, getD-tak
 use mathlib.Core.Logic.{_⊎_, inl, inr}
 use Rattle.lists.proofs.Orders.{le-or-lt}
 use Rattle.lists.proofs.Parts.{drop-take}
-use Rattle.lists.proofs.Runs.{last-first, sets-append, sets-behind, sets-comm, sets-drop, sets-past}
-use Rattle.renames.specs.Places.{spliced}
+use Rattle.lists.proofs.Runs.{last-first, sets-append, sets-after, sets-comm, sets-drop, sets-past}
+use Rattle.renames.specs.private.Slots.{spliced}
 
 -- cells from `from` up to u move up by d: those from i on are moved, the rest is untouched, and what is left to move gives
 -- the whole
@@ -73,7 +73,7 @@ sets-own l t k h =
 pub sets-self : (l : List ℕ) (m : ℕ) → sets l 0 (take m l) ≡ l
 sets-self [] m = rw (take-nil m)
 sets-self (x ∷ l) zero = refl
-sets-self (x ∷ l) (suc m) = sets-behind (take m l) (x ∷ []) l 0 ∙ ap (λ (r : List ℕ). x ∷ r) (sets-self l m)
+sets-self (x ∷ l) (suc m) = sets-after (take m l) (x ∷ []) l 0 ∙ ap (λ (r : List ℕ). x ∷ r) (sets-self l m)
 
 -- no cell moves where the parts are of one length
 pub sets-still : (l : List ℕ) (u from : ℕ) → u ≤ length l → sets l from (drop from (take u l)) ≡ l

@@ -13,8 +13,8 @@ use Rattle.rules.specs.Questions.{short}
 use Rattle.renames.specs.declared.rename.Rename.{Rename}
 use Rattle.renames.specs.declared.rename.RenamedFiles.{RenamedFiles}
 use Rattle.renames.specs.Renames.{Renamed, modeOf, inOrder}
-use Rattle.renames.specs.Places.{belowFrom, bytesFrom, isNamed}
-use Rattle.renames.specs.Changing.{inOrderIn}
+use Rattle.renames.specs.Finding.{belowFrom, bytesFrom, isNamed}
+use Rattle.renames.specs.Renames.{inOrderIn}
 
 -- entry i as a rename: its text stands behind those of the entries before it
 abbrev pub renameIn : List ℕ → ℕ → Rename

@@ -2,7 +2,7 @@
 -- the room is judged, and so both tables are written without a step that needs more room than the result. It relies on
 -- Imports.antt for what is due.
 use Prim.Native.Nat.{ℕ, zero, suc, _+_, _*_, _/_}
-use mathlib.Core.Bool.{Bool, false, cond, not}
+use mathlib.Core.Bool.{Bool, false, cond, not, _&&_, _||_}
 use mathlib.Core.Path.{_≡_}
 use mathlib.Core.List.{List, [], _∷_}
 use lib.Dec.{eqb, ltb}
@@ -11,18 +11,18 @@ use lib.ListN.{length, getD, take, drop}
 use Rattle.types.specs.Refusals.{Outcome}
 use Rattle.lists.specs.Lists.{any}
 use Rattle.tables.specs.declared.storage.FileStorage.{FileStorage}
-use Rattle.rules.specs.Rules.{when, firstOf, outcomeOf, both, either}
-use Rattle.rules.specs.Bounds.{badLength, isNegative, indexOf, isBelow}
+use Rattle.rules.specs.Rules.{when, firstOf, outcomeOf}
+use Rattle.rules.specs.Bounds.{badLength, isNegative, clampedOf, isBelow}
 use Rattle.renames.specs.declared.rename.RenamedFiles.{RenamedFiles}
 use Rattle.renames.specs.Renames.{Renamed, withRename}
-use Rattle.renames.specs.Changing.{inOrderIn}
+use Rattle.renames.specs.Renames.{inOrderIn}
 use Rattle.renames.specs.Imports.{fullPath}
 
 -- ---- the list
 
 -- whether a number is that of file k, one of so many
 abbrev pub isOf : ℕ → ℕ → ℤ → Bool
-isOf files k z = both (isBelow files z) (eqb (indexOf z) k)
+isOf files k z = isBelow files z && eqb (clampedOf z) k
 
 -- whether one of the numbers is
 abbrev pub isListed : ℕ → List ℤ → ℕ → Bool
@@ -30,20 +30,20 @@ isListed files zs k = any (isOf files k) zs
 
 -- whether a number with those behind it counts: it is one of the files', and none of them repeats it
 abbrev pub counts : ℕ → ℤ → List ℤ → Bool
-counts files z zs = both (isBelow files z) (not (isListed files zs (indexOf z)))
+counts files z zs = isBelow files z && not (isListed files zs (clampedOf z))
 
 -- the renames that stay
-abbrev pub kept : ℕ → List ℤ → List Renamed → List Renamed
-kept files zs [] = []
-kept files zs (r ∷ rs) = cond (isListed files zs (r .file)) (kept files zs rs) (r ∷ kept files zs rs)
+abbrev pub renamesKept : ℕ → List ℤ → List Renamed → List Renamed
+renamesKept files zs [] = []
+renamesKept files zs (r ∷ rs) = cond (isListed files zs (r .file)) (renamesKept files zs rs) (r ∷ renamesKept files zs rs)
 
 -- the renames that come
-abbrev pub given : ℕ → List ℤ → List ℕ → List ℕ → List Renamed
-given files [] lengths t = []
-given files (z ∷ zs) lengths t =
+abbrev pub renamesGiven : ℕ → List ℤ → List ℕ → List ℕ → List Renamed
+renamesGiven files [] lengths t = []
+renamesGiven files (z ∷ zs) lengths t =
     cond (counts files z zs)
-    (fullPath (record { file = z; name = take (getD lengths 0 0) t }) ∷ given files zs (drop 1 lengths) (drop (getD lengths 0 0) t))
-    (given files zs (drop 1 lengths) (drop (getD lengths 0 0) t))
+    (fullPath (record { file = z; name = take (getD lengths 0 0) t }) ∷ renamesGiven files zs (drop 1 lengths) (drop (getD lengths 0 0) t))
+    (renamesGiven files zs (drop 1 lengths) (drop (getD lengths 0 0) t))
 
 -- renames more, one after the other
 abbrev pub withAll : List Renamed → List Renamed → List Renamed
@@ -90,7 +90,7 @@ keptState files zs rf entries =
 -- `lacksRoom` where so many renames and bytes stay, and so many come
 abbrev pub isFull : ℕ → ℕ → RenamedFiles → RenamedFiles → Bool
 isFull words room stay come =
-    either (ltb (words / 3) (stay .«num_renames» + come .«num_renames»)) (ltb room (stay .«text_len» + come .«text_len»))
+    ltb (words / 3) (stay .«num_renames» + come .«num_renames») || ltb room (stay .«text_len» + come .«text_len»)
 
 abbrev pub importNumber : FileStorage → RenamedFiles → List ℕ → ℕ → List ℤ → RenamedFiles → ℕ
 importNumber fs rf entries room zs come =

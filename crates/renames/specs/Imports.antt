@@ -7,10 +7,10 @@ use lib.ListN.{getD, take, drop}
 use Rattle.lists.specs.Lists.{any}
 use Rattle.tables.specs.declared.storage.FileStorage.{FileStorage}
 use Rattle.rules.specs.Rules.{when, firstOf}
-use Rattle.rules.specs.Bounds.{badLength, isNegative, indexOf, isBelow}
+use Rattle.rules.specs.Bounds.{badLength, isNegative, clampedOf, isBelow}
 use Rattle.renames.specs.declared.rename.RenameMode.the-variants.{FullPath}
 use Rattle.renames.specs.declared.rename.RenamedFiles.{RenamedFiles}
-use Rattle.renames.specs.Renames.{Renamed, renamesOf, inOrder, withRename, lacksRoom, Changed, changedIf}
+use Rattle.renames.specs.Renames.{Renamed, renamesOf, inOrder, withRename, lacksRoom, RenamesChanged, renamesChangedIf}
 
 -- a file's number and its new name
 pub record Naming : Type 0 where
@@ -25,7 +25,7 @@ namings (z ∷ zs) lengths t =
 
 -- 'keeps FullPath even for absolute names'
 abbrev pub fullPath : Naming → Renamed
-fullPath x = record { file = indexOf (x .file); mode = FullPath; name = x .name }
+fullPath x = record { file = clampedOf (x .file); mode = FullPath; name = x .name }
 
 -- 'skips numbers past the end … and of repeats the last counts'
 abbrev pub imported : ℕ → List Naming → List Renamed → List Renamed
@@ -37,9 +37,9 @@ abbrev pub hasNegative : List Naming → Bool
 hasNegative xs = any (λ (x : Naming). isNegative (x .file)) xs
 
 -- `import_filenames`: refusals 1, 11, 10
-abbrev pub importFilenames : FileStorage → RenamedFiles → List ℕ → List ℕ → List Naming → Changed
+abbrev pub importFilenames : FileStorage → RenamedFiles → List ℕ → List ℕ → List Naming → RenamesChanged
 importFilenames fs rf entries text xs =
-    changedIf
+    renamesChangedIf
     (firstOf
     (when (badLength (fs .«piece_length»)) 1 ∷
     when (hasNegative xs) 11 ∷

@@ -2,7 +2,7 @@
 -- by file number, each number once. In the lent tables an entry is three words: number, mode, length of the text; the texts stand in the
 -- entries' order in the text area, one behind the other. It relies on the rules in order of `rules`.
 use Prim.Native.Nat.{ℕ, zero, suc, _+_, _-_, _*_, _/_}
-use mathlib.Core.Bool.{Bool, cond, not}
+use mathlib.Core.Bool.{Bool, cond, not, _&&_, _||_}
 use mathlib.Core.List.{List, [], _∷_, _++_}
 use lib.Dec.{eqb, ltb, leb}
 use lib.IntN.{ℤ}
@@ -11,8 +11,8 @@ use lib.Seq.{sets}
 use Rattle.types.specs.Refusals.{Outcome, value, refused}
 use Rattle.path.specs.Split.{isComplete}
 use Rattle.tables.specs.declared.storage.FileStorage.{FileStorage}
-use Rattle.rules.specs.Rules.{when, firstOf, both, either}
-use Rattle.rules.specs.Bounds.{badLength, indexOf, isBelow}
+use Rattle.rules.specs.Rules.{when, firstOf}
+use Rattle.rules.specs.Bounds.{badLength, clampedOf, isBelow}
 use Rattle.renames.specs.declared.rename.RenameMode.{RenameMode}
 use Rattle.renames.specs.declared.rename.RenameMode.the-variants.{FullPath, NoRootPath, AbsolutePath}
 use Rattle.renames.specs.declared.rename.RenamedFiles.{RenamedFiles}
@@ -64,16 +64,16 @@ stateOf rs = record { «num_renames» = length rs; «text_len» = length (textsO
 unfoldable pub orderedFrom : ℕ → ℕ → ℕ → ℕ → List ℕ → Bool
 orderedFrom zero i least left entries = eqb left 0
 orderedFrom (suc n) i least left entries =
-    both (both (leb least (getD entries (i * 3) 0)) (leb (getD entries (i * 3) 0) 2147483647))
-    (both (leb (getD entries (i * 3 + 1) 0) 2)
-    (both (leb (getD entries (i * 3 + 2) 0) left)
-    (orderedFrom n (i + 1) (getD entries (i * 3) 0 + 1) (left - getD entries (i * 3 + 2) 0) entries)))
+    (leb least (getD entries (i * 3) 0) && leb (getD entries (i * 3) 0) 2147483647)
+    && (leb (getD entries (i * 3 + 1) 0) 2
+    && (leb (getD entries (i * 3 + 2) 0) left
+    && orderedFrom n (i + 1) (getD entries (i * 3) 0 + 1) (left - getD entries (i * 3 + 2) 0) entries))
 
 -- the lent tables hold what the record counts, in order
 abbrev pub inOrder : RenamedFiles → List ℕ → List ℕ → Bool
 inOrder rf entries text =
-    both (leb (rf .«num_renames») (length entries / 3))
-    (both (leb (rf .«text_len») (length text)) (orderedFrom (rf .«num_renames») 0 0 (rf .«text_len») entries))
+    leb (rf .«num_renames») (length entries / 3)
+    && (leb (rf .«text_len») (length text) && orderedFrom (rf .«num_renames») 0 0 (rf .«text_len») entries)
 
 -- ---- changes
 
@@ -88,28 +88,28 @@ abbrev pub modeFor : List ℕ → RenameMode
 modeFor name = cond (isComplete name) AbsolutePath FullPath
 
 abbrev pub renamedTo : ℤ → List ℕ → List Renamed → List Renamed
-renamedTo z name rs = withRename (record { file = indexOf z; mode = modeFor name; name = name }) rs
+renamedTo z name rs = withRename (record { file = clampedOf z; mode = modeFor name; name = name }) rs
 
 -- refusal 10: an entry or a text more than the tables have places for
 abbrev pub lacksRoom : List Renamed → List ℕ → List ℕ → Bool
-lacksRoom rs entries text = either (ltb (length entries / 3) (length rs)) (ltb (length text) (length (textsOf rs)))
+lacksRoom rs entries text = ltb (length entries / 3) (length rs) || ltb (length text) (length (textsOf rs))
 
 -- the answer, and each table
-pub record Changed : Type 0 where
+pub record RenamesChanged : Type 0 where
   pub says : Outcome RenamedFiles
   pub entries : List ℕ
   pub text : List ℕ
 
-abbrev pub changedIf : ℕ → List Renamed → List ℕ → List ℕ → Changed
-changedIf k rs entries text =
+abbrev pub renamesChangedIf : ℕ → List Renamed → List ℕ → List ℕ → RenamesChanged
+renamesChangedIf k rs entries text =
     cond (eqb k 0)
     (record { says = value (stateOf rs); entries = sets entries 0 (wordsOf rs); text = sets text 0 (textsOf rs) })
     (record { says = refused k; entries = entries; text = text })
 
 -- `rename_file`: refusals 1, 11, 10
-abbrev pub renameFile : FileStorage → RenamedFiles → List ℕ → List ℕ → ℤ → List ℕ → Changed
+abbrev pub renameFile : FileStorage → RenamedFiles → List ℕ → List ℕ → ℤ → List ℕ → RenamesChanged
 renameFile fs rf entries text z name =
-    changedIf
+    renamesChangedIf
     (firstOf
     (when (badLength (fs .«piece_length»)) 1 ∷
     when (not (isBelow (fs .«num_files») z)) 11 ∷

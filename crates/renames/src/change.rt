@@ -5,10 +5,10 @@ ghost use mathlib.Core.Bool.{true};
 ghost use Prim.Native.Nat.{_+_, _-_, _*_, _/_, _≤_};
 ghost use lib.ListN.{length};
 ghost use lib.Seq.{sets};
-ghost use Rattle.renames.specs.Renames.{Changed, modeWord, modeFor, orderedFrom, renamesOf, withRename, wordsOf, textsOf, stateOf, renameFile};
+ghost use Rattle.renames.specs.Renames.{RenamesChanged, modeWord, modeFor, orderedFrom, renamesOf, withRename, wordsOf, textsOf, stateOf, renameFile};
 ghost use Rattle.renames.specs.Results.{renamesSays};
-ghost use Rattle.renames.specs.Places.{placeOf};
-ghost use Rattle.renames.specs.Changing.{placeSays, placeAsked, isShort};
+ghost use Rattle.renames.specs.private.Slots.{slotOf};
+ghost use Rattle.renames.specs.private.Changing.{slotSays, slotGiven, isShort};
 use crate::check::is_in_order;
 use crate::place::Place;
 use crate::place::PlaceResult;
@@ -43,7 +43,7 @@ fn place_in(
     index: FileIndex,
     len: usize,
 ) -> PlaceResult
-    ensures { λ r. ⌜ placeSays r ≡ placeAsked fs renames (now (entries .entry)) room (index .0) len ⌝ }
+    ensures { λ r. ⌜ slotSays r ≡ slotGiven fs renames (now (entries .entry)) room (index .0) len ⌝ }
 {
     match rules::file_in(fs, index, true) {
         UsizeResult::Ok(file) => {
@@ -91,7 +91,7 @@ pub(crate) fn put_rename(
     mode: RenameMode,
     name: &[u8],
 ) -> RenamedFiles
-    requires { ⌜ (orderedFrom (renames .«num_renames») 0 0 (renames .«text_len») (now entries) ≡ true) × (p ≡ placeOf (renames .«num_renames») file (now entries)) × (renames .«num_renames» ≤ length (now entries) / 3) × (renames .«text_len» ≤ length (now text)) × (renames .«num_renames» + 1 - p .same ≤ length (now entries) / 3) × (renames .«text_len» - p .old + length (now name) ≤ length (now text)) ⌝ }
+    requires { ⌜ (orderedFrom (renames .«num_renames») 0 0 (renames .«text_len») (now entries) ≡ true) × (p ≡ slotOf (renames .«num_renames») file (now entries)) × (renames .«num_renames» ≤ length (now entries) / 3) × (renames .«text_len» ≤ length (now text)) × (renames .«num_renames» + 1 - p .same ≤ length (now entries) / 3) × (renames .«text_len» - p .old + length (now name) ≤ length (now text)) ⌝ }
     ensures { λ r. ⌜ r ≡ stateOf (withRename (record { file = file; mode = mode; name = now (name .entry) }) (renamesOf renames (now (entries .entry)) (now (text .entry)))) ⌝ }
     ensures { λ _. ⌜ now (entries .exit) ≡ sets (now (entries .entry)) 0 (wordsOf (withRename (record { file = file; mode = mode; name = now (name .entry) }) (renamesOf renames (now (entries .entry)) (now (text .entry))))) ⌝ }
     ensures { λ _. ⌜ now (text .exit) ≡ sets (now (text .entry)) 0 (textsOf (withRename (record { file = file; mode = mode; name = now (name .entry) }) (renamesOf renames (now (entries .entry)) (now (text .entry))))) ⌝ }
@@ -123,7 +123,7 @@ pub fn rename_file(
     index: FileIndex,
     new_filename: &[u8],
 ) -> RenamesResult
-    ensures { λ r. ⌜ _≡_ {A = Changed} (record { says = renamesSays r; entries = now (entries .exit); text = now (text .exit) }) (renameFile fs renames (now (entries .entry)) (now (text .entry)) (index .0) (now («new_filename» .entry))) ⌝ }
+    ensures { λ r. ⌜ _≡_ {A = RenamesChanged} (record { says = renamesSays r; entries = now (entries .exit); text = now (text .exit) }) (renameFile fs renames (now (entries .entry)) (now (text .entry)) (index .0) (now («new_filename» .entry))) ⌝ }
 {
     let place = place_in(fs, renames, entries, text.len(), index, new_filename.len());
     match place {

@@ -1,18 +1,18 @@
 // Whether the lent tables of renames are in order. Relies on the total accessors of `lists` and on the laws of
 // proofs/Ordered.antt.
+ghost use mathlib.Core.Bool.{_&&_};
 ghost use mathlib.Core.Path.{_≡_};
 ghost use Prim.Native.Nat.{_*_, _≤_};
 ghost use lib.Dec.{leb};
 ghost use lib.ListN.{length};
-ghost use Rattle.rules.specs.Rules.{both};
-ghost use Rattle.renames.specs.Changing.{inOrderIn};
+ghost use Rattle.renames.specs.Renames.{inOrderIn};
 ghost use Rattle.renames.specs.Renames.{orderedFrom};
 use crate::rename::RenamedFiles;
 
 // Whether an entry is in order: its number at least `least` and of 31 bits, its mode one of three, its text
 // within the `left` bytes.
 fn is_entry_in_order(file: u64, mode: u64, len: u64, least: u64, left: usize) -> bool
-    ensures { λ r. ⌜ r ≡ both (both (leb least file) (leb file 2147483647)) (both (leb mode 2) (leb len left)) ⌝ }
+    ensures { λ r. ⌜ r ≡ ((leb least file && leb file 2147483647) && (leb mode 2 && leb len left)) ⌝ }
 {
     if file < least {
         return false;

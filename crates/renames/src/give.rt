@@ -7,7 +7,7 @@ ghost use lib.IntN.{pos};
 ghost use lib.ListN.{length, getD, drop};
 ghost use lib.Seq.{sets};
 ghost use Rattle.renames.specs.Renames.{renamesOf, inOrder, stateOf, wordsOf, textsOf};
-ghost use Rattle.renames.specs.Importing.{given, withAll, withOne, Fresh};
+ghost use Rattle.renames.specs.private.Importing.{renamesGiven, withAll, withOne, Fresh};
 use crate::change::put_rename;
 use crate::listed::does_count;
 use crate::listed::file_at;
@@ -22,7 +22,7 @@ pub(crate) fn count_given(
     names: &[u8],
     files: usize,
 ) -> RenamedFiles
-    ensures { λ r. ⌜ r ≡ stateOf (given files (now (numbers .entry)) (now (lengths .entry)) (now (names .entry))) ⌝ }
+    ensures { λ r. ⌜ r ≡ stateOf (renamesGiven files (now (numbers .entry)) (now (lengths .entry)) (now (names .entry))) ⌝ }
 {
     let mut i = 0;
     let mut at = 0;
@@ -78,10 +78,10 @@ pub(crate) fn give(
     names: &[u8],
     files: usize,
 ) -> RenamedFiles
-    requires { ⌜ (inOrder renames (now entries) (now text) ≡ true) × Fresh files (now numbers) (renamesOf renames (now entries) (now text)) × (length (withAll (given files (now numbers) (now lengths) (now names)) (renamesOf renames (now entries) (now text))) ≤ length (now entries) / 3) × (length (textsOf (withAll (given files (now numbers) (now lengths) (now names)) (renamesOf renames (now entries) (now text)))) ≤ length (now text)) ⌝ }
-    ensures { λ r. ⌜ r ≡ stateOf (withAll (given files (now (numbers .entry)) (now (lengths .entry)) (now (names .entry))) (renamesOf renames (now (entries .entry)) (now (text .entry)))) ⌝ }
-    ensures { λ _. ⌜ now (entries .exit) ≡ sets (now (entries .entry)) 0 (wordsOf (withAll (given files (now (numbers .entry)) (now (lengths .entry)) (now (names .entry))) (renamesOf renames (now (entries .entry)) (now (text .entry))))) ⌝ }
-    ensures { λ _. ⌜ now (text .exit) ≡ sets (now (text .entry)) 0 (textsOf (withAll (given files (now (numbers .entry)) (now (lengths .entry)) (now (names .entry))) (renamesOf renames (now (entries .entry)) (now (text .entry))))) ⌝ }
+    requires { ⌜ (inOrder renames (now entries) (now text) ≡ true) × Fresh files (now numbers) (renamesOf renames (now entries) (now text)) × (length (withAll (renamesGiven files (now numbers) (now lengths) (now names)) (renamesOf renames (now entries) (now text))) ≤ length (now entries) / 3) × (length (textsOf (withAll (renamesGiven files (now numbers) (now lengths) (now names)) (renamesOf renames (now entries) (now text)))) ≤ length (now text)) ⌝ }
+    ensures { λ r. ⌜ r ≡ stateOf (withAll (renamesGiven files (now (numbers .entry)) (now (lengths .entry)) (now (names .entry))) (renamesOf renames (now (entries .entry)) (now (text .entry)))) ⌝ }
+    ensures { λ _. ⌜ now (entries .exit) ≡ sets (now (entries .entry)) 0 (wordsOf (withAll (renamesGiven files (now (numbers .entry)) (now (lengths .entry)) (now (names .entry))) (renamesOf renames (now (entries .entry)) (now (text .entry))))) ⌝ }
+    ensures { λ _. ⌜ now (text .exit) ≡ sets (now (text .entry)) 0 (textsOf (withAll (renamesGiven files (now (numbers .entry)) (now (lengths .entry)) (now (names .entry))) (renamesOf renames (now (entries .entry)) (now (text .entry))))) ⌝ }
 {
     let mut rf = renames;
     let mut i = 0;

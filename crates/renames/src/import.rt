@@ -3,10 +3,10 @@
 // proofs/Importing.antt.
 ghost use mathlib.Core.Path.{_≡_};
 ghost use Prim.Native.Nat.{_/_, _≤_};
-ghost use Rattle.renames.specs.Renames.{Changed, stateOf};
+ghost use Rattle.renames.specs.Renames.{RenamesChanged, stateOf};
 ghost use Rattle.renames.specs.Results.{renamesSays};
 ghost use Rattle.renames.specs.Imports.{namings, importFilenames};
-ghost use Rattle.renames.specs.Importing.{given, isFull, importAsked};
+ghost use Rattle.renames.specs.private.Importing.{renamesGiven, isFull, importAsked};
 use crate::check::is_in_order;
 use crate::give::count_given;
 use crate::give::give;
@@ -41,7 +41,7 @@ fn decide(
     lengths: &[u64],
     names: &[u8],
 ) -> RenamesResult
-    ensures { λ r. ⌜ renamesSays r ≡ importAsked fs renames (now (entries .entry)) room (now (numbers .entry)) (stateOf (given (fs .«num_files») (now (numbers .entry)) (now (lengths .entry)) (now (names .entry)))) ⌝ }
+    ensures { λ r. ⌜ renamesSays r ≡ importAsked fs renames (now (entries .entry)) room (now (numbers .entry)) (stateOf (renamesGiven (fs .«num_files») (now (numbers .entry)) (now (lengths .entry)) (now (names .entry)))) ⌝ }
 {
     if is_bad_length(fs.piece_length) {
         return RenamesResult::Err(Refusal::InvalidPieceLength);
@@ -71,7 +71,7 @@ pub fn import_filenames(
     lengths: &[u64],
     names: &[u8],
 ) -> RenamesResult
-    ensures { λ r. ⌜ _≡_ {A = Changed} (record { says = renamesSays r; entries = now (entries .exit); text = now (text .exit) }) (importFilenames fs renames (now (entries .entry)) (now (text .entry)) (namings (now (numbers .entry)) (now (lengths .entry)) (now (names .entry)))) ⌝ }
+    ensures { λ r. ⌜ _≡_ {A = RenamesChanged} (record { says = renamesSays r; entries = now (entries .exit); text = now (text .exit) }) (importFilenames fs renames (now (entries .entry)) (now (text .entry)) (namings (now (numbers .entry)) (now (lengths .entry)) (now (names .entry)))) ⌝ }
 {
     let decision = decide(fs, renames, entries, text.len(), numbers, lengths, names);
     match decision {

@@ -8,8 +8,8 @@ ghost use lib.ListN.{length, getD};
 ghost use lib.Seq.{sets};
 ghost use Rattle.lists.specs.Lists.{partOf};
 ghost use Rattle.renames.specs.Renames.{renamesFrom, textsOf};
-ghost use Rattle.renames.specs.Places.{bytesFrom};
-ghost use Rattle.renames.specs.Importing.{kept, keptState, keptWords};
+ghost use Rattle.renames.specs.Finding.{bytesFrom};
+ghost use Rattle.renames.specs.private.Importing.{renamesKept, keptState, keptWords};
 use crate::listed::is_listed;
 use crate::rename::RenamedFiles;
 use crate::splice::put_three;
@@ -98,7 +98,7 @@ fn keep_text(text: &mut [u8], from: usize, len: usize, to: usize, stays: bool) -
 // Moves the texts of those of n entries together that stay.
 pub(crate) fn keep_texts(text: &mut [u8], entries: &[u64], n: usize, numbers: &[i32], files: usize)
     requires { ⌜ (n * 3 ≤ length (now entries)) × (bytesFrom n 0 (now entries) ≤ length (now text)) ⌝ }
-    ensures { λ _. ⌜ now (text .exit) ≡ sets (now (text .entry)) 0 (textsOf (kept files (now (numbers .entry)) (renamesFrom n 0 (now (entries .entry)) (now (text .entry))))) ⌝ }
+    ensures { λ _. ⌜ now (text .exit) ≡ sets (now (text .entry)) 0 (textsOf (renamesKept files (now (numbers .entry)) (renamesFrom n 0 (now (entries .entry)) (now (text .entry))))) ⌝ }
 {
     let mut i = 0;
     let mut from = 0;

@@ -5,8 +5,8 @@ ghost use Prim.Native.Nat.{_+_, _≤_, _<_};
 ghost use lib.IntN.{pos};
 ghost use lib.ListN.{length, getD, drop};
 ghost use Rattle.lists.specs.Lists.{any};
-ghost use Rattle.rules.specs.Bounds.{isNegative, indexOf};
-ghost use Rattle.renames.specs.Importing.{isOf, isListed, counts};
+ghost use Rattle.rules.specs.Bounds.{isNegative, clampedOf};
+ghost use Rattle.renames.specs.private.Importing.{isOf, isListed, counts};
 use types::FileIndex;
 use types::Unsigned;
 use types::UsizeResult;
@@ -47,7 +47,7 @@ pub(crate) fn has_negative(numbers: &[i32]) -> bool
 
 // Number i as that of a file.
 fn index_at(numbers: &[i32], i: usize) -> FileIndex
-    ensures { λ r. ⌜ (r .0 ≡ getD (now (numbers .entry)) i (pos 0)) × (indexOf (r .0) ≤ 2147483647) ⌝ }
+    ensures { λ r. ⌜ (r .0 ≡ getD (now (numbers .entry)) i (pos 0)) × (clampedOf (r .0) ≤ 2147483647) ⌝ }
 {
     FileIndex(number_at(numbers, i))
 }
@@ -78,7 +78,7 @@ pub(crate) fn is_listed(numbers: &[i32], from: usize, files: usize, file: u64) -
 
 // The file of number i, 0 where that is below 0.
 pub(crate) fn file_at(numbers: &[i32], i: usize) -> u64
-    ensures { λ r. ⌜ (r ≡ indexOf (getD (now (numbers .entry)) i (pos 0))) × (r ≤ 2147483647) ⌝ }
+    ensures { λ r. ⌜ (r ≡ clampedOf (getD (now (numbers .entry)) i (pos 0))) × (r ≤ 2147483647) ⌝ }
 {
     index_at(numbers, i).get() as u64
 }

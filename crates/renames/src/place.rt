@@ -3,7 +3,8 @@
 ghost use mathlib.Core.Path.{_≡_};
 ghost use Prim.Native.Nat.{_+_, _*_, _≤_, _<_, _^_};
 ghost use lib.ListN.{length};
-ghost use Rattle.renames.specs.Places.{belowFrom, bytesFrom, isNamed, placeAt, placeOf};
+ghost use Rattle.renames.specs.Finding.{belowFrom, bytesFrom, isNamed};
+ghost use Rattle.renames.specs.private.Slots.{slotAt, slotOf};
 use types::Refusal;
 
 // The entry of a rename, how many entries it has already (one or none), its text's place, and how many bytes
@@ -64,7 +65,7 @@ fn is_named(entries: &[u64], n: usize, file: u64, i: usize) -> bool
 // The place of a file whose rename stands at entry i, or would stand there.
 fn place_at(entries: &[u64], n: usize, file: u64, i: usize) -> Place
     requires { ⌜ (n * 3 ≤ length (now entries)) × (i ≤ n) × (bytesFrom i 0 (now entries) < 2 ^ 64) ⌝ }
-    ensures { λ r. ⌜ r ≡ placeAt n file i (now (entries .entry)) ⌝ }
+    ensures { λ r. ⌜ r ≡ slotAt n file i (now (entries .entry)) ⌝ }
 {
     let at = bytes_of(entries, i);
     if is_named(entries, n, file, i) {
@@ -86,7 +87,7 @@ fn place_at(entries: &[u64], n: usize, file: u64, i: usize) -> Place
 // The place of a file among n entries.
 pub(crate) fn place_of(entries: &[u64], n: usize, file: u64) -> Place
     requires { ⌜ (n * 3 ≤ length (now entries)) × (bytesFrom n 0 (now entries) < 2 ^ 64) ⌝ }
-    ensures { λ r. ⌜ r ≡ placeOf n file (now (entries .entry)) ⌝ }
+    ensures { λ r. ⌜ r ≡ slotOf n file (now (entries .entry)) ⌝ }
 {
     let i = entries_below(entries, n, file);
     place_at(entries, n, file, i)

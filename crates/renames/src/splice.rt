@@ -5,7 +5,7 @@ ghost use mathlib.Core.List.{[], _∷_};
 ghost use Prim.Native.Nat.{_+_, _-_, _*_, _≤_};
 ghost use lib.ListN.{length, take, drop};
 ghost use lib.Seq.{sets};
-ghost use Rattle.renames.specs.Places.{spliced};
+ghost use Rattle.renames.specs.private.Slots.{spliced};
 use tables::Span;
 
 // Moves the bytes from `from` up to `used` up by so many places, the last first.
@@ -45,7 +45,7 @@ pub(crate) fn replace_text(text: &mut [u8], used: usize, at: usize, old: usize, 
     ensures { λ _. ⌜ now (text .exit) ≡ spliced (now (text .entry)) used at old (now (new .entry)) ⌝ }
 {
     shift(text, used, at, old, new.len());
-    lists::copy_behind(text, at, new);
+    lists::copy_after(text, at, new);
 }
 
 // Moves the words from `from` up to `used` up by three places, the last first.

@@ -13,7 +13,7 @@
 --     gone                                after `Go` no rule's test holds
 use Prim.Native.Nat.{ℕ, _*_, _≤_, _<_}
 use mathlib.Core.Path.{_≡_, refl, sym, ap, _∙_}
-use mathlib.Core.Bool.{Bool, true, false, cond, not, true≢false}
+use mathlib.Core.Bool.{Bool, true, false, cond, not, true≢false, _&&_, _||_}
 use mathlib.Core.List.{List, [], _∷_, _++_}
 use native.Mathlib.Omega.{arith}
 use lib.Dec.{eqb, ltb, leb}
@@ -33,15 +33,15 @@ use Rattle.path.specs.Join.{appended, Joined, joinedIf, fits}
 use Rattle.tables.specs.declared.storage.FileStorage.{FileStorage}
 use Rattle.rules.specs.declared.decide.Check.{Check}
 use Rattle.rules.specs.declared.decide.Check.the-variants.{Go, Stop}
-use Rattle.rules.specs.Rules.{Rule, when, firstOf, outcomeOf, both, either}
-use Rattle.rules.specs.Bounds.{badLength, isNegative, isBelow, sizeOf, indexOf, limit}
+use Rattle.rules.specs.Rules.{Rule, when, firstOf, outcomeOf}
+use Rattle.rules.specs.Bounds.{badLength, isNegative, isBelow, clampedOf, clampedOf, limit}
 use Rattle.rules.specs.Results.{checkNumber}
-use Rattle.rules.specs.Questions.{asked, badPieceLength, noFile, noDirectory, noLink, badRange, short, askedHeld, askedDirectory, askedFile, askedLink}
+use Rattle.rules.specs.Questions.{answered, badPieceLength, noFile, noDirectory, noLink, badRange, short, heldAnswer, directoryAnswer, fileAnswer, linkAnswer}
 use Rattle.rules.specs.Composed.{composedIf, composedFile}
 use Rattle.rules.proofs.Rules.{Numbered, Passed, passed, either-false}
 
 -- two tests, each known in other words
-pub both-is : {r x y a b : Bool} → r ≡ both x y → x ≡ a → y ≡ b → r ≡ both a b
+pub both-is : {r x y a b : Bool} → r ≡ (x && y) → x ≡ a → y ≡ b → r ≡ (a && b)
 both-is e f g = e ∙ rw (f, g)
 
 -- what the outcome of a number says of it
@@ -89,26 +89,26 @@ module _ {A : Type 0} (a : A) {n : ℕ} {d : Check} (p : checkNumber d ≡ n) wh
 
 -- an answer after a decision by rules that the tests are another reading of
 module _ {A : Type 0} (a : A) (rules : Bool → List Rule) (held test : Bool) (d : Check) (p : checkNumber d ≡ firstOf (rules held)) (q : held ≡ test) where
-  held-value : d ≡ Go → (x : A) → x ≡ a → value x ≡ asked (rules test) a
+  held-value : d ≡ Go → (x : A) → x ≡ a → value x ≡ answered (rules test) a
   held-value = go a (rw q at p)
 
-  held-refused : (x : Refusal) → d ≡ Stop x → refused (numberOf x) ≡ asked (rules test) a
+  held-refused : (x : Refusal) → d ≡ Stop x → refused (numberOf x) ≡ answered (rules test) a
   held-refused = stop a (rw q at p)
 
 -- an answer about the set
 module _ {A : Type 0} (fs : FileStorage) (a : A) (held test : Bool) (d : Check) (p : checkNumber d ≡ firstOf (badPieceLength fs ∷ short held ∷ [])) (q : held ≡ test) where
-  pub set-value : d ≡ Go → (x : A) → x ≡ a → value x ≡ askedHeld fs test a
+  pub set-value : d ≡ Go → (x : A) → x ≡ a → value x ≡ heldAnswer fs test a
   set-value = held-value a (λ t. badPieceLength fs ∷ short t ∷ []) held test d p q
 
-  pub set-refused : (x : Refusal) → d ≡ Stop x → refused (numberOf x) ≡ askedHeld fs test a
+  pub set-refused : (x : Refusal) → d ≡ Stop x → refused (numberOf x) ≡ heldAnswer fs test a
   set-refused = held-refused a (λ t. badPieceLength fs ∷ short t ∷ []) held test d p q
 
 -- an answer about directory i
 module _ {A : Type 0} (fs : FileStorage) (i : ℕ) (a : A) (held test : Bool) (d : Check) (p : checkNumber d ≡ firstOf (badPieceLength fs ∷ noDirectory fs i ∷ short held ∷ [])) (q : held ≡ test) where
-  pub directory-value : d ≡ Go → (x : A) → x ≡ a → value x ≡ askedDirectory fs i test a
+  pub directory-value : d ≡ Go → (x : A) → x ≡ a → value x ≡ directoryAnswer fs i test a
   directory-value = held-value a (λ t. badPieceLength fs ∷ noDirectory fs i ∷ short t ∷ []) held test d p q
 
-  pub directory-refused : (x : Refusal) → d ≡ Stop x → refused (numberOf x) ≡ askedDirectory fs i test a
+  pub directory-refused : (x : Refusal) → d ≡ Stop x → refused (numberOf x) ≡ directoryAnswer fs i test a
   directory-refused = held-refused a (λ t. badPieceLength fs ∷ noDirectory fs i ∷ short t ∷ []) held test d p q
 
 -- the number of the first refusal of a question about a file or its link text, 0 for none
@@ -116,23 +116,23 @@ abbrev pub fileNumber : FileStorage → ℤ → Bool → ℕ
 fileNumber fs z held = firstOf (badPieceLength fs ∷ noFile fs z ∷ short held ∷ [])
 
 abbrev pub linkNumber : FileStorage → ℤ → (ℕ → Bool) → Bool → ℕ
-linkNumber fs z linked held = firstOf (badPieceLength fs ∷ noFile fs z ∷ noLink (linked (indexOf z)) ∷ short held ∷ [])
+linkNumber fs z linked held = firstOf (badPieceLength fs ∷ noFile fs z ∷ noLink (linked (clampedOf z)) ∷ short held ∷ [])
 
 -- an answer about a file
-module _ {A : Type 0} (fs : FileStorage) (z : ℤ) (a : ℕ → A) (held test : Bool) (d : UsizeResult) (p : usizeSays d ≡ askedFile fs z held (λ k. k)) (q : held ≡ test) where
-  pub file-value : (k : ℕ) → d ≡ usize.Ok k → (x : A) → x ≡ a k → value x ≡ askedFile fs z test a
-  file-value = found-value (fileNumber fs z test) (indexOf z) a d (rw q at p)
+module _ {A : Type 0} (fs : FileStorage) (z : ℤ) (a : ℕ → A) (held test : Bool) (d : UsizeResult) (p : usizeSays d ≡ fileAnswer fs z held (λ k. k)) (q : held ≡ test) where
+  pub file-value : (k : ℕ) → d ≡ usize.Ok k → (x : A) → x ≡ a k → value x ≡ fileAnswer fs z test a
+  file-value = found-value (fileNumber fs z test) (clampedOf z) a d (rw q at p)
 
-  pub file-refused : (x : Refusal) → d ≡ usize.Err x → refused (numberOf x) ≡ askedFile fs z test a
-  file-refused = found-refused (fileNumber fs z test) (indexOf z) a d (rw q at p)
+  pub file-refused : (x : Refusal) → d ≡ usize.Err x → refused (numberOf x) ≡ fileAnswer fs z test a
+  file-refused = found-refused (fileNumber fs z test) (clampedOf z) a d (rw q at p)
 
 -- an answer about the link text of a file
-module _ {A : Type 0} (fs : FileStorage) (z : ℤ) (linked : ℕ → Bool) (a : ℕ → A) (held test : Bool) (d : UsizeResult) (p : usizeSays d ≡ askedLink fs z linked held (λ k. k)) (q : held ≡ test) where
-  pub link-value : (k : ℕ) → d ≡ usize.Ok k → (x : A) → x ≡ a k → value x ≡ askedLink fs z linked test a
-  link-value = found-value (linkNumber fs z linked test) (indexOf z) a d (rw q at p)
+module _ {A : Type 0} (fs : FileStorage) (z : ℤ) (linked : ℕ → Bool) (a : ℕ → A) (held test : Bool) (d : UsizeResult) (p : usizeSays d ≡ linkAnswer fs z linked held (λ k. k)) (q : held ≡ test) where
+  pub link-value : (k : ℕ) → d ≡ usize.Ok k → (x : A) → x ≡ a k → value x ≡ linkAnswer fs z linked test a
+  link-value = found-value (linkNumber fs z linked test) (clampedOf z) a d (rw q at p)
 
-  pub link-refused : (x : Refusal) → d ≡ usize.Err x → refused (numberOf x) ≡ askedLink fs z linked test a
-  link-refused = found-refused (linkNumber fs z linked test) (indexOf z) a d (rw q at p)
+  pub link-refused : (x : Refusal) → d ≡ usize.Err x → refused (numberOf x) ≡ linkAnswer fs z linked test a
+  link-refused = found-refused (linkNumber fs z linked test) (clampedOf z) a d (rw q at p)
 
 -- the tests of a link come behind those of a file
 module _ (fs : FileStorage) (z : ℤ) (linked : ℕ → Bool) (held : Bool) where
@@ -142,19 +142,19 @@ module _ (fs : FileStorage) (z : ℤ) (linked : ℕ → Bool) (held : Bool) wher
   behind false false r = refl
 
   order : linkNumber fs z linked held
-      ≡ cond (eqb (fileNumber fs z true) 0) (cond (not (linked (indexOf z))) 15 (cond (not held) 10 0)) (fileNumber fs z true)
-  order = behind (badLength (fs .«piece_length»)) (not (isBelow (fs .«num_files») z)) (cond (not (linked (indexOf z))) 15 (cond (not held) 10 0))
+      ≡ cond (eqb (fileNumber fs z true) 0) (cond (not (linked (clampedOf z))) 15 (cond (not held) 10 0)) (fileNumber fs z true)
+  order = behind (badLength (fs .«piece_length»)) (not (isBelow (fs .«num_files») z)) (cond (not (linked (clampedOf z))) 15 (cond (not held) 10 0))
 
-  pub link-goes : (k : ℕ) → value k ≡ askedFile fs z true (λ k. k)
-      → (o : Outcome ℕ) → o ≡ outcomeOf (cond (not (linked k)) 15 (cond (not held) 10 0)) k → o ≡ askedLink fs z linked held (λ k. k)
+  pub link-goes : (k : ℕ) → value k ≡ fileAnswer fs z true (λ k. k)
+      → (o : Outcome ℕ) → o ≡ outcomeOf (cond (not (linked k)) 15 (cond (not held) 10 0)) k → o ≡ linkAnswer fs z linked held (λ k. k)
   link-goes k e o h =
-      let v = is-value (fileNumber fs z true) (indexOf z) k e in
+      let v = is-value (fileNumber fs z true) (clampedOf z) k e in
       let n : linkNumber fs z linked held ≡ cond (not (linked k)) 15 (cond (not held) 10 0) = rw (order, v .0, v .1) in
       h ∙ rw (n, v .1)
 
-  pub link-stops : (m : ℕ) → refused m ≡ askedFile fs z true (λ k. k) → refused m ≡ askedLink fs z linked held (λ k. k)
+  pub link-stops : (m : ℕ) → refused m ≡ fileAnswer fs z true (λ k. k) → refused m ≡ linkAnswer fs z linked held (λ k. k)
   link-stops m e =
-      let v = is-refused (fileNumber fs z true) (indexOf z) m e in
+      let v = is-refused (fileNumber fs z true) (clampedOf z) m e in
       let n : linkNumber fs z linked held ≡ fileNumber fs z true = order ∙ rw (v .0) in
       rw (n, v .0, v .1)
 
@@ -164,15 +164,15 @@ pub joined-is : (j : Joined) (branch leaf text buf : List ℕ) → j ≡ joinedI
 joined-is j branch leaf text buf e h = e ∙ rw h
 
 -- a text about a file, composed into a lent buffer
-module _ (fs : FileStorage) (z : ℤ) (t : ℕ → List ℕ) (buf : List ℕ) (held test : Bool) (d : UsizeResult) (p : usizeSays d ≡ askedFile fs z held (λ k. k)) (q : held ≡ test) where
+module _ (fs : FileStorage) (z : ℤ) (t : ℕ → List ℕ) (buf : List ℕ) (held test : Bool) (d : UsizeResult) (p : usizeSays d ≡ fileAnswer fs z held (λ k. k)) (q : held ≡ test) where
   pub composed-value : (k : ℕ) → d ≡ usize.Ok k → (j : Joined) (text : List ℕ) → j ≡ composedIf 0 text buf → text ≡ t k → j ≡ composedFile fs z test t buf
   composed-value k e j text h w =
-      let v = is-value (fileNumber fs z test) (indexOf z) k (ap usizeSays (sym e) ∙ (rw q at p)) in
+      let v = is-value (fileNumber fs z test) (clampedOf z) k (ap usizeSays (sym e) ∙ (rw q at p)) in
       h ∙ rw (w, v .0, v .1)
 
   pub composed-refused : (x : Refusal) → d ≡ usize.Err x → _≡_ {A = Joined} (record { says = refused (numberOf x); buf = buf }) (composedFile fs z test t buf)
   composed-refused x e =
-      let v = is-refused (fileNumber fs z test) (indexOf z) (numberOf x) (ap usizeSays (sym e) ∙ (rw q at p)) in
+      let v = is-refused (fileNumber fs z test) (clampedOf z) (numberOf x) (ap usizeSays (sym e) ∙ (rw q at p)) in
       rw (v .0, v .1)
 
 -- ---- what is known once no rule stopped a question
@@ -195,7 +195,7 @@ module _ (r count : ℕ) where
   below-no (pos n) m e = high-side (ltb n count) n m e
   below-no (negsuc n) m e = refl
 
-pub below-is : (count : ℕ) (z : ℤ) → isBelow count z ≡ true → indexOf z < count
+pub below-is : (count : ℕ) (z : ℤ) → isBelow count z ≡ true → clampedOf z < count
 below-is count (pos n) e = ltb-true n count e
 below-is count (negsuc n) e = absurd (true≢false (sym e))
 
@@ -203,11 +203,11 @@ pub below-not : (count : ℕ) (z : ℤ) → isNegative z ≡ true → isBelow co
 below-not count (pos n) e = absurd (true≢false (sym e))
 below-not count (negsuc n) e = refl
 
-pub below-as : (count : ℕ) (z : ℤ) → isNegative z ≡ false → isBelow count z ≡ ltb (indexOf z) count
+pub below-as : (count : ℕ) (z : ℤ) → isNegative z ≡ false → isBelow count z ≡ ltb (clampedOf z) count
 below-as count (pos n) e = refl
 below-as count (negsuc n) e = absurd (true≢false e)
 
-pub index-low : (z : ℤ) → SFits w32 z → indexOf z < 2147483648
+pub index-low : (z : ℤ) → SFits w32 z → clampedOf z < 2147483648
 index-low (pos n) f = f .sfits
 index-low (negsuc n) f = omega arith
 
@@ -224,10 +224,10 @@ pub gone : (rs : List Rule) {d : Check} → Numbered rs → checkNumber d ≡ fi
 gone rs h p e = passed rs h (sym (ap checkNumber e) ∙ p)
 
 -- what the tests mean where they fail
-pub offset-low : (o n : ℤ) → badRange o n .test ≡ false → sizeOf o ≤ limit
+pub offset-low : (o n : ℤ) → badRange o n .test ≡ false → clampedOf o ≤ limit
 offset-low o n e =
-    let q = either-false (isNegative o) (either (isNegative n) (ltb limit (sizeOf o))) e .1 in
-    ltb-false limit (sizeOf o) (either-false (isNegative n) (ltb limit (sizeOf o)) q .1)
+    let q = either-false (isNegative o) (isNegative n || ltb limit (clampedOf o)) e .1 in
+    ltb-false limit (clampedOf o) (either-false (isNegative n) (ltb limit (clampedOf o)) q .1)
 
 pub length-good : (n : ℕ) → badLength n ≡ false → (0 < n) × (n ≤ 2147483647)
 length-good n e =
@@ -235,6 +235,6 @@ length-good n e =
     (omega (arith, ltb-false n 1 (p .0)), ltb-false 2147483647 n (p .1))
 
 -- two tests of one refusal
-pub either-rule : (o f s : Rule) (a b : Bool) → firstOf (o ∷ f ∷ when (either a b) 16 ∷ s ∷ []) ≡ firstOf (o ∷ f ∷ when a 16 ∷ when b 16 ∷ s ∷ [])
+pub either-rule : (o f s : Rule) (a b : Bool) → firstOf (o ∷ f ∷ when (a || b) 16 ∷ s ∷ []) ≡ firstOf (o ∷ f ∷ when a 16 ∷ when b 16 ∷ s ∷ [])
 either-rule o f s true b = refl
 either-rule o f s false b = refl

@@ -1,7 +1,7 @@
 -- Rules in order: two lists of them in a row, and what is known where none stops a call.
 use Prim.Native.Nat.{ℕ, _<_}
 use mathlib.Core.Path.{_≡_, refl, sym, ap, _∙_}
-use mathlib.Core.Bool.{Bool, true, false, cond, true≢false, false≢true}
+use mathlib.Core.Bool.{Bool, true, false, cond, true≢false, false≢true, _&&_, _||_}
 use mathlib.Core.List.{List, [], _∷_, _++_}
 use native.Mathlib.Omega.{arith}
 use lib.Dec.{eqb, ltb}
@@ -9,16 +9,16 @@ use borrow.Author.Tests.{eqb-true, ne-eqb, ltb-true}
 use Rattle.types.specs.Refusals.{numberOf, value, refused}
 use Rattle.types.specs.declared.refusal.Refusal.{Refusal}
 use Rattle.types.proofs.Refusals.{numbered}
-use Rattle.rules.specs.Rules.{Rule, firstOf, outcomeOf, both, either}
+use Rattle.rules.specs.Rules.{Rule, firstOf, outcomeOf}
 
-pub both-true : (a b : Bool) → both a b ≡ true → (a ≡ true) × (b ≡ true)
+pub both-true : (a b : Bool) → (a && b) ≡ true → (a ≡ true) × (b ≡ true)
 both-true true b e = (refl, e)
 both-true false b e = absurd (false≢true e)
 
 -- whether the numbers of rules are above 0
 abbrev named : List Rule → Bool
 named [] = true
-named (r ∷ rs) = both (ltb 0 (r .number)) (named rs)
+named (r ∷ rs) = ltb 0 (r .number) && named rs
 
 abbrev pub Numbered : List Rule → Type 0
 Numbered rs = named rs ≡ true
@@ -78,6 +78,6 @@ outcome-refused n k b e = at (eqb n 0) e
     at true e = absurd (let z : _≡_ {A = ℕ} 0 1 = cc in omega arith)
     at false e = cc
 
-pub either-false : (a b : Bool) → either a b ≡ false → (a ≡ false) × (b ≡ false)
+pub either-false : (a b : Bool) → (a || b) ≡ false → (a ≡ false) × (b ≡ false)
 either-false true b e = absurd (true≢false e)
 either-false false b e = (refl, e)

@@ -1,25 +1,24 @@
 -- Numbers that document 01's refusals speak of: the largest size and the range of piece lengths. Signed numbers are read by
 -- the definitions of `types`, which are passed on.
 use Prim.Native.Nat.{ℕ}
-use mathlib.Core.Bool.{Bool}
+use mathlib.Core.Bool.{Bool, _||_}
 use lib.Dec.{ltb}
 use lib.IntN.{ℤ}
 pub use Rattle.types.specs.Signed.{isNegative, isBelow}
 use Rattle.types.specs.Signed.{clampedOf}
-use Rattle.rules.specs.Rules.{either}
 
 -- the largest size, offset and total
 abbrev pub limit : ℕ
 limit = 281474976710655
 
 -- a size or an offset, 0 where it is negative
-abbrev pub sizeOf : ℤ → ℕ
-sizeOf z = clampedOf z
+abbrev pub clampedOf : ℤ → ℕ
+clampedOf z = clampedOf z
 
 -- the number of a file or a piece, 0 where it is negative
-abbrev pub indexOf : ℤ → ℕ
-indexOf z = clampedOf z
+abbrev pub clampedOf : ℤ → ℕ
+clampedOf z = clampedOf z
 
 -- a piece length is from 1 to 2147483647, as an i32 holds it
 abbrev pub badLength : ℕ → Bool
-badLength n = either (ltb n 1) (ltb 2147483647 n)
+badLength n = ltb n 1 || ltb 2147483647 n

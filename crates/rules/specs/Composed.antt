@@ -9,7 +9,7 @@ use Rattle.types.specs.Refusals.{refused}
 use Rattle.path.specs.Join.{Joined, joinedIf, fits}
 use Rattle.tables.specs.declared.storage.FileStorage.{FileStorage}
 use Rattle.rules.specs.Rules.{firstOf}
-use Rattle.rules.specs.Bounds.{indexOf}
+use Rattle.rules.specs.Bounds.{clampedOf}
 use Rattle.rules.specs.Questions.{badPieceLength, noFile, short}
 
 abbrev pub composedIf : ℕ → List ℕ → List ℕ → Joined
@@ -18,4 +18,4 @@ composedIf k t buf = cond (eqb k 0) (joinedIf (fits t buf) t buf) (record { says
 -- a text about file z
 abbrev pub composedFile : FileStorage → ℤ → Bool → (ℕ → List ℕ) → List ℕ → Joined
 composedFile fs z held t buf =
-    composedIf (firstOf (badPieceLength fs ∷ noFile fs z ∷ short held ∷ [])) (t (indexOf z)) buf
+    composedIf (firstOf (badPieceLength fs ∷ noFile fs z ∷ short held ∷ [])) (t (clampedOf z)) buf

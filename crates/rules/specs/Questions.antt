@@ -1,8 +1,8 @@
 -- Document 01's table of refusals, the rows for questions, each a rule: 'any question' 11, 13, 12, 14, 15, 16, and 10 last.
--- 1 is asked of every set, first. An answer is its value where no rule of its list holds, else the number of the first
+-- 1 is answered of every set, first. An answer is its value where no rule of its list holds, else the number of the first
 -- that does. It relies on the rules in order of Rules.antt and on what the lent tables hold (`tables`).
 use Prim.Native.Nat.{ℕ, _/_, _%_}
-use mathlib.Core.Bool.{Bool, not}
+use mathlib.Core.Bool.{Bool, not, _&&_, _||_}
 use mathlib.Core.List.{List, [], _∷_}
 use lib.Dec.{eqb, ltb, leb}
 use lib.IntN.{ℤ}
@@ -11,12 +11,12 @@ use Rattle.lists.specs.Lists.{ceiling}
 use Rattle.types.specs.Refusals.{Outcome}
 use Rattle.tables.specs.declared.storage.FileStorage.{FileStorage}
 use Rattle.tables.specs.declared.rows.Row.{Row}
-use Rattle.tables.specs.Rows.{has}
-use Rattle.rules.specs.Rules.{Rule, when, firstOf, outcomeOf, both, either}
-use Rattle.rules.specs.Bounds.{isNegative, isBelow, sizeOf, indexOf, limit, badLength}
+use Rattle.tables.specs.Rows.{has, dirWidth, padBit, rootWidth, rowWidth}
+use Rattle.rules.specs.Rules.{Rule, when, firstOf, outcomeOf}
+use Rattle.rules.specs.Bounds.{isNegative, isBelow, clampedOf, clampedOf, limit, badLength}
 
-abbrev pub asked : {A : Type 0} → List Rule → A → Outcome A
-asked rules a = outcomeOf (firstOf rules) a
+abbrev pub answered : {A : Type 0} → List Rule → A → Outcome A
+answered rules a = outcomeOf (firstOf rules) a
 
 -- BEP 3: pieces are of one length, the last may be shorter
 abbrev pub numPieces : FileStorage → ℕ
@@ -46,11 +46,11 @@ noPiece fs z = when (not (isBelow (numPieces fs) z)) 12
 
 -- 'offset or size below 0, or offset above 281474976710655'
 abbrev pub badRange : ℤ → ℤ → Rule
-badRange offset size = when (either (isNegative offset) (either (isNegative size) (ltb limit (sizeOf offset)))) 14
+badRange offset size = when (isNegative offset || (isNegative size || ltb limit (clampedOf offset))) 14
 
 -- 'for `file_index_at_offset`, not below the total'
 abbrev pub badOffset : FileStorage → ℤ → Rule
-badOffset fs offset = when (either (isNegative offset) (leb (fs .«total_size») (sizeOf offset))) 14
+badOffset fs offset = when (isNegative offset || leb (fs .«total_size») (clampedOf offset)) 14
 
 -- '`internal_symlink` of a file without link text'
 abbrev pub noLink : Bool → Rule
@@ -58,7 +58,7 @@ noLink linked = when (not linked) 15
 
 -- 'for a nonempty pad or a nonempty file off a piece start'
 abbrev pub noTree : FileStorage → Row → Rule
-noTree fs r = when (both (ltb 0 (r .size)) (either (has (r .flags) 1) (not (eqb (r .offset % fs .«piece_length») 0)))) 16
+noTree fs r = when (ltb 0 (r .size) && (has (r .flags) padBit || not (eqb (r .offset % fs .«piece_length») 0))) 16
 
 -- 'a table, text area, output or work space shorter than the result needs'
 abbrev pub short : Bool → Rule
@@ -67,13 +67,13 @@ short held = when (not held) 10
 -- ---- the lent tables hold what the set counts
 
 abbrev pub rowsHeld : FileStorage → List ℕ → Bool
-rowsHeld fs rows = leb (fs .«num_files») (length rows / 8)
+rowsHeld fs rows = leb (fs .«num_files») (length rows / rowWidth)
 
 abbrev pub rootsHeld : FileStorage → List ℕ → Bool
-rootsHeld fs roots = leb (fs .«num_files») (length roots / 32)
+rootsHeld fs roots = leb (fs .«num_files») (length roots / rootWidth)
 
 abbrev pub dirsHeld : FileStorage → List ℕ → Bool
-dirsHeld fs dirs = leb (fs .«num_paths») (length dirs / 2)
+dirsHeld fs dirs = leb (fs .«num_paths») (length dirs / dirWidth)
 
 abbrev pub textHeld : FileStorage → List ℕ → Bool
 textHeld fs text = leb (fs .«text_len») (length text)
@@ -84,21 +84,21 @@ timesHeld fs times = leb (fs .«num_mtimes») (length times)
 -- ---- answers
 
 -- an answer about the set
-abbrev pub askedSet : {A : Type 0} → FileStorage → A → Outcome A
-askedSet fs a = asked (badPieceLength fs ∷ []) a
+abbrev pub setAnswer : {A : Type 0} → FileStorage → A → Outcome A
+setAnswer fs a = answered (badPieceLength fs ∷ []) a
 
 -- the same where tables are lent: `held` says whether they hold what the set counts
-abbrev pub askedHeld : {A : Type 0} → FileStorage → Bool → A → Outcome A
-askedHeld fs held a = asked (badPieceLength fs ∷ short held ∷ []) a
+abbrev pub heldAnswer : {A : Type 0} → FileStorage → Bool → A → Outcome A
+heldAnswer fs held a = answered (badPieceLength fs ∷ short held ∷ []) a
 
 -- an answer about directory i
-abbrev pub askedDirectory : {A : Type 0} → FileStorage → ℕ → Bool → A → Outcome A
-askedDirectory fs i held a = asked (badPieceLength fs ∷ noDirectory fs i ∷ short held ∷ []) a
+abbrev pub directoryAnswer : {A : Type 0} → FileStorage → ℕ → Bool → A → Outcome A
+directoryAnswer fs i held a = answered (badPieceLength fs ∷ noDirectory fs i ∷ short held ∷ []) a
 
 -- an answer about file z, by its number
-abbrev pub askedFile : {A : Type 0} → FileStorage → ℤ → Bool → (ℕ → A) → Outcome A
-askedFile fs z held a = asked (badPieceLength fs ∷ noFile fs z ∷ short held ∷ []) (a (indexOf z))
+abbrev pub fileAnswer : {A : Type 0} → FileStorage → ℤ → Bool → (ℕ → A) → Outcome A
+fileAnswer fs z held a = answered (badPieceLength fs ∷ noFile fs z ∷ short held ∷ []) (a (clampedOf z))
 
 -- the same where the file must hold a link text
-abbrev pub askedLink : {A : Type 0} → FileStorage → ℤ → (ℕ → Bool) → Bool → (ℕ → A) → Outcome A
-askedLink fs z linked held a = asked (badPieceLength fs ∷ noFile fs z ∷ noLink (linked (indexOf z)) ∷ short held ∷ []) (a (indexOf z))
+abbrev pub linkAnswer : {A : Type 0} → FileStorage → ℤ → (ℕ → Bool) → Bool → (ℕ → A) → Outcome A
+linkAnswer fs z linked held a = answered (badPieceLength fs ∷ noFile fs z ∷ noLink (linked (clampedOf z)) ∷ short held ∷ []) (a (clampedOf z))

@@ -71,9 +71,9 @@ abbrev pub rootSays : RootResult → Outcome (List ℕ)
 rootSays r = unitSays (r .answer) (r .root)
 
 -- the root beside the answer: the value, or zeros where it was refused
-abbrev pub rootGiven : Outcome (List ℕ) → List ℕ
-rootGiven (value root) = root
-rootGiven (refused k) = replicate 32 0
+abbrev pub rootBeside : Outcome (List ℕ) → List ℕ
+rootBeside (value root) = root
+rootBeside (refused k) = replicate 32 0
 
 abbrev pub u32Says : U32Result → Outcome ℕ
 u32Says (u32.Ok n) = value n
@@ -84,7 +84,7 @@ pub record Range : Type 0 where
   pub begin : ℤ
   pub end : ℤ
 
-pub record Asked : Type 0 where
+pub record SignedRequest : Type 0 where
   pub piece : ℤ
   pub start : ℤ
   pub length : ℤ
@@ -109,6 +109,6 @@ abbrev pub numberRangeSays : I32RangeResult → Outcome Range
 numberRangeSays (numbers.Ok r) = value (record { begin = r .begin; end = r .end })
 numberRangeSays (numbers.Err e) = refused (numberOf e)
 
-abbrev pub requestSays : RequestResult → Outcome Asked
+abbrev pub requestSays : RequestResult → Outcome SignedRequest
 requestSays (request.Ok r) = value (record { piece = r .piece .0; start = r .start; length = r .length })
 requestSays (request.Err e) = refused (numberOf e)

@@ -19,12 +19,6 @@ abbrev pub firstOf : List Rule → ℕ
 firstOf [] = 0
 firstOf (r ∷ rs) = cond (r .test) (r .number) (firstOf rs)
 
-abbrev pub both : Bool → Bool → Bool
-both a b = cond a b false
-
-abbrev pub either : Bool → Bool → Bool
-either a b = cond a true b
-
 -- 'A refusal gives its number and no other value'
 abbrev pub outcomeOf : {A : Type 0} → ℕ → A → Outcome A
 outcomeOf k a = cond (eqb k 0) (value a) (refused k)

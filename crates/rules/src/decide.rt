@@ -6,7 +6,7 @@ ghost use lib.Dec.{leb};
 ghost use Rattle.types.specs.Refusals.{usizeSays};
 ghost use Rattle.rules.specs.Rules.{when, firstOf};
 ghost use Rattle.rules.specs.Results.{checkNumber};
-ghost use Rattle.rules.specs.Questions.{badPieceLength, noFile, noDirectory, manyPieces, noPiece, short, askedFile};
+ghost use Rattle.rules.specs.Questions.{badPieceLength, noFile, noDirectory, manyPieces, noPiece, short, fileAnswer};
 use crate::test::has_many;
 use crate::test::is_bad_length;
 use crate::test::is_held;
@@ -144,7 +144,7 @@ pub fn ask_file(
 
 // The number of a file that a question is about, or why the question isn't answered.
 pub fn file_in(fs: FileStorage, index: FileIndex, held: bool) -> UsizeResult
-    ensures { λ r. ⌜ usizeSays r ≡ askedFile fs (index .0) held (λ k. k) ⌝ }
+    ensures { λ r. ⌜ usizeSays r ≡ fileAnswer fs (index .0) held (λ k. k) ⌝ }
 {
     if is_bad_length(fs.piece_length) {
         return UsizeResult::Err(Refusal::InvalidPieceLength);

@@ -1,12 +1,11 @@
 // Document 01's rows for questions, each a test, and whether the lent tables hold what a set counts. It relies on `types` for file and
 // piece numbers, on `tables` for rows and on the laws of proofs/Deciding.antt.
 ghost use mathlib.Core.Path.{_≡_};
-ghost use mathlib.Core.Bool.{not};
+ghost use mathlib.Core.Bool.{not, _&&_, _||_};
 ghost use Prim.Native.Nat.{_<_};
 ghost use lib.Dec.{ltb, leb};
 ghost use Rattle.tables.specs.Rows.{rowAt};
-ghost use Rattle.rules.specs.Rules.{both, either};
-ghost use Rattle.rules.specs.Bounds.{badLength, isNegative, isBelow, sizeOf, limit};
+ghost use Rattle.rules.specs.Bounds.{badLength, isNegative, isBelow, clampedOf, limit};
 ghost use Rattle.rules.specs.Questions.{numPieces, noTree};
 use tables::FileStorage;
 use types::FileIndex;
@@ -35,7 +34,7 @@ pub fn is_held(count: usize, room: usize) -> bool
 
 // Whether both of two tests hold.
 pub fn are_both(a: bool, b: bool) -> bool
-    ensures { λ r. ⌜ r ≡ both a b ⌝ }
+    ensures { λ r. ⌜ r ≡ (a && b) ⌝ }
 {
     if a {
         return b;
@@ -45,7 +44,7 @@ pub fn are_both(a: bool, b: bool) -> bool
 
 // Whether one of two tests holds.
 pub fn is_either(a: bool, b: bool) -> bool
-    ensures { λ r. ⌜ r ≡ either a b ⌝ }
+    ensures { λ r. ⌜ r ≡ (a || b) ⌝ }
 {
     if a {
         return true;
@@ -101,7 +100,7 @@ pub(crate) fn is_no_piece(fs: FileStorage, piece: PieceIndex) -> bool
 
 // Whether an offset is negative or past the limit, or a size is negative.
 pub fn is_bad_range(offset: i64, negative: bool) -> bool
-    ensures { λ r. ⌜ r ≡ either (isNegative offset) (either negative (ltb limit (sizeOf offset))) ⌝ }
+    ensures { λ r. ⌜ r ≡ (isNegative offset || (negative || ltb limit (clampedOf offset))) ⌝ }
 {
     if is_negative64(offset) {
         return true;
@@ -114,7 +113,7 @@ pub fn is_bad_range(offset: i64, negative: bool) -> bool
 
 // Whether an offset is negative or not below the total.
 pub fn is_bad_offset(fs: FileStorage, offset: i64) -> bool
-    ensures { λ r. ⌜ r ≡ either (isNegative offset) (leb (fs .«total_size») (sizeOf offset)) ⌝ }
+    ensures { λ r. ⌜ r ≡ (isNegative offset || leb (fs .«total_size») (clampedOf offset)) ⌝ }
 {
     if is_negative64(offset) {
         return true;

@@ -11,7 +11,7 @@ pub mod Places
 pub mod Times
 pub mod Whole
 use mathlib.Core.Path.{_≡_, refl, sym, ap, _∙_}
-use mathlib.Core.Bool.{Bool, true, false, cond, not}
+use mathlib.Core.Bool.{Bool, true, false, cond, not, _&&_}
 use mathlib.Core.List.{List, [], _∷_, _++_, append-assoc}
 use Prim.Native.Nat.{ℕ, _+_, _-_, _*_, _%_, _≤_, _<_}
 use native.Mathlib.Omega.{arith}
@@ -27,9 +27,8 @@ use Rattle.tables.specs.Rows.{has, rootAt, dirWords, dirsLowered}
 use Rattle.tables.specs.Model.{Optional, absent, present, presentIf, Directory, single, absolute, stored, File, Model, Store, fileOf, directoryText, viewOf}
 use Rattle.tables.proofs.Spans.{clip-same, length-slid}
 use Rattle.tables.proofs.Tabled.{length-tabled}
-use Rattle.rules.specs.Rules.{both}
-use Rattle.additions.specs.Addition.{Addition, added, filesOf, sizeAdded, keeps, padOf, newName, placeFor, fileAdded, padAdded, padDirectory, flagsKept, isAmong, withDirectory, withPlace, directoriesAfter, isPresent, withTime}
-use Rattle.plan.specs.Write.{isOutside, missing, missingOf, setText, directoryNew, nameText, linkNew, padDirectoryNew, oldName, kept, putDirIf, isNew, isNewPlace, isNewPad, rootsAdded, storeAdded}
+use Rattle.additions.specs.Addition.{Addition, added, filesOf, sizeAdded, keeps, padOf, newName, directoryAdded, fileAdded, padAdded, padDirectory, flagsKept, isAmong, withDirectory, withDirectoryOf, directoriesAfter, isPresent, withTime}
+use Rattle.plan.specs.Write.{isOutside, textIfNew, newTextOf, setText, directoryNew, nameText, linkNew, padDirectoryNew, oldName, textKept, putDirIf, isNew, isNewDirectory, isNewPad, rootsAdded, storeAdded}
 use Rattle.plan.specs.Outcomes.{addingNumber}
 use Rattle.sound.specs.Sound.{setName, Sound}
 use Rattle.sound.proofs.Added.Answer.{Fits, fits}
@@ -41,19 +40,19 @@ use Rattle.sound.proofs.Added.Whole.{newFile, newPad, stage1, stage2, s
 
 -- ---- what is not put is empty
 
-missing-none : (d : List ℕ) (ds : List (List ℕ)) → isNew d ds ≡ false → missing d ds ≡ []
+missing-none : (d : List ℕ) (ds : List (List ℕ)) → isNew d ds ≡ false → textIfNew d ds ≡ []
 missing-none d ds e = at (isAmong d ds) e
   where
     at : (b : Bool) → not b ≡ false → cond b [] d ≡ []
     at true q = refl
     at false q = let z : _≡_ {A = ℕ} 0 1 = cc in absurd (omega arith)
 
-place-none : (p : Directory) (ds : List (List ℕ)) → isNewPlace p ds ≡ false → missingOf p ds ≡ []
+place-none : (p : Directory) (ds : List (List ℕ)) → isNewDirectory p ds ≡ false → newTextOf p ds ≡ []
 place-none single ds e = refl
 place-none absolute ds e = refl
 place-none (stored d o) ds e = missing-none d ds e
 
-pad-none : (b : Bool) (d : List ℕ) (ds : List (List ℕ)) → both (not b) (isNew d ds) ≡ false → cond b [] (missing d ds) ≡ []
+pad-none : (b : Bool) (d : List ℕ) (ds : List (List ℕ)) → (not b && isNew d ds) ≡ false → cond b [] (textIfNew d ds) ≡ []
 pad-none true d ds e = refl
 pad-none false d ds e = missing-none d ds e
 
@@ -76,12 +75,12 @@ one-put : (b : Bool) (d : List ℕ) (ds : List (List ℕ)) → cond (not b) (ds 
 one-put true d ds = refl
 one-put false d ds = refl
 
-place-put : (p : Directory) (ds : List (List ℕ)) → cond (isNewPlace p ds) (ds ++ (missingOf p ds ∷ [])) ds ≡ withPlace p ds
+place-put : (p : Directory) (ds : List (List ℕ)) → cond (isNewDirectory p ds) (ds ++ (newTextOf p ds ∷ [])) ds ≡ withDirectoryOf p ds
 place-put single ds = refl
 place-put absolute ds = refl
 place-put (stored d o) ds = one-put (isAmong d ds) d ds
 
-pad-put : (b : Bool) (d : List ℕ) (ds : List (List ℕ)) → cond (both (not b) (isNew d ds)) (ds ++ (cond b [] (missing d ds) ∷ [])) ds ≡ cond b ds (withDirectory d ds)
+pad-put : (b : Bool) (d : List ℕ) (ds : List (List ℕ)) → cond (not b && isNew d ds) (ds ++ (cond b [] (textIfNew d ds) ∷ [])) ds ≡ cond b ds (withDirectory d ds)
 pad-put true d ds = refl
 pad-put false d ds = one-put (isAmong d ds) d ds
 
@@ -122,7 +121,7 @@ module _ (s : Store) (m : Model) (a : Addition) (ok : Sound s) (is : viewOf s �
   ds = m .directories
 
   abbrev place : Directory
-  place = placeFor m a
+  place = directoryAdded m a
 
   files-count : filesOf m ≡ n
   files-count = ap filesOf (sym is) ∙ length-tabled n (fileOf s)
@@ -147,7 +146,7 @@ module _ (s : Store) (m : Model) (a : Addition) (ok : Sound s) (is : viewOf s �
 
   text1 : length (stage1 s m a .text) ≡ length (s .text)
   text1 =
-      length-sets (cond (eqb n 0) (slid (oldName (s .fs)) (s .fs .«text_len») (s .text)) (s .text)) (kept (s .fs)) (setText m a)
+      length-sets (cond (eqb n 0) (slid (oldName (s .fs)) (s .fs .«text_len») (s .text)) (s .text)) (textKept (s .fs)) (setText m a)
       ∙ length-either (eqb n 0) (slid (oldName (s .fs)) (s .fs .«text_len») (s .text)) (s .text) (length-slid (oldName (s .fs)) (s .fs .«text_len») (s .text))
 
   dirs1 : length (stage1 s m a .dirs) ≡ length (s .dirs)
@@ -157,13 +156,13 @@ module _ (s : Store) (m : Model) (a : Addition) (ok : Sound s) (is : viewOf s �
   -- ---- the file's directory
 
   abbrev new2 : Bool
-  new2 = isNewPlace place ds
+  new2 = isNewDirectory place ds
 
-  paths2 : s .fs .«num_paths» + cond new2 1 0 ≡ length (withPlace place ds)
+  paths2 : s .fs .«num_paths» + cond new2 1 0 ≡ length (withDirectoryOf place ds)
   paths2 = omega (arith, dirs-count, count-place place ds)
 
-  paths4 : length (withPlace place ds) + cond (isNewPad m a) 1 0 ≡ length (added m a .directories)
-  paths4 = omega (arith, count-pad (eqb (padOf m a) 0) padDirectory (withPlace place ds))
+  paths4 : length (withDirectoryOf place ds) + cond (isNewPad m a) 1 0 ≡ length (added m a .directories)
+  paths4 = omega (arith, count-pad (eqb (padOf m a) 0) padDirectory (withDirectoryOf place ds))
 
   few2 : s .fs .«num_paths» + cond new2 1 0 ≤ 65535
   few2 = omega (arith, paths2, paths4, fit .few-paths)
@@ -230,7 +229,7 @@ module _ (s : Store) (m : Model) (a : Addition) (ok : Sound s) (is : viewOf s �
   space4 = omega (arith, fit .text-holds, text3)
 
   pad-missing : isNewPad m a ≡ false → padDirectoryNew m a ≡ []
-  pad-missing = pad-none (eqb (padOf m a) 0) padDirectory (withPlace place ds)
+  pad-missing = pad-none (eqb (padOf m a) 0) padDirectory (withDirectoryOf place ds)
 
   sound4 : Sound (stage4 s m a)
   sound4 = sound-dir-stage (stage3 s m a) (padDirectoryNew m a) sound3 space4 (isNewPad m a) pad-missing few4 room4
@@ -253,7 +252,7 @@ module _ (s : Store) (m : Model) (a : Addition) (ok : Sound s) (is : viewOf s �
       at true q = none (record { name = rw q; link = refl; size = eqb-true (padOf m a) 0 q })
       at false q =
           let files : filesOf (added m a) ≡ n + 1 + 1 = count-files m a ∙ ap (λ (c : Bool). filesOf m + 1 + cond c 0 1) q ∙ omega (arith, files-count) in
-          let dirs : added m a .directories ≡ withDirectory padDirectory (withPlace place ds) = rw q in
+          let dirs : added m a .directories ≡ withDirectory padDirectory (withDirectoryOf place ds) = rw q in
           let paths = paths2 in
           let more = paths4 in
           some (record {
@@ -264,8 +263,8 @@ module _ (s : Store) (m : Model) (a : Addition) (ok : Sound s) (is : viewOf s �
             limited = omega (arith, fit .limited, ap (λ (x : Model). x .total) is);
             rooted = λ r e. let z : _≡_ {A = ℕ} 0 1 = cc in absurd (omega arith);
             unlinked = λ e. refl;
-            placed = λ h. omega (arith, place-at padDirectory (withPlace place ds) .0, ap length dirs);
-            indexed = omega (arith, place-at padDirectory (withPlace place ds) .0, ap length dirs, fit .few-paths);
+            placed = λ h. omega (arith, place-at padDirectory (withDirectoryOf place ds) .0, ap length dirs);
+            indexed = omega (arith, place-at padDirectory (withDirectoryOf place ds) .0, ap length dirs, fit .few-paths);
           })
 
   sound5 : Sound (stage5 s m a)
@@ -299,7 +298,7 @@ module _ (s : Store) (m : Model) (a : Addition) (ok : Sound s) (is : viewOf s �
       at true q = rw (files-count, q)
       at false q = rw (files-count, q) (ap (λ (x : Model). x .name) is)
 
-  directories2 : viewOf (stage2 s m a) .directories ≡ withPlace place ds
+  directories2 : viewOf (stage2 s m a) .directories ≡ withDirectoryOf place ds
   directories2 =
       dir-stage-directories (stage1 s m a) (directoryNew m a) sound1 space2 new2 (place-none place ds) few2 room2
       ∙ ap (λ (l : List (List ℕ)). cond new2 (l ++ (directoryNew m a ∷ [])) l)
@@ -311,7 +310,7 @@ module _ (s : Store) (m : Model) (a : Addition) (ok : Sound s) (is : viewOf s �
       dir-stage-directories (stage3 s m a) (padDirectoryNew m a) sound3 space4 (isNewPad m a) pad-missing few4 room4
       ∙ ap (λ (l : List (List ℕ)). cond (isNewPad m a) (l ++ (padDirectoryNew m a ∷ [])) l)
       (file-directories (stage2 s m a) (newFile m a) sound2 fitting3 ∙ directories2)
-      ∙ pad-put (eqb (padOf m a) 0) padDirectory (withPlace place ds)
+      ∙ pad-put (eqb (padOf m a) 0) padDirectory (withDirectoryOf place ds)
 
   directories-is : viewOf (stage6 s m a) .directories ≡ directoriesAfter m a
   directories-is = pad-stage-directories (stage4 s m a) (newPad m a) sound4 (eqb (padOf m a) 0) padding ∙ directories4
@@ -338,8 +337,8 @@ module _ (s : Store) (m : Model) (a : Addition) (ok : Sound s) (is : viewOf s �
           same-file
           (ap (λ (x : Model). x .total + sizeAdded a) is)
           (ap (λ (b : Bool). cond b [] (decimal (padOf m a))) q)
-          (leads (stage4 s m a) (withPlace place ds) (sound4 .few-paths) (stored padDirectory false) (rowFor (stage4 s m a .fs .«total_size») (stage4 s m a .fs .«text_len») (newPad m a))
-          (directories4 ∙ ap (λ (b : Bool). cond b (withPlace place ds) (withDirectory padDirectory (withPlace place ds))) q)
+          (leads (stage4 s m a) (withDirectoryOf place ds) (sound4 .few-paths) (stored padDirectory false) (rowFor (stage4 s m a .fs .«total_size») (stage4 s m a .fs .«text_len») (newPad m a))
+          (directories4 ∙ ap (λ (b : Bool). cond b (withDirectoryOf place ds) (withDirectory padDirectory (withDirectoryOf place ds))) q)
           refl
           refl)
           refl

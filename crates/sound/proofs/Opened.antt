@@ -6,14 +6,14 @@ use native.Mathlib.Omega.{arith}
 use lib.IntN.{ℤ}
 use borrow.Author.Tests.{le-ltb}
 use Rattle.tables.specs.Model.{Store, tabled, viewOf}
-use Rattle.storage.specs.Opening.{empty, fresh}
-use Rattle.sound.specs.Sound.{Place, setName, dirName, fileName, linkText, nowhere, spanOf, sumTo, Sound}
+use Rattle.storage.specs.Opening.{newStorage, newModel}
+use Rattle.sound.specs.Sound.{TextId, setName, dirName, fileName, linkText, nowhere, spanOf, sumTo, Sound}
 
 module _ (n : ℕ) (rows roots : List ℕ) (times : List ℤ) (dirs text : List ℕ) where
   abbrev opened : Store
-  opened = record { fs = empty n; rows = rows; roots = roots; times = times; dirs = dirs; text = text }
+  opened = record { fs = newStorage n; rows = rows; roots = roots; times = times; dirs = dirs; text = text }
 
-  span-opened : (p : Place) → spanOf opened p ≡ nowhere
+  span-opened : (p : TextId) → spanOf opened p ≡ nowhere
   span-opened setName = refl
   span-opened (dirName k) = rw (le-ltb k 0 (omega arith))
   span-opened (fileName k) = rw (le-ltb k 0 (omega arith))
@@ -42,6 +42,6 @@ module _ (n : ℕ) (rows roots : List ℕ) (times : List ℤ) (dirs text : List 
         indexed = λ k h. absurd (omega arith);
       }
 
-  pub view-opened : viewOf opened ≡ fresh n
+  pub view-opened : viewOf opened ≡ newModel n
   unfolding tabled
   view-opened = refl

@@ -15,7 +15,7 @@ use Rattle.tables.specs.Span.{textAt}
 use Rattle.tables.specs.Rows.{rowAt, dirAt, has}
 use Rattle.tables.specs.Model.{Store, stored, presentIf, directoryText, directoryOf, fileOf, viewOf}
 use Rattle.additions.specs.Addition.{linkLength, fileText, textOf}
-use Rattle.sound.specs.Sound.{Place, setName, dirName, fileName, linkText, spanOf, textAtRow, Sound}
+use Rattle.sound.specs.Sound.{TextId, setName, dirName, fileName, linkText, spanOf, textAtRow, Sound}
 use Rattle.sound.proofs.Common.{sum-same, sum-tabled}
 
 link-length : (b : Bool) (t : List ℕ) → (b ≡ false → length t ≡ 0) → linkLength (presentIf b t) ≡ length t
@@ -53,7 +53,7 @@ directory-same s t same r placed indexed = at (eqb (r .«path_index») 107374182
 
 module _ (s : Store) (ok : Sound s) where
   -- each text is as long as its span says
-  pub text-length : (p : Place) → length (textAt (s .text) (spanOf s p)) ≡ spanOf s p .len
+  pub text-length : (p : TextId) → length (textAt (s .text) (spanOf s p)) ≡ spanOf s p .len
   text-length p =
       part-length-within (s .text) (spanOf s p .at) (spanOf s p .len) (omega (arith, ok .within p, ok .text-holds))
 

@@ -8,22 +8,22 @@ use lib.Dec.{ltb}
 use lib.ListN.{length}
 use Rattle.tables.specs.declared.span.Span.{Span}
 use Rattle.tables.specs.Span.{endOf, Apart}
-use Rattle.tables.specs.Rows.{rowAt, dirAt, has}
+use Rattle.tables.specs.Rows.{rowAt, dirAt, has, dirWidth, linkHeldBit, padBit, rootWidth, rowWidth}
 use Rattle.tables.specs.Model.{Store}
 use Rattle.rules.specs.Bounds.{limit}
 
 -- what a text is
-pub data Place : Type 0 where
-  setName : Place
-  dirName : ℕ → Place
-  fileName : ℕ → Place
-  linkText : ℕ → Place
+pub data TextId : Type 0 where
+  setName : TextId
+  dirName : ℕ → TextId
+  fileName : ℕ → TextId
+  linkText : ℕ → TextId
 
 abbrev pub nowhere : Span
 nowhere = record { at = 0; len = 0 }
 
 -- where a text lies; past the end of a table there is none
-abbrev pub spanOf : Store → Place → Span
+abbrev pub spanOf : Store → TextId → Span
 spanOf s setName = s .fs .name
 spanOf s (dirName k) = cond (ltb k (s .fs .«num_paths»)) (dirAt (s .dirs) k) nowhere
 spanOf s (fileName k) = cond (ltb k (s .fs .«num_files»)) (rowAt (s .rows) k .name) nowhere
@@ -47,25 +47,25 @@ sizeOfRow s k = rowAt (s .rows) k .size
 
 -- the size of a row that is a pad, 0 of any other
 abbrev pub padOfRow : Store → ℕ → ℕ
-padOfRow s k = cond (has (rowAt (s .rows) k .flags) 1) (sizeOfRow s k) 0
+padOfRow s k = cond (has (rowAt (s .rows) k .flags) padBit) (sizeOfRow s k) 0
 
 pub record Sound (s : Store) : Type 0 where
-  pub rows-hold : s .fs .«num_files» * 8 ≤ length (s .rows)
-  pub roots-hold : s .fs .«num_files» * 32 ≤ length (s .roots)
-  pub dirs-hold : s .fs .«num_paths» * 2 ≤ length (s .dirs)
+  pub rows-hold : s .fs .«num_files» * rowWidth ≤ length (s .rows)
+  pub roots-hold : s .fs .«num_files» * rootWidth ≤ length (s .roots)
+  pub dirs-hold : s .fs .«num_paths» * dirWidth ≤ length (s .dirs)
   pub times-hold : s .fs .«num_mtimes» ≤ length (s .times)
   pub text-holds : s .fs .«text_len» ≤ length (s .text)
   pub few-files : s .fs .«num_files» ≤ 65535
   pub few-paths : s .fs .«num_paths» ≤ 65535
-  pub within : (p : Place) → endOf (spanOf s p) ≤ s .fs .«text_len»
-  pub apart : (p q : Place) → (p ≡ q → ⊥) → Apart (spanOf s p) (spanOf s q)
+  pub within : (p : TextId) → endOf (spanOf s p) ≤ s .fs .«text_len»
+  pub apart : (p q : TextId) → (p ≡ q → ⊥) → Apart (spanOf s p) (spanOf s q)
   pub full : lengths s ≡ s .fs .«text_len»
   pub offsets : (k : ℕ) → k < s .fs .«num_files» → rowAt (s .rows) k .offset ≡ sumTo k (sizeOfRow s)
   pub total : s .fs .«total_size» ≡ sumTo (s .fs .«num_files») (sizeOfRow s)
   pub limited : s .fs .«total_size» ≤ limit
   pub on-disk : s .fs .«size_on_disk» + sumTo (s .fs .«num_files») (padOfRow s) ≡ s .fs .«total_size»
   -- a row without link text has no bytes of it
-  pub unlinked : (k : ℕ) → k < s .fs .«num_files» → has (rowAt (s .rows) k .flags) 16 ≡ false → rowAt (s .rows) k .link .len ≡ 0
+  pub unlinked : (k : ℕ) → k < s .fs .«num_files» → has (rowAt (s .rows) k .flags) linkHeldBit ≡ false → rowAt (s .rows) k .link .len ≡ 0
   -- a row's directory is there, or it has none
   pub placed : (k : ℕ) → k < s .fs .«num_files» → rowAt (s .rows) k .«path_index» < 1073741822 → rowAt (s .rows) k .«path_index» < s .fs .«num_paths»
   -- the path index is one of 30 bits, as upstream holds it

@@ -9,7 +9,7 @@ use Rattle.lists.specs.Decimal.{digitsWithin}
 use Rattle.tables.specs.Model.{Optional, absent, present, File, Model}
 use Rattle.additions.specs.Addition.{Addition, added, addedTo, textOf}
 use Rattle.change.specs.declared.rooms.Rooms.{Rooms}
-use Rattle.storage.specs.Opening.{fresh}
+use Rattle.storage.specs.Opening.{newModel}
 
 abbrev file : List ℕ → ℕ → Optional (List ℕ) → Addition
 file path size root =
@@ -24,7 +24,7 @@ bWav = 115 ∷ 47 ∷ 98 ∷ 46 ∷ 119 ∷ 97 ∷ 118 ∷ []
 
 -- the listing's example: offsets, sizes and total
 listed : Model
-listed = added (added (fresh 16384) (file aWav 10000 (present (replicate 32 1)))) (file bWav 16384 (present (replicate 32 1)))
+listed = added (added (newModel 16384) (file aWav 10000 (present (replicate 32 1)))) (file bWav 16384 (present (replicate 32 1)))
 
 offsets : map (λ (f : File). f .offset) (listed .files) ≡ 0 ∷ 10000 ∷ 16384 ∷ []
 unfolding listed aWav bWav
@@ -46,15 +46,15 @@ rooms : Rooms
 rooms = record { files = 3; directories = 2; times = 0; text = 19 }
 
 -- 'on an empty v1 set, size 281474976710655 is taken, one more gives 3'
-limit-taken : addedTo rooms (fresh 10) (file aWav 281474976710655 absent) ≡ value (added (fresh 10) (file aWav 281474976710655 absent))
+limit-taken : addedTo rooms (newModel 10) (file aWav 281474976710655 absent) ≡ value (added (newModel 10) (file aWav 281474976710655 absent))
 unfolding aWav rooms
 limit-taken = refl
 
-limit-passed : addedTo rooms (fresh 10) (file aWav 281474976710656 absent) ≡ refused 3
+limit-passed : addedTo rooms (newModel 10) (file aWav 281474976710656 absent) ≡ refused 3
 unfolding aWav rooms
 limit-passed = refl
 
 -- 'v2, length 16384, one file of 281474976710655: 4'
-pad-passes : addedTo rooms (fresh 16384) (file aWav 281474976710655 (present (replicate 32 1))) ≡ refused 4
+pad-passes : addedTo rooms (newModel 16384) (file aWav 281474976710655 (present (replicate 32 1))) ≡ refused 4
 unfolding aWav rooms
 pad-passes = refl

@@ -1,7 +1,7 @@
 -- What an addition writes by its plan is what the public definitions say is written, table by table.
 use Prim.Native.Nat.{ℕ, _+_}
 use mathlib.Core.Path.{_≡_, refl, sym, subst, _∙_}
-use mathlib.Core.Bool.{Bool, true, false, cond, not}
+use mathlib.Core.Bool.{Bool, true, false, cond, not, _&&_}
 use mathlib.Core.List.{List, [], _++_}
 use lib.Dec.{eqb}
 use lib.IntN.{ℤ}
@@ -12,15 +12,15 @@ use Rattle.types.specs.Refusals.{value, refused}
 use Rattle.tables.specs.declared.storage.FileStorage.{FileStorage}
 use Rattle.tables.specs.Rows.{putRow}
 use Rattle.tables.specs.Model.{Directory, Model, Store}
-use Rattle.rules.specs.Rules.{both}
 use Rattle.change.specs.Changes.{changedOf, answering, changedIf}
 use Rattle.additions.specs.declared.parts.PathKind.{PathKind}
 use Rattle.additions.specs.declared.parts.PathKind.the-variants.{Single, Absolute, Inside, Outside}
-use Rattle.additions.specs.Addition.{Addition, padDirectory, padOf, isAmong, placeFor, withPlace}
-use Rattle.additions.specs.Parts.{directoryAt}
-use Rattle.plan.specs.Write.{missingOf, isNewPlace, setText, directoryNew, nameText, linkNew, padDirectoryNew, padText, oldName, kept, directoryStart, nameStart, linkStart, padDirectoryStart, padNameStart, isNewPad, rowAdded, padRow, textAdded, rowsAdded, dirsAdded}
-use Rattle.plan.specs.Plan.{TextsOf, planOf}
-use Rattle.storage.specs.Written.{renamed, textWritten, dirsWritten, rowsWritten}
+use Rattle.additions.specs.Addition.{Addition, padDirectory, padOf, isAmong, directoryAdded, withDirectoryOf}
+use Rattle.additions.specs.private.Texts.{directoryAt}
+use Rattle.plan.specs.Write.{newTextOf, isNewDirectory, setText, directoryNew, nameText, linkNew, padDirectoryNew, padText, oldName, textKept, directoryStart, nameStart, linkStart, padDirectoryStart, padNameStart, isNewPad, rowAdded, padRow, textAdded, rowsAdded, dirsAdded}
+use Rattle.plan.specs.private.Steps.{TextsOf}
+use Rattle.plan.specs.Plan.{planOf}
+use Rattle.storage.specs.private.Written.{renamed, textWritten, dirsWritten, rowsWritten}
 
 -- ---- the text area
 
@@ -39,13 +39,13 @@ new-text : (t : Bool) (d : List ℕ) → cond (not t) d [] ≡ cond t [] d
 new-text true d = refl
 new-text false d = refl
 
-new-dir : (kind : PathKind) (d : List ℕ) (ds : List (List ℕ)) → cond (isNewPlace (directoryAt kind d) ds) d [] ≡ missingOf (directoryAt kind d) ds
+new-dir : (kind : PathKind) (d : List ℕ) (ds : List (List ℕ)) → cond (isNewDirectory (directoryAt kind d) ds) d [] ≡ newTextOf (directoryAt kind d) ds
 new-dir Single d ds = refl
 new-dir Absolute d ds = refl
 new-dir Inside d ds = new-text (isAmong d ds) d
 new-dir Outside d ds = new-text (isAmong d ds) d
 
-new-pad : (t u : Bool) (d : List ℕ) → cond (both (not t) (not u)) d [] ≡ cond t [] (cond u [] d)
+new-pad : (t u : Bool) (d : List ℕ) → cond (not t && not u) d [] ≡ cond t [] (cond u [] d)
 new-pad true u d = refl
 new-pad false u d = new-text u d
 
@@ -56,15 +56,15 @@ module _ (s : Store) (m : Model) (a : Addition) where
   pub text-is : (x dir name link : List ℕ) (kind : PathKind) → TextsOf m a x kind dir name link
       → textWritten (fs .«num_files») (fs .«text_len») (planOf fs m a) (s .text) x dir name link ≡ textAdded s m a
   text-is x dir name link kind t =
-      let d : cond (isNewPlace (placeFor m a) (m .directories)) dir [] ≡ directoryNew m a =
-      subst (λ (p : Directory). cond (isNewPlace p (m .directories)) dir [] ≡ missingOf p (m .directories)) (t .dir-is) (new-dir kind dir (m .directories)) in
-      let p : cond (isNewPad m a) padDirectory [] ≡ padDirectoryNew m a = new-pad (eqb (padOf m a) 0) (isAmong padDirectory (withPlace (placeFor m a) (m .directories))) padDirectory in
+      let d : cond (isNewDirectory (directoryAdded m a) (m .directories)) dir [] ≡ directoryNew m a =
+      subst (λ (p : Directory). cond (isNewDirectory p (m .directories)) dir [] ≡ newTextOf p (m .directories)) (t .dir-is) (new-dir kind dir (m .directories)) in
+      let p : cond (isNewPad m a) padDirectory [] ≡ padDirectoryNew m a = new-pad (eqb (padOf m a) 0) (isAmong padDirectory (withDirectoryOf (directoryAdded m a) (m .directories))) padDirectory in
       all (renamed (fs .«num_files») (oldName fs) (fs .«text_len») (s .text)) (t .set-is) d (t .name-is) (t .link-is) p
-      ∙ six (renamed (fs .«num_files») (oldName fs) (fs .«text_len») (s .text)) (setText m a) (directoryNew m a) (nameText m a) (linkNew m a) (padDirectoryNew m a) (padText m a) (kept fs)
+      ∙ six (renamed (fs .«num_files») (oldName fs) (fs .«text_len») (s .text)) (setText m a) (directoryNew m a) (nameText m a) (linkNew m a) (padDirectoryNew m a) (padText m a) (textKept fs)
     where
       all : (t : List ℕ) {c d n l p c' d' n' l' p' : List ℕ} → c ≡ c' → d ≡ d' → n ≡ n' → l ≡ l' → p ≡ p'
-          → sets (sets (sets (sets (sets (sets t (kept fs) c) (directoryStart fs m a) d) (nameStart fs m a) n) (linkStart fs m a) l) (padDirectoryStart fs m a) p) (padNameStart fs m a) (padText m a)
-          ≡ sets (sets (sets (sets (sets (sets t (kept fs) c') (directoryStart fs m a) d') (nameStart fs m a) n') (linkStart fs m a) l') (padDirectoryStart fs m a) p') (padNameStart fs m a) (padText m a)
+          → sets (sets (sets (sets (sets (sets t (textKept fs) c) (directoryStart fs m a) d) (nameStart fs m a) n) (linkStart fs m a) l) (padDirectoryStart fs m a) p) (padNameStart fs m a) (padText m a)
+          ≡ sets (sets (sets (sets (sets (sets t (textKept fs) c') (directoryStart fs m a) d') (nameStart fs m a) n') (linkStart fs m a) l') (padDirectoryStart fs m a) p') (padNameStart fs m a) (padText m a)
       all t e f g h i = rw (e, f, g, h, i)
 
   -- ---- rows and directory rows

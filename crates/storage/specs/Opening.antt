@@ -10,8 +10,8 @@ use Rattle.tables.specs.declared.storage.FileStorage.{FileStorage}
 use Rattle.tables.specs.Model.{Model}
 
 -- the record of a newly opened set
-abbrev pub empty : ℕ → FileStorage
-empty n =
+abbrev pub newStorage : ℕ → FileStorage
+newStorage n =
     record {
       «piece_length» = n;
       v2 = false;
@@ -27,8 +27,8 @@ empty n =
     }
 
 -- the model of a newly opened set
-abbrev pub fresh : ℕ → Model
-fresh n =
+abbrev pub newModel : ℕ → Model
+newModel n =
     record {
       pieceLength = n;
       v2 = false;
@@ -43,5 +43,5 @@ fresh n =
     }
 
 abbrev pub opened : ℤ → Outcome FileStorage
-opened (pos n) = cond (eqb n 0) (refused 1) (value (empty n))
+opened (pos n) = cond (eqb n 0) (refused 1) (value (newStorage n))
 opened (negsuc n) = refused 1

@@ -8,10 +8,10 @@ ghost use lib.IntN.{pos};
 ghost use lib.ListN.{replicate};
 ghost use lib.Seq.{sets};
 ghost use Rattle.tables.specs.Span.{textAt};
-ghost use Rattle.additions.specs.Parts.{nameFrom, linkTextOf};
+ghost use Rattle.additions.specs.private.Texts.{nameFrom, linkTextOf};
 ghost use Rattle.plan.specs.Write.{padDigits, rootsAdded, timesAdded};
 ghost use Rattle.additions.specs.Addition.{optionalOf};
-ghost use Rattle.storage.specs.Written.{renamed, textWritten, dirsRenamed, dirWritten, dirsWritten, rowsWritten};
+ghost use Rattle.storage.specs.private.Written.{renamed, textWritten, dirsRenamed, dirWritten, dirsWritten, rowsWritten};
 use additions::FileInfo;
 use plan::AddPlan;
 use plan::NewDir;
@@ -34,7 +34,7 @@ fn put_new(text: &mut [u8], new: bool, at: usize, source: &[u8])
     ensures { λ _. ⌜ now (text .exit) ≡ sets (now (text .entry)) at (cond new (now (source .entry)) []) ⌝ }
 {
     if new {
-        lists::copy_behind(text, at, source);
+        lists::copy_after(text, at, source);
     }
 }
 
@@ -45,9 +45,9 @@ fn put_name(text: &mut [u8], at: usize, given: Presence, filename: &[u8], own: &
         ⌝ }
 {
     if additions::is_given(given, filename) {
-        lists::copy_behind(text, at, filename);
+        lists::copy_after(text, at, filename);
     } else {
-        lists::copy_behind(text, at, own);
+        lists::copy_after(text, at, own);
     }
 }
 
@@ -82,10 +82,10 @@ fn write_text(
 {
     let old = plan.old;
     free_name(text, files, used, old);
-    lists::copy_behind(text, plan.start, set_name);
+    lists::copy_after(text, plan.start, set_name);
     put_new(text, plan.dir.new, plan.dir.text.at, dir);
     put_name(text, plan.row.name.at, given, filename, own);
-    lists::copy_behind(text, plan.row.link.at, link);
+    lists::copy_after(text, plan.row.link.at, link);
     put_new(text, plan.pad_dir.new, plan.pad_dir.text.at, b".pad");
     put_pad(text, plan.pad_row.name.at, plan.pad_row.size);
 }

@@ -1,7 +1,7 @@
 -- The internal path by its parts: what a row says of its directory, joined to a name. These laws rely on nothing else of this crate.
 use Prim.Native.Nat.{ℕ}
 use mathlib.Core.Path.{_≡_, refl}
-use mathlib.Core.Bool.{Bool, true, false, cond, not}
+use mathlib.Core.Bool.{Bool, true, false, cond, not, _&&_}
 use mathlib.Core.List.{List}
 use lib.Dec.{eqb}
 use Rattle.path.specs.Join.{appended}
@@ -13,7 +13,7 @@ use Rattle.tables.specs.Model.{single, absolute, stored, pathIn, directo
 
 -- a directory by its path index: of a single name, of an absolute path, or of a file in it
 kinds : (a b outside : Bool) (text : List ℕ) (c : Span) (name : List ℕ)
-    → appended (textAt text (cond (cond (not a) (not b) false) c (record { at = 0; len = 0 }))) name ≡ pathIn (cond a single (cond b absolute (stored (textAt text c) outside))) name
+    → appended (textAt text (cond (not a && not b) c (record { at = 0; len = 0 }))) name ≡ pathIn (cond a single (cond b absolute (stored (textAt text c) outside))) name
 kinds true b outside text c name = refl
 kinds false true outside text c name = refl
 kinds false false outside text c name = refl

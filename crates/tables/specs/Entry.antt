@@ -5,7 +5,7 @@ use mathlib.Core.List.{List}
 use Rattle.tables.specs.declared.rows.Presence.{Presence}
 use Rattle.tables.specs.declared.rows.Presence.the-variants.{Absent, Present}
 use Rattle.tables.specs.declared.rows.FileEntry.{FileEntry}
-use Rattle.tables.specs.Rows.{rowAt, rootAt, has}
+use Rattle.tables.specs.Rows.{rowAt, rootAt, has, rootBit}
 
 abbrev pub presenceIf : Bool → Presence
 presenceIf true = Present
@@ -13,4 +13,4 @@ presenceIf false = Absent
 
 -- file i; bit 128 of its flags says whether it has a root
 abbrev pub entryAt : List ℕ → List ℕ → ℕ → FileEntry
-entryAt rows roots i = record { row = rowAt rows i; presence = presenceIf (has (rowAt rows i .flags) 128); root = rootAt roots i }
+entryAt rows roots i = record { row = rowAt rows i; presence = presenceIf (has (rowAt rows i .flags) rootBit); root = rootAt roots i }

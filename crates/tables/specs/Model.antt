@@ -11,7 +11,7 @@ use Rattle.path.specs.Join.{appended}
 use Rattle.tables.specs.declared.rows.Row.{Row}
 use Rattle.tables.specs.declared.storage.FileStorage.{FileStorage}
 use Rattle.tables.specs.Span.{textAt}
-use Rattle.tables.specs.Rows.{rowAt, dirAt, noPath, isAbsolute, rootAt, has}
+use Rattle.tables.specs.Rows.{rowAt, dirAt, noPath, isAbsolute, rootAt, has, linkHeldBit, madeBit, outsideBit, rootBit}
 
 pub data Optional (A : Type 0) : Type 0 where
   absent : Optional A
@@ -83,7 +83,7 @@ directoryText s i = textAt (s .text) (dirAt (s .dirs) i)
 abbrev pub directoryIn : List ℕ → List ℕ → Row → Directory
 directoryIn dirs text r =
     cond (eqb (r .«path_index») noPath) single
-    (cond (isAbsolute r) absolute (stored (textAt text (dirAt dirs (r .«path_index»))) (has (r .flags) 32)))
+    (cond (isAbsolute r) absolute (stored (textAt text (dirAt dirs (r .«path_index»))) (has (r .flags) outsideBit)))
 
 -- the internal path of the file with that row
 abbrev pub internalPath : List ℕ → List ℕ → Row → List ℕ
@@ -102,9 +102,9 @@ fileOf s i =
       name = textAt (s .text) (rowAt (s .rows) i .name);
       directory = directoryOf s (rowAt (s .rows) i);
       flags = rowAt (s .rows) i .flags % 16;
-      link = presentIf (has (rowAt (s .rows) i .flags) 16) (textAt (s .text) (rowAt (s .rows) i .link));
-      root = presentIf (has (rowAt (s .rows) i .flags) 128) (rootAt (s .roots) i);
-      made = has (rowAt (s .rows) i .flags) 64;
+      link = presentIf (has (rowAt (s .rows) i .flags) linkHeldBit) (textAt (s .text) (rowAt (s .rows) i .link));
+      root = presentIf (has (rowAt (s .rows) i .flags) rootBit) (rootAt (s .roots) i);
+      made = has (rowAt (s .rows) i .flags) madeBit;
     }
 
 abbrev pub viewOf : Store → Model

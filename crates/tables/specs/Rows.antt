@@ -2,7 +2,7 @@
 -- zeros and storing there does nothing, so a row is what it is for every list and every place. It relies on the spans of
 -- Span.antt.
 use Prim.Native.Nat.{ℕ, zero, suc, _+_, _-_, _*_, _/_, _%_, _^_, min}
-use mathlib.Core.Bool.{Bool, false, cond, not}
+use mathlib.Core.Bool.{Bool, false, cond, not, _&&_}
 use mathlib.Core.List.{List, [], _∷_, _++_}
 use lib.Dec.{eqb, ltb}
 use lib.ListN.{length, getD, take, drop, replicate}
@@ -57,7 +57,7 @@ abbrev pub pathIsAbsolute : ℕ
 pathIsAbsolute = 1073741822
 
 abbrev pub isStored : ℕ → Bool
-isStored index = cond (not (eqb index noPath)) (not (eqb index pathIsAbsolute)) false
+isStored index = not (eqb index noPath) && not (eqb index pathIsAbsolute)
 
 -- whether a file was added by an absolute path, and whether it lies in a stored directory
 abbrev pub isAbsolute : Row → Bool

@@ -13,7 +13,7 @@ use crate::rows::put_row;
 use crate::rows::row_at;
 use crate::span::Span;
 use crate::span::low_span;
-use lists::least;
+use lists::min_usize;
 
 // Lowers the place of directory row i once the bytes of the span `c` are removed.
 fn lower_dir(dirs: &mut [u64], i: usize, c: Span)
@@ -28,7 +28,7 @@ fn lower_dir(dirs: &mut [u64], i: usize, c: Span)
 pub fn lower_dirs(dirs: &mut [u64], n: usize, c: Span)
     ensures { λ _. ⌜ now (dirs .exit) ≡ dirsLowered (now (dirs .entry)) n c ⌝ }
 {
-    let m = least(n, dirs.len() / 2);
+    let m = min_usize(n, dirs.len() / 2);
     let mut i = 0;
     while i < m {
         lower_dir(dirs, i, c);
@@ -79,7 +79,7 @@ fn move_row(rows: &mut [u64], f: usize, total: u64, c: Span, d: Span, i: usize)
 pub fn remove_row(rows: &mut [u64], n: usize, f: usize, total: u64, c: Span, d: Span)
     ensures { λ _. ⌜ now (rows .exit) ≡ rowsWithout (now (rows .entry)) n f total c d ⌝ }
 {
-    let m = least(n, rows.len() / 8);
+    let m = min_usize(n, rows.len() / 8);
     let mut i = 0;
     while i < m {
         move_row(rows, f, total, c, d, i);

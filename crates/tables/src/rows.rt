@@ -6,7 +6,7 @@ ghost use Prim.Native.Nat.{_+_, _<_, _^_};
 ghost use lib.ListN.{getD, set};
 ghost use lib.Seq.{sets};
 ghost use lib.IntN.{pos};
-ghost use Rattle.tables.specs.Rows.{rowAt, putRow, dirAt, putDir, isStored, directorySpan, rootAt, putRoot, has};
+ghost use Rattle.tables.specs.Rows.{rowAt, putRow, dirAt, putDir, isStored, directorySpan, rootAt, putRoot, has, linkHeldBit, outsideBit, padBit, rootBit, symlinkBit};
 ghost use Rattle.tables.specs.Entry.{entryAt};
 use crate::span::Span;
 
@@ -216,7 +216,7 @@ pub fn put_root(roots: &mut [u8], i: usize, root: Sha256Hash)
     if roots.len() / 32 < i {
         return;
     }
-    lists::copy_behind(roots, i * 32, &root);
+    lists::copy_after(roots, i * 32, &root);
 }
 
 // The time at place i, 0 past the end.
@@ -240,35 +240,35 @@ pub fn put_time(times: &mut [i64], i: usize, time: i64)
 
 // Whether a row's flags have pad, 1.
 pub fn is_pad(flags: u64) -> bool
-    ensures { λ r. ⌜ r ≡ has flags 1 ⌝ }
+    ensures { λ r. ⌜ r ≡ has flags padBit ⌝ }
 {
     flags % 2 == 1
 }
 
 // Whether a row's flags have symlink, 8.
 pub fn is_symlink(flags: u64) -> bool
-    ensures { λ r. ⌜ r ≡ has flags 8 ⌝ }
+    ensures { λ r. ⌜ r ≡ has flags symlinkBit ⌝ }
 {
     flags / 8 % 2 == 1
 }
 
 // Whether a row holds a link text, 16.
 pub fn holds_link(flags: u64) -> bool
-    ensures { λ r. ⌜ r ≡ has flags 16 ⌝ }
+    ensures { λ r. ⌜ r ≡ has flags linkHeldBit ⌝ }
 {
     flags / 16 % 2 == 1
 }
 
 // Whether a row's directory stands outside the set's name, 32.
 pub fn is_outside(flags: u64) -> bool
-    ensures { λ r. ⌜ r ≡ has flags 32 ⌝ }
+    ensures { λ r. ⌜ r ≡ has flags outsideBit ⌝ }
 {
     flags / 32 % 2 == 1
 }
 
 // Whether a row has a root, 128.
 pub fn has_root(flags: u64) -> bool
-    ensures { λ r. ⌜ r ≡ has flags 128 ⌝ }
+    ensures { λ r. ⌜ r ≡ has flags rootBit ⌝ }
 {
     flags / 128 % 2 == 1
 }

@@ -4,8 +4,8 @@ ghost use mathlib.Core.Path.{_≡_};
 ghost use Prim.Native.Nat.{_≤_};
 ghost use lib.ListN.{length};
 ghost use Rattle.tables.specs.Span.{endOf, textAt, lower, low, clip, slid};
-use lists::least;
-use lists::minus;
+use lists::min_usize;
+use lists::saturating_sub_usize;
 
 // Where a text lies in the text area.
 pub struct Span {
@@ -24,7 +24,7 @@ pub fn text_at(text: &[u8], s: Span) -> &[u8]
 pub fn lowered(c: Span, p: usize) -> usize
     ensures { λ r. ⌜ r ≡ lower c p ⌝ }
 {
-    minus(p, least(c.len, minus(p, c.at)))
+    saturating_sub_usize(p, min_usize(c.len, saturating_sub_usize(p, c.at)))
 }
 
 // Where a span lies once the bytes of the span `c` are removed.
@@ -42,8 +42,8 @@ pub fn clipped(used: usize, s: Span) -> Span
     ensures { λ r. ⌜ r ≡ clip used s ⌝ }
 {
     Span {
-        at: least(s.at, used),
-        len: least(s.len, minus(used, s.at)),
+        at: min_usize(s.at, used),
+        len: min_usize(s.len, saturating_sub_usize(used, s.at)),
     }
 }
 
@@ -64,8 +64,8 @@ fn slide(text: &mut [u8], used: usize, c: Span)
 pub fn remove_text(text: &mut [u8], used: usize, c: Span)
     ensures { λ _. ⌜ now (text .exit) ≡ slid c used (now (text .entry)) ⌝ }
 {
-    let end = least(used, text.len());
-    if minus(end, c.at) <= c.len {
+    let end = min_usize(used, text.len());
+    if saturating_sub_usize(end, c.at) <= c.len {
         return;
     }
     slide(text, end, c);

@@ -16,7 +16,7 @@ use Rattle.tables.specs.Model.{presentIf, Store}
 use Rattle.tables.proofs.Paths.{path-parts}
 use Rattle.lookup.specs.Lookup.{heldText}
 use Rattle.texts.specs.Texts.{ownText, textBeside, linkSpan}
-use Rattle.texts.specs.Parts.{isParted, prefixOf}
+use Rattle.texts.specs.private.Parts.{isParted, prefixOf}
 
 -- ---- joins
 

@@ -2,7 +2,7 @@
 -- of a new text's parts.
 use Prim.Native.Nat.{ℕ, _-_, _<_, _≤_}
 use mathlib.Core.Path.{_≡_, refl, sym, ap, _∙_}
-use mathlib.Core.Bool.{Bool, true, false, cond}
+use mathlib.Core.Bool.{Bool, true, false, cond, _&&_}
 use mathlib.Core.List.{List}
 use native.Mathlib.Omega.{arith}
 use lib.Dec.{leb}
@@ -18,7 +18,6 @@ use Rattle.tables.specs.declared.rows.Row.{Row}
 use Rattle.tables.specs.Span.{endOf, textAt}
 use Rattle.tables.specs.Rows.{rowAt, directorySpan}
 use Rattle.tables.specs.Model.{Store}
-use Rattle.rules.specs.Rules.{both}
 use Rattle.texts.specs.Texts.{goneAt, linked, relinked, isWithin, ownFits, besideFits, withOwn, withBeside, stagedBeside, linkSpan}
 use Rattle.texts.proofs.NewTexts.{own-parts, beside-parts}
 use Rattle.rules.proofs.Rules.{both-true}
@@ -30,7 +29,7 @@ cond-yes b x y e = rw e
 pub cond-no : {A : Type 0} (b : Bool) (x y : A) → b ≡ false → y ≡ cond b x y
 cond-no b x y e = rw e
 
-both-no : (a b : Bool) → b ≡ false → both a b ≡ false
+both-no : (a b : Bool) → b ≡ false → (a && b) ≡ false
 both-no true b e = e
 both-no false b e = refl
 
@@ -45,13 +44,13 @@ module _ (s : Store) (i : ℕ) (r : Row) (b : Span) (row : r ≡ rowAt (s .rows)
   ownOf = appended (textAt (s .text) b) (textAt (s .text) (r .name))
 
   abbrev pub ownFit : Bool
-  ownFit = both (isWithin used b) (both (isWithin used (r .name)) (leb (length ownOf) (length (s .text) - used)))
+  ownFit = isWithin used b && (isWithin used (r .name) && leb (length ownOf) (length (s .text) - used))
 
   -- what is written, in terms of the row
   own-step : cond ownFit (linked s i ownOf) s ≡ withOwn s i
   own-step =
-      ap (λ (x : Span). cond (both (isWithin used x) (both (isWithin used (r .name)) (leb (length (appended (textAt (s .text) x) (textAt (s .text) (r .name)))) (length (s .text) - used)))) (linked s i (appended (textAt (s .text) x) (textAt (s .text) (r .name)))) s) branch
-      ∙ ap (λ (x : Row). cond (both (isWithin used (directorySpan (s .dirs) x)) (both (isWithin used (x .name)) (leb (length (appended (textAt (s .text) (directorySpan (s .dirs) x)) (textAt (s .text) (x .name)))) (length (s .text) - used)))) (linked s i (appended (textAt (s .text) (directorySpan (s .dirs) x)) (textAt (s .text) (x .name)))) s) row
+      ap (λ (x : Span). cond (isWithin used x && (isWithin used (r .name) && leb (length (appended (textAt (s .text) x) (textAt (s .text) (r .name)))) (length (s .text) - used))) (linked s i (appended (textAt (s .text) x) (textAt (s .text) (r .name)))) s) branch
+      ∙ ap (λ (x : Row). cond (isWithin used (directorySpan (s .dirs) x) && (isWithin used (x .name) && leb (length (appended (textAt (s .text) (directorySpan (s .dirs) x)) (textAt (s .text) (x .name)))) (length (s .text) - used))) (linked s i (appended (textAt (s .text) (directorySpan (s .dirs) x)) (textAt (s .text) (x .name)))) s) row
       ∙ ap (λ (t : List ℕ). cond (ownFits s i t) (linked s i t) s) (sym (own-parts s i))
 
   pub own-kept : ownFit ≡ false → s ≡ withOwn s i
@@ -63,7 +62,7 @@ module _ (s : Store) (i : ℕ) (r : Row) (b : Span) (row : r ≡ rowAt (s .rows)
   -- the places that such a path has
   pub own-places : ownFit ≡ true → (endOf b ≤ used) × (endOf (r .name) ≤ used) × (length ownOf ≤ length (s .text) - used)
   own-places e =
-      let p = both-true (isWithin used b) (both (isWithin used (r .name)) (leb (length ownOf) (length (s .text) - used))) e in
+      let p = both-true (isWithin used b) (isWithin used (r .name) && leb (length ownOf) (length (s .text) - used)) e in
       let q = both-true (isWithin used (r .name)) (leb (length ownOf) (length (s .text) - used)) (p .1) in
       (leb-true (endOf b) used (p .0), leb-true (endOf (r .name)) used (q .0), leb-true (length ownOf) (length (s .text) - used) (q .1))
 
@@ -76,23 +75,23 @@ module _ (s : Store) (i n : ℕ) (r : Row) (row : r ≡ rowAt (s .rows) i) where
   abbrev pub roomBeside : ℕ
   roomBeside = length (s .text) - (s .fs .«text_len» - goneAt s i .len)
 
-  beside-step : cond (both (leb (length besideOf) n) (leb (length besideOf) roomBeside)) (relinked s i besideOf) s ≡ withBeside n s i
+  beside-step : cond (leb (length besideOf) n && leb (length besideOf) roomBeside) (relinked s i besideOf) s ≡ withBeside n s i
   beside-step =
       ap (λ (x : Row). cond (besideFits n s i (appended (textAt (s .text) (directorySpan (s .dirs) x)) (textAt (s .text) (linkSpan x)))) (relinked s i (appended (textAt (s .text) (directorySpan (s .dirs) x)) (textAt (s .text) (linkSpan x)))) s) row
       ∙ ap (λ (t : List ℕ). cond (besideFits n s i t) (relinked s i t) s) (sym (beside-parts s i))
 
   pub beside-long : leb (length besideOf) n ≡ false → s ≡ withBeside n s i
   beside-long e =
-      cond-no (both (leb (length besideOf) n) (leb (length besideOf) roomBeside)) (relinked s i besideOf) s (rw e) ∙ beside-step
+      cond-no (leb (length besideOf) n && leb (length besideOf) roomBeside) (relinked s i besideOf) s (rw e) ∙ beside-step
 
   pub beside-roomless : roomBeside < length besideOf → s ≡ withBeside n s i
   beside-roomless h =
-      cond-no (both (leb (length besideOf) n) (leb (length besideOf) roomBeside)) (relinked s i besideOf) s (both-no (leb (length besideOf) n) (leb (length besideOf) roomBeside) (lt-leb (length besideOf) roomBeside h)) ∙ beside-step
+      cond-no (leb (length besideOf) n && leb (length besideOf) roomBeside) (relinked s i besideOf) s (both-no (leb (length besideOf) n) (leb (length besideOf) roomBeside) (lt-leb (length besideOf) roomBeside h)) ∙ beside-step
 
   pub beside-written : leb (length besideOf) n ≡ true → length besideOf ≤ roomBeside → (u : Store) → u ≡ relinked s i besideOf → u ≡ withBeside n s i
   beside-written e h u q =
       q
-      ∙ cond-yes (both (leb (length besideOf) n) (leb (length besideOf) roomBeside)) (relinked s i besideOf) s (rw e (le-leb (length besideOf) roomBeside h))
+      ∙ cond-yes (leb (length besideOf) n && leb (length besideOf) roomBeside) (relinked s i besideOf) s (rw e (le-leb (length besideOf) roomBeside h))
       ∙ beside-step
 
   -- what the stage then holds

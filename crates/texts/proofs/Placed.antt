@@ -14,7 +14,7 @@ use Rattle.lists.proofs.Runs.{sets-append, part-sets-before}
 use Rattle.path.specs.Join.{isAlone, appended}
 use Rattle.tables.specs.declared.span.Span.{Span}
 use Rattle.tables.specs.Span.{endOf, textAt}
-use Rattle.texts.specs.Parts.{isParted, prefixOf}
+use Rattle.texts.specs.private.Parts.{isParted, prefixOf}
 use Rattle.texts.proofs.NewTexts.{join-parts, join-length, prefix-alone, prefix-parted, prefix-plain}
 
 -- ---- a copy

@@ -2,7 +2,7 @@
 -- the sum of … link texts held after the call; what a … cleaning frees is used': what is removed leaves no gap. It relies on the
 -- rows, spans and files of `tables` and `lookup`.
 use Prim.Native.Nat.{ℕ, _+_, _-_, _/_, min}
-use mathlib.Core.Bool.{Bool, cond}
+use mathlib.Core.Bool.{Bool, cond, _&&_}
 use mathlib.Core.List.{List}
 use lib.Dec.{leb}
 use lib.ListN.{length}
@@ -12,10 +12,9 @@ use Rattle.tables.specs.declared.span.Span.{Span}
 use Rattle.tables.specs.declared.rows.Row.{Row}
 use Rattle.tables.specs.declared.storage.FileStorage.{FileStorage}
 use Rattle.tables.specs.Span.{endOf, clip, slid, low}
-use Rattle.tables.specs.Rows.{rowAt, words, putRow, directorySpan, filled, dirsLowered, has}
+use Rattle.tables.specs.Rows.{rowAt, words, putRow, directorySpan, filled, dirsLowered, has, linkHeldBit, rowWidth}
 use Rattle.tables.specs.Model.{pathIn, Store, fileOf}
-use Rattle.rules.specs.Rules.{both}
-use Rattle.lookup.specs.Lookup.{own, entryOf}
+use Rattle.lookup.specs.Lookup.{ownPath, entryOf}
 
 -- ---- texts removed and appended
 
@@ -45,7 +44,7 @@ abbrev pub rowLowered : Span → Row → Row
 rowLowered c r = rowWith r (low c (r .name)) (low c (r .link))
 
 abbrev pub rowsLowered : List ℕ → ℕ → Span → List ℕ
-rowsLowered rows n c = sets rows 0 (filled (λ i. words (rowLowered c (rowAt rows i))) 0 (min n (length rows / 8)))
+rowsLowered rows n c = sets rows 0 (filled (λ i. words (rowLowered c (rowAt rows i))) 0 (min n (length rows / rowWidth)))
 
 -- the set once span c of its text area is removed
 abbrev pub cutOut : Store → Span → Store
@@ -86,29 +85,29 @@ relinked s i t = linked (cutOut s (goneAt s i)) i t
 abbrev pub isWithin : ℕ → Span → Bool
 isWithin u c = leb (endOf c) u
 
--- the parts of a link's own path lie in the used part, and the path fits after it
+-- the parts of a link's ownPath path lie in the used part, and the path fits after it
 abbrev pub ownFits : Store → ℕ → List ℕ → Bool
 ownFits s i t =
-    both (isWithin (s .fs .«text_len») (directorySpan (s .dirs) (rowAt (s .rows) i)))
-    (both (isWithin (s .fs .«text_len») (rowAt (s .rows) i .name)) (leb (length t) (length (s .text) - s .fs .«text_len»)))
+    isWithin (s .fs .«text_len») (directorySpan (s .dirs) (rowAt (s .rows) i))
+    && (isWithin (s .fs .«text_len») (rowAt (s .rows) i .name) && leb (length t) (length (s .text) - s .fs .«text_len»))
 
 -- a text fits in n bytes, and in the text area where the old text goes
 abbrev pub besideFits : ℕ → Store → ℕ → List ℕ → Bool
 besideFits n s i t =
-    both (leb (length t) n) (leb (length t) (length (s .text) - (s .fs .«text_len» - goneAt s i .len)))
+    leb (length t) n && leb (length t) (length (s .text) - (s .fs .«text_len» - goneAt s i .len))
 
 -- where a link's text lies: a span of no bytes where it holds none
 abbrev pub linkSpan : Row → Span
-linkSpan r = cond (has (r .flags) 16) (r .link) (record { at = 0; len = 0 })
+linkSpan r = cond (has (r .flags) linkHeldBit) (r .link) (record { at = 0; len = 0 })
 
--- a link's own path, and its text from its directory
+-- a link's ownPath path, and its text from its directory
 abbrev pub ownText : Store → ℕ → List ℕ
-ownText s i = own (entryOf (fileOf s i))
+ownText s i = ownPath (entryOf (fileOf s i))
 
 abbrev pub textBeside : Store → ℕ → List ℕ
 textBeside s i = pathIn (entryOf (fileOf s i) .directory) (entryOf (fileOf s i) .text)
 
--- `write_own`: the link's text, which was removed, is its own path
+-- `write_own`: the link's text, which was removed, is its ownPath path
 abbrev pub withOwn : Store → ℕ → Store
 withOwn s i = cond (ownFits s i (ownText s i)) (linked s i (ownText s i)) s
 

@@ -5,8 +5,8 @@ ghost use Rattle.tables.specs.Rows.{rowAt, putRow};
 ghost use Rattle.tables.specs.Model.{Store};
 ghost use Rattle.lookup.specs.Lookup.{lent};
 ghost use Rattle.texts.specs.Texts.{storageWith, rowWith, rowLowered, rowsLowered, cutOut};
-use lists::least;
-use lists::minus;
+use lists::min_usize;
+use lists::saturating_sub_usize;
 use tables::FileStorage;
 use tables::Row;
 use tables::Span;
@@ -59,7 +59,7 @@ fn lower_row(rows: &mut [u64], i: usize, c: Span)
 fn lower_rows(rows: &mut [u64], n: usize, c: Span)
     ensures { λ _. ⌜ now (rows .exit) ≡ rowsLowered (now (rows .entry)) n c ⌝ }
 {
-    let m = least(n, rows.len() / 8);
+    let m = min_usize(n, rows.len() / 8);
     let mut i = 0;
     while i < m {
         lower_row(rows, i, c);
@@ -81,5 +81,5 @@ pub(crate) fn cut_out(
     tables::lower_dirs(dirs, fs.num_paths, c);
     tables::remove_text(text, fs.text_len, c);
     let name = tables::low_span(c, fs.name);
-    storage_with(fs, name, minus(fs.text_len, c.len))
+    storage_with(fs, name, saturating_sub_usize(fs.text_len, c.len))
 }

@@ -2,7 +2,7 @@
 // text. Relies on `path` and the accessors of `tables`.
 ghost use mathlib.Core.Path.{_≡_};
 ghost use Rattle.texts.specs.Texts.{isWithin, linkSpan};
-ghost use Rattle.texts.specs.Parts.{isParted};
+ghost use Rattle.texts.specs.private.Parts.{isParted};
 use tables::Row;
 use tables::Span;
 

@@ -1,5 +1,6 @@
 // A link's text is removed, or a new one is put after the used part of the text area: copied from its parts there, or
 // from the stage. Relies on cut.rt, parts.rt, the joins of `path` and the laws of proofs/Placed.antt.
+ghost use mathlib.Core.Bool.{_&&_};
 ghost use mathlib.Core.Path.{_≡_};
 ghost use mathlib.Core.List.{[]};
 ghost use Prim.Native.Nat.{_+_, _-_, _^_, _<_, _≤_};
@@ -12,17 +13,16 @@ ghost use Rattle.path.specs.Join.{appended, Joined, joinedIf, fits};
 ghost use Rattle.tables.specs.Span.{endOf, textAt};
 ghost use Rattle.tables.specs.Rows.{rowAt, putRow, directorySpan};
 ghost use Rattle.tables.specs.Model.{Store};
-ghost use Rattle.rules.specs.Rules.{both};
 ghost use Rattle.lookup.specs.Lookup.{lent};
 ghost use Rattle.texts.specs.Texts.{storageWith, rowWith, goneAt, relinked, isWithin, withOwn, withBeside, stagedBeside, linkSpan};
-ghost use Rattle.texts.specs.Parts.{prefixOf};
+ghost use Rattle.texts.specs.private.Parts.{prefixOf};
 use crate::cut::cut_out;
 use crate::cut::row_with;
 use crate::cut::storage_with;
 use crate::parts::is_parted;
 use crate::parts::is_within;
 use crate::parts::link_span;
-use lists::minus;
+use lists::saturating_sub_usize;
 use tables::FileStorage;
 use tables::Row;
 use tables::Span;
@@ -116,13 +116,13 @@ fn relink(
     let row = tables::row_at(rows, i);
     let gone = tables::clipped(fs.text_len, row.link);
     let left = cut_out(fs, rows, dirs, text, gone);
-    lists::copy_behind(text, left.text_len, new);
+    lists::copy_after(text, left.text_len, new);
     put_link(left, rows, i, new.len())
 }
 
 // Whether the parts of a link's own path lie in the used part, and the path fits after it.
 fn own_fits(text: &[u8], used: usize, branch: Span, name: Span) -> bool
-    ensures { λ r. ⌜ r ≡ both (isWithin used branch) (both (isWithin used name) (leb (length (appended (textAt (now (text .entry)) branch) (textAt (now (text .entry)) name))) (length (now (text .entry)) - used))) ⌝ }
+    ensures { λ r. ⌜ r ≡ (isWithin used branch && (isWithin used name && leb (length (appended (textAt (now (text .entry)) branch) (textAt (now (text .entry)) name))) (length (now (text .entry)) - used))) ⌝ }
 {
     if !is_within(used, branch) {
         return false;
@@ -132,7 +132,7 @@ fn own_fits(text: &[u8], used: usize, branch: Span, name: Span) -> bool
     }
     let directory = tables::text_at(text, branch);
     let leaf = tables::text_at(text, name);
-    path::joined_length(directory, leaf) <= minus(text.len(), used)
+    path::joined_length(directory, leaf) <= saturating_sub_usize(text.len(), used)
 }
 
 // Lets the text of link i, which is gone, be the link's own path, where that has its place.
@@ -181,7 +181,7 @@ pub fn write_beside(
 {
     let row = tables::row_at(rows, i);
     let gone = tables::clipped(fs.text_len, row.link);
-    let room = minus(text.len(), minus(fs.text_len, gone.len));
+    let room = saturating_sub_usize(text.len(), saturating_sub_usize(fs.text_len, gone.len));
     let UsizeResult::Ok(n) = stage_text(dirs, text, row, stage) else {
         return fs;
     };

@@ -24,7 +24,7 @@ use Rattle.change.specs.Changes.{answering}
 use Rattle.change.specs.Rooms.{roomsOf, holds}
 use Rattle.change.proofs.Held.{held}
 use Rattle.trim.specs.Trim.{tailPadFrom, tailPad}
-use Rattle.trim.specs.Search.{tailPadIn}
+use Rattle.trim.specs.private.Search.{tailPadIn}
 
 -- one more file, behind the others
 tail-pad-more : (i : ℕ) (found : Optional ℕ) (fs : List File) (g : File)

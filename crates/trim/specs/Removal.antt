@@ -7,7 +7,7 @@ use Rattle.tables.specs.declared.span.Span.{Span}
 use Rattle.tables.specs.declared.rows.Row.{Row}
 use Rattle.tables.specs.declared.storage.FileStorage.{FileStorage}
 use Rattle.tables.specs.Span.{clip, slid, low}
-use Rattle.tables.specs.Rows.{rowAt, dirsLowered, rowsWithout}
+use Rattle.tables.specs.Rows.{rowAt, dirsLowered, rowsWithout, rootWidth}
 use Rattle.tables.specs.Model.{Optional, absent, present, Store, viewOf}
 use Rattle.rules.specs.Rules.{when, firstOf}
 use Rattle.rules.specs.Bounds.{badLength}
@@ -44,7 +44,7 @@ storeWithout s f r c d =
     record {
       fs = storageWithout (s .fs) r c d;
       rows = rowsWithout (s .rows) (s .fs .«num_files» - 1) f (s .fs .«total_size» - r .size) c d;
-      roots = slid (record { at = f * 32; len = 32 }) (s .fs .«num_files» * 32) (s .roots);
+      roots = slid (record { at = f * 32; len = 32 }) (s .fs .«num_files» * rootWidth) (s .roots);
       times = s .times;
       dirs = dirsLowered (dirsLowered (s .dirs) (s .fs .«num_paths») c) (s .fs .«num_paths») d;
       text = slid d (s .fs .«text_len» - c .len) (slid c (s .fs .«text_len») (s .text));

@@ -4,7 +4,7 @@ use Prim.Native.Nat.{ℕ, zero, suc}
 use mathlib.Core.Bool.{cond}
 use mathlib.Core.List.{List}
 use lib.Dec.{eqb}
-use Rattle.tables.specs.Rows.{rowAt, has}
+use Rattle.tables.specs.Rows.{rowAt, has, padBit}
 use Rattle.tables.specs.Model.{Optional, absent, present, presentIf}
 use Rattle.trim.specs.declared.trim.Found.{Found}
 use Rattle.trim.specs.declared.trim.Found.the-variants.{Nothing, At}
@@ -17,4 +17,4 @@ foundSays (At f) = present f
 unfoldable pub tailPadIn : List ℕ → ℕ → Optional ℕ
 tailPadIn rows zero = absent
 tailPadIn rows (suc n) =
-    cond (eqb (rowAt rows n .size) 0) (tailPadIn rows n) (presentIf (has (rowAt rows n .flags) 1) n)
+    cond (eqb (rowAt rows n .size) 0) (tailPadIn rows n) (presentIf (has (rowAt rows n .flags) padBit) n)

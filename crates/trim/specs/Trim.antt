@@ -32,9 +32,9 @@ beginningAt offset g =
       made = g .made;
     }
 
--- the set without file f; the files after it, which are empty, begin at the new total
-abbrev pub without : ℕ → Model → Model
-without f m =
+-- the set withoutFile file f; the files after it, which are empty, begin at the new total
+abbrev pub withoutFile : ℕ → Model → Model
+withoutFile f m =
     record {
       pieceLength = m .pieceLength;
       v2 = m .v2;
@@ -50,7 +50,7 @@ without f m =
 
 abbrev pub trimmedIf : Optional ℕ → Model → Model
 trimmedIf absent m = m
-trimmedIf (present f) m = without f m
+trimmedIf (present f) m = withoutFile f m
 
 abbrev pub trimmedOf : Model → Model
 trimmedOf m = trimmedIf (tailPad (m .files)) m

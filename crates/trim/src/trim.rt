@@ -4,13 +4,13 @@ ghost use mathlib.Core.Path.{_≡_};
 ghost use mathlib.Core.List.{[]};
 ghost use Prim.Native.Nat.{_-_, _*_, _<_, _≤_};
 ghost use Rattle.tables.specs.Span.{slid};
-ghost use Rattle.tables.specs.Rows.{has, dirsLowered};
+ghost use Rattle.tables.specs.Rows.{has, dirsLowered, padBit};
 ghost use Rattle.tables.specs.Model.{presentIf, storeOf};
 ghost use Rattle.trim.specs.Removal.{firstGone, secondGone, storageWithout, storeTrimmed, trimStored};
 ghost use Rattle.change.specs.Changes.{changedOf, storageSays};
-ghost use Rattle.trim.specs.Search.{foundSays, tailPadIn};
+ghost use Rattle.trim.specs.private.Search.{foundSays, tailPadIn};
 use change::StorageResult;
-use lists::minus;
+use lists::saturating_sub_usize;
 use tables::FileStorage;
 use tables::Row;
 use tables::Span;
@@ -24,7 +24,7 @@ pub(crate) enum Found {
 
 // Row f, where its flags have pad.
 fn pad_at(flags: u64, f: usize) -> Found
-    ensures { λ r. ⌜ foundSays r ≡ presentIf (has flags 1) f ⌝ }
+    ensures { λ r. ⌜ foundSays r ≡ presentIf (has flags padBit) f ⌝ }
 {
     if tables::is_pad(flags) {
         return Found::At(f);
@@ -65,7 +65,10 @@ fn second_gone(fs: FileStorage, row: Row) -> Span
     ensures { λ r. ⌜ r ≡ secondGone fs row ⌝ }
 {
     let c = first_gone(fs, row);
-    tables::clipped(minus(fs.text_len, c.len), tables::low_span(c, row.link))
+    tables::clipped(
+        saturating_sub_usize(fs.text_len, c.len),
+        tables::low_span(c, row.link),
+    )
 }
 
 // The set's record without a row's file, and with the spans `c` and then `d` removed.
@@ -75,12 +78,12 @@ fn storage_without(fs: FileStorage, row: Row, c: Span, d: Span) -> FileStorage
     FileStorage {
         piece_length: fs.piece_length,
         v2: fs.v2,
-        num_files: minus(fs.num_files, 1),
+        num_files: saturating_sub_usize(fs.num_files, 1),
         num_paths: fs.num_paths,
         num_symlinks: fs.num_symlinks,
         num_mtimes: fs.num_mtimes,
         name: tables::low_span(d, tables::low_span(c, fs.name)),
-        text_len: minus(minus(fs.text_len, c.len), d.len),
+        text_len: saturating_sub_usize(saturating_sub_usize(fs.text_len, c.len), d.len),
         total_size: total_less(fs.total_size, row.size),
         size_on_disk: fs.size_on_disk,
         trimmed: true,
@@ -92,7 +95,7 @@ fn remove_texts(text: &mut [u8], used: usize, c: Span, d: Span)
     ensures { λ _. ⌜ now (text .exit) ≡ slid d (used - c .len) (slid c used (now (text .entry))) ⌝ }
 {
     tables::remove_text(text, used, c);
-    tables::remove_text(text, minus(used, c.len), d);
+    tables::remove_text(text, saturating_sub_usize(used, c.len), d);
 }
 
 // Lowers the places of the first n directory rows for the removed spans `c` and then `d`.

@@ -4,7 +4,7 @@
 --     judging-is      the number on tables in order
 --     clean-done      a cleaning with work space and room is done
 use mathlib.Core.Path.{_≡_, ap, _∙_}
-use mathlib.Core.Bool.{Bool, true, false, cond, not}
+use mathlib.Core.Bool.{Bool, true, false, cond, not, _&&_}
 use mathlib.Core.List.{List}
 use Prim.Native.Nat.{ℕ, _*_, _/_, _≤_}
 use native.Mathlib.Omega.{arith}
@@ -13,7 +13,6 @@ use lib.ListN.{length}
 use borrow.Author.Tests.{le-leb, le-ltb, ltb-false}
 use Rattle.types.specs.Refusals.{value, refused}
 use Rattle.tables.specs.Model.{Store}
-use Rattle.rules.specs.Rules.{both}
 use Rattle.rules.specs.Bounds.{badLength}
 use Rattle.lookup.specs.Space.{space, linkCount, lacksSpace}
 use Rattle.lookup.specs.Lookup.{entriesOf}
@@ -26,8 +25,8 @@ use Rattle.sound.proofs.Added.Answer.{pass-one, neither}
 module _ (s : Store) (marks stage path : ℕ) where
   abbrev held : Bool
   held =
-      both (leb (s .fs .«num_files») (length (s .rows) / 8))
-      (both (leb (s .fs .«num_paths») (length (s .dirs) / 2)) (leb (s .fs .«text_len») (length (s .text))))
+      leb (s .fs .«num_files») (length (s .rows) / 8)
+      && (leb (s .fs .«num_paths») (length (s .dirs) / 2) && leb (s .fs .«text_len») (length (s .text)))
 
   abbrev lacks : Bool
   lacks = lacksSpace (entriesOf s) marks stage path

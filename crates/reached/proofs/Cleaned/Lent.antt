@@ -16,7 +16,7 @@ use Rattle.lookup.specs.Lookup.{entryOf, lent}
 use Rattle.links.specs.Judging.{textBy, judgingNumber}
 use Rattle.lists.specs.Lists.{cleared}
 use Rattle.texts.specs.Texts.{goneAt, linked, relinked}
-use Rattle.cleaning.specs.Cleaning.{fileVerdicts, emptied, writtenAt, hasPlace, rewrittenAt, rewritten, cleanedStore, keptAfter, newBytes, textNeeded, Cleaned, cleanedTo, cleanStored}
+use Rattle.cleaning.specs.Cleaning.{fileVerdicts, emptied, writtenAt, textFits, rewrittenAt, rewritten, cleanedStore, keptAfter, newBytes, textNeeded, Cleaned, cleanedTo, cleanStored}
 
 -- other roots and times
 abbrev pub besides : List ℕ → List ℤ → Store → Store
@@ -48,9 +48,9 @@ module _ (roots : List ℕ) (times : List ℤ) where
 
       step : rewrittenAt n v (besides roots times s) i ≡ besides roots times (rewrittenAt n v s i)
       step =
-          ap (λ (x : Store). cond (eqb v 0) (besides roots times s) (cond (hasPlace n v s i) x (besides roots times s))) written
-          ∙ ap (cond (eqb v 0) (besides roots times s)) (either-store (hasPlace n v s i) (writtenAt v s i) s)
-          ∙ either-store (eqb v 0) s (cond (hasPlace n v s i) (writtenAt v s i) s)
+          ap (λ (x : Store). cond (eqb v 0) (besides roots times s) (cond (textFits n v s i) x (besides roots times s))) written
+          ∙ ap (cond (eqb v 0) (besides roots times s)) (either-store (textFits n v s i) (writtenAt v s i) s)
+          ∙ either-store (eqb v 0) s (cond (textFits n v s i) (writtenAt v s i) s)
 
   cleaned-besides : (n : ℕ) (s : Store) → cleanedStore n (besides roots times s) ≡ besides roots times (cleanedStore n s)
   cleaned-besides n s =

@@ -22,7 +22,7 @@ use Rattle.lookup.specs.Lookup.{Entry, entryOf, isHeld, heldText}
 use Rattle.links.specs.Clean.{linkedTo}
 use Rattle.links.specs.Judging.{textBy}
 use Rattle.texts.specs.Texts.{goneAt, linked, relinked, ownFits, besideFits}
-use Rattle.cleaning.specs.Cleaning.{emptied, writtenAt, hasPlace, rewrittenAt, rewritten}
+use Rattle.cleaning.specs.Cleaning.{emptied, writtenAt, textFits, rewrittenAt, rewritten}
 use Rattle.sound.specs.Sound.{dirName, fileName, linkText, Sound}
 use Rattle.sound.proofs.Texts.{dir-span, name-span, link-span, text-length}
 use Rattle.reached.proofs.Cleaned.Texts.{Turned, turned-self, turned-same, turned-then, atFile}
@@ -277,7 +277,7 @@ module _ (s : Store) (ok : Sound s) (i : ℕ) (h : i < s .fs .«num_files») (v 
     name-within : endOf (rowAt (s .rows) i .name) ≤ s .fs .«text_len»
     name-within = rw (name-span s i h) at (ok .within (fileName i))
 
-    has-place : eqb v 0 ≡ false → hasPlace m v s i ≡ true
+    has-place : eqb v 0 ≡ false → textFits m v s i ≡ true
     has-place p = at (eqb v 1) refl
       where
         at : (b : Bool) → eqb v 1 ≡ b → cond b (ownFits s i given) (besideFits m s i given) ≡ true
@@ -294,7 +294,7 @@ module _ (s : Store) (ok : Sound s) (i : ℕ) (h : i < s .fs .«num_files») (v 
     rewritten-is : rewrittenAt m v s i ≡ writtenAt v s i
     rewritten-is = at (eqb v 0) refl
       where
-        at : (b : Bool) → eqb v 0 ≡ b → cond b s (cond (hasPlace m v s i) (writtenAt v s i) s) ≡ writtenAt v s i
+        at : (b : Bool) → eqb v 0 ≡ b → cond b s (cond (textFits m v s i) (writtenAt v s i) s) ≡ writtenAt v s i
         at true p = ap (λ (b : Bool). cond b s (cond (eqb v 1) (linked s i given) (relinked s i given))) (sym p)
         at false p = ap (λ (b : Bool). cond b (writtenAt v s i) s) (has-place p)
 

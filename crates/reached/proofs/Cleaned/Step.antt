@@ -25,7 +25,7 @@ use Rattle.tables.proofs.Words.{row-back, row-other, length-put-row}
 use Rattle.tables.proofs.Moves.{row-filled, dir-lowered, length-lowered}
 use Rattle.links.specs.Clean.{linkedTo}
 use Rattle.texts.specs.Texts.{storageWith, rowWith, rowLowered, rowsLowered, cutOut, goneAt, linked, relinked}
-use Rattle.sound.specs.Sound.{Place, setName, dirName, fileName, linkText, nowhere, spanOf, Sound}
+use Rattle.sound.specs.Sound.{TextId, setName, dirName, fileName, linkText, nowhere, spanOf, Sound}
 use Rattle.sound.proofs.Texts.{link-span}
 use Rattle.sound.proofs.Trimmed.Spans.{low-nowhere}
 use Rattle.reached.proofs.Cleaned.Texts.{isLink, link-is, link-not, Area, over, Relinks, Turned, turned-same, turned-then, atFile, turn}
@@ -95,7 +95,7 @@ module _ (s : Store) (i : ℕ) (a : Area) (m : Span → Span) (none : m nowhere 
       at (inl b) = rw (le-ltb k n b) (sym none)
       at (inr b) = rw (lt-ltb k n b) (e b)
 
-  moved : (p : Place) → isLink i p ≡ false → spanOf (over s a) p ≡ m (spanOf s p)
+  moved : (p : TextId) → isLink i p ≡ false → spanOf (over s a) p ≡ m (spanOf s p)
   moved setName e = name
   moved (dirName k) e = past k (s .fs .«num_paths») (dirAt (a .dirs) k) (dirAt (s .dirs) k) (dir k)
   moved (fileName k) e = past k (s .fs .«num_files») (rowAt (a .rows) k .name) (rowAt (s .rows) k .name) (file k)
@@ -157,7 +157,7 @@ module _ (s : Store) (ok : Sound s) (i : ℕ) (h : i < s .fs .«num_files») whe
   dir-there k b = dir-lowered (s .dirs) (s .fs .«num_paths») c k b (omega (arith, ok .dirs-hold))
 
   -- where the other texts lie then, and where its own
-  span-there : (p : Place) → isLink i p ≡ false → spanOf without p ≡ low c (spanOf s p)
+  span-there : (p : TextId) → isLink i p ≡ false → spanOf without p ≡ low c (spanOf s p)
   span-there =
       moved s i (areaOf without) (low c) (low-nowhere c) refl dir-there (λ k b. row-of k b .0) (λ k b d. ap (λ (r : Row). r .link) (row-there k b d))
 
@@ -165,10 +165,10 @@ module _ (s : Store) (ok : Sound s) (i : ℕ) (h : i < s .fs .«num_files») whe
   span-here = link-span without i h ∙ ap (λ (r : Row). r .link) row-here
 
   -- no other text has a byte in common with it
-  aside : (p : Place) → isLink i p ≡ false → Apart c (spanOf s p)
+  aside : (p : TextId) → isLink i p ≡ false → Apart c (spanOf s p)
   aside p e = rw (link-span s i h) at (ok .apart (linkText i) p (link-not i p e))
 
-  within-without : (p : Place) → endOf (spanOf without p) ≤ u - c .len + 0
+  within-without : (p : TextId) → endOf (spanOf without p) ≤ u - c .len + 0
   within-without p = at (isLink i p) refl
     where
       at : (b : Bool) → isLink i p ≡ b → endOf (spanOf without p) ≤ u - c .len + 0
@@ -176,7 +176,7 @@ module _ (s : Store) (ok : Sound s) (i : ℕ) (h : i < s .fs .«num_files») whe
       at false q =
           rw (span-there p q, add-zero (u - c .len)) (within-kept c (spanOf s p) u inside (ok .within p) (aside p q))
 
-  apart-without : (p q : Place) → (p ≡ q → ⊥) → Apart (spanOf without p) (spanOf without q)
+  apart-without : (p q : TextId) → (p ≡ q → ⊥) → Apart (spanOf without p) (spanOf without q)
   apart-without p q d = at (isLink i p) (isLink i q) refl refl
     where
       at : (x y : Bool) → isLink i p ≡ x → isLink i q ≡ y → Apart (spanOf without p) (spanOf without q)
@@ -244,21 +244,21 @@ module _ (s : Store) (ok : Sound s) (i : ℕ) (h : i < s .fs .«num_files») whe
             (ap (λ (r : Row). r .name) e, row-form (rowAt (put .rows) k) (rowAt (s .rows) k) (rowAt (s .rows) k .name) (rowAt (s .rows) k .link) e)
 
     -- the other texts lie where they lay, and the new one behind the used part
-    span-kept : (p : Place) → isLink i p ≡ false → spanOf put p ≡ spanOf s p
+    span-kept : (p : TextId) → isLink i p ≡ false → spanOf put p ≡ spanOf s p
     span-kept =
         moved s i (areaOf put) (λ (x : Span). x) refl refl (λ k b. refl) (λ k b. put-of k .0) (λ k b d. ap (λ (r : Row). r .link) (put-there k d))
 
     span-new : spanOf put (linkText i) ≡ new
     span-new = link-span put i h ∙ ap (λ (r : Row). r .link) put-here
 
-    within-put : (p : Place) → endOf (spanOf put p) ≤ u + length l
+    within-put : (p : TextId) → endOf (spanOf put p) ≤ u + length l
     within-put p = at (isLink i p) refl
       where
         at : (b : Bool) → isLink i p ≡ b → endOf (spanOf put p) ≤ u + length l
         at true q = rw (link-is i p q, span-new) (omega arith)
         at false q = rw (span-kept p q) (omega (arith, ok .within p))
 
-    apart-put : (p q : Place) → (p ≡ q → ⊥) → Apart (spanOf put p) (spanOf put q)
+    apart-put : (p q : TextId) → (p ≡ q → ⊥) → Apart (spanOf put p) (spanOf put q)
     apart-put p q d = at (isLink i p) (isLink i q) refl refl
       where
         at : (x y : Bool) → isLink i p ≡ x → isLink i q ≡ y → Apart (spanOf put p) (spanOf put q)

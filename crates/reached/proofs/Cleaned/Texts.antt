@@ -20,7 +20,7 @@ use Rattle.tables.specs.Model.{present, presentIf, File, Model, Store, tabled, 
 use Rattle.tables.proofs.Tabled.{tabled-same}
 use Rattle.links.specs.Clean.{linkedTo}
 use Rattle.texts.specs.Texts.{storageWith, rowWith}
-use Rattle.sound.specs.Sound.{Place, setName, dirName, fileName, linkText, spanOf, sumTo, textAtRow, lengths, sizeOfRow, padOfRow, Sound}
+use Rattle.sound.specs.Sound.{TextId, setName, dirName, fileName, linkText, spanOf, sumTo, textAtRow, lengths, sizeOfRow, padOfRow, Sound}
 use Rattle.sound.proofs.Common.{sum-same}
 use Rattle.sound.proofs.Files.{sum-skip}
 use Rattle.sound.proofs.Texts.{link-span, directory-same}
@@ -29,20 +29,20 @@ use Rattle.sound.proofs.Added.Texts.{fileFrom, same-file}
 -- ---- places
 
 -- whether a place is that of file i's link text
-abbrev pub isLink : ℕ → Place → Bool
+abbrev pub isLink : ℕ → TextId → Bool
 isLink i setName = false
 isLink i (dirName k) = false
 isLink i (fileName k) = false
 isLink i (linkText k) = eqb k i
 
 -- which one it is, and that no other is it
-pub link-is : (i : ℕ) (p : Place) → isLink i p ≡ true → p ≡ linkText i
+pub link-is : (i : ℕ) (p : TextId) → isLink i p ≡ true → p ≡ linkText i
 link-is i setName e = absurd (false≢true e)
 link-is i (dirName k) e = absurd (false≢true e)
 link-is i (fileName k) e = absurd (false≢true e)
 link-is i (linkText k) e = ap linkText (eqb-true k i e)
 
-pub link-not : (i : ℕ) (p : Place) → isLink i p ≡ false → linkText i ≡ p → ⊥
+pub link-not : (i : ℕ) (p : TextId) → isLink i p ≡ false → linkText i ≡ p → ⊥
 link-not i p e q = false≢true (sym e ∙ ap (isLink i) (sym q) ∙ eq-eqb i i refl)
 
 -- ---- sums that differ at one place
@@ -90,10 +90,10 @@ pub record Relinks (s : Store) (i : ℕ) (l : List ℕ) (a : Area) : Type 0 wher
   pub used : a .used + rowAt (s .rows) i .link .len ≡ s .fs .«text_len» + length l
   pub size : rowAt (a .rows) i .link .len ≡ length l
   pub says : textAt (a .text) (rowAt (a .rows) i .link) ≡ l
-  pub sizes : (p : Place) → isLink i p ≡ false → spanOf (over s a) p .len ≡ spanOf s p .len
-  pub reads : (p : Place) → isLink i p ≡ false → textAt (a .text) (spanOf (over s a) p) ≡ textAt (s .text) (spanOf s p)
-  pub within : (p : Place) → endOf (spanOf (over s a) p) ≤ a .used
-  pub apart : (p q : Place) → (p ≡ q → ⊥) → Apart (spanOf (over s a) p) (spanOf (over s a) q)
+  pub sizes : (p : TextId) → isLink i p ≡ false → spanOf (over s a) p .len ≡ spanOf s p .len
+  pub reads : (p : TextId) → isLink i p ≡ false → textAt (a .text) (spanOf (over s a) p) ≡ textAt (s .text) (spanOf s p)
+  pub within : (p : TextId) → endOf (spanOf (over s a) p) ≤ a .used
+  pub apart : (p q : TextId) → (p ≡ q → ⊥) → Apart (spanOf (over s a) p) (spanOf (over s a) q)
 
 -- t is s with the files that g gives, and otherwise the same set; its tables are in order and as long
 pub record Turned (s t : Store) (g : ℕ → File → File) : Type 0 where

@@ -14,7 +14,7 @@ use borrow.Author.Tests.{eqb-true, eq-eqb, ne-eqb}
 use Rattle.tables.specs.declared.span.Span.{Span}
 use Rattle.tables.specs.Model.{Optional, absent, present, Directory, single, absolute, stored, File, Store, tabled, fileOf, pathIn}
 use Rattle.additions.specs.Addition.{linkLength}
-use Rattle.lookup.specs.Lookup.{Entry, entryOf, isHeld, heldText, own}
+use Rattle.lookup.specs.Lookup.{Entry, entryOf, isHeld, heldText, ownPath}
 use Rattle.links.specs.Clean.{linkedTo, cleanText, cleanFile}
 use Rattle.lookup.specs.Space.{directoryLength, space}
 use Rattle.links.specs.Judging.{verdictOf, textBy}
@@ -79,7 +79,7 @@ given-file v f h = at (eqb v 0) (eqb v 1) refl refl
     at true b p q =
         none-file v f p
         ∙ ap (λ (l : Optional (List ℕ)). linkedTo l f) (still-held (f .link) h)
-        ∙ ap (λ (c : Bool). linkedTo (present (cond c (heldText (f .link)) (cond (eqb v 1) (own (entryOf f)) (pathIn (f .directory) (heldText (f .link)))))) f) (sym p)
+        ∙ ap (λ (c : Bool). linkedTo (present (cond c (heldText (f .link)) (cond (eqb v 1) (ownPath (entryOf f)) (pathIn (f .directory) (heldText (f .link)))))) f) (sym p)
     at false true p q = rw (p, q)
     at false false p q = rw (p, q)
 
@@ -98,7 +98,7 @@ module _ (files : List Entry) (dirs : List (List ℕ)) (f : File) where
 -- ---- sums over files
 
 -- the bytes of old texts that change, and of new texts; and by how much texts are longer, where those that give way to the
--- link's own path are gone already
+-- link's ownPath path are gone already
 abbrev pub replaced : ℕ → Entry → ℕ
 replaced v f = cond (eqb v 0) 0 (length (f .text))
 

@@ -1,14 +1,14 @@
 -- What an addition answers: on tables in order the number that the tables give is the number that the model gives, and 0
 -- gives every bound that the writing needs. Relies on Added/TextNeeded.antt.
 use mathlib.Core.Path.{_≡_, refl, sym, ap, _∙_}
-use mathlib.Core.Bool.{Bool, true, false, cond, not}
+use mathlib.Core.Bool.{Bool, true, false, cond, not, _&&_, _||_}
 use Prim.Native.Nat.{ℕ, _+_, _*_, _/_, _≤_, min}
 use native.Mathlib.Omega.{arith}
 use lib.Dec.{leb, ltb}
 use lib.ListN.{length}
 use borrow.Author.Tests.{le-leb, ltb-false}
 use Rattle.tables.specs.Model.{Model, Store, viewOf}
-use Rattle.rules.specs.Rules.{firstOf, outcomeOf, both, either}
+use Rattle.rules.specs.Rules.{firstOf, outcomeOf}
 use Rattle.path.specs.Split.{hasParent}
 use Rattle.rules.specs.Bounds.{badLength, isNegative, limit}
 use Rattle.additions.specs.Addition.{Addition, added, addedTo, addingRules, badName, disagree, filesOf, lacks, limitedName, padOf, sizeAdded, textOf}
@@ -32,7 +32,7 @@ module _ (s : Store) (ok : Sound s) where
 
   pub adding-number : (a : Addition) → addingNumber s (viewOf s) a ≡ firstOf (addingRules (viewOf s) a (lacks (roomsOf s) (added (viewOf s) a) (textOf (added (viewOf s) a))))
   adding-number a =
-      ap (λ (h : Bool). firstOf (addingRules (viewOf s) a (either (not h) (lacks (roomsOf s) (added (viewOf s) a) (textAfter (s .fs) (viewOf s) a))))) sound-holds
+      ap (λ (h : Bool). firstOf (addingRules (viewOf s) a (not h || lacks (roomsOf s) (added (viewOf s) a) (textAfter (s .fs) (viewOf s) a)))) sound-holds
       ∙ ap (λ (t : ℕ). firstOf (addingRules (viewOf s) a (lacks (roomsOf s) (added (viewOf s) a) t))) (text-after s a ok)
 
   pub adding : (a : Addition) → addedTo (roomsOf s) (viewOf s) a ≡ outcomeOf (addingNumber s (viewOf s) a) (added (viewOf s) a)
@@ -44,7 +44,7 @@ pub pass-one : (t : Bool) (n k : ℕ) → cond t (n + 1) k ≡ 0 → (t ≡ fals
 pass-one true n k e = absurd (omega arith)
 pass-one false n k e = (refl, e)
 
-pub neither : (a b : Bool) → either a b ≡ false → (a ≡ false) × (b ≡ false)
+pub neither : (a b : Bool) → (a || b) ≡ false → (a ≡ false) × (b ≡ false)
 neither true b e = let z : _≡_ {A = ℕ} 0 1 = cc in absurd (omega arith)
 neither false b e = (refl, e)
 
@@ -90,9 +90,9 @@ fits s m a e =
     let p4 = pass-one (ltb limit (m .total + sizeAdded a)) 3 _ (p3 .1) in
     let p5 = pass-one (leb 4096 (length (limitedName (a .given) (a .path)))) 4 _ (p4 .1) in
     let p6 = pass-one (badName (a .given) (a .path)) 5 _ (p5 .1) in
-    let p7 = pass-one (both (not (hasParent (a .path))) (ltb 0 (filesOf m))) 6 _ (p6 .1) in
-    let p8 = pass-one (both (disagree m a) (m .v2)) 7 _ (p7 .1) in
+    let p7 = pass-one (not (hasParent (a .path)) && ltb 0 (filesOf m)) 6 _ (p6 .1) in
+    let p8 = pass-one (disagree m a && m .v2) 7 _ (p7 .1) in
     let p9 = pass-one (disagree m a) 8 _ (p8 .1) in
     let p10 = pass-one (ltb limit (m .total + sizeAdded a + padOf m a)) 3 _ (p9 .1) in
-    let p11 = pass-one (either (not (holds s)) (lacks (roomsOf s) (added m a) (textAfter (s .fs) m a))) 9 _ (p10 .1) in
+    let p11 = pass-one (not (holds s) || lacks (roomsOf s) (added m a) (textAfter (s .fs) m a)) 9 _ (p10 .1) in
     room s m a (ltb-false limit (m .total + sizeAdded a + padOf m a) (p10 .0)) (neither (not (holds s)) _ (p11 .0) .1)

@@ -19,7 +19,7 @@ use Rattle.tables.proofs.Spans.{read-before, read-new}
 use Rattle.tables.proofs.Words.{dir-back, dir-other}
 use Rattle.tables.proofs.Tabled.{tabled-more}
 use Rattle.plan.specs.Write.{putDirIf}
-use Rattle.sound.specs.Sound.{Place, setName, dirName, fileName, linkText, spanOf, sumTo, Sound}
+use Rattle.sound.specs.Sound.{TextId, setName, dirName, fileName, linkText, spanOf, sumTo, Sound}
 use Rattle.sound.proofs.Common.{sum-same, sum-more}
 use Rattle.sound.proofs.Added.Texts.{Put, old, first, within-put, apart-put, Extends, set-name-kept, dirs-kept, files-kept}
 
@@ -78,7 +78,7 @@ module _ (s : Store) (d : List ℕ) (ok : Sound s) (few : s .fs .«num_paths» +
   span-old : (k : ℕ) → k < n → spanOf new (dirName k) ≡ spanOf s (dirName k)
   span-old k h = rw (lt-ltb k n h, lt-ltb k (n + 1) (omega arith)) (more .dirs k h)
 
-  put : (p : Place) → Put (spanOf s) (spanOf new) (s .fs .«text_len») (length d) 0 (dirName n) (dirName n) p
+  put : (p : TextId) → Put (spanOf s) (spanOf new) (s .fs .«text_len») (length d) 0 (dirName n) (dirName n) p
   put setName = old refl
   put (fileName k) = old refl
   put (linkText k) = old refl

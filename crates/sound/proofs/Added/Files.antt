@@ -23,7 +23,7 @@ use Rattle.tables.proofs.Tabled.{tabled-more}
 use Rattle.rules.specs.Bounds.{limit}
 use Rattle.additions.specs.Addition.{isPresent}
 use Rattle.plan.specs.Write.{rootsAdded}
-use Rattle.sound.specs.Sound.{Place, setName, dirName, fileName, linkText, nowhere, spanOf, sumTo, textAtRow, sizeOfRow, padOfRow, Sound}
+use Rattle.sound.specs.Sound.{TextId, setName, dirName, fileName, linkText, nowhere, spanOf, sumTo, textAtRow, sizeOfRow, padOfRow, Sound}
 use Rattle.sound.proofs.Common.{sum-same, sum-more}
 use Rattle.sound.proofs.Added.Texts.{Put, old, first, second, within-put, apart-put, Extends, set-name-kept, dirs-kept, files-kept, place-kept, fileFrom, same-file}
 
@@ -150,10 +150,10 @@ module _ (s : Store) (f : NewFile) (ok : Sound s) (fit : Fitting s f) where
   abbrev linkIn : Row → Span
   linkIn r = r .link
 
-  abbrev PutHere : Place → Type 0
+  abbrev PutHere : TextId → Type 0
   PutHere p = Put (spanOf s) (spanOf new) u (length (f .name)) (length (f .link)) (fileName n) (linkText n) p
 
-  put : (p : Place) → PutHere p
+  put : (p : TextId) → PutHere p
   put setName = old refl
   put (dirName k) = old refl
   put (fileName k) = at (row-span nameIn k)

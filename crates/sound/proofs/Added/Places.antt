@@ -15,8 +15,8 @@ use Rattle.tables.specs.declared.rows.Row.{Row}
 use Rattle.tables.specs.Rows.{has}
 use Rattle.tables.specs.Model.{Directory, single, absolute, stored, Store, directoryText, directoryOf, viewOf}
 use Rattle.tables.proofs.Tabled.{getD-tabled, length-tabled}
-use Rattle.additions.specs.Addition.{isAmong, withDirectory, withPlace, flagsKept}
-use Rattle.plan.specs.Write.{placeFrom, placeOf, indexOf, isOutside}
+use Rattle.additions.specs.Addition.{isAmong, withDirectory, withDirectoryOf, flagsKept}
+use Rattle.plan.specs.Write.{directoryIndexFrom, directoryIndex, pathIndexOf, isOutside}
 
 -- ---- places of directories
 
@@ -26,12 +26,12 @@ record At (p i : ℕ) (d : List ℕ) (es : List (List ℕ)) : Type 0 where
   to : p < i + length es
   is : getD es (p - i) [] ≡ d
 
-place-none : (found i : ℕ) (d : List ℕ) (es : List (List ℕ)) → isAmong d es ≡ false → placeFrom found i d es ≡ found
-unfolding placeFrom
+place-none : (found i : ℕ) (d : List ℕ) (es : List (List ℕ)) → isAmong d es ≡ false → directoryIndexFrom found i d es ≡ found
+unfolding directoryIndexFrom
 place-none found i d [] e = refl
 place-none found i d (x ∷ es) e = at (equal d x) refl e (λ f. place-none (cond (equal d x) i found) (i + 1) d es f)
   where
-    at : (b : Bool) → equal d x ≡ b → cond b true (isAmong d es) ≡ false → (isAmong d es ≡ false → placeFrom (cond (equal d x) i found) (i + 1) d es ≡ cond (equal d x) i found) → placeFrom (cond (equal d x) i found) (i + 1) d es ≡ found
+    at : (b : Bool) → equal d x ≡ b → cond b true (isAmong d es) ≡ false → (isAmong d es ≡ false → directoryIndexFrom (cond (equal d x) i found) (i + 1) d es ≡ cond (equal d x) i found) → directoryIndexFrom (cond (equal d x) i found) (i + 1) d es ≡ found
     at true q r h = absurd (false≢true (sym r))
     at false q r h = h r ∙ rw q
 
@@ -45,30 +45,30 @@ found-later p i d x es h =
     let z : p - i ≡ suc (p - (i + 1)) = omega (arith, h .from) in
     record { from = omega (arith, h .from); to = omega (arith, h .to); is = rw z (h .is) }
 
-place-found : (found i : ℕ) (d : List ℕ) (es : List (List ℕ)) → isAmong d es ≡ true → At (placeFrom found i d es) i d es
-unfolding placeFrom
+place-found : (found i : ℕ) (d : List ℕ) (es : List (List ℕ)) → isAmong d es ≡ true → At (directoryIndexFrom found i d es) i d es
+unfolding directoryIndexFrom
 place-found found i d [] e = absurd (false≢true e)
 place-found found i d (x ∷ es) e =
     at (isAmong d es) refl (λ f. place-found (cond (equal d x) i found) (i + 1) d es f) (place-none (cond (equal d x) i found) (i + 1) d es)
   where
-    last : (b : Bool) → equal d x ≡ b → isAmong d es ≡ false → placeFrom (cond (equal d x) i found) (i + 1) d es ≡ cond (equal d x) i found → At (placeFrom (cond (equal d x) i found) (i + 1) d es) i d (x ∷ es)
-    last true q f g = found-here (placeFrom (cond (equal d x) i found) (i + 1) d es) i d x es (g ∙ rw q) q
+    last : (b : Bool) → equal d x ≡ b → isAmong d es ≡ false → directoryIndexFrom (cond (equal d x) i found) (i + 1) d es ≡ cond (equal d x) i found → At (directoryIndexFrom (cond (equal d x) i found) (i + 1) d es) i d (x ∷ es)
+    last true q f g = found-here (directoryIndexFrom (cond (equal d x) i found) (i + 1) d es) i d x es (g ∙ rw q) q
     last false q f g = absurd (false≢true (sym f ∙ (rw q at e)))
 
-    at : (b : Bool) → isAmong d es ≡ b → (isAmong d es ≡ true → At (placeFrom (cond (equal d x) i found) (i + 1) d es) (i + 1) d es)
-        → (isAmong d es ≡ false → placeFrom (cond (equal d x) i found) (i + 1) d es ≡ cond (equal d x) i found)
-        → At (placeFrom (cond (equal d x) i found) (i + 1) d es) i d (x ∷ es)
-    at true q h g = found-later (placeFrom (cond (equal d x) i found) (i + 1) d es) i d x es (h q)
+    at : (b : Bool) → isAmong d es ≡ b → (isAmong d es ≡ true → At (directoryIndexFrom (cond (equal d x) i found) (i + 1) d es) (i + 1) d es)
+        → (isAmong d es ≡ false → directoryIndexFrom (cond (equal d x) i found) (i + 1) d es ≡ cond (equal d x) i found)
+        → At (directoryIndexFrom (cond (equal d x) i found) (i + 1) d es) i d (x ∷ es)
+    at true q h g = found-later (directoryIndexFrom (cond (equal d x) i found) (i + 1) d es) i d x es (h q)
     at false q h g = last (equal d x) refl q (g q)
 
 -- with the directory among them, or put behind them, it is at its place
-pub place-at : (d : List ℕ) (ds : List (List ℕ)) → (placeOf d ds < length (withDirectory d ds)) × (getD (withDirectory d ds) (placeOf d ds) [] ≡ d)
+pub place-at : (d : List ℕ) (ds : List (List ℕ)) → (directoryIndex d ds < length (withDirectory d ds)) × (getD (withDirectory d ds) (directoryIndex d ds) [] ≡ d)
 place-at d ds = at (isAmong d ds) refl
   where
-    at : (b : Bool) → isAmong d ds ≡ b → (placeOf d ds < length (withDirectory d ds)) × (getD (withDirectory d ds) (placeOf d ds) [] ≡ d)
+    at : (b : Bool) → isAmong d ds ≡ b → (directoryIndex d ds < length (withDirectory d ds)) × (getD (withDirectory d ds) (directoryIndex d ds) [] ≡ d)
     at true e =
         let p = place-found (length ds) 0 d ds e in
-        let z : placeOf d ds - 0 ≡ placeOf d ds = omega arith in
+        let z : directoryIndex d ds - 0 ≡ directoryIndex d ds = omega arith in
         rw e (omega (arith, p .to), rw z at (p .is))
     at false e =
         rw (e, place-none (length ds) 0 d ds e)
@@ -78,16 +78,16 @@ place-at d ds = at (isAmong d ds) refl
 
 module _ (t : Store) (ds : List (List ℕ)) (few : t .fs .«num_paths» ≤ 65535) where
   abbrev Leads : Directory → Type 0
-  Leads p = (r : Row) → viewOf t .directories ≡ withPlace p ds → r .«path_index» ≡ indexOf p ds → has (r .flags) 32 ≡ isOutside p → directoryOf t r ≡ p
+  Leads p = (r : Row) → viewOf t .directories ≡ withDirectoryOf p ds → r .«path_index» ≡ pathIndexOf p ds → has (r .flags) 32 ≡ isOutside p → directoryOf t r ≡ p
 
   leads-stored : (d : List ℕ) (o : Bool) → Leads (stored d o)
   leads-stored d o r e q f =
       let p = place-at d ds in
       let n : t .fs .«num_paths» ≡ length (withDirectory d ds) = sym (length-tabled (t .fs .«num_paths») (directoryText t)) ∙ ap length e in
-      let l : placeOf d ds < t .fs .«num_paths» = omega (arith, p .0) in
-      let b : placeOf d ds < 65535 = omega arith in
-      rw (q, ne-eqb (placeOf d ds) 1073741823 (λ z. omega arith), ne-eqb (placeOf d ds) 1073741822 (λ z. omega arith), f)
-      (ap (λ (x : List ℕ). stored x o) (sym (getD-tabled (t .fs .«num_paths») (directoryText t) (placeOf d ds) [] l) ∙ ap (λ (x : List (List ℕ)). getD x (placeOf d ds) []) e ∙ p .1))
+      let l : directoryIndex d ds < t .fs .«num_paths» = omega (arith, p .0) in
+      let b : directoryIndex d ds < 65535 = omega arith in
+      rw (q, ne-eqb (directoryIndex d ds) 1073741823 (λ z. omega arith), ne-eqb (directoryIndex d ds) 1073741822 (λ z. omega arith), f)
+      (ap (λ (x : List ℕ). stored x o) (sym (getD-tabled (t .fs .«num_paths») (directoryText t) (directoryIndex d ds) [] l) ∙ ap (λ (x : List (List ℕ)). getD x (directoryIndex d ds) []) e ∙ p .1))
 
   pub leads : (p : Directory) → Leads p
   leads single r e q f = rw q
@@ -95,12 +95,12 @@ module _ (t : Store) (ds : List (List ℕ)) (few : t .fs .«num_paths» ≤ 6553
   leads (stored d o) r e q f = leads-stored d o r e q f
 
 -- a row's directory is there, or it has none
-pub index-placed : (p : Directory) (ds : List (List ℕ)) → indexOf p ds < 1073741822 → indexOf p ds < length (withPlace p ds)
+pub index-placed : (p : Directory) (ds : List (List ℕ)) → pathIndexOf p ds < 1073741822 → pathIndexOf p ds < length (withDirectoryOf p ds)
 index-placed single ds h = absurd (omega arith)
 index-placed absolute ds h = absurd (omega arith)
 index-placed (stored d o) ds h = place-at d ds .0
 
-pub index-small : (p : Directory) (ds : List (List ℕ)) → length (withPlace p ds) ≤ 65535 → indexOf p ds ≤ 1073741823
+pub index-small : (p : Directory) (ds : List (List ℕ)) → length (withDirectoryOf p ds) ≤ 65535 → pathIndexOf p ds ≤ 1073741823
 index-small single ds h = omega arith
 index-small absolute ds h = omega arith
 index-small (stored d o) ds h = omega (arith, place-at d ds .0)

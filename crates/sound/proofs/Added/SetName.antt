@@ -18,7 +18,7 @@ use Rattle.tables.proofs.Spans.{apart-before, apart-sym, apart-kept, within-kep
 use Rattle.tables.proofs.Words.{dir-words}
 use Rattle.tables.proofs.Filled.{word-filled}
 use Rattle.tables.proofs.Tabled.{tabled-same}
-use Rattle.sound.specs.Sound.{Place, setName, dirName, fileName, linkText, nowhere, spanOf, sumTo, textAtRow, Sound}
+use Rattle.sound.specs.Sound.{TextId, setName, dirName, fileName, linkText, nowhere, spanOf, sumTo, textAtRow, Sound}
 use Rattle.sound.proofs.Common.{sum-same}
 use Rattle.sound.proofs.Texts.{dir-span}
 
@@ -74,7 +74,7 @@ module _ (s : Store) (t : List ℕ) (ok : Sound s) (none : s .fs .«num_files» 
   n = s .fs .«num_paths»
 
   -- every other text is lowered
-  span-low : (p : Place) → (setName ≡ p → ⊥) → spanOf new p ≡ low c (spanOf s p)
+  span-low : (p : TextId) → (setName ≡ p → ⊥) → spanOf new p ≡ low c (spanOf s p)
   span-low setName d = absurd (d refl)
   span-low (dirName k) d = at (le-or-lt n k)
     where
@@ -85,24 +85,24 @@ module _ (s : Store) (t : List ℕ) (ok : Sound s) (none : s .fs .«num_files» 
   span-low (linkText k) d = rw (none, le-ltb k 0 (omega arith)) (sym (low-nowhere c))
 
   -- a place is the set's name, or another
-  data Sort (p : Place) : Type 0 where
+  data Sort (p : TextId) : Type 0 where
     is : p ≡ setName → Sort p
     other : (setName ≡ p → ⊥) → Sort p
 
-  sort : (p : Place) → Sort p
+  sort : (p : TextId) → Sort p
   sort setName = is refl
   sort (dirName k) = other (λ e. let z : _≡_ {A = ℕ} 0 1 = cc in omega arith)
   sort (fileName k) = other (λ e. let z : _≡_ {A = ℕ} 0 1 = cc in omega arith)
   sort (linkText k) = other (λ e. let z : _≡_ {A = ℕ} 0 1 = cc in omega arith)
 
-  low-within : (p : Place) → (setName ≡ p → ⊥) → endOf (low c (spanOf s p)) ≤ u - c .len
+  low-within : (p : TextId) → (setName ≡ p → ⊥) → endOf (low c (spanOf s p)) ≤ u - c .len
   low-within p d = within-kept c (spanOf s p) u (ok .within setName) (ok .within p) (ok .apart setName p d)
 
-  in-used : (p : Place) → Sort p → endOf (spanOf new p) ≤ u - c .len + length t
+  in-used : (p : TextId) → Sort p → endOf (spanOf new p) ≤ u - c .len + length t
   in-used p (is e) = rw e (omega arith)
   in-used p (other d) = rw (span-low p d) (omega (arith, low-within p d))
 
-  asunder : (p q : Place) → (p ≡ q → ⊥) → Sort p → Sort q → Apart (spanOf new p) (spanOf new q)
+  asunder : (p q : TextId) → (p ≡ q → ⊥) → Sort p → Sort q → Apart (spanOf new p) (spanOf new q)
   asunder p q d (is e) (is f) = absurd (d (e ∙ sym f))
   asunder p q d (is e) (other g) = rw (e, span-low q g) (apart-sym (low c (spanOf s q)) _ (apart-before (low c (spanOf s q)) _ (low-within q g)))
   asunder p q d (other g) (is f) = rw (f, span-low p g) (apart-before (low c (spanOf s p)) _ (low-within p g))

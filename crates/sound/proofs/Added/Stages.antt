@@ -12,7 +12,7 @@ use Rattle.tables.specs.declared.span.Span.{Span}
 use Rattle.tables.specs.Rows.{rootAt, has}
 use Rattle.tables.specs.Model.{File, Store, directoryOf, viewOf}
 use Rattle.plan.specs.Write.{rootsAdded}
-use Rattle.sound.specs.Sound.{Place, setName, dirName, fileName, linkText, nowhere, spanOf, Sound}
+use Rattle.sound.specs.Sound.{TextId, setName, dirName, fileName, linkText, nowhere, spanOf, Sound}
 use Rattle.sound.proofs.Added.Texts.{fileFrom}
 use Rattle.sound.proofs.Added.SetName.{nameStage, sound-named, named-name, named-directories, named-files}
 use Rattle.sound.proofs.Added.Directories.{dirStage, sound-dir, dir-name, dir-directories, dir-files}
@@ -152,7 +152,7 @@ settled s v2 links held times =
       text = s .text;
     }
 
-span-settled : (s : Store) (v2 : Bool) (links held : ℕ) (times : List ℤ) (p : Place) → spanOf (settled s v2 links held times) p ≡ spanOf s p
+span-settled : (s : Store) (v2 : Bool) (links held : ℕ) (times : List ℤ) (p : TextId) → spanOf (settled s v2 links held times) p ≡ spanOf s p
 span-settled s v2 links held times setName = refl
 span-settled s v2 links held times (dirName k) = refl
 span-settled s v2 links held times (fileName k) = refl

@@ -15,8 +15,8 @@ use Rattle.tables.specs.Span.{endOf}
 use Rattle.tables.specs.Model.{Directory, single, absolute, stored, presentIf, Model, Store, fileOf, viewOf}
 use Rattle.tables.proofs.Spans.{clip-same}
 use Rattle.tables.proofs.Tabled.{length-tabled}
-use Rattle.additions.specs.Addition.{Addition, filesOf, sizeAdded, keeps, padOf, newName, placeFor, fileAdded, padAdded, padDirectory, isAmong, withDirectory, withPlace, added, linkLength, fileText, textOf}
-use Rattle.plan.specs.Write.{missing, missingOf, setText, kept, textAfter}
+use Rattle.additions.specs.Addition.{Addition, filesOf, sizeAdded, keeps, padOf, newName, directoryAdded, fileAdded, padAdded, padDirectory, isAmong, withDirectory, withDirectoryOf, added, linkLength, fileText, textOf}
+use Rattle.plan.specs.Write.{textIfNew, newTextOf, setText, textKept, textAfter}
 use Rattle.sound.specs.Sound.{setName, Sound}
 use Rattle.sound.proofs.Common.{sum-map-append}
 use Rattle.sound.proofs.Texts.{text-is, text-length}
@@ -30,15 +30,15 @@ one-more : (b : Bool) (d : List ℕ) (ds : List (List ℕ)) → dirsText (cond b
 one-more true d ds = omega arith
 one-more false d ds = omega (arith, sum-map-append length ds (d ∷ []))
 
-missing-text : (d : List ℕ) (ds : List (List ℕ)) → dirsText (withDirectory d ds) ≡ dirsText ds + length (missing d ds)
+missing-text : (d : List ℕ) (ds : List (List ℕ)) → dirsText (withDirectory d ds) ≡ dirsText ds + length (textIfNew d ds)
 missing-text d ds = one-more (isAmong d ds) d ds
 
-place-text : (p : Directory) (ds : List (List ℕ)) → dirsText (withPlace p ds) ≡ dirsText ds + length (missingOf p ds)
+place-text : (p : Directory) (ds : List (List ℕ)) → dirsText (withDirectoryOf p ds) ≡ dirsText ds + length (newTextOf p ds)
 place-text single ds = omega arith
 place-text absolute ds = omega arith
 place-text (stored d outside) ds = missing-text d ds
 
-pad-dir-text : (b : Bool) (d : List ℕ) (ds : List (List ℕ)) → dirsText (cond b ds (withDirectory d ds)) ≡ dirsText ds + length (cond b [] (missing d ds))
+pad-dir-text : (b : Bool) (d : List ℕ) (ds : List (List ℕ)) → dirsText (cond b ds (withDirectory d ds)) ≡ dirsText ds + length (cond b [] (textIfNew d ds))
 pad-dir-text true d ds = omega arith
 pad-dir-text false d ds = missing-text d ds
 
@@ -56,10 +56,10 @@ pad-text o n = at (eqb n 0) refl
 -- ---- together
 
 module _ (fs : FileStorage) (m : Model) (a : Addition) (e : filesOf m ≡ fs .«num_files») (w : endOf (fs .name) ≤ fs .«text_len») (u : fs .«text_len» ≡ textOf m) (l : length (m .name) ≡ fs .name .len) where
-  name-text : kept fs + length (setText m a) + length (m .name) ≡ length (newName m a) + textOf m
+  name-text : textKept fs + length (setText m a) + length (m .name) ≡ length (newName m a) + textOf m
   name-text = at (eqb (fs .«num_files») 0) refl
     where
-      at : (b : Bool) → eqb (fs .«num_files») 0 ≡ b → kept fs + length (setText m a) + length (m .name) ≡ length (newName m a) + textOf m
+      at : (b : Bool) → eqb (fs .«num_files») 0 ≡ b → textKept fs + length (setText m a) + length (m .name) ≡ length (newName m a) + textOf m
       at true q = rw (e, q) (omega (arith, ap (λ (x : Span). x .len) (clip-same (fs .«text_len») (fs .name) w)))
       at false q = rw (e, q) (omega arith)
 
@@ -68,8 +68,8 @@ module _ (fs : FileStorage) (m : Model) (a : Addition) (e : filesOf m ≡ fs .«
       omega (
         arith,
         name-text,
-        place-text (placeFor m a) (m .directories),
-        pad-dir-text (eqb (padOf m a) 0) padDirectory (withPlace (placeFor m a) (m .directories)),
+        place-text (directoryAdded m a) (m .directories),
+        pad-dir-text (eqb (padOf m a) 0) padDirectory (withDirectoryOf (directoryAdded m a) (m .directories)),
         sum-map-append fileText (m .files) (fileAdded m a ∷ padAdded (m .total + sizeAdded a) (padOf m a)),
         link-text (keeps m a) (a .link),
         pad-text (m .total + sizeAdded a) (padOf m a),

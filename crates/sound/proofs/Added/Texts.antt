@@ -11,22 +11,22 @@ use Rattle.tables.specs.Rows.{rowAt, dirAt, rootAt, has}
 use Rattle.tables.specs.Model.{Store, Directory, presentIf, File, directoryText, directoryOf, fileOf, tabled}
 use Rattle.tables.proofs.Spans.{apart-before, apart-sym}
 use Rattle.tables.proofs.Tabled.{tabled-same}
-use Rattle.sound.specs.Sound.{Place, setName, dirName, fileName, linkText, Sound}
+use Rattle.sound.specs.Sound.{TextId, setName, dirName, fileName, linkText, Sound}
 use Rattle.sound.proofs.Texts.{dir-span, name-span, link-span, directory-same}
 
 -- two texts put behind the used part, one after the other: a place holds what it held, or is that of a new one
-pub data Put (s t : Place → Span) (u n k : ℕ) (x y : Place) (p : Place) : Type 0 where
+pub data Put (s t : TextId → Span) (u n k : ℕ) (x y : TextId) (p : TextId) : Type 0 where
   old : t p ≡ s p → Put s t u n k x y p
   first : p ≡ x → t p ≡ record { at = u; len = n } → Put s t u n k x y p
   second : p ≡ y → t p ≡ record { at = u + n; len = k } → Put s t u n k x y p
 
-module _ (s t : Place → Span) (u n k : ℕ) (x y : Place) (within : (p : Place) → endOf (s p) ≤ u) where
-  pub within-put : (p : Place) → Put s t u n k x y p → endOf (t p) ≤ u + n + k
+module _ (s t : TextId → Span) (u n k : ℕ) (x y : TextId) (within : (p : TextId) → endOf (s p) ≤ u) where
+  pub within-put : (p : TextId) → Put s t u n k x y p → endOf (t p) ≤ u + n + k
   within-put p (old e) = rw e (omega (arith, within p))
   within-put p (first i e) = rw e (omega arith)
   within-put p (second i e) = rw e (omega arith)
 
-  pub apart-put : ((p q : Place) → (p ≡ q → ⊥) → Apart (s p) (s q)) → (p q : Place) → (p ≡ q → ⊥) → Put s t u n k x y p → Put s t u n k x y q → Apart (t p) (t q)
+  pub apart-put : ((p q : TextId) → (p ≡ q → ⊥) → Apart (s p) (s q)) → (p q : TextId) → (p ≡ q → ⊥) → Put s t u n k x y p → Put s t u n k x y q → Apart (t p) (t q)
   apart-put apart p q d (old e) (old f) = rw (e, f) (apart p q d)
   apart-put apart p q d (old e) (first j f) = rw (e, f) (apart-before (s p) _ (within p))
   apart-put apart p q d (old e) (second j f) = rw (e, f) (apart-before (s p) _ (omega (arith, within p)))

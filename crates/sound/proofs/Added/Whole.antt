@@ -1,6 +1,6 @@
 -- An addition as a whole is its stages one after the other. Relies on Added/Stages.antt and the laws of runs of `lists`.
 use mathlib.Core.Path.{_≡_, refl, ap, _∙_}
-use mathlib.Core.Bool.{Bool, true, false, cond, not}
+use mathlib.Core.Bool.{Bool, true, false, cond, not, _&&_}
 use mathlib.Core.List.{List, [], _∷_, _++_}
 use Prim.Native.Nat.{ℕ, _+_, _%_}
 use native.Mathlib.Omega.{arith}
@@ -13,9 +13,8 @@ use Rattle.tables.specs.declared.storage.FileStorage.{FileStorage}
 use Rattle.tables.specs.Span.{slid}
 use Rattle.tables.specs.Rows.{has}
 use Rattle.tables.specs.Model.{absent, Directory, single, absolute, stored, Model, Store}
-use Rattle.rules.specs.Rules.{both}
-use Rattle.additions.specs.Addition.{Addition, added, filesOf, sizeAdded, keeps, isV2, padOf, placeFor, fileAdded, padAdded, padDirectory, flagsKept, isAmong, withDirectory, withPlace, isPresent, isZero}
-use Rattle.plan.specs.Write.{placeOf, indexOf, isOutside, missing, setText, directoryNew, nameText, linkNew, padDirectoryNew, padText, oldName, kept, putDirIf, isNew, isNewPlace, isNewPad, rootsAdded, timesAdded, storageAdded, storeAdded}
+use Rattle.additions.specs.Addition.{Addition, added, filesOf, sizeAdded, keeps, isV2, padOf, directoryAdded, fileAdded, padAdded, padDirectory, flagsKept, isAmong, withDirectory, withDirectoryOf, isPresent, isZero}
+use Rattle.plan.specs.Write.{directoryIndex, pathIndexOf, isOutside, textIfNew, setText, directoryNew, nameText, linkNew, padDirectoryNew, padText, oldName, textKept, putDirIf, isNew, isNewDirectory, isNewPad, rootsAdded, timesAdded, storageAdded, storeAdded}
 use Rattle.sound.proofs.Added.SetName.{nameStage}
 use Rattle.sound.proofs.Added.Directories.{dirStage}
 use Rattle.sound.proofs.Added.Files.{NewFile, withFile, padStage}
@@ -31,8 +30,8 @@ newFile m a =
       size = sizeAdded a;
       name = nameText m a;
       link = linkNew m a;
-      index = indexOf (placeFor m a) (m .directories);
-      flags = flagsOf (flagsKept (a .flags) (keeps m a)) (keeps m a) (isOutside (placeFor m a)) (isPresent (a .root));
+      index = pathIndexOf (directoryAdded m a) (m .directories);
+      flags = flagsOf (flagsKept (a .flags) (keeps m a)) (keeps m a) (isOutside (directoryAdded m a)) (isPresent (a .root));
       root = a .root;
     }
 
@@ -42,7 +41,7 @@ newPad m a =
       size = padOf m a;
       name = padText m a;
       link = [];
-      index = placeOf padDirectory (withPlace (placeFor m a) (m .directories));
+      index = directoryIndex padDirectory (withDirectoryOf (directoryAdded m a) (m .directories));
       flags = 65;
       root = absent;
     }
@@ -51,7 +50,7 @@ abbrev pub stage1 : Store → Model → Addition → Store
 stage1 s m a = nameStage (eqb (s .fs .«num_files») 0) s (oldName (s .fs)) (setText m a)
 
 abbrev pub stage2 : Store → Model → Addition → Store
-stage2 s m a = dirStage (isNewPlace (placeFor m a) (m .directories)) (stage1 s m a) (directoryNew m a)
+stage2 s m a = dirStage (isNewDirectory (directoryAdded m a) (m .directories)) (stage1 s m a) (directoryNew m a)
 
 abbrev pub stage3 : Store → Model → Addition → Store
 stage3 s m a = withFile (stage2 s m a) (newFile m a)
@@ -77,12 +76,12 @@ count-new : (b : Bool) (d : List ℕ) (ds : List (List ℕ)) → length (cond b 
 count-new true d ds = omega arith
 count-new false d ds = omega (arith, length-append ds (d ∷ []))
 
-pub count-place : (p : Directory) (ds : List (List ℕ)) → length (withPlace p ds) ≡ length ds + cond (isNewPlace p ds) 1 0
+pub count-place : (p : Directory) (ds : List (List ℕ)) → length (withDirectoryOf p ds) ≡ length ds + cond (isNewDirectory p ds) 1 0
 count-place single ds = omega arith
 count-place absolute ds = omega arith
 count-place (stored d o) ds = count-new (isAmong d ds) d ds
 
-pub count-pad : (b : Bool) (d : List ℕ) (ds : List (List ℕ)) → length (cond b ds (withDirectory d ds)) ≡ length ds + cond (both (not b) (isNew d ds)) 1 0
+pub count-pad : (b : Bool) (d : List ℕ) (ds : List (List ℕ)) → length (cond b ds (withDirectory d ds)) ≡ length ds + cond (not b && isNew d ds) 1 0
 count-pad true d ds = omega arith
 count-pad false d ds = count-new (isAmong d ds) d ds
 
@@ -126,11 +125,11 @@ pad-dirs : (b : Bool) (dirs : List ℕ) (i j at : ℕ) (t : List ℕ) → i ≡ 
 pad-dirs true dirs i j at t e f = rw (e, f refl)
 pad-dirs false dirs i j at t e f = refl
 
-pad-four : (b : Bool) (ds : List (List ℕ)) → both (not b) (isNew padDirectory ds) ≡ true → length (cond b [] (missing padDirectory ds)) ≡ 4
+pad-four : (b : Bool) (ds : List (List ℕ)) → (not b && isNew padDirectory ds) ≡ true → length (cond b [] (textIfNew padDirectory ds)) ≡ 4
 pad-four true ds e = let z : _≡_ {A = ℕ} 0 1 = cc in absurd (omega arith)
 pad-four false ds e = at (isAmong padDirectory ds) refl
   where
-    at : (b : Bool) → isAmong padDirectory ds ≡ b → length (missing padDirectory ds) ≡ 4
+    at : (b : Bool) → isAmong padDirectory ds ≡ b → length (textIfNew padDirectory ds) ≡ 4
     at true q = let r : not true ≡ true = rw q at e in let z : _≡_ {A = ℕ} 0 1 = cc in absurd (omega arith)
     at false q = rw q
 
@@ -138,7 +137,7 @@ module _ (s : Store) (m : Model) (a : Addition) (e : length (m .directories) ≡
   pub on-disk-is : s .fs .«size_on_disk» + cond (eqb (a .flags % 2) 1) 0 (sizeAdded a) ≡ stage6 s m a .fs .«size_on_disk»
   on-disk-is =
       let p : has (newFile m a .flags) 1 ≡ eqb (a .flags % 2) 1 =
-      flags-one (flagsKept (a .flags) (keeps m a)) (keeps m a) (isOutside (placeFor m a)) (isPresent (a .root)) (kept-small (a .flags) (keeps m a))
+      flags-one (flagsKept (a .flags) (keeps m a)) (keeps m a) (isOutside (directoryAdded m a)) (isPresent (a .root)) (kept-small (a .flags) (keeps m a))
       ∙ ap (λ (x : ℕ). eqb x 1) (kept-one (a .flags) (keeps m a)) in
       rw p (omega arith)
 
@@ -146,19 +145,19 @@ module _ (s : Store) (m : Model) (a : Addition) (e : length (m .directories) ≡
   paths-is =
       omega (
         arith,
-        count-place (placeFor m a) (m .directories),
-        count-pad (eqb (padOf m a) 0) padDirectory (withPlace (placeFor m a) (m .directories)),
+        count-place (directoryAdded m a) (m .directories),
+        count-pad (eqb (padOf m a) 0) padDirectory (withDirectoryOf (directoryAdded m a) (m .directories)),
       )
 
   dirs-is : storeAdded s m a .dirs ≡ stage6 s m a .dirs
   dirs-is =
-      pad-dirs (isNewPad m a) (stage3 s m a .dirs) (length (withPlace (placeFor m a) (m .directories))) (stage3 s m a .fs .«num_paths») (stage3 s m a .fs .«text_len») (padDirectoryNew m a)
-      (omega (arith, count-place (placeFor m a) (m .directories)))
-      (pad-four (eqb (padOf m a) 0) (withPlace (placeFor m a) (m .directories)))
+      pad-dirs (isNewPad m a) (stage3 s m a .dirs) (length (withDirectoryOf (directoryAdded m a) (m .directories))) (stage3 s m a .fs .«num_paths») (stage3 s m a .fs .«text_len») (padDirectoryNew m a)
+      (omega (arith, count-place (directoryAdded m a) (m .directories)))
+      (pad-four (eqb (padOf m a) 0) (withDirectoryOf (directoryAdded m a) (m .directories)))
 
   text-is : storeAdded s m a .text ≡ stage6 s m a .text
   text-is =
-      six (cond (eqb (s .fs .«num_files») 0) (slid (oldName (s .fs)) (s .fs .«text_len») (s .text)) (s .text)) (kept (s .fs)) (setText m a) (directoryNew m a) (nameText m a) (linkNew m a) (padDirectoryNew m a) (padText m a)
+      six (cond (eqb (s .fs .«num_files») 0) (slid (oldName (s .fs)) (s .fs .«text_len») (s .text)) (s .text)) (textKept (s .fs)) (setText m a) (directoryNew m a) (nameText m a) (linkNew m a) (padDirectoryNew m a) (padText m a)
 
   -- the set's record by what is computed in another way
   abbrev storage : ℕ → ℕ → ℕ → ℕ → FileStorage
@@ -170,7 +169,7 @@ module _ (s : Store) (m : Model) (a : Addition) (e : length (m .directories) ≡
         «num_paths» = paths;
         «num_symlinks» = s .fs .«num_symlinks» + cond (keeps m a) 1 0;
         «num_mtimes» = heldAfter (isZero (a .time)) (s .fs .«num_mtimes») (s .fs .«num_files»);
-        name = cond (eqb (s .fs .«num_files») 0) (record { at = kept (s .fs); len = length (setText m a) }) (s .fs .name);
+        name = cond (eqb (s .fs .«num_files») 0) (record { at = textKept (s .fs); len = length (setText m a) }) (s .fs .name);
         «text_len» = text;
         «total_size» = s .fs .«total_size» + sizeAdded a + padOf m a;
         «size_on_disk» = disk;

@@ -17,7 +17,7 @@ use Rattle.tables.specs.Model.{Store}
 use Rattle.tables.proofs.Spans.{clip-same}
 use Rattle.tables.proofs.Moves.{row-moved, dir-lowered, length-lowered}
 use Rattle.trim.specs.Removal.{firstGone, secondGone, storeWithout, storeTrimmed}
-use Rattle.sound.specs.Sound.{Place, setName, dirName, fileName, linkText, nowhere, spanOf, sumTo, textAtRow, lengths, Sound}
+use Rattle.sound.specs.Sound.{TextId, setName, dirName, fileName, linkText, nowhere, spanOf, sumTo, textAtRow, lengths, Sound}
 use Rattle.sound.proofs.Common.{sum-same}
 use Rattle.sound.proofs.Files.{sum-skip}
 use Rattle.sound.proofs.Trimmed.Spans.{lowTwice, low-twice-nowhere, next-in, two-within, two-read, two-apart}
@@ -25,14 +25,14 @@ use Rattle.sound.proofs.Trimmed.Spans.{lowTwice, low-twice-nowhere, nex
 -- ---- places
 
 -- what stands at a place after row f is removed stood here before
-abbrev pub back : ℕ → Place → Place
+abbrev pub back : ℕ → TextId → TextId
 back f setName = setName
 back f (dirName k) = dirName k
 back f (fileName k) = fileName (skip f k)
 back f (linkText k) = linkText (skip f k)
 
 -- and the way there
-abbrev fore : ℕ → Place → Place
+abbrev fore : ℕ → TextId → TextId
 fore f setName = setName
 fore f (dirName k) = dirName k
 fore f (fileName k) = fileName (k - (1 - (f + 1 - k)))
@@ -41,30 +41,30 @@ fore f (linkText k) = linkText (k - (1 - (f + 1 - k)))
 there : (f k : ℕ) → skip f k - (1 - (f + 1 - skip f k)) ≡ k
 there f k = omega arith
 
-fore-back : (f : ℕ) (p : Place) → fore f (back f p) ≡ p
+fore-back : (f : ℕ) (p : TextId) → fore f (back f p) ≡ p
 fore-back f setName = refl
 fore-back f (dirName k) = refl
 fore-back f (fileName k) = ap fileName (there f k)
 fore-back f (linkText k) = ap linkText (there f k)
 
-back-apart : (f : ℕ) (p q : Place) → (p ≡ q → ⊥) → back f p ≡ back f q → ⊥
+back-apart : (f : ℕ) (p q : TextId) → (p ≡ q → ⊥) → back f p ≡ back f q → ⊥
 back-apart f p q n e = n (sym (fore-back f p) ∙ ap (fore f) e ∙ fore-back f q)
 
 pub skip-not : (f k : ℕ) → skip f k ≡ f → ⊥
 skip-not f k e = omega arith
 
-abbrev rowOf : Place → ℕ → ℕ
+abbrev rowOf : TextId → ℕ → ℕ
 rowOf setName f = f + 1
 rowOf (dirName k) f = f + 1
 rowOf (fileName k) f = k
 rowOf (linkText k) f = k
 
 -- no place leads back to a text of row f
-back-not : (f : ℕ) (p q : Place) → rowOf q f ≡ f → q ≡ back f p → ⊥
-back-not f setName q n e = let m = ap (λ (x : Place). rowOf x f) e in omega arith
-back-not f (dirName k) q n e = let m = ap (λ (x : Place). rowOf x f) e in omega arith
-back-not f (fileName k) q n e = let m = ap (λ (x : Place). rowOf x f) e in skip-not f k (sym m ∙ n)
-back-not f (linkText k) q n e = let m = ap (λ (x : Place). rowOf x f) e in skip-not f k (sym m ∙ n)
+back-not : (f : ℕ) (p q : TextId) → rowOf q f ≡ f → q ≡ back f p → ⊥
+back-not f setName q n e = let m = ap (λ (x : TextId). rowOf x f) e in omega arith
+back-not f (dirName k) q n e = let m = ap (λ (x : TextId). rowOf x f) e in omega arith
+back-not f (fileName k) q n e = let m = ap (λ (x : TextId). rowOf x f) e in skip-not f k (sym m ∙ n)
+back-not f (linkText k) q n e = let m = ap (λ (x : TextId). rowOf x f) e in skip-not f k (sym m ∙ n)
 
 name-link : (f : ℕ) → fileName f ≡ linkText f → ⊥
 name-link f e = let z : _≡_ {A = ℕ} 0 1 = cc in omega arith
@@ -103,10 +103,10 @@ module _ (s : Store) (f : ℕ) (h : f < s .fs .«num_files») (ok : Sound s) whe
   cl : Apart c l
   cl = rw (name-is, link-is) at (ok .apart (fileName f) (linkText f) (name-link f))
 
-  cs : (p : Place) → Apart c (spanOf s (back f p))
+  cs : (p : TextId) → Apart c (spanOf s (back f p))
   cs p = rw name-is at (ok .apart (fileName f) (back f p) (back-not f p (fileName f) refl))
 
-  ls : (p : Place) → Apart l (spanOf s (back f p))
+  ls : (p : TextId) → Apart l (spanOf s (back f p))
   ls p = rw link-is at (ok .apart (linkText f) (back f p) (back-not f p (linkText f) refl))
 
   -- nothing is clipped
@@ -152,7 +152,7 @@ module _ (s : Store) (f : ℕ) (h : f < s .fs .«num_files») (ok : Sound s) whe
           (ap v (row-is k b) ∙ e k (rowAt (s .rows) (skip f k)))
 
   -- where each text lies then
-  pub span-after : (p : Place) → spanOf new p ≡ lowTwice c (low c l) (spanOf s (back f p))
+  pub span-after : (p : TextId) → spanOf new p ≡ lowTwice c (low c l) (spanOf s (back f p))
   span-after setName = refl
   span-after (dirName k) = at (le-or-lt (s .fs .«num_paths») k)
     where
@@ -162,16 +162,16 @@ module _ (s : Store) (f : ℕ) (h : f < s .fs .«num_files») (ok : Sound s) whe
   span-after (fileName k) = row-span (λ (r : Row). r .name) (λ i r. refl) k
   span-after (linkText k) = row-span (λ (r : Row). r .link) (λ i r. refl) k
 
-  pub within-after : (p : Place) → endOf (spanOf new p) ≤ new .fs .«text_len»
+  pub within-after : (p : TextId) → endOf (spanOf new p) ≤ new .fs .«text_len»
   within-after p =
       rw (span-after p) (two-within c l u (s .text) hc hl (ok .text-holds) cl (spanOf s (back f p)) (ok .within (back f p)) (cs p) (ls p))
 
-  pub apart-after : (p q : Place) → (p ≡ q → ⊥) → Apart (spanOf new p) (spanOf new q)
+  pub apart-after : (p q : TextId) → (p ≡ q → ⊥) → Apart (spanOf new p) (spanOf new q)
   apart-after p q n =
       rw (span-after p, span-after q)
       (two-apart c l u (s .text) hc hl (ok .text-holds) cl (spanOf s (back f p)) (ok .within (back f p)) (cs p) (ls p) (spanOf s (back f q)) (cs q) (ls q) (ok .apart (back f p) (back f q) (back-apart f p q n)))
 
-  pub text-after : (p : Place) → textAt (new .text) (spanOf new p) ≡ textAt (s .text) (spanOf s (back f p))
+  pub text-after : (p : TextId) → textAt (new .text) (spanOf new p) ≡ textAt (s .text) (spanOf s (back f p))
   text-after p =
       ap (textAt (new .text)) (span-after p)
       ∙ two-read c l u (s .text) hc hl (ok .text-holds) cl (spanOf s (back f p)) (ok .within (back f p)) (cs p) (ls p)

@@ -1,4 +1,4 @@
--- What tables in order mean once row f is removed: the set without file f. It relies on Trimmed/Texts.antt and on the laws of
+-- What tables in order mean once row f is removed: the set withoutFile file f. It relies on Trimmed/Texts.antt and on the laws of
 -- spans in `tables`, which serve the roots as well.
 use mathlib.Core.Path.{_≡_, refl, sym, ap, _∙_}
 use mathlib.Core.Bool.{Bool, true, false, cond}
@@ -18,7 +18,7 @@ use Rattle.tables.specs.Rows.{rowAt, rootAt, has, skip}
 use Rattle.tables.specs.Model.{Optional, presentIf, Directory, single, absolute, stored, File, Store, tabled, directoryText, fileOf, viewOf}
 use Rattle.tables.proofs.Spans.{read-kept, length-slid}
 use Rattle.tables.proofs.Tabled.{tabled-same}
-use Rattle.trim.specs.Trim.{beginningAt, without}
+use Rattle.trim.specs.Trim.{beginningAt, withoutFile}
 use Rattle.sound.specs.Sound.{setName, dirName, fileName, linkText, Sound}
 use Rattle.sound.proofs.Files.{number-tabled, tabled-except}
 use Rattle.sound.proofs.Trimmed.Texts.{c, l, new, row-is, text-after}
@@ -147,7 +147,7 @@ module _ (s : Store) (f : ℕ) (h : f < s .fs .«num_files») (ok : Sound s) whe
           let e : skip f k ≡ suc k = omega arith in
           file-after k b ∙ rw (le-ltb k f a, e)
 
-  pub view-after : viewOf after ≡ without f (viewOf s)
+  pub view-after : viewOf after ≡ withoutFile f (viewOf s)
   view-after =
       rw (number-tabled (λ (g : File). g .size) (s .fs .«num_files») (fileOf s) f h)
       (rw (

@@ -4,13 +4,13 @@ use mathlib.Core.Bool.{Bool}
 use borrow.Author.Tests.{not-true, not-false}
 use Prim.Native.Nat.{ℕ}
 use Rattle.rules.specs.Rules.{firstOf}
-use Rattle.additions.specs.Addition.{kindRules}
+use Rattle.additions.specs.Addition.{versionRules}
 use Rattle.additions.proofs.checks.check_kind.Statement.{statement}
 use Rattle.additions.proofs.checks.check_kind.Tie as tie
 
 -- the numbers at four given truth values
 module _ {v2 plain free root : Bool} where
-  at : (k : ℕ) {a b c d : Bool} → k ≡ firstOf (kindRules a b c d) → v2 ≡ a → plain ≡ b → free ≡ c → root ≡ d → k ≡ firstOf (kindRules v2 plain free root)
+  at : (k : ℕ) {a b c d : Bool} → k ≡ firstOf (versionRules a b c d) → v2 ≡ a → plain ≡ b → free ≡ c → root ≡ d → k ≡ firstOf (versionRules v2 plain free root)
   at k e p q r s = rw (p, q, r, s) e
 
 returns : tie.Need-returns

@@ -2,8 +2,8 @@
 use mathlib.Core.Path.{_≡_, sym, _∙_}
 use borrow.Author.Tests.{le-leb, lt-leb, lt-ltb, le-ltb}
 use Rattle.additions.specs.Addition.{optionalOf}
-use Rattle.additions.specs.Parts.{absoluteKind}
-use Rattle.additions.specs.Checks.{badBeside}
+use Rattle.additions.specs.private.Texts.{absoluteKind}
+use Rattle.additions.specs.private.Checks.{badBeside}
 use borrow.Author.Needs.{needs}
 use Rattle.additions.proofs.checks.check_names.Statement.{statement}
 use Rattle.additions.proofs.checks.check_names.Tie as tie

@@ -9,10 +9,10 @@ use Rattle.types.specs.Refusals.{value}
 use Rattle.rules.specs.declared.decide.Check.the-variants.{Go}
 use Rattle.additions.specs.declared.checks.Sizes.{Sizes}
 use Rattle.rules.specs.Rules.{firstOf}
-use Rattle.rules.specs.Bounds.{isNegative, sizeOf}
-use Rattle.additions.specs.Addition.{decides, isOpen, optionalOf, sizeRules, kindRules}
-use Rattle.additions.specs.Parts.{isHere}
-use Rattle.additions.specs.Checks.{sizesFor}
+use Rattle.rules.specs.Bounds.{isNegative, clampedOf}
+use Rattle.additions.specs.Addition.{decides, isOpen, optionalOf, sizeRules, versionRules}
+use Rattle.additions.specs.private.Texts.{isHere}
+use Rattle.additions.specs.private.Checks.{sizesFor}
 use Rattle.rules.specs.Results.{checkNumber}
 use Rattle.additions.proofs.Rules.{SizesIn, sizes-in, stop-size, stop-name, stop-kind, stop-pad, sizes-done}
 use borrow.Author.Needs.{needs}
@@ -20,11 +20,11 @@ use Rattle.additions.proofs.checks.decide_sizes.Statement.{statement}
 use Rattle.additions.proofs.checks.decide_sizes.Tie as tie
 
 -- the size and the four first rules, on the call's own number
-size-is : (c : tie.After-clamped64) → c .clamped64 .result ≡ sizeOf (c .before .before .before .before .args .info .size)
-size-is c = c .clamped64 .ensures ∙ ap sizeOf (toZ-ofZ {w = w64} {z = c .before .before .before .before .args .info .size} (record { sfits = c .before .struct-told .given .1 .0 .1 }))
+size-is : (c : tie.After-clamped64) → c .clamped64 .result ≡ clampedOf (c .before .before .before .before .args .info .size)
+size-is c = c .clamped64 .ensures ∙ ap clampedOf (toZ-ofZ {w = w64} {z = c .before .before .before .before .args .info .size} (record { sfits = c .before .struct-told .given .1 .0 .1 }))
 
 sized : (c : tie.After-check-size)
-    → checkNumber (c .check-size .result) ≡ firstOf (sizeRules (c .before .before .before .before .before .before .before .args .fs .«piece_length») (c .before .before .before .before .before .before .before .args .fs .«total_size») (isNegative (c .before .before .before .before .before .before .before .args .info .size)) (sizeOf (c .before .before .before .before .before .before .before .args .info .size)))
+    → checkNumber (c .check-size .result) ≡ firstOf (sizeRules (c .before .before .before .before .before .before .before .args .fs .«piece_length») (c .before .before .before .before .before .before .before .args .fs .«total_size») (isNegative (c .before .before .before .before .before .before .before .args .info .size)) (clampedOf (c .before .before .before .before .before .before .before .args .info .size)))
 sized c = rw (c .before .is-negative64 .ensures ∙ ap isNegative (toZ-ofZ {w = w64} {z = c .before .before .before .before .before .before .before .args .info .size} (record { sfits = c .before .before .struct-told2 .given .1 .0 .1 })), size-is (c .before .before .before)) at (c .check-size .ensures)
 
 inside : (c : tie.After-check-size) → c .check-size .result ≡ Go → SizesIn (c .before .before .before .before .before .before .before .args .fs .«piece_length») (c .before .before .before .before .before .before .before .args .fs .«total_size») (c .before .before .before .clamped64 .result)
@@ -32,7 +32,7 @@ inside c e = sizes-in _ _ (c .before .is-negative64 .result) _ (sym (ap checkNum
 
 -- the kind's rules, its answer and the pad
 kinds : (c : tie.After-check-kind)
-    → checkNumber (c .check-kind .result) ≡ firstOf (kindRules (c .before .before .before .before .before .before .before .before .before .before .before .before .before .before .before .before .args .fs .v2) (decides (sizeOf (c .before .before .before .before .before .before .before .before .before .before .before .before .before .before .before .before .args .info .size)) (c .before .before .before .before .before .before .before .before .before .before .before .before .before .before .before .before .args .link .now)) (isOpen (c .before .before .before .before .before .before .before .before .before .before .before .before .before .before .before .before .args .fs .«total_size») (c .before .before .before .before .before .before .before .before .before .before .before .before .before .before .before .before .args .fs .«num_symlinks») (c .before .before .before .before .before .before .before .before .before .before .before .before .before .before .before .before .args .fs .«num_files»)) (isHere (c .before .before .before .before .before .before .before .before .before .before .before .before .before .before .before .before .args .info .rooted)))
+    → checkNumber (c .check-kind .result) ≡ firstOf (versionRules (c .before .before .before .before .before .before .before .before .before .before .before .before .before .before .before .before .args .fs .v2) (decides (clampedOf (c .before .before .before .before .before .before .before .before .before .before .before .before .before .before .before .before .args .info .size)) (c .before .before .before .before .before .before .before .before .before .before .before .before .before .before .before .before .args .link .now)) (isOpen (c .before .before .before .before .before .before .before .before .before .before .before .before .before .before .before .before .args .fs .«total_size») (c .before .before .before .before .before .before .before .before .before .before .before .before .before .before .before .before .args .fs .«num_symlinks») (c .before .before .before .before .before .before .before .before .before .before .before .before .before .before .before .before .args .fs .«num_files»)) (isHere (c .before .before .before .before .before .before .before .before .before .before .before .before .before .before .before .before .args .info .rooted)))
 kinds c = rw (c .before .before .before .is-plain .ensures, c .before .before .is-open .ensures, c .before .is-here .ensures, size-is (c .before .before .before .before .before .before .before .before .before .before .before .before)) at (c .check-kind .ensures)
 
 kind-is : (c : tie.After-kind-after)

@@ -5,14 +5,14 @@ use borrow.Author.Needs.{needs}
 use Rattle.additions.proofs.parts.branch_before.Statement.{statement}
 use Rattle.additions.proofs.parts.branch_before.Tie as tie
 
-minus-requires : tie.Need-minus-requires
-minus-requires c κs = search needs
+saturating-sub-usize-requires : tie.Need-saturating-sub-usize-requires
+saturating-sub-usize-requires c κs = search needs
 
 part-requires : tie.Need-part-requires
 part-requires c κs = search needs
 
 returns : tie.Need-returns
-returns c = c .part .ensures ∙ rw (c .before .minus .ensures) (branch-is (c .before .before .before .args .path .now) (c .before .before .before .args .leaf) (c .before .before .before .pre))
+returns c = c .part .ensures ∙ rw (c .before .saturating-sub-usize .ensures) (branch-is (c .before .before .before .args .path .now) (c .before .before .before .args .leaf) (c .before .before .before .pre))
 
 pub branch-before-spec : {M : Type 1} → statement M
-branch-before-spec = tie.close (tie.spec minus-requires part-requires returns)
+branch-before-spec = tie.close (tie.spec saturating-sub-usize-requires part-requires returns)

@@ -1,6 +1,6 @@
 -- `additions::parts::directory_span` meets its contract.
 use mathlib.Core.Path.{ap, _∙_}
-use Rattle.additions.specs.Addition.{unled}
+use Rattle.additions.specs.Addition.{withoutLeading}
 use borrow.Author.Needs.{needs}
 use Rattle.additions.proofs.parts.directory_span.Statement.{statement}
 use Rattle.additions.proofs.parts.directory_span.Tie as tie
@@ -14,8 +14,8 @@ rest-after-requires c κs = search needs
 strip-separators-requires : tie.Need-strip-separators-requires
 strip-separators-requires c κs = search needs
 
-minus-requires : tie.Need-minus-requires
-minus-requires c κs = search needs
+saturating-sub-usize-requires : tie.Need-saturating-sub-usize-requires
+saturating-sub-usize-requires c κs = search needs
 
 enum-told-2 : tie.Need-enum-told-2
 enum-told-2 c = search needs
@@ -28,8 +28,8 @@ enum-told-4 c = search needs
 
 returns : tie.Need-returns
 returns c =
-    let d = c .before .strip-separators .ensures ∙ ap unled (c .before .before .rest-after .ensures) in
-    rw (c .before .before .before .enum-told .given .1, c .minus .ensures, d)
+    let d = c .before .strip-separators .ensures ∙ ap withoutLeading (c .before .before .rest-after .ensures) in
+    rw (c .before .before .before .enum-told .given .1, c .saturating-sub-usize .ensures, d)
 
 returns-2 : tie.Need-returns-2
 returns-2 c = rw (c .enum-told2 .given .1)
@@ -47,7 +47,7 @@ directory-span-spec =
     enum-told
     rest-after-requires
     strip-separators-requires
-    minus-requires
+    saturating-sub-usize-requires
     enum-told-2
     enum-told-3
     enum-told-4

@@ -10,12 +10,12 @@ trimmed-length-requires c κs = search needs
 rsplit-path-leaf-requires : tie.Need-rsplit-path-leaf-requires
 rsplit-path-leaf-requires c κs = search needs
 
-minus-requires : tie.Need-minus-requires
-minus-requires c κs = search needs
+saturating-sub-usize-requires : tie.Need-saturating-sub-usize-requires
+saturating-sub-usize-requires c κs = search needs
 
 returns : tie.Need-returns
-returns c = leaf-is (c .before .before .before .before .args .path .now) (c .before .rsplit-path-leaf .result .now) (c .before .before .trimmed-length .result) (c .minus .result) (c .before .rsplit-path-leaf .ensures) (c .before .before .trimmed-length .ensures) (c .minus .ensures)
+returns c = leaf-is (c .before .before .before .before .args .path .now) (c .before .rsplit-path-leaf .result .now) (c .before .before .trimmed-length .result) (c .saturating-sub-usize .result) (c .before .rsplit-path-leaf .ensures) (c .before .before .trimmed-length .ensures) (c .saturating-sub-usize .ensures)
 
 pub leaf-span-spec : {M : Type 1} → statement M
 leaf-span-spec =
-    tie.close (tie.spec trimmed-length-requires rsplit-path-leaf-requires minus-requires returns)
+    tie.close (tie.spec trimmed-length-requires rsplit-path-leaf-requires saturating-sub-usize-requires returns)

@@ -6,13 +6,13 @@ use Prim.Native.Nat.{_-_, _≤_}
 use native.Mathlib.Omega.{arith}
 use lib.ListN.{length, drop, length-drop, drop-of-length-le}
 use lib.Seq.{take-all}
-use Rattle.additions.specs.Addition.{unled}
+use Rattle.additions.specs.Addition.{withoutLeading}
 use Rattle.additions.proofs.Texts.{unled-turn, unled-stop}
 use Rattle.additions.proofs.parts.strip_separators.Statement.{statement}
 use Rattle.additions.proofs.parts.strip_separators.Tie as tie
 
 abbrev Inv-loop : tie.InvT-loop
-Inv-loop path i₀ i = (i ≤ length path) × (unled (drop i path) ≡ unled path)
+Inv-loop path i₀ i = (i ≤ length path) × (withoutLeading (drop i path) ≡ withoutLeading path)
 
 abbrev μ-loop : tie.MeasureT-loop
 μ-loop path i₀ i = length path - i
@@ -49,7 +49,7 @@ returns-2 c =
     let p = c .before .before .before .before .args .path .now in
     let i = c .before .before .loop .i in
     let z = drop-of-length-le p {i = i} (omega arith) in
-    c .part2 .ensures ∙ take-all (length p) (drop i p) (omega (arith, length-drop i p)) ∙ z ∙ ap unled (sym z) ∙ c .before .before .loop .inv .1
+    c .part2 .ensures ∙ take-all (length p) (drop i p) (omega (arith, length-drop i p)) ∙ z ∙ ap withoutLeading (sym z) ∙ c .before .before .loop .inv .1
 
 pub strip-separators-spec : {M : Type 1} → statement M
 strip-separators-spec =

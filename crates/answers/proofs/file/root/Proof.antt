@@ -1,14 +1,14 @@
 -- `answers::file::root` meets its contract.
+use mathlib.Core.Bool.{_&&_}
 use mathlib.Core.Path.{_≡_, refl}
 use borrow.Author.Needs.{needs}
-use Rattle.rules.specs.Rules.{both}
 use Rattle.rules.specs.Questions.{rowsHeld, rootsHeld}
 use Rattle.answers.specs.Answers.{rootOf}
 use Rattle.rules.proofs.Deciding.{both-is, file-value, file-refused}
 use Rattle.answers.proofs.file.root.Statement.{statement}
 use Rattle.answers.proofs.file.root.Tie as tie
 
-held-is : (c : tie.After-are-both) → let a = c .before .before .before .before .before .args in c .are-both .result ≡ both (rowsHeld (a .fs) (a .rows .now)) (rootsHeld (a .fs) (a .roots .now))
+held-is : (c : tie.After-are-both) → let a = c .before .before .before .before .before .args in c .are-both .result ≡ (rowsHeld (a .fs) (a .rows .now) && rootsHeld (a .fs) (a .roots .now))
 held-is c = both-is (c .are-both .ensures) (c .before .before .is-held .ensures) (c .before .is-held2 .ensures)
 
 is-held-requires : tie.Need-is-held-requires

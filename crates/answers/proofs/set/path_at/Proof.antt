@@ -1,14 +1,14 @@
 -- `answers::set::path_at` meets its contract.
+use mathlib.Core.Bool.{_&&_}
 use mathlib.Core.Path.{_≡_}
 use borrow.Author.Needs.{needs}
 use Rattle.tables.specs.Rows.{dirAt}
-use Rattle.rules.specs.Rules.{both}
 use Rattle.rules.specs.Questions.{dirsHeld, textHeld}
 use Rattle.rules.proofs.Deciding.{both-is, directory-value, directory-refused}
 use Rattle.answers.proofs.set.path_at.Statement.{statement}
 use Rattle.answers.proofs.set.path_at.Tie as tie
 
-held-is : (c : tie.After-are-both) → let a = c .before .before .before .before .before .args in c .are-both .result ≡ both (dirsHeld (a .fs) (a .dirs .now)) (textHeld (a .fs) (a .text .now))
+held-is : (c : tie.After-are-both) → let a = c .before .before .before .before .before .args in c .are-both .result ≡ (dirsHeld (a .fs) (a .dirs .now) && textHeld (a .fs) (a .text .now))
 held-is c = both-is (c .are-both .ensures) (c .before .before .is-held .ensures) (c .before .is-held2 .ensures)
 
 is-held-requires : tie.Need-is-held-requires

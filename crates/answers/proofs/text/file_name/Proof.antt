@@ -1,7 +1,7 @@
 -- `answers::text::file_name` meets its contract.
+use mathlib.Core.Bool.{_&&_}
 use borrow.Author.Needs.{needs}
 use Rattle.tables.specs.Rows.{rowAt}
-use Rattle.rules.specs.Rules.{both}
 use Rattle.rules.specs.Questions.{rowsHeld, textHeld}
 use Rattle.rules.proofs.Deciding.{file-value, file-refused}
 use Rattle.answers.proofs.text.file_name.Statement.{statement}
@@ -28,7 +28,7 @@ returns c =
     let h = c .before .before .before .before .before .before .are-held in
     let d = c .before .before .before .before .before .file-in in
     let k = c .before .before .before .k .given in
-    file-value (a .fs) (a .index .0) (λ k. rowAt (a .rows .now) k .name) (h .result) (both (rowsHeld (a .fs) (a .rows .now)) (textHeld (a .fs) (a .text .now))) (d .result) (d .ensures) (h .ensures) (k .0 .0) (k .1)
+    file-value (a .fs) (a .index .0) (λ k. rowAt (a .rows .now) k .name) (h .result) (rowsHeld (a .fs) (a .rows .now) && textHeld (a .fs) (a .text .now)) (d .result) (d .ensures) (h .ensures) (k .0 .0) (k .1)
     _ (rw (c .before .row-at .ensures))
 
 returns-2 : tie.Need-returns-2
@@ -36,7 +36,7 @@ returns-2 c =
     let a = c .before .before .before .before .before .before .before .args in
     let h = c .before .before .before .before .are-held in
     let d = c .before .before .before .file-in in
-    file-refused (a .fs) (a .index .0) (λ k. rowAt (a .rows .now) k .name) (h .result) (both (rowsHeld (a .fs) (a .rows .now)) (textHeld (a .fs) (a .text .now))) (d .result) (d .ensures) (h .ensures) _ (c .before .e .given .1)
+    file-refused (a .fs) (a .index .0) (λ k. rowAt (a .rows .now) k .name) (h .result) (rowsHeld (a .fs) (a .rows .now) && textHeld (a .fs) (a .text .now)) (d .result) (d .ensures) (h .ensures) _ (c .before .e .given .1)
 
 pub file-name-spec : {M : Type 1} → statement M
 file-name-spec =

@@ -1,15 +1,15 @@
 -- `answers::text::internal_file_path` meets its contract.
+use mathlib.Core.Bool.{_&&_}
 use mathlib.Core.Path.{_≡_, ap}
 use borrow.Author.Needs.{needs}
 use Rattle.tables.specs.Rows.{rowAt}
-use Rattle.rules.specs.Rules.{both}
 use Rattle.rules.specs.Questions.{rowsHeld, dirsHeld, textHeld}
 use Rattle.answers.specs.Answers.{internalPath}
 use Rattle.rules.proofs.Deciding.{both-is, composed-value, composed-refused}
 use Rattle.answers.proofs.text.internal_file_path.Statement.{statement}
 use Rattle.answers.proofs.text.internal_file_path.Tie as tie
 
-held-is : (c : tie.After-are-both2) → let a = c .before .before .before .before .before .before .before .before .before .args in c .are-both2 .result ≡ both (rowsHeld (a .fs) (a .rows .now)) (both (dirsHeld (a .fs) (a .dirs .now)) (textHeld (a .fs) (a .text .now)))
+held-is : (c : tie.After-are-both2) → let a = c .before .before .before .before .before .before .before .before .before .args in c .are-both2 .result ≡ (rowsHeld (a .fs) (a .rows .now) && (dirsHeld (a .fs) (a .dirs .now) && textHeld (a .fs) (a .text .now)))
 held-is c = both-is (c .are-both2 .ensures) (c .before .is-held3 .ensures) (both-is (c .before .before .are-both .ensures) (c .before .before .before .before .is-held .ensures) (c .before .before .before .is-held2 .ensures))
 
 is-held-requires : tie.Need-is-held-requires

@@ -1,8 +1,8 @@
 -- `answers::text::symlink` meets its contract.
+use mathlib.Core.Bool.{_&&_}
 use mathlib.Core.Path.{ap}
 use borrow.Author.Needs.{needs}
 use Rattle.tables.specs.Rows.{rowAt}
-use Rattle.rules.specs.Rules.{both}
 use Rattle.rules.specs.Questions.{rowsHeld, textHeld}
 use Rattle.answers.specs.Answers.{symlinkPath}
 use Rattle.rules.proofs.Deciding.{composed-value, composed-refused}
@@ -36,7 +36,7 @@ returns c =
     let h = c .before .before .before .before .before .before .before .before .before .are-held in
     let d = c .before .before .before .before .before .before .before .before .file-in in
     let k = c .before .before .before .before .before .before .k .given in
-    composed-value (a .fs) (a .index .0) (λ k. symlinkPath (a .fs) (a .text .now) (rowAt (a .rows .now) k)) (a .buf .now) (h .result) (both (rowsHeld (a .fs) (a .rows .now)) (textHeld (a .fs) (a .text .now))) (d .result) (d .ensures) (h .ensures) (k .0 .0) (k .1)
+    composed-value (a .fs) (a .index .0) (λ k. symlinkPath (a .fs) (a .text .now) (rowAt (a .rows .now) k)) (a .buf .now) (h .result) (rowsHeld (a .fs) (a .rows .now) && textHeld (a .fs) (a .text .now)) (d .result) (d .ensures) (h .ensures) (k .0 .0) (k .1)
     _ (symlinkPath (a .fs) (a .text .now) (c .before .before .before .before .row-at .result)) (c .before .before .put-link .ensures) (ap (symlinkPath (a .fs) (a .text .now)) (c .before .before .before .before .row-at .ensures))
 
 returns-2 : tie.Need-returns-2
@@ -44,7 +44,7 @@ returns-2 c =
     let a = c .before .before .before .before .before .before .before .before .args in
     let h = c .before .before .before .before .are-held in
     let d = c .before .before .before .file-in in
-    composed-refused (a .fs) (a .index .0) (λ k. symlinkPath (a .fs) (a .text .now) (rowAt (a .rows .now) k)) (a .buf .now) (h .result) (both (rowsHeld (a .fs) (a .rows .now)) (textHeld (a .fs) (a .text .now))) (d .result) (d .ensures) (h .ensures) _ (c .before .e .given .1)
+    composed-refused (a .fs) (a .index .0) (λ k. symlinkPath (a .fs) (a .text .now) (rowAt (a .rows .now) k)) (a .buf .now) (h .result) (rowsHeld (a .fs) (a .rows .now) && textHeld (a .fs) (a .text .now)) (d .result) (d .ensures) (h .ensures) _ (c .before .e .given .1)
 
 pub symlink-spec : {M : Type 1} → statement M
 symlink-spec =

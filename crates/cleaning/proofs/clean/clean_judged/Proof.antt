@@ -3,7 +3,7 @@ use borrow.Author.Needs.{needs}
 use mathlib.Core.Path.{sym, _∙_}
 use Rattle.tables.specs.Model.{Store}
 use Rattle.lookup.specs.Lookup.{lent}
-use Rattle.cleaning.specs.Writing.{allVerdicts}
+use Rattle.cleaning.specs.private.Writing.{allVerdicts}
 use Rattle.cleaning.proofs.Cleans.{cleaned-short, cleaned-done}
 use Rattle.cleaning.proofs.clean.clean_judged.Statement.{statement}
 use Rattle.cleaning.proofs.clean.clean_judged.Tie as tie

@@ -7,7 +7,7 @@ use native.Mathlib.Omega.{arith}
 use lib.ListN.{length}
 use Rattle.lookup.specs.Lookup.{lent}
 use Rattle.cleaning.specs.Cleaning.{rewrittenAt}
-use Rattle.cleaning.specs.Writing.{flagsIn, verdictBy, markAfter, verdictsBy}
+use Rattle.cleaning.specs.private.Writing.{flagsIn, verdictBy, markAfter, verdictsBy}
 use Rattle.cleaning.proofs.Passes.{rewritten-keeps, rewritten-pass, Going, going-start, going-turn, going-end}
 use Rattle.cleaning.proofs.rewrite.write_links.Statement.{statement}
 use Rattle.cleaning.proofs.rewrite.write_links.Tie as tie

@@ -7,7 +7,7 @@ use mathlib.Core.Bool.{cond}
 use lib.Dec.{eqb}
 use Rattle.tables.specs.Span.{clip}
 use Rattle.tables.specs.declared.rows.Row.{Row}
-use Rattle.cleaning.specs.Writing.{flagsIn, verdictBy, markAfter, goneBytes}
+use Rattle.cleaning.specs.private.Writing.{flagsIn, verdictBy, markAfter, goneBytes}
 use Rattle.cleaning.proofs.Rooms.{Leaving, leaving-start, leaving-turn, leaving-end}
 use Rattle.cleaning.proofs.room.kept_after.Statement.{statement}
 use Rattle.cleaning.proofs.room.kept_after.Tie as tie

@@ -7,7 +7,7 @@ use mathlib.Core.List.{List}
 use native.Mathlib.Omega.{arith}
 use Rattle.tables.specs.declared.rows.Row.{Row}
 use Rattle.tables.specs.Rows.{rowAt}
-use Rattle.cleaning.specs.Writing.{flagsIn, verdictBy, markAfter, newLength}
+use Rattle.cleaning.specs.private.Writing.{flagsIn, verdictBy, markAfter, newLength}
 use Rattle.cleaning.proofs.Rooms.{Taking, taking-start, taking-stop, taking-turn, taking-end}
 use Rattle.cleaning.proofs.room.lacks_bytes.Statement.{statement}
 use Rattle.cleaning.proofs.room.lacks_bytes.Tie as tie

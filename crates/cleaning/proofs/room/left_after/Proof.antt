@@ -14,11 +14,11 @@ returns c = rw (eq-eqb _ _ (c .if1 .taken)) (sym (sub-zero (c .before .args .lef
 clipped-requires : tie.Need-clipped-requires
 clipped-requires c κs = search needs
 
-minus-requires : tie.Need-minus-requires
-minus-requires c κs = search needs
+saturating-sub-usize-requires : tie.Need-saturating-sub-usize-requires
+saturating-sub-usize-requires c κs = search needs
 
 returns-2 : tie.Need-returns-2
-returns-2 c = c .minus .ensures ∙ ap (λ (x : Span). c .before .before .before .args .left - x .len) (c .before .clipped .ensures) ∙ rw (ne-eqb _ _ (c .before .before .if1 .left))
+returns-2 c = c .saturating-sub-usize .ensures ∙ ap (λ (x : Span). c .before .before .before .args .left - x .len) (c .before .clipped .ensures) ∙ rw (ne-eqb _ _ (c .before .before .if1 .left))
 
 pub left-after-spec : {M : Type 1} → statement M
-left-after-spec = tie.close (tie.spec returns clipped-requires minus-requires returns-2)
+left-after-spec = tie.close (tie.spec returns clipped-requires saturating-sub-usize-requires returns-2)

@@ -3,7 +3,7 @@ use mathlib.Core.Path.{_≡_, sym, _∙_}
 use mathlib.Core.Bool.{true, false}
 use borrow.Author.Tests.{not-true, not-false}
 use Rattle.rules.specs.Bounds.{badLength}
-use Rattle.compatible.specs.Compatible.{Names, heldIn, compatible}
+use Rattle.compatible.specs.Compatible.{NamedSet, heldIn, compatible}
 use Rattle.compatible.proofs.Sets.{first-bad, second-bad, first-short, second-short, answered}
 use borrow.Author.Needs.{needs}
 use Rattle.compatible.proofs.compatible.files_compatible.Statement.{statement}
@@ -35,8 +35,8 @@ is-bad-length-requires c κs = search needs
 returns : tie.Need-returns
 returns c =
     let a = c .before .before .before .before .before .before .before .before .args in
-    let x : Names = record { fs = a .a; rows = a .rows-a .now; dirs = a .dirs-a .now; text = a .text-a .now } in
-    let y : Names = record { fs = a .b; rows = a .rows-b .now; dirs = a .dirs-b .now; text = a .text-b .now } in
+    let x : NamedSet = record { fs = a .a; rows = a .rows-a .now; dirs = a .dirs-a .now; text = a .text-a .now } in
+    let y : NamedSet = record { fs = a .b; rows = a .rows-b .now; dirs = a .dirs-b .now; text = a .text-b .now } in
     first-bad (badLength (a .a .«piece_length»)) (badLength (a .b .«piece_length»)) (heldIn x) (heldIn y) (compatible x y) (sym (c .before .is-bad-length .ensures) ∙ c .if1 .taken)
 
 is-bad-length-requires-2 : tie.Need-is-bad-length-requires-2
@@ -45,8 +45,8 @@ is-bad-length-requires-2 c κs = search needs
 returns-2 : tie.Need-returns-2
 returns-2 c =
     let a = c .before .before .before .before .before .before .before .before .before .before .args in
-    let x : Names = record { fs = a .a; rows = a .rows-a .now; dirs = a .dirs-a .now; text = a .text-a .now } in
-    let y : Names = record { fs = a .b; rows = a .rows-b .now; dirs = a .dirs-b .now; text = a .text-b .now } in
+    let x : NamedSet = record { fs = a .a; rows = a .rows-a .now; dirs = a .dirs-a .now; text = a .text-a .now } in
+    let y : NamedSet = record { fs = a .b; rows = a .rows-b .now; dirs = a .dirs-b .now; text = a .text-b .now } in
     second-bad (badLength (a .a .«piece_length»)) (badLength (a .b .«piece_length»)) (heldIn x) (heldIn y) (compatible x y) (good-a (c .before .before)) (sym (c .before .is-bad-length2 .ensures) ∙ c .if2 .taken)
 
 is-held-requires : tie.Need-is-held-requires
@@ -55,8 +55,8 @@ is-held-requires c κs = search needs
 returns-3 : tie.Need-returns-3
 returns-3 c =
     let a = c .before .before .before .before .before .before .before .before .before .before .before .before .args in
-    let x : Names = record { fs = a .a; rows = a .rows-a .now; dirs = a .dirs-a .now; text = a .text-a .now } in
-    let y : Names = record { fs = a .b; rows = a .rows-b .now; dirs = a .dirs-b .now; text = a .text-b .now } in
+    let x : NamedSet = record { fs = a .a; rows = a .rows-a .now; dirs = a .dirs-a .now; text = a .text-a .now } in
+    let y : NamedSet = record { fs = a .b; rows = a .rows-b .now; dirs = a .dirs-b .now; text = a .text-b .now } in
     first-short (badLength (a .a .«piece_length»)) (badLength (a .b .«piece_length»)) (heldIn x) (heldIn y) (compatible x y) (good-a (c .before .before .before .before)) (good-b (c .before .before)) (short-a c)
 
 is-held-requires-2 : tie.Need-is-held-requires-2
@@ -65,8 +65,8 @@ is-held-requires-2 c κs = search needs
 returns-4 : tie.Need-returns-4
 returns-4 c =
     let a = c .before .before .before .before .before .before .before .before .before .before .before .before .before .before .args in
-    let x : Names = record { fs = a .a; rows = a .rows-a .now; dirs = a .dirs-a .now; text = a .text-a .now } in
-    let y : Names = record { fs = a .b; rows = a .rows-b .now; dirs = a .dirs-b .now; text = a .text-b .now } in
+    let x : NamedSet = record { fs = a .a; rows = a .rows-a .now; dirs = a .dirs-a .now; text = a .text-a .now } in
+    let y : NamedSet = record { fs = a .b; rows = a .rows-b .now; dirs = a .dirs-b .now; text = a .text-b .now } in
     second-short (badLength (a .a .«piece_length»)) (badLength (a .b .«piece_length»)) (heldIn x) (heldIn y) (compatible x y) (good-a (c .before .before .before .before .before .before)) (good-b (c .before .before .before .before)) (held-a (c .before .before)) (short-b c)
 
 are-compatible-requires : tie.Need-are-compatible-requires
@@ -75,8 +75,8 @@ are-compatible-requires c κs = search needs
 returns-5 : tie.Need-returns-5
 returns-5 c =
     let a = c .before .before .before .before .before .before .before .before .before .before .before .before .before .before .before .args in
-    let x : Names = record { fs = a .a; rows = a .rows-a .now; dirs = a .dirs-a .now; text = a .text-a .now } in
-    let y : Names = record { fs = a .b; rows = a .rows-b .now; dirs = a .dirs-b .now; text = a .text-b .now } in
+    let x : NamedSet = record { fs = a .a; rows = a .rows-a .now; dirs = a .dirs-a .now; text = a .text-a .now } in
+    let y : NamedSet = record { fs = a .b; rows = a .rows-b .now; dirs = a .dirs-b .now; text = a .text-b .now } in
     answered (badLength (a .a .«piece_length»)) (badLength (a .b .«piece_length»)) (heldIn x) (heldIn y) (compatible x y) (good-a (c .before .before .before .before .before .before .before)) (good-b (c .before .before .before .before .before)) (held-a (c .before .before .before)) (held-b (c .before))
     (c .are-compatible .result) (c .are-compatible .ensures)
 

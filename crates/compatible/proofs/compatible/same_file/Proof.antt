@@ -1,21 +1,20 @@
 -- `compatible::compatible::same_file` meets its contract.
 use mathlib.Core.Path.{_≡_, sym, _∙_}
-use mathlib.Core.Bool.{Bool, true, false, cond, not}
+use mathlib.Core.Bool.{Bool, true, false, cond, not, _&&_}
 use borrow.Author.Tests.{not-true, not-false}
-use Rattle.rules.specs.Rules.{both}
 use borrow.Author.Needs.{needs}
 use Rattle.compatible.proofs.compatible.same_file.Statement.{statement}
 use Rattle.compatible.proofs.compatible.same_file.Tie as tie
 
 -- by whether each of the two counts
 module _ (p q n : Bool) where
-  first-not : (r : Bool) → p ≡ false → r ≡ q → not r ≡ cond p (both q n) (not q)
+  first-not : (r : Bool) → p ≡ false → r ≡ q → not r ≡ cond p (q && n) (not q)
   first-not r e f = rw (e, f)
 
-  second-not : p ≡ true → q ≡ false → false ≡ cond p (both q n) (not q)
+  second-not : p ≡ true → q ≡ false → false ≡ cond p (q && n) (not q)
   second-not e f = rw (e, f)
 
-  both-count : (r : Bool) → p ≡ true → q ≡ true → r ≡ n → r ≡ cond p (both q n) (not q)
+  both-count : (r : Bool) → p ≡ true → q ≡ true → r ≡ n → r ≡ cond p (q && n) (not q)
   both-count r e f g = g ∙ rw (e, f)
 
 is-relevant-requires : tie.Need-is-relevant-requires

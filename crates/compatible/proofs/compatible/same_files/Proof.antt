@@ -7,7 +7,7 @@ use native.Mathlib.Omega.{arith}
 use borrow.Author.Needs.{needs}
 use borrow.Author.Tests.{not-true, not-false}
 use Rattle.tables.specs.Rows.{rowAt}
-use Rattle.compatible.specs.Compatible.{Names, sameFile, sameFrom}
+use Rattle.compatible.specs.Compatible.{NamedSet, sameFile, sameFrom}
 use Rattle.compatible.proofs.Sets.{said, same-start, same-turn, same-stop, same-end}
 use Rattle.compatible.proofs.compatible.same_files.Statement.{statement}
 use Rattle.compatible.proofs.compatible.same_files.Tie as tie
@@ -22,8 +22,8 @@ abbrev μ-loop : tie.MeasureT-loop
 loop-holds : tie.Need-loop-holds Inv-loop μ-loop
 loop-holds c =
     let a = c .before .before .before .before .before .before .args in
-    let x : Names = record { fs = a .a; rows = a .rows-a .now; dirs = a .dirs-a .now; text = a .text-a .now } in
-    let y : Names = record { fs = a .b; rows = a .rows-b .now; dirs = a .dirs-b .now; text = a .text-b .now } in
+    let x : NamedSet = record { fs = a .a; rows = a .rows-a .now; dirs = a .dirs-a .now; text = a .text-a .now } in
+    let y : NamedSet = record { fs = a .b; rows = a .rows-b .now; dirs = a .dirs-b .now; text = a .text-b .now } in
     (omega arith, same-start x y (a .n) 0)
 
 row-at-requires : tie.Need-row-at-requires Inv-loop μ-loop
@@ -38,8 +38,8 @@ same-file-requires c κs = search needs
 returns : tie.Need-returns Inv-loop μ-loop
 returns c =
     let a = c .before .before .before .before .before .before .before .before .before .before .before .before .args in
-    let x : Names = record { fs = a .a; rows = a .rows-a .now; dirs = a .dirs-a .now; text = a .text-a .now } in
-    let y : Names = record { fs = a .b; rows = a .rows-b .now; dirs = a .dirs-b .now; text = a .text-b .now } in
+    let x : NamedSet = record { fs = a .a; rows = a .rows-a .now; dirs = a .dirs-a .now; text = a .text-a .now } in
+    let y : NamedSet = record { fs = a .b; rows = a .rows-b .now; dirs = a .dirs-b .now; text = a .text-b .now } in
     let l = c .before .before .before .before .before .loop in
     let e : sameFile x y (rowAt (x .rows) (l .k)) (rowAt (y .rows) (l .k)) ≡ false = said x y (c .before .before .before .row-at .result) (c .before .before .row-at2 .result) (l .k) (c .before .same-file .result) false (c .before .before .before .row-at .ensures) (c .before .before .row-at2 .ensures) (c .before .same-file .ensures) (not-true (c .before .same-file .result) (c .if1 .taken)) in
     sym (same-stop x y (a .n) (l .k) (c .before .before .before .before .loop-test .taken) e) ∙ l .inv .1
@@ -53,8 +53,8 @@ loop-less c = search needs
 loop-again : tie.Need-loop-again Inv-loop μ-loop
 loop-again c =
     let a = c .before .before .before .before .before .before .before .before .before .before .before .before .args in
-    let x : Names = record { fs = a .a; rows = a .rows-a .now; dirs = a .dirs-a .now; text = a .text-a .now } in
-    let y : Names = record { fs = a .b; rows = a .rows-b .now; dirs = a .dirs-b .now; text = a .text-b .now } in
+    let x : NamedSet = record { fs = a .a; rows = a .rows-a .now; dirs = a .dirs-a .now; text = a .text-a .now } in
+    let y : NamedSet = record { fs = a .b; rows = a .rows-b .now; dirs = a .dirs-b .now; text = a .text-b .now } in
     let l = c .before .before .before .before .before .loop in
     let e : sameFile x y (rowAt (x .rows) (l .k)) (rowAt (y .rows) (l .k)) ≡ true = said x y (c .before .before .before .row-at .result) (c .before .before .row-at2 .result) (l .k) (c .before .same-file .result) true (c .before .before .before .row-at .ensures) (c .before .before .row-at2 .ensures) (c .before .same-file .ensures) (not-false (c .before .same-file .result) (c .if1 .left)) in
     (omega arith, sym (same-turn x y (a .n) (l .k) (c .before .before .before .before .loop-test .taken) e) ∙ l .inv .1)
@@ -62,8 +62,8 @@ loop-again c =
 returns-2 : tie.Need-returns-2 Inv-loop μ-loop
 returns-2 c =
     let a = c .before .before .before .before .before .before .before .before .args in
-    let x : Names = record { fs = a .a; rows = a .rows-a .now; dirs = a .dirs-a .now; text = a .text-a .now } in
-    let y : Names = record { fs = a .b; rows = a .rows-b .now; dirs = a .dirs-b .now; text = a .text-b .now } in
+    let x : NamedSet = record { fs = a .a; rows = a .rows-a .now; dirs = a .dirs-a .now; text = a .text-a .now } in
+    let y : NamedSet = record { fs = a .b; rows = a .rows-b .now; dirs = a .dirs-b .now; text = a .text-b .now } in
     let l = c .before .loop in
     sym (same-end x y (a .n) (l .k) (c .loop-test .left)) ∙ l .inv .1
 

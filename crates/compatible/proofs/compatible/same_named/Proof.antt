@@ -1,6 +1,6 @@
 -- `compatible::compatible::same_named` meets its contract.
 use mathlib.Core.List.{[]}
-use Rattle.compatible.specs.Compatible.{Names}
+use Rattle.compatible.specs.Compatible.{NamedSet}
 use Rattle.compatible.proofs.Sets.{other-size, other-path, other-offset, by-link, no-link}
 use borrow.Author.Needs.{needs}
 use Rattle.compatible.proofs.compatible.same_named.Statement.{statement}
@@ -9,8 +9,8 @@ use Rattle.compatible.proofs.compatible.same_named.Tie as tie
 returns : tie.Need-returns
 returns c =
     let a = c .before .before .before .before .before .before .before .args in
-    let x : Names = record { fs = a .a; rows = []; dirs = a .dirs-a .now; text = a .text-a .now } in
-    let y : Names = record { fs = a .b; rows = []; dirs = a .dirs-b .now; text = a .text-b .now } in
+    let x : NamedSet = record { fs = a .a; rows = []; dirs = a .dirs-a .now; text = a .text-a .now } in
+    let y : NamedSet = record { fs = a .b; rows = []; dirs = a .dirs-b .now; text = a .text-b .now } in
     other-size x y (a .row-a) (a .row-b) (c .if1 .taken)
 
 same-path-requires : tie.Need-same-path-requires
@@ -19,15 +19,15 @@ same-path-requires c κs = search needs
 returns-2 : tie.Need-returns-2
 returns-2 c =
     let a = c .before .before .before .before .before .before .before .before .before .args in
-    let x : Names = record { fs = a .a; rows = []; dirs = a .dirs-a .now; text = a .text-a .now } in
-    let y : Names = record { fs = a .b; rows = []; dirs = a .dirs-b .now; text = a .text-b .now } in
+    let x : NamedSet = record { fs = a .a; rows = []; dirs = a .dirs-a .now; text = a .text-a .now } in
+    let y : NamedSet = record { fs = a .b; rows = []; dirs = a .dirs-b .now; text = a .text-b .now } in
     other-path x y (a .row-a) (a .row-b) (c .before .before .if1 .left) (c .before .same-path .result) (c .before .same-path .ensures) (c .if2 .taken)
 
 returns-3 : tie.Need-returns-3
 returns-3 c =
     let a = c .before .before .before .before .before .before .before .before .before .before .before .before .args in
-    let x : Names = record { fs = a .a; rows = []; dirs = a .dirs-a .now; text = a .text-a .now } in
-    let y : Names = record { fs = a .b; rows = []; dirs = a .dirs-b .now; text = a .text-b .now } in
+    let x : NamedSet = record { fs = a .a; rows = []; dirs = a .dirs-a .now; text = a .text-a .now } in
+    let y : NamedSet = record { fs = a .b; rows = []; dirs = a .dirs-b .now; text = a .text-b .now } in
     other-offset x y (a .row-a) (a .row-b) (c .before .before .before .before .before .if1 .left) (c .before .before .before .before .same-path .result) (c .before .before .before .before .same-path .ensures) (c .before .before .before .if2 .left) (c .if3 .taken)
 
 is-symlink-requires : tie.Need-is-symlink-requires
@@ -39,16 +39,16 @@ same-link-requires c κs = search needs
 returns-4 : tie.Need-returns-4
 returns-4 c =
     let a = c .before .before .before .before .before .before .before .before .before .before .before .before .before .before .before .args in
-    let x : Names = record { fs = a .a; rows = []; dirs = a .dirs-a .now; text = a .text-a .now } in
-    let y : Names = record { fs = a .b; rows = []; dirs = a .dirs-b .now; text = a .text-b .now } in
+    let x : NamedSet = record { fs = a .a; rows = []; dirs = a .dirs-a .now; text = a .text-a .now } in
+    let y : NamedSet = record { fs = a .b; rows = []; dirs = a .dirs-b .now; text = a .text-b .now } in
     by-link x y (a .row-a) (a .row-b) (c .before .before .before .before .before .before .before .before .if1 .left) (c .before .before .before .before .before .before .before .same-path .result) (c .before .before .before .before .before .before .before .same-path .ensures) (c .before .before .before .before .before .before .if2 .left) (c .before .before .before .if3 .left)
     (c .before .before .is-symlink .result) (c .before .before .is-symlink .ensures) (c .before .if4 .taken) (c .same-link .result) (c .same-link .ensures)
 
 returns-5 : tie.Need-returns-5
 returns-5 c =
     let a = c .before .before .before .before .before .before .before .before .before .before .before .before .before .before .args in
-    let x : Names = record { fs = a .a; rows = []; dirs = a .dirs-a .now; text = a .text-a .now } in
-    let y : Names = record { fs = a .b; rows = []; dirs = a .dirs-b .now; text = a .text-b .now } in
+    let x : NamedSet = record { fs = a .a; rows = []; dirs = a .dirs-a .now; text = a .text-a .now } in
+    let y : NamedSet = record { fs = a .b; rows = []; dirs = a .dirs-b .now; text = a .text-b .now } in
     no-link x y (a .row-a) (a .row-b) (c .before .before .before .before .before .before .before .if1 .left) (c .before .before .before .before .before .before .same-path .result) (c .before .before .before .before .before .before .same-path .ensures) (c .before .before .before .before .before .if2 .left) (c .before .before .if3 .left)
     (c .before .is-symlink .result) (c .before .is-symlink .ensures) (c .if4 .left)
 

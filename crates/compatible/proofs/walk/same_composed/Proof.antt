@@ -6,15 +6,15 @@ use mathlib.Core.List.{List}
 use Rattle.lists.specs.Lists.{equal}
 use Rattle.path.specs.Join.{appended}
 use Rattle.compatible.specs.declared.walk.Place.{Place}
-use Rattle.compatible.specs.Walk.{ended, cutFirst, cutSecond, startOf, restFrom}
+use Rattle.compatible.specs.private.Walk.{ended, cutFirst, cutSecond, walkStart, restFrom}
 use Rattle.compatible.proofs.Walks.{whole-left}
 use borrow.Author.Needs.{needs}
 use Rattle.compatible.proofs.walk.same_composed.Statement.{statement}
 use Rattle.compatible.proofs.walk.same_composed.Tie as tie
 
 -- two paths, compared from the places where they start
-compared : (a b c d e f : List ℕ) (s t u v : Bool) (p q : Place) (r : Bool) → s ≡ cutFirst a b c → t ≡ cutSecond b c → p ≡ startOf a b
-    → u ≡ cutFirst d e f → v ≡ cutSecond e f → q ≡ startOf d e
+compared : (a b c d e f : List ℕ) (s t u v : Bool) (p q : Place) (r : Bool) → s ≡ cutFirst a b c → t ≡ cutSecond b c → p ≡ walkStart a b
+    → u ≡ cutFirst d e f → v ≡ cutSecond e f → q ≡ walkStart d e
     → r ≡ equal (restFrom (ended a s) (ended b t) c p) (restFrom (ended d u) (ended e v) f q)
     → r ≡ equal (appended (appended a b) c) (appended (appended d e) f)
 compared a b c d e f s t u v p q r g h i j k l m = m ∙ rw (g, h, i, j, k, l, whole-left a b c, whole-left d e f)

@@ -7,7 +7,7 @@ use lib.ListN.{length}
 use borrow.Author.Needs.{needs}
 use Rattle.lists.specs.Lists.{equal}
 use Rattle.compatible.specs.declared.walk.Place.{Place}
-use Rattle.compatible.specs.Walk.{ended, restFrom}
+use Rattle.compatible.specs.private.Walk.{ended, restFrom}
 use Rattle.compatible.proofs.Walks.{told, turn-told, turn-less}
 use Rattle.compatible.proofs.walk.same_from.Statement.{statement}
 use Rattle.compatible.proofs.walk.same_from.Tie as tie

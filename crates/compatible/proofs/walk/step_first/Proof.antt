@@ -3,7 +3,7 @@ use Prim.Native.Nat.{_≤_, _<_}
 use mathlib.Core.Path.{_∙_}
 use lib.ListN.{length}
 use borrow.Author.Tests.{lt-ltb, le-ltb, eq-eqb, ne-eqb}
-use Rattle.compatible.specs.Walk.{ended}
+use Rattle.compatible.specs.private.Walk.{ended}
 use borrow.Author.Needs.{needs}
 use Rattle.compatible.proofs.walk.step_first.Statement.{statement}
 use Rattle.compatible.proofs.walk.step_first.Tie as tie

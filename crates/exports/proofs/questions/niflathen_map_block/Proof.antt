@@ -7,14 +7,14 @@ use mir.Facts.{toZ-ofZ}
 use Rattle.types.specs.Refusals.{usizeSays}
 use Rattle.blocks.specs.Block.{Mapped, mapBlock}
 use Rattle.exports.specs.State.{storageOf}
-use Rattle.exports.specs.Layout.{BlockSaid, blockSaid, countSaid}
+use Rattle.exports.specs.Layout.{BlockReturned, blockReturned, countReturned}
 use borrow.Author.Needs.{needs}
 use Rattle.exports.proofs.questions.niflathen_map_block.Statement.{statement}
 use Rattle.exports.proofs.questions.niflathen_map_block.Tie as tie
 
 -- where the mapping's outcome is known, so is what is returned
-said : (z : ℤ) (made known : Mapped) → made ≡ known → z ≡ countSaid (made .says)
-    → _≡_ {A = BlockSaid} (record { answer = z; file = made .file; offset = made .offset; size = made .size }) (blockSaid known)
+said : (z : ℤ) (made known : Mapped) → made ≡ known → z ≡ countReturned (made .says)
+    → _≡_ {A = BlockReturned} (record { answer = z; file = made .file; offset = made .offset; size = made .size }) (blockReturned known)
 said z made known e p = rw (p, e)
 
 -- what the mapping left

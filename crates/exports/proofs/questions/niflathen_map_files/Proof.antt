@@ -7,18 +7,18 @@ use mir.Syntax.{w64}
 use mir.Val.{SFits}
 use mir.Facts.{toZ-ofZ}
 use Rattle.types.specs.Refusals.{usizeSays}
-use Rattle.files.specs.List.{Listed}
-use Rattle.exports.specs.Layout.{ListSaid, listSaid, countSaid}
+use Rattle.files.specs.List.{AnswersListed}
+use Rattle.exports.specs.Layout.{ListReturned, listReturned, countReturned}
 use borrow.Author.Needs.{needs}
 use Rattle.exports.proofs.questions.niflathen_map_files.Statement.{statement}
 use Rattle.exports.proofs.questions.niflathen_map_files.Tie as tie
 
 -- where the list's outcome is known, so is what is returned
-said : (z : ℤ) (made known : Listed) → made ≡ known → z ≡ countSaid (made .says) → _≡_ {A = ListSaid} (record { answer = z; answers = made .answers }) (listSaid known)
+said : (z : ℤ) (made known : AnswersListed) → made ≡ known → z ≡ countReturned (made .says) → _≡_ {A = ListReturned} (record { answer = z; answers = made .answers }) (listReturned known)
 said z made known e p = rw (p, e)
 
 -- what the list left
-abbrev left : tie.After-map-files → Listed
+abbrev left : tie.After-map-files → AnswersListed
 left c = record { says = usizeSays (c .map-files .result); answers = c .map-files .last .1 .1 .1 .1 .1 .0 }
 
 storage-at-requires : tie.Need-storage-at-requires

@@ -55,7 +55,7 @@ use Rattle.mapping.proofs.map_block.Symbol as map-block-def
 use Rattle.mapping.proofs.map_block.Symbol.{name as #mapping·map-block}
 use Rattle.mapping.proofs.map_block.Met as map-block-thm
 use Rattle.exports.specs.State.{storageOf}
-use Rattle.exports.specs.Layout.{countSaid, slicesSaid}
+use Rattle.exports.specs.Layout.{countReturned, slicesReturned}
 use Rattle.exports.proofs.storage_at.Symbol as storage-at-def
 use Rattle.exports.proofs.storage_at.Symbol.{name as #exports·storage-at}
 use Rattle.exports.proofs.storage_at.Met as storage-at-thm
@@ -113,18 +113,18 @@ module _ {M : Type 1} (𝓤 : URA M) (H : Heap 𝓤) (A : Atoms 𝓤) (W : Given
   answered : (r : UsizeResult) (w : Val) → Is UR.the-row r (w ∷ []) → Is UR.the-row r (UR′.lowered r ∷ [])
   answered r w is = subst (Is UR.the-row r) (UR′.lowers .val-is r (w ∷ []) is) is
 
-  exits : (o : UsizeResult × List FileSlice) (w w′ : Val) → Mapped 𝓤 H A W mem run κ₁ κ₂ q₁ q₂ fs x piece offset size y w o → Is i64 (countSaid (usizeSays (o .0))) (w′ ∷ [])
+  exits : (o : UsizeResult × List FileSlice) (w w′ : Val) → Mapped 𝓤 H A W mem run κ₁ κ₂ q₁ q₂ fs x piece offset size y w o → Is i64 (countReturned (usizeSays (o .0))) (w′ ∷ [])
       → ent 𝓤 (⋆ 𝓤 H A (‵ (finally T.the-row (y .name) (o .1)) ∷ ‵ (flft κ₂ q₂) ∷ ‵ (flft κ₁ q₁) ∷ ‵ (flft κ₀ q₀) ∷ ‵ Rows ∷ ‵ State ∷ [])) (Post w′)
   exits o w w′ made is =
       qed W (‵ (finally T.the-row (y .name) (o .1)) ∷ ‵ (flft κ₂ q₂) ∷ ‵ (flft κ₁ q₁) ∷ ‵ (flft κ₀ q₀) ∷ ‵ Rows ∷ ‵ State ∷ []) ∵
-      suffices ! _ (ends-at 𝓤 H A map-block-slices.ended stayed (map-block-slices.clauses 𝓤 H A mem run) W (((κ₀, (κ₁, (κ₂, tt))), (q₀, (q₁, (q₂, tt))), tt, a, vals), tt) w′ (countSaid (usizeSays (o .0))) (tt, (tt, (tt, (tt, (tt, (o .1, tt)))))) (tt, (tt, (tt, (tt, (tt, (made .1, tt))))))) $
-      says ! (ap slicesSaid (made .2)) $
+      suffices ! _ (ends-at 𝓤 H A map-block-slices.ended stayed (map-block-slices.clauses 𝓤 H A mem run) W (((κ₀, (κ₁, (κ₂, tt))), (q₀, (q₁, (q₂, tt))), tt, a, vals), tt) w′ (countReturned (usizeSays (o .0))) (tt, (tt, (tt, (tt, (tt, (o .1, tt)))))) (tt, (tt, (tt, (tt, (tt, (made .1, tt))))))) $
+      says ! (ap slicesReturned (made .2)) $
       -- the tokens
       nothing ! $ move ! (2 ∷ 0 ∷ []) $ join ! $ move ! (2 ∷ 0 ∷ []) $ join ! $ move ! (2 ∷ 0 ∷ []) $ join ! $ frame ! $
       -- [the table's last list; the rows; the state]: the parameters at exit
       nothing ! $ move ! (1 ∷ 0 ∷ []) $ fjoin ! $ owned ! i64 (Is i64) (sint-makes 𝓤 H A W w64) size _ gs $ fjoin ! $ owned ! i64 (Is i64) (sint-makes 𝓤 H A W w64) offset _ go $ fjoin ! $
       owned ! i32 (Is i32) (sint-makes 𝓤 H A W w32) z _ gz $ fjoin ! $ move ! (1 ∷ 0 ∷ []) $ fjoin ! $ move ! (1 ∷ 0 ∷ []) $ fjoin ! $ frame ! $
-      owned ! i64 (Is i64) (sint-makes 𝓤 H A W w64) (countSaid (usizeSays (o .0))) _ is $ done !
+      owned ! i64 (Is i64) (sint-makes 𝓤 H A W w64) (countReturned (usizeSays (o .0))) _ is $ done !
 
   module _ (𝓣 : Tables 𝓤 H) (known-storage : Triple 𝓤 (𝓣 .C #exports·storage-at) (StorageAt 𝓤 H A mem run)) (known-map : Triple 𝓤 (𝓣 .C #mapping·map-block) (MapBlock 𝓤 H A mem run)) (known-count : Triple 𝓤 (𝓣 .C #exports·questions·count-in) (CountIn 𝓤 H A mem run)) where
     walk : Room u64 (length (t .now)) → Room u64 (length (x .now)) → Room T.the-row (length (y .now))
@@ -164,8 +164,8 @@ module _ {M : Type 1} (𝓤 : URA M) (H : Heap 𝓤) (A : Atoms 𝓤) (W : Given
         -- `count_in`
         use0 W (raw (CountIn 𝓤 H A mem run .pre (to-count 𝓤 H A W mem run (o .0)))) (count-goes 𝓤 H A W mem run (o .0) (answered (o .0) w₁ (made .0))) $
         calls-at ! (fmOf 𝓤 H (W .laws) 𝓣) (CountIn 𝓤 H A mem run) known-count (to-count 𝓤 H A W mem run (o .0)) (and-then ! (load ! (from ! (stop !)) (look ! 15 refl)) (no-more !)) (λ w₂.
-        use1 W (later (given (Is i64 (countSaid (usizeSays (o .0))) (w₂ ∷ [])) (‵ ftrue))) (count-gives 𝓤 H A W mem run (o .0) w₂) $ await ! tt $ learn ! (λ is. drop ! $
-        land ! (from ! (stop !)) (init ! 28 refl (sint-lawful 𝓤 H A W w64 .typed (countSaid (usizeSays (o .0))) _ is .0)) $
+        use1 W (later (given (Is i64 (countReturned (usizeSays (o .0))) (w₂ ∷ [])) (‵ ftrue))) (count-gives 𝓤 H A W mem run (o .0) w₂) $ await ! tt $ learn ! (λ is. drop ! $
+        land ! (from ! (stop !)) (init ! 28 refl (sint-lawful 𝓤 H A W w64 .typed (countReturned (usizeSays (o .0))) _ is .0)) $
         returns ! (look ! 28 refl) $ forget ! 6 refl $ forget ! 8 refl $ forget ! 10 refl $ forget ! 12 refl $ forget ! 14 refl $ forget ! 16 refl $ forget ! 18 refl $ forget ! 20 refl $ forget ! 22 refl $ forget ! 24 refl $ forget ! 26 refl $ forget ! 28 refl $
         move ! (28 ∷ 29 ∷ []) $ free1 ! $ move ! (26 ∷ 27 ∷ []) $ free1 ! $ move ! (24 ∷ 25 ∷ []) $ free1 ! $ move ! (22 ∷ 23 ∷ []) $ free1 ! $ move ! (20 ∷ 21 ∷ []) $ free1 ! $ move ! (18 ∷ 19 ∷ []) $ free1 ! $ move ! (16 ∷ 17 ∷ []) $ free1 ! $ move ! (14 ∷ 15 ∷ []) $ free1 ! $ move ! (12 ∷ 13 ∷ []) $ free1 ! $ move ! (10 ∷ 11 ∷ []) $ free1 ! $ move ! (8 ∷ 9 ∷ []) $ free1 ! $ move ! (6 ∷ 7 ∷ []) $ free1 ! $ free0 ! $
         keep ! (2 ∷ 1 ∷ 0 ∷ 4 ∷ 3 ∷ 5 ∷ []) $ by ! (exits o w₁ w₂ made is))))))))))))))))))))

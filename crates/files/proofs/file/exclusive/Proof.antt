@@ -3,7 +3,7 @@ use borrow.Author.Needs.{needs}
 use mathlib.Core.Path.{ap, _∙_}
 use native.Mathlib.Omega.{arith}
 use Rattle.tables.specs.Rows.{rowAt}
-use Rattle.files.specs.Deciding.{requestOf}
+use Rattle.files.specs.private.Deciding.{requestOf}
 use Rattle.files.specs.Files.{exclusiveBegin, exclusiveEnd}
 use Rattle.files.proofs.Requests.{placed, first-place}
 use Rattle.files.proofs.Deciding.{low-as}

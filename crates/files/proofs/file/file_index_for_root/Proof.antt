@@ -1,15 +1,15 @@
 -- `files::file::file_index_for_root` meets its contract.
+use mathlib.Core.Bool.{_&&_}
 use borrow.Author.Needs.{needs}
 use mathlib.Core.Path.{_≡_, ap₂, _∙_}
-use Rattle.rules.specs.Rules.{both}
 use Rattle.rules.specs.Questions.{rowsHeld, rootsHeld}
 use Rattle.rules.proofs.Deciding.{go, stop}
 use Rattle.files.proofs.file.file_index_for_root.Statement.{statement}
 use Rattle.files.proofs.file.file_index_for_root.Tie as tie
 
 -- whether the tables are held, as the contract says it
-held-of : (c : tie.After-are-both) → c .are-both .result ≡ both (rowsHeld (c .before .before .before .before .before .args .fs) (c .before .before .before .before .before .args .rows .now)) (rootsHeld (c .before .before .before .before .before .args .fs) (c .before .before .before .before .before .args .roots .now))
-held-of c = c .are-both .ensures ∙ ap₂ both (c .before .before .is-held .ensures) (c .before .is-held2 .ensures)
+held-of : (c : tie.After-are-both) → c .are-both .result ≡ (rowsHeld (c .before .before .before .before .before .args .fs) (c .before .before .before .before .before .args .rows .now) && rootsHeld (c .before .before .before .before .before .args .fs) (c .before .before .before .before .before .args .roots .now))
+held-of c = c .are-both .ensures ∙ ap₂ _&&_ (c .before .before .is-held .ensures) (c .before .is-held2 .ensures)
 
 is-held-requires : tie.Need-is-held-requires
 is-held-requires c κs = search needs

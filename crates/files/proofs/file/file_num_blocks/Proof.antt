@@ -6,7 +6,7 @@ use mir.Syntax.{w64}
 use mir.Val.{SFits}
 use mir.Facts.{toZ-ofZ}
 use Rattle.types.proofs.Boundary.{low}
-use Rattle.rules.specs.Bounds.{indexOf}
+use Rattle.rules.specs.Bounds.{clampedOf}
 use Rattle.rules.proofs.Deciding.{go, stop}
 use Rattle.files.specs.Files.{blocksOf}
 use Rattle.files.proofs.file.file_num_blocks.Statement.{statement}
@@ -42,7 +42,7 @@ returns c =
     let fits : SFits w64 (c .signed64 .result) = search needs in
     go _ (rw (c .before .before .before .before .before .before .is-no-tree .ensures, c .before .before .before .before .before .before .before .get .ensures) at (c .before .before .before .before .before .ask-file .ensures)) (c .before .before .before .enum-told .given .1) _
     (toZ-ofZ fits ∙ (rw (c .before .blocks-of .ensures, c .before .before .get2 .ensures) at (c .signed64 .ensures)) ∙
-    low 63 (blocksOf (a .rows .now) (indexOf (a .index .0))) (omega arith))
+    low 63 (blocksOf (a .rows .now) (clampedOf (a .index .0))) (omega arith))
 
 returns-2 : tie.Need-returns-2
 returns-2 c = stop _ (rw (c .before .before .before .before .is-no-tree .ensures, c .before .before .before .before .before .get .ensures) at (c .before .before .before .ask-file .ensures)) _ (c .before .e .given .1)

@@ -1,14 +1,13 @@
 -- `files::file::first_node` meets its contract.
 use borrow.Author.Needs.{needs}
 use mathlib.Core.Path.{_≡_, refl, sym, ap₂, _∙_}
-use mathlib.Core.Bool.{true, false, not}
+use mathlib.Core.Bool.{true, false, not, _||_}
 use Prim.Native.Nat.{_-_}
 use borrow.Author.Tests.{not-false}
 use Rattle.tables.specs.Rows.{rowAt, has}
 use Rattle.merkle.specs.Width.{hasTree, widthOf, firstNode}
-use Rattle.rules.specs.Rules.{either}
 use Rattle.rules.specs.Questions.{rowsHeld, badPieceLength, noFile, noTree, short}
-use Rattle.rules.specs.Bounds.{indexOf}
+use Rattle.rules.specs.Bounds.{clampedOf}
 use Rattle.rules.proofs.Rules.{either-false}
 use Rattle.files.proofs.Deciding.{file-known}
 use Rattle.rules.proofs.Deciding.{go, stop, either-rule}
@@ -17,8 +16,8 @@ use Rattle.files.proofs.file.first_node.Statement.{statement}
 use Rattle.files.proofs.file.first_node.Tie as tie
 
 -- whether the file has no tree, as the contract says it
-tree-of : (c : tie.After-ask-file) → c .before .is-either .result ≡ either (noTree (c .before .before .before .before .before .before .args .fs) (rowAt (c .before .before .before .before .before .before .args .rows .now) (indexOf (c .before .before .before .before .before .before .args .index .0))) .test) (not (hasTree (c .before .before .before .before .before .before .args .leaves)))
-tree-of c = c .before .is-either .ensures ∙ ap₂ either (rw (c .before .before .before .before .get .ensures) at (c .before .before .before .is-no-tree .ensures)) (c .before .before .is-no-width .ensures)
+tree-of : (c : tie.After-ask-file) → c .before .is-either .result ≡ (noTree (c .before .before .before .before .before .before .args .fs) (rowAt (c .before .before .before .before .before .before .args .rows .now) (clampedOf (c .before .before .before .before .before .before .args .index .0))) .test || not (hasTree (c .before .before .before .before .before .before .args .leaves)))
+tree-of c = c .before .is-either .ensures ∙ ap₂ _||_ (rw (c .before .before .before .before .get .ensures) at (c .before .before .before .is-no-tree .ensures)) (c .before .before .is-no-width .ensures)
 
 get-requires : tie.Need-get-requires
 get-requires c κs = search needs
@@ -47,7 +46,7 @@ enum-known-e c = search needs
 returns : tie.Need-returns
 returns c =
     let a = c .before .before .before .before .before .before .before .before .before .args in
-    let t = noTree (a .fs) (rowAt (a .rows .now) (indexOf (a .index .0))) .test in
+    let t = noTree (a .fs) (rowAt (a .rows .now) (clampedOf (a .index .0))) .test in
     let e = tree-of (c .before .before .before) in
     let k = file-known (a .fs) (a .index .0) false false (c .before .before .before .before .is-either .result) _ (c .before .before .before .ask-file .ensures) (c .before .enum-told .given .1) in
     let h : hasTree (a .leaves) ≡ true = not-false _ (either-false t (not (hasTree (a .leaves))) (sym e ∙ k .not-tree) .1) in
@@ -58,7 +57,7 @@ returns c =
 returns-2 : tie.Need-returns-2
 returns-2 c =
     let a = c .before .before .before .before .before .before .before .before .before .args in
-    let t = noTree (a .fs) (rowAt (a .rows .now) (indexOf (a .index .0))) .test in
+    let t = noTree (a .fs) (rowAt (a .rows .now) (clampedOf (a .index .0))) .test in
     stop _ ((rw (tree-of (c .before .before .before)) at (c .before .before .before .ask-file .ensures)) ∙ either-rule (badPieceLength (a .fs)) (noFile (a .fs) (a .index .0)) (short (rowsHeld (a .fs) (a .rows .now))) t (not (hasTree (a .leaves)))) _ (c .before .e .given .1)
 
 pub first-node-spec : {M : Type 1} → statement M

@@ -5,7 +5,7 @@ use native.Mathlib.Omega.{arith}
 use Prim.Native.Nat.{ℕ}
 use Rattle.tables.specs.Rows.{rowAt}
 use Rattle.files.specs.Request.{Request}
-use Rattle.files.specs.Deciding.{requestOf}
+use Rattle.files.specs.private.Deciding.{requestOf}
 use Rattle.files.specs.Files.{afterQuotient, inclusiveEnd}
 use Rattle.files.proofs.Requests.{placed, first-place}
 use Rattle.files.proofs.Deciding.{low-as}

@@ -12,36 +12,36 @@ use mir.Facts.{toZ-ofZ}
 use borrow.Author.Tests.{eqb-true, leb-true, not-false}
 use Rattle.types.specs.Refusals.{value, refused}
 use Rattle.rules.specs.Rules.{firstOf}
-use Rattle.rules.specs.Bounds.{sizeOf, indexOf, isBelow}
+use Rattle.rules.specs.Bounds.{clampedOf, clampedOf, isBelow}
 use Rattle.files.specs.Request.{Request, mapFile}
-use Rattle.files.specs.Deciding.{requestOf, bytesAsked, placeAsked}
+use Rattle.files.specs.private.Deciding.{requestOf, bytesRules, positionRules}
 use Rattle.rules.proofs.Rules.{Passed, passed}
-use Rattle.files.proofs.Deciding.{low-as, past-index, asked-past}
+use Rattle.files.proofs.Deciding.{low-as, past-index, bytes-past}
 use Rattle.rules.proofs.Deciding.{below-is, offset-low, length-good}
 use borrow.Author.Needs.{needs}
 use Rattle.files.proofs.file.map_file.Statement.{statement}
 use Rattle.files.proofs.file.map_file.Tie as tie
 
 -- whether the question is answered: the set passes its tests, and the question its own
-answered-is : (c : tie.After-are-both) → c .are-both .result ≡ eqb (firstOf (bytesAsked (c .before .before .before .before .before .args .fs) (c .before .before .before .before .before .args .index .0) (c .before .before .before .before .before .args .offset) (c .before .before .before .before .before .args .size) (length (c .before .before .before .before .before .args .rows .now) / 8))) 0
+answered-is : (c : tie.After-are-both) → c .are-both .result ≡ eqb (firstOf (bytesRules (c .before .before .before .before .before .args .fs) (c .before .before .before .before .before .args .index .0) (c .before .before .before .before .before .args .offset) (c .before .before .before .before .before .args .size) (length (c .before .before .before .before .before .args .rows .now) / 8))) 0
 answered-is c =
     let a = c .before .before .before .before .before .args in
     let i : SFits w32 (a .index .0) = search needs in
     let o : SFits w64 (a .offset) = search needs in
     let s : SFits w32 (a .size) = search needs in
     let r : length (a .rows .now) / 8 < 2 ^ 63 = search needs in
-    let q : c .before .is-asked .result ≡ eqb (firstOf (placeAsked (a .fs) (pos (ofZ w64 (a .index .0))) (a .offset) (a .size))) 0 = rw (c .before .before .before .file-or-past .ensures, toZ-ofZ o, toZ-ofZ s) at (c .before .is-asked .ensures) in
-    (rw (q, c .before .before .is-fit .ensures) at (c .are-both .ensures)) ∙ asked-past (a .fs) (a .index .0) (a .offset) (a .size) (length (a .rows .now) / 8) i r
+    let q : c .before .is-asked .result ≡ eqb (firstOf (positionRules (a .fs) (pos (ofZ w64 (a .index .0))) (a .offset) (a .size))) 0 = rw (c .before .before .before .file-or-past .ensures, toZ-ofZ o, toZ-ofZ s) at (c .before .is-asked .ensures) in
+    (rw (q, c .before .before .is-fit .ensures) at (c .are-both .ensures)) ∙ bytes-past (a .fs) (a .index .0) (a .offset) (a .size) (length (a .rows .now) / 8) i r
 
 -- where it is, no refusal's test holds
-answered : (c : tie.Then1) → eqb (firstOf (bytesAsked (c .before .before .before .before .before .before .args .fs) (c .before .before .before .before .before .before .args .index .0) (c .before .before .before .before .before .before .args .offset) (c .before .before .before .before .before .before .args .size) (length (c .before .before .before .before .before .before .args .rows .now) / 8))) 0 ≡ true
+answered : (c : tie.Then1) → eqb (firstOf (bytesRules (c .before .before .before .before .before .before .args .fs) (c .before .before .before .before .before .before .args .index .0) (c .before .before .before .before .before .before .args .offset) (c .before .before .before .before .before .before .args .size) (length (c .before .before .before .before .before .before .args .rows .now) / 8))) 0 ≡ true
 answered c = sym (answered-is (c .before)) ∙ c .if1 .taken
 
-passes : (c : tie.Then1) → Passed (bytesAsked (c .before .before .before .before .before .before .args .fs) (c .before .before .before .before .before .before .args .index .0) (c .before .before .before .before .before .before .args .offset) (c .before .before .before .before .before .before .args .size) (length (c .before .before .before .before .before .before .args .rows .now) / 8))
-passes c = passed (bytesAsked (c .before .before .before .before .before .before .args .fs) (c .before .before .before .before .before .before .args .index .0) (c .before .before .before .before .before .before .args .offset) (c .before .before .before .before .before .before .args .size) (length (c .before .before .before .before .before .before .args .rows .now) / 8)) refl (sym (eqb-true _ 0 (answered c)))
+passes : (c : tie.Then1) → Passed (bytesRules (c .before .before .before .before .before .before .args .fs) (c .before .before .before .before .before .before .args .index .0) (c .before .before .before .before .before .before .args .offset) (c .before .before .before .before .before .before .args .size) (length (c .before .before .before .before .before .before .args .rows .now) / 8))
+passes c = passed (bytesRules (c .before .before .before .before .before .before .args .fs) (c .before .before .before .before .before .before .args .index .0) (c .before .before .before .before .before .before .args .offset) (c .before .before .before .before .before .before .args .size) (length (c .before .before .before .before .before .before .args .rows .now) / 8)) refl (sym (eqb-true _ 0 (answered c)))
 
 -- there the number is the file's own
-number-is : (c : tie.Then1) → c .before .before .before .before .file-or-past .result ≡ indexOf (c .before .before .before .before .before .before .args .index .0)
+number-is : (c : tie.Then1) → c .before .before .before .before .file-or-past .result ≡ clampedOf (c .before .before .before .before .before .before .args .index .0)
 number-is c =
     let a = c .before .before .before .before .before .before .args in
     c .before .before .before .before .file-or-past .ensures ∙ past-index (a .index .0) (a .fs .«num_files») (not-false (isBelow (a .fs .«num_files») (a .index .0)) (passes c .1 .0))
@@ -74,7 +74,7 @@ add-request-at : tie.Need-add-request-at
 add-request-at c =
     let a = c .before .before .before .before .before .before .before .before .args in
     let f : SFits w64 (a .offset) = search needs in
-    let s : c .clamped64 .result ≡ sizeOf (a .offset) = rw (toZ-ofZ f) at (c .clamped64 .ensures) in
+    let s : c .clamped64 .result ≡ clampedOf (a .offset) = rw (toZ-ofZ f) at (c .clamped64 .ensures) in
     let l = offset-low (a .offset) (a .size) (passes (c .before .before) .1 .1 .1 .0) in
     omega (arith, c .before .offset-of .ensures)
 
@@ -94,9 +94,9 @@ returns c =
     let a = c .before .before .before .before .before .before .before .before .before .before .before .args in
     let offset-fits : SFits w64 (a .offset) = search needs in
     let size-fits : SFits w32 (a .size) = search needs in
-    let s : c .before .before .before .clamped64 .result ≡ sizeOf (a .offset) = rw (toZ-ofZ offset-fits) at (c .before .before .before .clamped64 .ensures) in
-    let n : c .before .before .clamped32 .result ≡ sizeOf (a .size) = rw (toZ-ofZ size-fits) at (c .before .before .clamped32 .ensures) in
-    let e : requestOf (c .before .request-at .result) ≡ mapFile (a .fs) (a .rows .now) (indexOf (a .index .0)) (sizeOf (a .offset)) (sizeOf (a .size)) = rw (c .before .before .before .before .offset-of .ensures, number-is (c .before .before .before .before .before), s, n) at (c .before .request-at .ensures) in
+    let s : c .before .before .before .clamped64 .result ≡ clampedOf (a .offset) = rw (toZ-ofZ offset-fits) at (c .before .before .before .clamped64 .ensures) in
+    let n : c .before .before .clamped32 .result ≡ clampedOf (a .size) = rw (toZ-ofZ size-fits) at (c .before .before .clamped32 .ensures) in
+    let e : requestOf (c .before .request-at .result) ≡ mapFile (a .fs) (a .rows .now) (clampedOf (a .index .0)) (clampedOf (a .offset)) (clampedOf (a .size)) = rw (c .before .before .before .before .offset-of .ensures, number-is (c .before .before .before .before .before), s, n) at (c .before .request-at .ensures) in
     let h = c .signed-request .ensures in
     rw (answered (c .before .before .before .before .before))
     (ap value
@@ -107,7 +107,7 @@ returns c =
     )))
 
 -- where the question is not answered, a refusal's test holds
-refused-is : (c : tie.Else1) → eqb (firstOf (bytesAsked (c .before .before .before .before .before .before .args .fs) (c .before .before .before .before .before .before .args .index .0) (c .before .before .before .before .before .before .args .offset) (c .before .before .before .before .before .before .args .size) (length (c .before .before .before .before .before .before .args .rows .now) / 8))) 0 ≡ false
+refused-is : (c : tie.Else1) → eqb (firstOf (bytesRules (c .before .before .before .before .before .before .args .fs) (c .before .before .before .before .before .before .args .index .0) (c .before .before .before .before .before .before .args .offset) (c .before .before .before .before .before .before .args .size) (length (c .before .before .before .before .before .before .args .rows .now) / 8))) 0 ≡ false
 refused-is c = sym (answered-is (c .before)) ∙ c .if1 .left
 
 refused-bytes-requires : tie.Need-refused-bytes-requires

@@ -8,7 +8,7 @@ use Rattle.rules.specs.Bounds.{isNegative}
 use Rattle.rules.specs.Rules.{firstOf}
 use Rattle.rules.specs.Questions.{badRange}
 use Rattle.rules.specs.Results.{checkNumber}
-use Rattle.files.specs.Deciding.{bytesAsked}
+use Rattle.files.specs.private.Deciding.{bytesRules}
 use borrow.Author.Needs.{needs}
 use Rattle.files.proofs.file.refused_bytes.Statement.{statement}
 use Rattle.files.proofs.file.refused_bytes.Tie as tie
@@ -23,7 +23,7 @@ range-of c =
     rw (toZ-ofZ offset-fits, n) at (c .is-bad-range .ensures)
 
 -- what the decision says, as the contract says it
-asked-is : (c : tie.After-first-refusal) → checkNumber (c .first-refusal .result) ≡ firstOf (bytesAsked (c .before .before .before .before .before .before .before .args .fs) (c .before .before .before .before .before .before .before .args .index .0) (c .before .before .before .before .before .before .before .args .offset) (c .before .before .before .before .before .before .before .args .size) (c .before .before .before .before .before .before .before .args .room))
+asked-is : (c : tie.After-first-refusal) → checkNumber (c .first-refusal .result) ≡ firstOf (bytesRules (c .before .before .before .before .before .before .before .args .fs) (c .before .before .before .before .before .before .before .args .index .0) (c .before .before .before .before .before .before .before .args .offset) (c .before .before .before .before .before .before .before .args .size) (c .before .before .before .before .before .before .before .args .room))
 asked-is c = rw (c .before .before .before .before .before .before .is-bad-length .ensures, c .before .before .before .before .before .is-no-file .ensures, c .before .before .before .before .has-many .ensures, range-of (c .before .before), c .before .is-held .ensures) at (c .first-refusal .ensures)
 
 is-bad-length-requires : tie.Need-is-bad-length-requires

@@ -10,14 +10,14 @@ use mir.Syntax.{w32, w64}
 use mir.Val.{SFits}
 use mir.Facts.{toZ-ofZ}
 use Rattle.types.specs.Refusals.{Outcome, value, refused}
-use Rattle.rules.specs.Results.{Asked, requestSays}
-use Rattle.files.specs.Request.{fileMapped}
+use Rattle.rules.specs.Results.{SignedRequest, requestSays}
+use Rattle.files.specs.Given.{fileMapped}
 use Rattle.files.specs.List.{answerWords, answerAt}
 use Rattle.tables.proofs.Filled.{Writing, writing-start, writing-turn, writing-end}
 use Rattle.files.proofs.list.answer_each.Statement.{statement}
 use Rattle.files.proofs.list.answer_each.Tie as tie
 
-four-words : (o : Outcome Asked) → length (answerWords o) ≡ 4
+four-words : (o : Outcome SignedRequest) → length (answerWords o) ≡ 4
 four-words (value r) = refl
 four-words (refused k) = refl
 
@@ -71,7 +71,7 @@ loop-again c =
     let o : SFits w64 (getD (a .offsets .now) (l .i) (pos 0)) = search needs in
     let s : SFits w32 (getD (a .sizes .now) (l .i) (pos 0)) = search needs in
     let asked : requestSays (c .before .before .before .before .map-file .result) ≡ fileMapped (a .fs) (a .rows .now) (getD (a .files .now) (l .i) (pos 0)) (getD (a .offsets .now) (l .i) (pos 0)) (getD (a .sizes .now) (l .i) (pos 0)) = rw (toZ-ofZ f, toZ-ofZ o, toZ-ofZ s) at (c .before .before .before .before .map-file .ensures) in
-    let put = c .before .before .put-answer .ensures ∙ ap (λ (o : Outcome Asked). sets (l .answers) (l .i * 4) (answerWords o)) asked in
+    let put = c .before .before .put-answer .ensures ∙ ap (λ (o : Outcome SignedRequest). sets (l .answers) (l .i * 4) (answerWords o)) asked in
     (l .inv .0, writing-turn 4 g (length (a .files .now)) (a .answers .now) (l .answers) (l .i) (four-words (fileMapped (a .fs) (a .rows .now) (getD (a .files .now) (l .i) (pos 0)) (getD (a .offsets .now) (l .i) (pos 0)) (getD (a .sizes .now) (l .i) (pos 0)))) (l .inv .1) (c .before .before .before .before .before .before .before .before .loop-test .taken) put)
 
 same-length : tie.Need-same-length Inv-loop μ-loop

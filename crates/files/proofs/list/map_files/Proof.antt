@@ -10,16 +10,16 @@ use borrow.Author.Needs.{needs}
 use Rattle.files.proofs.list.map_files.Statement.{statement}
 use Rattle.files.proofs.list.map_files.Tie as tie
 
-least-requires : tie.Need-least-requires
-least-requires c κs = search needs
+min-usize-requires : tie.Need-min-usize-requires
+min-usize-requires c κs = search needs
 
-least-requires-2 : tie.Need-least-requires-2
-least-requires-2 c κs = search needs
+min-usize-requires-2 : tie.Need-min-usize-requires-2
+min-usize-requires-2 c κs = search needs
 
 returns : tie.Need-returns
 returns c =
     let a = c .before .before .before .before .before .args in
-    let h : min (length (a .offsets .now)) (min (length (a .sizes .now)) (length (a .answers .now) / 4)) < length (a .files .now) = omega (arith, c .before .before .least .ensures, c .before .least2 .ensures, c .if1 .taken) in
+    let h : min (length (a .offsets .now)) (min (length (a .sizes .now)) (length (a .answers .now) / 4)) < length (a .files .now) = omega (arith, c .before .before .min-usize .ensures, c .before .min-usize2 .ensures, c .if1 .taken) in
     let e : ltb (min (length (a .offsets .now)) (min (length (a .sizes .now)) (length (a .answers .now) / 4))) (length (a .files .now)) ≡ true = lt-ltb (min (length (a .offsets .now)) (min (length (a .sizes .now)) (length (a .answers .now) / 4))) (length (a .files .now)) h in
     rw e
 
@@ -32,11 +32,11 @@ same-length c = search needs
 returns-2 : tie.Need-returns-2
 returns-2 c =
     let a = c .before .before .before .before .before .before .before .before .before .args in
-    let h : length (a .files .now) ≤ min (length (a .offsets .now)) (min (length (a .sizes .now)) (length (a .answers .now) / 4)) = omega (arith, c .before .before .before .before .before .before .least .ensures, c .before .before .before .before .before .least2 .ensures, c .before .before .before .before .if1 .left) in
+    let h : length (a .files .now) ≤ min (length (a .offsets .now)) (min (length (a .sizes .now)) (length (a .answers .now) / 4)) = omega (arith, c .before .before .before .before .before .before .min-usize .ensures, c .before .before .before .before .before .min-usize2 .ensures, c .before .before .before .before .if1 .left) in
     let e : ltb (min (length (a .offsets .now)) (min (length (a .sizes .now)) (length (a .answers .now) / 4))) (length (a .files .now)) ≡ false = le-ltb (min (length (a .offsets .now)) (min (length (a .sizes .now)) (length (a .answers .now) / 4))) (length (a .files .now)) h in
     rw (e, c .before .before .answer-each .ensures)
 
 pub map-files-spec : {M : Type 1} → statement M
 map-files-spec =
     tie.close
-    (tie.spec least-requires least-requires-2 returns answer-each-requires same-length returns-2)
+    (tie.spec min-usize-requires min-usize-requires-2 returns answer-each-requires same-length returns-2)

@@ -5,13 +5,13 @@ use mir.Syntax.{w32}
 use mir.Val.{SFits}
 use mir.Facts.{toZ-ofZ}
 use borrow.Author.Needs.{needs}
-use Rattle.rules.specs.Bounds.{sizeOf}
+use Rattle.rules.specs.Bounds.{clampedOf}
 use Rattle.rules.proofs.Deciding.{index-low}
 use Rattle.files.proofs.list.word32.Statement.{statement}
 use Rattle.files.proofs.list.word32.Tie as tie
 
 -- the number, as the contract says it
-size-is : (c : tie.After-clamped32) → c .clamped32 .result ≡ sizeOf (c .before .args .x)
+size-is : (c : tie.After-clamped32) → c .clamped32 .result ≡ clampedOf (c .before .args .x)
 size-is c =
     let f : SFits w32 (c .before .args .x) = search needs in
     rw (toZ-ofZ f) at (c .clamped32 .ensures)

@@ -3,7 +3,7 @@
 use Rattle.tables.specs.declared.span.Span.{Span}
 use Rattle.hashes.proofs.Hashing.{dirs-turn, dirs-end}
 use Rattle.hashes.proofs.Inserting.{Going, going, gone-on, arrived, gathered-is}
-use Rattle.hashes.specs.Gathering.{gathered, hashesBehind, hashesWithin}
+use Rattle.hashes.specs.private.Gathering.{gathered, hashesAfter, hashesWithin}
 use Rattle.hashes.specs.Hashes.{joinedLists}
 use Rattle.tables.specs.Model.{tabled}
 use Rattle.tables.specs.Rows.{dirAt}
@@ -21,7 +21,7 @@ use Rattle.hashes.proofs.hashes.gather.Tie as tie
 abbrev Inv-loop : tie.InvT-loop
 Inv-loop table₀ bound state dirs text count kept₀ i₀ table kept i =
     (i ≤ count) × (length table ≡ length table₀)
-    × Going bound (joinedLists (map (hashesBehind state) (drop i (tabled count (λ i. textAt text (dirAt dirs i)))))) (kept .held) table
+    × Going bound (joinedLists (map (hashesAfter state) (drop i (tabled count (λ i. textAt text (dirAt dirs i)))))) (kept .held) table
     (sets table₀ 0 (gathered bound (hashesWithin state dirs text count) [])) (min (length table₀) (length (gathered bound (hashesWithin state dirs text count) [])))
 
 abbrev μ-loop : tie.MeasureT-loop
@@ -54,11 +54,11 @@ loop-again c =
     let t = c .before .before .before .before .text-at in
     let g : ℕ → List ℕ = λ i. textAt (a .text .now) (dirAt (a .dirs .now) i) in
     let e : t .result .now ≡ g (l .i) = t .ensures ∙ ap (λ (s : Span). textAt (a .text .now) s) (c .before .before .before .before .before .dir-at .ensures) in
-    let hs = hashesBehind (a .state) (t .result .now) in (
+    let hs = hashesAfter (a .state) (t .result .now) in (
       omega arith,
       c .before .before .keep-dir .kept .0 ∙ l .inv .1,
-      gone-on (a .bound) hs (joinedLists (map (hashesBehind (a .state)) (drop (l .i + 1) (tabled (a .count) g)))) (l .inv .2)
-          (dirs-turn (hashesBehind (a .state)) (a .count) g (l .i) hs (c .before .before .before .before .before .before .loop-test .taken) (ap (hashesBehind (a .state)) e)) (c .before .before .keep-dir .ensures .0),
+      gone-on (a .bound) hs (joinedLists (map (hashesAfter (a .state)) (drop (l .i + 1) (tabled (a .count) g)))) (l .inv .2)
+          (dirs-turn (hashesAfter (a .state)) (a .count) g (l .i) hs (c .before .before .before .before .before .before .loop-test .taken) (ap (hashesAfter (a .state)) e)) (c .before .before .keep-dir .ensures .0),
     )
 
 same-length : tie.Need-same-length Inv-loop μ-loop
@@ -69,7 +69,7 @@ returns c =
     let l = c .before .loop in
     let a = c .before .before .before .before .before .args in
     let hs = hashesWithin (a .state) (a .dirs .now) (a .text .now) (a .count) in
-    let g = rw (dirs-end (hashesBehind (a .state)) (a .count) (λ i. textAt (a .text .now) (dirAt (a .dirs .now) i)) (l .i) (c .loop-test .left)) at (l .inv .2) in
+    let g = rw (dirs-end (hashesAfter (a .state)) (a .count) (λ i. textAt (a .text .now) (dirAt (a .dirs .now) i)) (l .i) (c .loop-test .left)) at (l .inv .2) in
     let r = arrived (a .bound) (l .kept .held) g in
     record {
       stored = r .0 ∙ ap (sets (a .table .now) 0) (gathered-is (a .bound) hs);

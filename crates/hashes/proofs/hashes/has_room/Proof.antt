@@ -1,7 +1,7 @@
 -- `hashes::hashes::has_room` meets its contract. The loop's invariant: the table holds the first n of the hashes from some bound on,
 -- and these fit what is left where all hashes fit the room.
 use Rattle.hashes.proofs.Counting.{Counting, counted-first, counted-next, counted-over, counted-last}
-use Rattle.hashes.specs.Gathering.{hashesWithin}
+use Rattle.hashes.specs.private.Gathering.{hashesWithin}
 use borrow.Author.Needs.{needs}
 use lib.ListN.{length}
 use native.Mathlib.Omega.{arith}

@@ -2,7 +2,7 @@
 -- state, and the hashes of the beginnings behind, kept in the table as it is, come to what is due.
 use Rattle.hashes.proofs.Hashing.{hashesFrom, hashes-first, hashes-next, hashes-end, hash-next, hash-all, scan-within, empty-list}
 use Rattle.hashes.proofs.Inserting.{Going, going, gone-on, arrived, kept}
-use Rattle.hashes.specs.Gathering.{gathered, hashesBehind}
+use Rattle.hashes.specs.private.Gathering.{gathered, hashesAfter}
 use Rattle.crc32c.specs.Crc.{crcFrom, lower}
 use Rattle.crc32c.proofs.Parts.{crc-none}
 use borrow.Author.Needs.{needs}
@@ -33,15 +33,15 @@ next-end c = scan-within (c .before .before .before .before .before .before .bef
 -- after the first beginning
 started : (c : tie.After-slice-known2 Inv-loop μ-loop)
     → Going (c .before .before .before .before .before .before .before .before .before .before .args .bound) (hashesFrom (c .before .before .before .before .before .before .before .before .before .before .args .state) (c .before .before .before .before .before .before .before .before .before .before .args .d .now) (c .before .before .before .before .before .before .next-separator .result)) (c .before .before .keep .result) (c .before .before .keep .last .0)
-    (sets (c .before .before .before .before .before .before .before .before .before .before .args .table .now) 0 (gathered (c .before .before .before .before .before .before .before .before .before .before .args .bound) (hashesBehind (c .before .before .before .before .before .before .before .before .before .before .args .state) (c .before .before .before .before .before .before .before .before .before .before .args .d .now)) (take (c .before .before .before .before .before .before .before .before .before .before .args .n) (c .before .before .before .before .before .before .before .before .before .before .args .table .now))))
-    (min (length (c .before .before .before .before .before .before .before .before .before .before .args .table .now)) (length (gathered (c .before .before .before .before .before .before .before .before .before .before .args .bound) (hashesBehind (c .before .before .before .before .before .before .before .before .before .before .args .state) (c .before .before .before .before .before .before .before .before .before .before .args .d .now)) (take (c .before .before .before .before .before .before .before .before .before .before .args .n) (c .before .before .before .before .before .before .before .before .before .before .args .table .now)))))
+    (sets (c .before .before .before .before .before .before .before .before .before .before .args .table .now) 0 (gathered (c .before .before .before .before .before .before .before .before .before .before .args .bound) (hashesAfter (c .before .before .before .before .before .before .before .before .before .before .args .state) (c .before .before .before .before .before .before .before .before .before .before .args .d .now)) (take (c .before .before .before .before .before .before .before .before .before .before .args .n) (c .before .before .before .before .before .before .before .before .before .before .args .table .now))))
+    (min (length (c .before .before .before .before .before .before .before .before .before .before .args .table .now)) (length (gathered (c .before .before .before .before .before .before .before .before .before .before .args .bound) (hashesAfter (c .before .before .before .before .before .before .before .before .before .before .args .state) (c .before .before .before .before .before .before .before .before .before .before .args .d .now)) (take (c .before .before .before .before .before .before .before .before .before .before .args .n) (c .before .before .before .before .before .before .before .before .before .before .args .table .now)))))
 started c =
     let a = c .before .before .before .before .before .before .before .before .before .before .args in
     let x = c .before .before .before .before .crc32c-append-lowercase in
     let k = c .before .before .before .before .before .before .next-separator in
     let h : 0 < length (a .d .now) = omega arith in
     gone-on (a .bound) (x .result ∷ []) (hashesFrom (a .state) (a .d .now) (k .result))
-    (going (a .bound) (hashesBehind (a .state) (a .d .now)) (a .n) (a .table .now) (c .before .before .before .before .before .before .before .before .before .before .pre))
+    (going (a .bound) (hashesAfter (a .state) (a .d .now)) (a .n) (a .table .now) (c .before .before .before .before .before .before .before .before .before .before .pre))
     (hashes-first (a .state) (a .d .now) (x .result) (k .result) (x .ensures) h (k .ensures)) (c .before .before .keep .ensures)
 
 returns : tie.Need-returns Inv-loop μ-loop

@@ -4,7 +4,7 @@ use borrow.Author.Needs.{needs}
 use native.Mathlib.Omega.{arith}
 use Prim.Native.Nat.{_≤_, _-_, _+_, _/_}
 use lib.ListN.{take, length-take}
-use Rattle.hashes.specs.Gathering.{belowCount}
+use Rattle.hashes.specs.private.Gathering.{belowCount}
 use Rattle.hashes.proofs.Inserting.{below-le, below-up, below-down}
 use Rattle.hashes.proofs.hashes.place_of.Statement.{statement}
 use Rattle.hashes.proofs.hashes.place_of.Tie as tie

@@ -5,7 +5,7 @@ use lib.ListN.{length}
 use lib.Dec.{leb}
 use borrow.Author.Needs.{needs}
 use borrow.Author.Tests.{le-leb, lt-leb}
-use Rattle.hashes.specs.Gathering.{hashesWithin}
+use Rattle.hashes.specs.private.Gathering.{hashesWithin}
 use Rattle.hashes.proofs.Listing.{not-held, no-room, all-put}
 use Rattle.hashes.proofs.hashes.put_hashes.Statement.{statement}
 use Rattle.hashes.proofs.hashes.put_hashes.Tie as tie

@@ -6,7 +6,7 @@ use mir.Val.{SFits}
 use mir.Facts.{toZ-ofZ}
 use Rattle.layout.proofs.Deciding.{set-held}
 use Rattle.rules.proofs.Deciding.{go, stop}
-use Rattle.rules.specs.Bounds.{sizeOf}
+use Rattle.rules.specs.Bounds.{clampedOf}
 use Rattle.rules.specs.Questions.{badOffset}
 use Rattle.layout.proofs.piece.file_index_at_offset.Statement.{statement}
 use Rattle.layout.proofs.piece.file_index_at_offset.Tie as tie
@@ -42,7 +42,7 @@ returns c =
     let a = c .before .before .before .before .before .before .before .before .before .args in
     let fits : SFits w64 (a .offset) = search needs in
     let z = toZ-ofZ fits in
-    let s : c .before .before .clamped64 .result ≡ sizeOf (a .offset) = rw z at (c .before .before .clamped64 .ensures) in
+    let s : c .before .before .clamped64 .result ≡ clampedOf (a .offset) = rw z at (c .before .before .clamped64 .ensures) in
     let b : c .before .before .before .before .before .before .before .is-bad-offset .result ≡ badOffset (a .fs) (a .offset) .test = rw z at (c .before .before .before .before .before .before .before .is-bad-offset .ensures) in
     go _ (rw (b, c .before .before .before .before .before .before .is-held .ensures) at (c .before .before .before .before .before .ask-set .ensures)) (c .before .before .before .enum-told .given .1) _
     (rw (c .before .find-near .ensures, s) at (c .new .ensures))

@@ -8,7 +8,7 @@ use mir.Val.{SFits}
 use mir.Facts.{toZ-ofZ}
 use mathlib.Core.List.{[], _∷_}
 use Rattle.rules.specs.Rules.{firstOf}
-use Rattle.rules.specs.Bounds.{sizeOf, isNegative, indexOf}
+use Rattle.rules.specs.Bounds.{clampedOf, isNegative, clampedOf}
 use Rattle.rules.specs.Questions.{rowsHeld, badPieceLength, manyPieces, noPiece, badRange, short}
 use Rattle.layout.specs.Pieces.{startOf}
 use Rattle.rules.specs.Results.{checkNumber}
@@ -76,7 +76,7 @@ add-target c =
     let k = piece-known (a .fs) (a .piece .0) (c .before .before .before .before .before .before .before .is-bad-range .result) (c .before .before .before .before .before .before .is-held .result) _ (c .before .before .get .ensures) (c .before .before .before .before .before .ask-piece .ensures) (c .before .before .before .enum-told .given .1) in
     let b = piece-range-good (a .fs) (a .piece .0) (c .before .before .before .before .before .before .before .is-bad-range .result) (c .before .before .before .before .before .before .is-held .result) (c .before .before .before .before .before .ask-piece .ensures) (c .before .before .before .enum-told .given .1) in
     let fits : SFits w64 (a .offset) = search needs in
-    let s : c .clamped64 .result ≡ sizeOf (a .offset) = rw (toZ-ofZ fits) at (c .clamped64 .ensures) in
+    let s : c .clamped64 .result ≡ clampedOf (a .offset) = rw (toZ-ofZ fits) at (c .clamped64 .ensures) in
     let l = offset-low (a .offset) (a .size) (sym (range-of (c .before .before .before .before .before .before .before)) ∙ b) in
     omega (arith, c .before .start-of .ensures)
 
@@ -93,9 +93,9 @@ returns-2 c =
     let a = c .before .before .before .before .before .before .before .before .before .before .before .before .args in
     let offset-fits : SFits w64 (a .offset) = search needs in
     let size-fits : SFits w64 (a .size) = search needs in
-    let p : c .before .before .before .start-of .result ≡ startOf (a .fs) (indexOf (a .piece .0)) = rw (c .before .before .before .before .get .ensures) at (c .before .before .before .start-of .ensures) in
-    let o : c .before .before .clamped64 .result ≡ sizeOf (a .offset) = rw (toZ-ofZ offset-fits) at (c .before .before .clamped64 .ensures) in
-    let n : c .before .clamped642 .result ≡ sizeOf (a .size) = rw (toZ-ofZ size-fits) at (c .before .clamped642 .ensures) in
+    let p : c .before .before .before .start-of .result ≡ startOf (a .fs) (clampedOf (a .piece .0)) = rw (c .before .before .before .before .get .ensures) at (c .before .before .before .start-of .ensures) in
+    let o : c .before .before .clamped64 .result ≡ clampedOf (a .offset) = rw (toZ-ofZ offset-fits) at (c .before .before .clamped64 .ensures) in
+    let n : c .before .clamped642 .result ≡ clampedOf (a .size) = rw (toZ-ofZ size-fits) at (c .before .clamped642 .ensures) in
     start-answered (a .fs) (a .rows .now) (a .piece .0) (a .offset) (a .size) _ (decided (c .before .before .before .before .before .before .before))
     (c .before .before .before .start-of .result + c .before .before .clamped64 .result) (c .before .clamped642 .result) (ap₂ _+_ p o) n (c .before .before .before .before .before .enum-told .given .1) (c .start-at .ensures)
 

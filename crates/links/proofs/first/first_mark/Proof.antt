@@ -12,7 +12,7 @@ use Rattle.tables.specs.Rows.{has}
 use Rattle.tables.specs.Model.{Store, directoryOf}
 use Rattle.lookup.specs.Lookup.{nothing, isDirectory, fileAt, lent, entriesOf, directoriesOf, seenCode}
 use Rattle.lookup.specs.Space.{directoryLength}
-use Rattle.lookup.specs.Rows.{entryAt}
+use Rattle.lookup.specs.private.Rows.{entryAt}
 use Rattle.lookup.proofs.Rows.{text-at}
 use Rattle.links.specs.Judging.{relativeMark}
 use Rattle.links.proofs.Marking.{code-link, code-file, code-nothing, first-absolute, first-link, first-file, first-dir, first-near}

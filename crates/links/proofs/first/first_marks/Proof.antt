@@ -7,9 +7,9 @@ use lib.ListN.{length}
 use lib.Seq.{sets}
 use Rattle.tables.specs.Model.{Store}
 use Rattle.lookup.specs.Lookup.{Entry, lent, entriesOf, directoriesOf}
-use Rattle.lookup.specs.Rows.{entryAt, entriesFrom}
+use Rattle.lookup.specs.private.Rows.{entryAt, entriesFrom}
 use Rattle.lookup.proofs.Rows.{entries-start, entries-cons, entries-none, one-or-none}
-use Rattle.links.specs.Walking.{firstMarks}
+use Rattle.links.specs.private.Walking.{firstMarks}
 use Rattle.links.proofs.Marking.{marks-turn}
 use Rattle.links.proofs.first.first_marks.Statement.{statement}
 use Rattle.links.proofs.first.first_marks.Tie as tie

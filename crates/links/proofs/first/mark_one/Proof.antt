@@ -5,7 +5,7 @@ use lib.ListN.{set}
 use Rattle.tables.specs.Model.{Store}
 use Rattle.lookup.specs.Space.{space}
 use Rattle.lookup.specs.Lookup.{lent, entriesOf, directoriesOf}
-use Rattle.lookup.specs.Rows.{entryAt}
+use Rattle.lookup.specs.private.Rows.{entryAt}
 use Rattle.lookup.proofs.Rows.{flagged-at, entries-all}
 use Rattle.links.specs.Judging.{firstMark}
 use Rattle.links.proofs.Scans.{space-at, cond-yes, cond-no}

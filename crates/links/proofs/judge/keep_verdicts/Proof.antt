@@ -4,7 +4,7 @@ use mathlib.Core.Path.{_≡_, refl, _∙_}
 use mathlib.Core.List.{List, map, _++_}
 use native.Mathlib.Omega.{arith}
 use lib.ListN.{length, getD, set, take, drop, length-set}
-use Rattle.links.specs.Walking.{verdict}
+use Rattle.links.specs.private.Walking.{verdict}
 use Rattle.links.proofs.Packed.{map-read, map-turn, map-end}
 use Rattle.links.proofs.judge.keep_verdicts.Statement.{statement}
 use Rattle.links.proofs.judge.keep_verdicts.Tie as tie

@@ -1,11 +1,10 @@
 -- `links::judge::links_in` meets its contract.
 use borrow.Author.Needs.{needs}
 use mathlib.Core.Path.{_≡_, refl, sym, _∙_}
-use mathlib.Core.Bool.{false, true}
+use mathlib.Core.Bool.{false, true, _&&_}
 use mathlib.Core.List.{[]}
 use borrow.Author.Tests.{not-true, not-false}
 use Rattle.tables.specs.Model.{Store}
-use Rattle.rules.specs.Rules.{both}
 use Rattle.rules.specs.Bounds.{badLength}
 use Rattle.rules.specs.Questions.{rowsHeld, dirsHeld, textHeld}
 use Rattle.lookup.specs.Lookup.{lent}
@@ -19,7 +18,7 @@ theSet c = lent (c .args .fs) (c .args .rows .now) (c .args .dirs .now) (c .args
 is-good : (c : tie.Else1) → badLength (c .before .before .before .before .before .args .fs .«piece_length») ≡ false
 is-good c = sym (c .before .is-bad-length .ensures) ∙ c .if1 .left
 
-is-whole : (c : tie.Else2) → both (rowsHeld (c .before .before .before .before .before .before .before .args .fs) (c .before .before .before .before .before .before .before .args .rows .now)) (both (dirsHeld (c .before .before .before .before .before .before .before .args .fs) (c .before .before .before .before .before .before .before .args .dirs .now)) (textHeld (c .before .before .before .before .before .before .before .args .fs) (c .before .before .before .before .before .before .before .args .text .now))) ≡ true
+is-whole : (c : tie.Else2) → (rowsHeld (c .before .before .before .before .before .before .before .args .fs) (c .before .before .before .before .before .before .before .args .rows .now) && (dirsHeld (c .before .before .before .before .before .before .before .args .fs) (c .before .before .before .before .before .before .before .args .dirs .now) && textHeld (c .before .before .before .before .before .before .before .args .fs) (c .before .before .before .before .before .before .before .args .text .now))) ≡ true
 is-whole c = sym (c .before .is-held .ensures) ∙ not-false _ (c .if2 .left)
 
 is-bad-length-requires : tie.Need-is-bad-length-requires

@@ -1,6 +1,6 @@
 -- The proof of `lead_at`.
 use mathlib.Core.Path.{sym, ap, _∙_, refl}
-use Rattle.links.specs.Walking.{lead}
+use Rattle.links.specs.private.Walking.{lead}
 use Rattle.links.proofs.Packed.{map-get}
 use borrow.Author.Needs.{needs}
 use Rattle.links.proofs.mark.lead_at.Statement.{statement}

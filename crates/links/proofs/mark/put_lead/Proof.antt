@@ -3,7 +3,7 @@ use Prim.Native.Nat.{ℕ, _+_, _*_, _/_}
 use mathlib.Core.Path.{_≡_, ap, _∙_}
 use mathlib.Core.List.{map}
 use lib.ListN.{getD, set}
-use Rattle.links.specs.Walking.{lead, verdict}
+use Rattle.links.specs.private.Walking.{lead, verdict}
 use Rattle.links.proofs.Packed.{set-lead, set-lead-verdicts}
 use borrow.Author.Needs.{needs}
 use Rattle.links.proofs.mark.put_lead.Statement.{statement}

@@ -12,10 +12,10 @@ use lib.ListN.{length, getD, set, take, drop, length-drop}
 use lib.Seq.{take-all}
 use Rattle.tables.specs.Model.{Store, directoryText}
 use Rattle.lookup.specs.Lookup.{Entry, covers, isDirectory, known, lent, entriesOf, directoriesOf}
-use Rattle.lookup.specs.Rows.{entryAt, entriesFrom, directoriesFrom}
+use Rattle.lookup.specs.private.Rows.{entryAt, entriesFrom, directoriesFrom}
 use Rattle.lookup.proofs.Rows.{flagged-at, entries-start, directories-start, directories-turn, one-or-none}
-use Rattle.links.specs.Clean.{cut, weight, left}
-use Rattle.links.specs.Walking.{lead, verdict, fresh, anyAt, leadMark, leadText, openOf, rowLead, Joined}
+use Rattle.links.specs.Clean.{partEnd, weight, left}
+use Rattle.links.specs.private.Walking.{lead, verdict, untraversed, anyAt, leadMark, leadText, openOf, rowLead, JoinedAt}
 use Rattle.links.proofs.Scans.{Scan, scan-start}
 use Rattle.links.proofs.Events.{Met, Over, over-is, goesOn, walked-end, no-dir, dir-on, dir-less, dir-stop, link-none, link-past, mark-low, link-staged, link-short, link-marks, link-room, link-on, link-less}
 use Rattle.links.proofs.Written.{row-lead, row-room}
@@ -35,7 +35,7 @@ abbrev μ-loop2 : tie.MeasureT-loop2
 μ-loop2 fs rows dirs text marks₀ stage₀ path₀ from at₀ e₀ d i₀ k₀ marks stage path at e i k = fs .«num_files» - i
 
 abbrev Inv-walk : tie.InvT-walk
-Inv-walk fs rows dirs text marks₀ stage₀ path₀ from at₀ e₀ marks stage path at e = (at ≤ length path) × (length marks ≡ length marks₀) × (length stage ≡ length stage₀) × (length path ≡ length path₀) × (weight (openOf (entriesOf (lent fs rows dirs text)) (map lead marks)) ≤ at) × (map fresh (map lead marks) ≡ map fresh (map lead marks₀)) × (map verdict marks ≡ map verdict marks₀) × (goesOn (lent fs rows dirs text) (map lead marks) path at e ≡ goesOn (lent fs rows dirs text) (map lead marks₀) path₀ «from» (cut (drop «from» path₀) 0))
+Inv-walk fs rows dirs text marks₀ stage₀ path₀ from at₀ e₀ marks stage path at e = (at ≤ length path) × (length marks ≡ length marks₀) × (length stage ≡ length stage₀) × (length path ≡ length path₀) × (weight (openOf (entriesOf (lent fs rows dirs text)) (map lead marks)) ≤ at) × (map untraversed (map lead marks) ≡ map untraversed (map lead marks₀)) × (map verdict marks ≡ map verdict marks₀) × (goesOn (lent fs rows dirs text) (map lead marks) path at e ≡ goesOn (lent fs rows dirs text) (map lead marks₀) path₀ «from» (partEnd (drop «from» path₀) 0))
 
 abbrev μ-walk : tie.MeasureT-walk
 μ-walk fs rows dirs text marks₀ stage₀ path₀ from at₀ e₀ marks stage path at e = left (openOf (entriesOf (lent fs rows dirs text)) (map lead marks)) (drop at path) e
@@ -46,7 +46,7 @@ theSet c = lent (c .args .fs) (c .args .rows .now) (c .args .dirs .now) (c .args
 lead-is : (f : Entry) (rest : List Entry) (ms ms′ p p′ : List ℕ) (k m : ℕ) → ms′ ≡ ms → p′ ≡ p → m ≡ leadMark f (getD ms′ k 0) p′ (anyAt rest (drop (k + 1) ms′) p′) → m ≡ leadMark f (getD ms k 0) p (anyAt rest (drop (k + 1) ms) p)
 lead-is f rest ms ms′ p p′ k m i j h = rw (i, j) at h
 
-joined-is : (path path′ t t′ b : List ℕ) (at at′ e e′ r : ℕ) → path′ ≡ path → at′ ≡ at → e′ ≡ e → t′ ≡ t → Joined path′ at′ e′ t′ b r → Joined path at e t b r
+joined-is : (path path′ t t′ b : List ℕ) (at at′ e e′ r : ℕ) → path′ ≡ path → at′ ≡ at → e′ ≡ e → t′ ≡ t → JoinedAt path′ at′ e′ t′ b r → JoinedAt path at e t b r
 joined-is path path′ t t′ b at at′ e e′ r i j k l h = rw (i, j, k, l) at h
 
 part-is : (path path′ : List ℕ) (at at′ e e′ : ℕ) → path′ ≡ path → at′ ≡ at → e′ ≡ e → take e′ (drop at′ path′) ≡ take e (drop at path)
@@ -58,8 +58,8 @@ cov c b h =
     let w = c .before .before .before .before .before .before .walk in
     sym (c .covers-at .ensures ∙ ap (λ (x : ℕ). covers (directoryText (theSet (c .before .before .before .before .before .before .before .before .before .before .before .before .before .before .before)) (c .before .before .before .before .loop .d)) (take x (drop (w .at) (w .path)))) (c .before .before .before .before .loop .inv .0)) ∙ h
 
-next-end : (c : tie.After-cut-at2 Inv-loop μ-loop Inv-loop2 μ-loop2 Inv-walk μ-walk) → c .cut-at2 .result ≡ cut (drop (c .before .before .before .before .before .before .before .before .before .walk .at) (c .before .before .before .before .before .before .before .before .before .walk .path)) (c .before .before .before .before .before .before .before .before .before .walk .e + 1)
-next-end c = c .cut-at2 .ensures ∙ ap (λ (x : ℕ). cut (drop (c .before .before .before .before .before .before .before .before .before .walk .at) (c .before .before .before .before .before .before .before .before .before .walk .path)) (x + 1)) (c .before .before .before .before .before .before .before .loop .inv .0)
+next-end : (c : tie.After-cut-at2 Inv-loop μ-loop Inv-loop2 μ-loop2 Inv-walk μ-walk) → c .cut-at2 .result ≡ partEnd (drop (c .before .before .before .before .before .before .before .before .before .walk .at) (c .before .before .before .before .before .before .before .before .before .walk .path)) (c .before .before .before .before .before .before .before .before .before .walk .e + 1)
+next-end c = c .cut-at2 .ensures ∙ ap (λ (x : ℕ). partEnd (drop (c .before .before .before .before .before .before .before .before .before .walk .at) (c .before .before .before .before .before .before .before .before .before .walk .path)) (x + 1)) (c .before .before .before .before .before .before .before .loop .inv .0)
 
 -- the part is no directory
 undir : (c : tie.Else1 Inv-loop μ-loop Inv-loop2 μ-loop2 Inv-walk μ-walk) → isDirectory (directoriesOf (theSet (c .before .before .before .before .before .before .before .before .before .before .before .before .before))) (take (c .before .before .before .before .walk .e) (drop (c .before .before .before .before .walk .at) (c .before .before .before .before .walk .path))) ≡ false
@@ -85,7 +85,7 @@ met c =
 led : (c : tie.After-traverse Inv-loop μ-loop Inv-loop2 μ-loop2 Inv-walk μ-walk) → map lead (c .traverse .last .1 .1 .1 .0) ≡ set (map lead (c .before .before .before .before .before .before .before .before .before .before .before .before .before .before .before .before .walk .marks)) (c .before .before .before .before .before .before .before .before .before .before .before .loop2 .k) (c .before .before .before .before .before .lead-mark .result + 2)
 led c = c .traverse .ensures .1 .0 ∙ ap (λ (x : List ℕ). set (map lead x) (c .before .before .before .before .before .before .before .before .before .before .before .loop2 .k) (c .before .before .before .before .before .lead-mark .result + 2)) (c .before .before .before .before .before .before .before .before .before .before .before .loop2 .inv .0)
 
-joined : (c : tie.After-traverse Inv-loop μ-loop Inv-loop2 μ-loop2 Inv-walk μ-walk) → Joined (c .before .before .before .before .before .before .before .before .before .before .before .before .before .before .before .before .walk .path) (c .before .before .before .before .before .before .before .before .before .before .before .before .before .before .before .before .walk .at) (c .before .before .before .before .before .before .before .before .before .before .before .before .before .before .before .before .walk .e) (leadText (c .before .before .before .before .before .lead-mark .result) (entryAt (theSet (c .before .before .before .before .before .before .before .before .before .before .before .before .before .before .before .before .before .before .before .before .before .before .before .before .before)) (c .before .before .before .before .before .before .before .before .before .before .before .loop2 .i))) (c .traverse .last .1 .1 .1 .1 .1 .0) (c .traverse .result)
+joined : (c : tie.After-traverse Inv-loop μ-loop Inv-loop2 μ-loop2 Inv-walk μ-walk) → JoinedAt (c .before .before .before .before .before .before .before .before .before .before .before .before .before .before .before .before .walk .path) (c .before .before .before .before .before .before .before .before .before .before .before .before .before .before .before .before .walk .at) (c .before .before .before .before .before .before .before .before .before .before .before .before .before .before .before .before .walk .e) (leadText (c .before .before .before .before .before .lead-mark .result) (entryAt (theSet (c .before .before .before .before .before .before .before .before .before .before .before .before .before .before .before .before .before .before .before .before .before .before .before .before .before)) (c .before .before .before .before .before .before .before .before .before .before .before .loop2 .i))) (c .traverse .last .1 .1 .1 .1 .1 .0) (c .traverse .result)
 joined c =
     let w = c .before .before .before .before .before .before .before .before .before .before .before .before .before .before .before .before .walk in
     let l = c .before .before .before .before .before .before .before .before .before .before .before .loop2 in
@@ -114,7 +114,7 @@ stop-link c =
 
 -- the answer of the whole walk
 abbrev answer : tie.Start Inv-loop μ-loop Inv-loop2 μ-loop2 Inv-walk μ-walk → Bool
-answer c = goesOn (theSet c) (map lead (c .args .marks .now)) (c .args .path .now) (c .args .«from») (cut (drop (c .args .«from») (c .args .path .now)) 0)
+answer c = goesOn (theSet c) (map lead (c .args .marks .now)) (c .args .path .now) (c .args .«from») (partEnd (drop (c .args .«from») (c .args .path .now)) 0)
 
 abbrev ends : tie.Start Inv-loop μ-loop Inv-loop2 μ-loop2 Inv-walk μ-walk → List ℕ → Bool
 ends c = known (entriesOf (theSet c)) (directoriesOf (theSet c))
@@ -229,7 +229,7 @@ walk-again-2 c =
       c .before .before .before .before .before .before .before .before .traverse .kept .1 .1 .1 .1 .0 ∙ ap length (l .inv .1) ∙ w .inv .2,
       c .before .before .before .before .before .before .before .before .traverse .kept .1 .1 .1 .1 .1 .0 ∙ ap length (l .inv .2) ∙ w .inv .3,
       rw (led (c .before .before .before .before .before .before .before .before)) (link-room s (map lead (w .marks)) (w .path) (w .at) (w .e) (l .i) (l .k) m (met (c .before .before .before .before .before .before .before .before .before .before .before .before .before)) (c .before .before .before .before .before .before .before .before .before .before .before .before .if5 .taken) path r (c .cut-at3 .result) (joined (c .before .before .before .before .before .before .before .before)) (w .inv .4)),
-      ap (map fresh) (led (c .before .before .before .before .before .before .before .before)) ∙ link-marks s (map lead (w .marks)) (w .path) (w .at) (w .e) (l .i) (l .k) m (met (c .before .before .before .before .before .before .before .before .before .before .before .before .before)) (c .before .before .before .before .before .before .before .before .before .before .before .before .if5 .taken) ∙ w .inv .5,
+      ap (map untraversed) (led (c .before .before .before .before .before .before .before .before)) ∙ link-marks s (map lead (w .marks)) (w .path) (w .at) (w .e) (l .i) (l .k) m (met (c .before .before .before .before .before .before .before .before .before .before .before .before .before)) (c .before .before .before .before .before .before .before .before .before .before .before .before .if5 .taken) ∙ w .inv .5,
       c .before .before .before .before .before .before .before .before .traverse .ensures .1 .1 ∙ ap (map verdict) (l .inv .0) ∙ w .inv .6,
       rw (led (c .before .before .before .before .before .before .before .before)) (link-on s (map lead (w .marks)) (w .path) (w .at) (w .e) (l .i) (l .k) m (met (c .before .before .before .before .before .before .before .before .before .before .before .before .before)) (c .before .before .before .before .before .before .before .before .before .before .before .before .if5 .taken) path r (c .cut-at3 .result) (joined (c .before .before .before .before .before .before .before .before)) (c .cut-at3 .ensures)) ∙ w .inv .7,
     )

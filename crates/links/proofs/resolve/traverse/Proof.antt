@@ -3,13 +3,13 @@ use mathlib.Core.Path.{sym, ap}
 use native.Mathlib.Omega.{arith}
 use lib.ListN.{length}
 use lib.Seq.{length-take-le}
-use Rattle.links.specs.Walking.{rowLead, Holds}
+use Rattle.links.specs.private.Walking.{rowLead, StandsIn}
 use borrow.Author.Needs.{needs}
 use Rattle.links.proofs.resolve.traverse.Statement.{statement}
 use Rattle.links.proofs.resolve.traverse.Tie as tie
 
 -- the text in the stage
-staged : (c : tie.After-lead-text) → Holds (c .lead-text .last .1 .1 .1 .1 .1 .0) (c .lead-text .result) (rowLead (c .before .before .before .before .before .before .before .before .args .rows .now) (c .before .before .before .before .before .before .before .before .args .dirs .now) (c .before .before .before .before .before .before .before .before .args .text .now) (c .before .before .before .before .before .before .before .before .args .i) (c .before .before .before .before .before .before .before .before .args .m))
+staged : (c : tie.After-lead-text) → StandsIn (c .lead-text .last .1 .1 .1 .1 .1 .0) (c .lead-text .result) (rowLead (c .before .before .before .before .before .before .before .before .args .rows .now) (c .before .before .before .before .before .before .before .before .args .dirs .now) (c .before .before .before .before .before .before .before .before .args .text .now) (c .before .before .before .before .before .before .before .before .args .i) (c .before .before .before .before .before .before .before .before .args .m))
 staged c = c .lead-text .ensures
 
 lead-text-requires : tie.Need-lead-text-requires

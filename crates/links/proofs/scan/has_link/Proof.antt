@@ -9,9 +9,9 @@ use borrow.Author.Needs.{needs}
 use lib.ListN.{getD, drop}
 use Rattle.tables.specs.Model.{Store}
 use Rattle.lookup.specs.Lookup.{Entry, lent}
-use Rattle.lookup.specs.Rows.{entryAt, entriesFrom}
+use Rattle.lookup.specs.private.Rows.{entryAt, entriesFrom}
 use Rattle.lookup.proofs.Rows.{flagged-at, entries-cons, entries-none, one-or-none}
-use Rattle.links.specs.Walking.{lead, anyAt, linkAt}
+use Rattle.links.specs.private.Walking.{lead, anyAt, linkAt}
 use Rattle.links.proofs.Scans.{link-at, any-turn, any-hit}
 use Rattle.links.proofs.scan.has_link.Statement.{statement}
 use Rattle.links.proofs.scan.has_link.Tie as tie

@@ -11,7 +11,7 @@ use Rattle.lists.specs.Lists.{equal}
 use Rattle.tables.specs.Rows.{rowAt}
 use Rattle.tables.specs.Model.{internalPath}
 use Rattle.lookup.specs.Lookup.{isFlagged}
-use Rattle.links.specs.Walking.{lead}
+use Rattle.links.specs.private.Walking.{lead}
 use borrow.Author.Needs.{needs}
 use Rattle.links.proofs.scan.is_link_at.Statement.{statement}
 use Rattle.links.proofs.scan.is_link_at.Tie as tie

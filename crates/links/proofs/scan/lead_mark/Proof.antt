@@ -7,10 +7,10 @@ use borrow.Author.Tests.{not-true, not-false}
 use lib.ListN.{getD, drop}
 use Rattle.lists.specs.Lists.{equal}
 use Rattle.tables.specs.Model.{Store}
-use Rattle.lookup.specs.Lookup.{Entry, own, lent}
-use Rattle.lookup.specs.Rows.{entryAt, entriesFrom}
+use Rattle.lookup.specs.Lookup.{Entry, ownPath, lent}
+use Rattle.lookup.specs.private.Rows.{entryAt, entriesFrom}
 use Rattle.lookup.proofs.Rows.{flagged-at, own-at}
-use Rattle.links.specs.Walking.{lead, anyAt, leading}
+use Rattle.links.specs.private.Walking.{lead, anyAt, leading}
 use Rattle.links.proofs.Scans.{leading-not, leading-yes, mark-plain, mark-off, mark-before, mark-there, mark-here}
 use borrow.Author.Needs.{needs}
 use Rattle.links.proofs.scan.lead_mark.Statement.{statement}
@@ -33,7 +33,7 @@ later c = anyAt (entriesFrom (theSet c) (c .args .fs .«num_files» - (c .args .
 flag-is : (c : tie.After-is-link) → c .is-link .result ≡ this (c .before .before .before .before .before .before) .flagged
 flag-is c = c .is-link .ensures ∙ flagged-at (theSet (c .before .before .before .before .before .before)) (c .before .before .before .before .before .before .args .i)
 
-path-is : (c : tie.After-own-is) → c .own-is .result ≡ equal (own (this (c .before .before .before .before .before .before .before .before .before .before .before))) (c .before .before .before .before .before .before .before .before .before .before .before .args .p .now)
+path-is : (c : tie.After-own-is) → c .own-is .result ≡ equal (ownPath (this (c .before .before .before .before .before .before .before .before .before .before .before))) (c .before .before .before .before .before .before .before .before .before .before .before .args .p .now)
 path-is c = c .own-is .ensures ∙ ap (λ (x : List ℕ). equal x (c .before .before .before .before .before .before .before .before .before .before .before .args .p .now)) (own-at (theSet (c .before .before .before .before .before .before .before .before .before .before .before)) (c .before .before .before .before .before .before .before .before .before .before .before .args .i))
 
 is-link-requires : tie.Need-is-link-requires

@@ -7,7 +7,7 @@ use borrow.Author.Needs.{needs}
 use lib.ListN.{length}
 use Rattle.tables.specs.Model.{Store}
 use Rattle.lookup.specs.Lookup.{lent, entriesOf, directoriesOf}
-use Rattle.lookup.specs.Rows.{entryAt, entriesFrom}
+use Rattle.lookup.specs.private.Rows.{entryAt, entriesFrom}
 use Rattle.lookup.proofs.Rows.{entries-start, entries-cons, entries-none, one-or-none}
 use Rattle.links.proofs.Walked.{Judging, judging-start, judging-turn, judging-end}
 use Rattle.links.proofs.second.walk_links.Statement.{statement}

@@ -9,9 +9,9 @@ use lib.ListN.{getD, set}
 use lib.Seq.{set-getD}
 use Rattle.tables.specs.Model.{Store}
 use Rattle.lookup.specs.Lookup.{Entry, lent, entriesOf, directoriesOf}
-use Rattle.lookup.specs.Rows.{entryAt}
+use Rattle.lookup.specs.private.Rows.{entryAt}
 use Rattle.lookup.proofs.Rows.{flagged-at}
-use Rattle.links.specs.Walking.{lead, walkedMark}
+use Rattle.links.specs.private.Walking.{lead, walkedMark}
 use Rattle.links.proofs.Scans.{cond-yes, cond-no}
 use Rattle.links.proofs.Walked.{walked-by, walked-not}
 use borrow.Author.Needs.{needs}

@@ -12,7 +12,7 @@ use Rattle.types.specs.declared.refusal.Refusal.{Refusal}
 use Rattle.types.specs.declared.refusal.UsizeResult.{UsizeResult}
 use Rattle.types.specs.declared.refusal.UsizeResult.the-variants as usize
 use Rattle.path.specs.Join.{appended, Joined, joinedIf, fits}
-use Rattle.links.specs.Walking.{Holds}
+use Rattle.links.specs.private.Walking.{StandsIn}
 use Rattle.links.proofs.Walk.{append-short}
 use borrow.Author.Needs.{needs}
 use Rattle.links.proofs.text.append_in.Statement.{statement}
@@ -27,7 +27,7 @@ module _ (buf d t x : List ℕ) (r : UsizeResult) (h : length d + length t + 1 �
   written : _≡_ {A = Joined} (record { says = usizeSays r; buf = x }) (record { says = value (length (appended d t)); buf = sets buf 0 (appended d t) })
   written = e ∙ rw (le-leb (length (appended d t)) (length buf) short)
 
-  holds : (n : ℕ) → r ≡ usize.Ok n → Holds x n (appended d t)
+  holds : (n : ℕ) → r ≡ usize.Ok n → StandsIn x n (appended d t)
   holds n q =
       let s : value n ≡ value (length (appended d t)) = ap usizeSays (sym q) ∙ ap (λ (j : Joined). j .says) written in
       let l : n ≡ length (appended d t) = cc in

@@ -8,8 +8,8 @@ use borrow.Author.Needs.{needs}
 use Rattle.links.proofs.text.put_at.Statement.{statement}
 use Rattle.links.proofs.text.put_at.Tie as tie
 
-copy-behind-requires : tie.Need-copy-behind-requires
-copy-behind-requires c κs = search needs
+copy-after-requires : tie.Need-copy-after-requires
+copy-after-requires c κs = search needs
 
 same-length : tie.Need-same-length
 same-length c = search needs
@@ -19,7 +19,7 @@ returns c =
     let a = c .before .before .before .before .before .before .args in
     let b = a .buf .now in
     let t = a .t .now in
-    c .before .before .copy-behind .ensures ∙ sets-eq t b (a .at) (c .before .before .before .before .before .before .pre) ∙ append-assoc (take (a .at) b) t (drop (a .at + length t) b)
+    c .before .before .copy-after .ensures ∙ sets-eq t b (a .at) (c .before .before .before .before .before .before .pre) ∙ append-assoc (take (a .at) b) t (drop (a .at + length t) b)
 
 pub put-at-spec : {M : Type 1} → statement M
-put-at-spec = tie.close (tie.spec copy-behind-requires same-length returns)
+put-at-spec = tie.close (tie.spec copy-after-requires same-length returns)

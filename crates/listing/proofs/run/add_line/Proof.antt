@@ -17,7 +17,7 @@ use Rattle.listing.specs.Run.{additionOf}
 use Rattle.tables.specs.Model.{Optional, absent, presentIf, storeOf}
 use Rattle.listing_input.specs.declared.form.FileLine.{FileLine}
 use Rattle.listing_input.specs.Answers.{fileSays}
-use Rattle.listing.specs.Steps.{obeyed}
+use Rattle.listing.specs.private.Steps.{obeyed}
 use Rattle.listing.proofs.Steps.{size-is, root-by}
 use borrow.Author.Needs.{needs}
 use Rattle.listing.proofs.run.add_line.Statement.{statement}

@@ -13,7 +13,7 @@ use Rattle.change.specs.Changes.{Changed, storageSays}
 use Rattle.listing_input.specs.Form.{lines, fileIn}
 use Rattle.listing.specs.Run.{runFrom, places}
 use Rattle.listing.specs.declared.run.RunResult.{RunResult}
-use Rattle.listing.specs.Steps.{obeyed, stoppedBy, runSays, Placed}
+use Rattle.listing.specs.private.Steps.{obeyed, stoppedBy, runSays, Placed}
 use Rattle.listing.proofs.Steps.{Going, line-few, run-ends, run-stops, run-goes, counted-is}
 use Rattle.listing.proofs.run.add_lines.Statement.{statement}
 use Rattle.listing.proofs.run.add_lines.Tie as tie

@@ -6,7 +6,7 @@ use Rattle.lists.specs.Lists.{ceiling}
 use Rattle.types.specs.declared.refusal.Refusal.the-variants.{TooManyPieces}
 use Rattle.tables.specs.declared.storage.FileStorage.{FileStorage}
 use Rattle.listing.specs.declared.run.RunResult.the-variants.{Listed, Stopped}
-use Rattle.listing.specs.Steps.{countedBy}
+use Rattle.listing.specs.private.Steps.{countedBy}
 use borrow.Author.Needs.{needs}
 use Rattle.listing.proofs.run.counted_by.Statement.{statement}
 use Rattle.listing.proofs.run.counted_by.Tie as tie

@@ -7,7 +7,7 @@ use Rattle.listing.specs.Run.{run, places}
 use Rattle.listing_output.specs.Output.{printed}
 use Rattle.listing_output.specs.Printing.{putText}
 use Rattle.tables.specs.Model.{storeOf}
-use Rattle.listing.specs.Steps.{Placed, runSays}
+use Rattle.listing.specs.private.Steps.{Placed, runSays}
 use Rattle.listing.specs.declared.run.RunResult.{RunResult}
 use Rattle.listing_output.proofs.Printed.{shown-is}
 use borrow.Author.Needs.{needs}

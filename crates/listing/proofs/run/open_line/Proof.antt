@@ -6,7 +6,7 @@ use mir.Val.{SFits}
 use mir.Facts.{toZ-ofZ}
 use Rattle.storage.specs.Opening.{opened}
 use Rattle.listing_input.specs.Answers.{numberSays}
-use Rattle.listing.specs.Steps.{openedBy}
+use Rattle.listing.specs.private.Steps.{openedBy}
 use Rattle.listing.proofs.Steps.{piece-length-is}
 use borrow.Author.Needs.{needs}
 use Rattle.listing.proofs.run.open_line.Statement.{statement}

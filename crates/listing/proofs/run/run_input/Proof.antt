@@ -9,13 +9,13 @@ use Rattle.tables.specs.declared.storage.FileStorage.{FileStorage}
 use Rattle.tables.specs.Model.{Model, viewOf, storeOf}
 use Rattle.change.specs.declared.result.StorageResult.{StorageResult}
 use Rattle.change.specs.Changes.{storageSays}
-use Rattle.storage.specs.Opening.{empty, fresh}
+use Rattle.storage.specs.Opening.{newStorage, newModel}
 use Rattle.sound.specs.Sound.{Sound}
 use Rattle.sound.proofs.Opened.{sound-opened, view-opened}
 use Rattle.listing_input.specs.Form.{lines, pieceLengthIn}
 use Rattle.listing.specs.Run.{run, runFrom, places}
 use Rattle.listing.specs.declared.run.RunResult.{RunResult}
-use Rattle.listing.specs.Steps.{openedBy, stoppedBy, runSays}
+use Rattle.listing.specs.private.Steps.{openedBy, stoppedBy, runSays}
 use Rattle.listing.proofs.Steps.{line-few, run-long, run-none, first-stops, first-goes}
 use borrow.Author.Needs.{needs}
 use Rattle.listing.proofs.run.run_input.Statement.{statement}
@@ -26,7 +26,7 @@ said : (c : tie.After-open-line) → storageSays (c .open-line .result) ≡ open
 said c = c .open-line .ensures ∙ ap (λ (l : List ℕ). openedBy (pieceLengthIn l)) (c .before .part .ensures)
 
 -- the set that it opens
-begun : (c : tie.After-known-told) → (m : ℕ) × (c .before .answer .given .0 .0 ≡ empty m) × (runFrom places 1 (fresh m) (lines (drop (c .before .before .before .before .before .line-length .result + 1) (c .before .before .before .before .before .before .before .before .before .before .before .before .before .args .input .now))) ≡ run places (c .before .before .before .before .before .before .before .before .before .before .before .before .before .args .input .now))
+begun : (c : tie.After-known-told) → (m : ℕ) × (c .before .answer .given .0 .0 ≡ newStorage m) × (runFrom places 1 (newModel m) (lines (drop (c .before .before .before .before .before .line-length .result + 1) (c .before .before .before .before .before .before .before .before .before .before .before .before .before .args .input .now))) ≡ run places (c .before .before .before .before .before .before .before .before .before .before .before .before .before .args .input .now))
 begun c =
     first-goes (c .before .before .before .before .before .before .before .before .before .before .before .before .before .args .input .now) (c .before .before .before .before .before .line-length .result) (c .before .before .before .before .before .before .before .if1 .left) (c .before .before .before .before .before .before .if2 .left) (c .before .before .before .before .before .line-length .ensures) (c .before .answer .given .0 .0)
     (sym (said (c .before .before .before)) ∙ ap storageSays (c .before .answer .given .1))

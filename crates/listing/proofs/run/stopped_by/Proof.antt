@@ -1,7 +1,7 @@
 -- `listing::run::stopped_by` meets its contract.
 use mathlib.Core.Path.{sym, ap}
 use Rattle.change.specs.declared.result.StorageResult.{StorageResult}
-use Rattle.listing.specs.Steps.{stoppedBy}
+use Rattle.listing.specs.private.Steps.{stoppedBy}
 use borrow.Author.Needs.{needs}
 use Rattle.listing.proofs.run.stopped_by.Statement.{statement}
 use Rattle.listing.proofs.run.stopped_by.Tie as tie

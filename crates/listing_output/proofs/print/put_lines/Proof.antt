@@ -9,7 +9,7 @@ use lib.Seq.{sets}
 use borrow.Author.Needs.{needs}
 use Rattle.tables.specs.declared.rows.Row.{Row}
 use Rattle.tables.specs.Rows.{rowAt}
-use Rattle.listing_output.specs.Printing.{linesOf, pathIn}
+use Rattle.listing_output.specs.private.Lines.{linesOf, rowPath}
 use Rattle.listing_output.proofs.Printed.{linesFrom, next-length, no-line, put-next}
 use Rattle.listing_output.proofs.print.put_lines.Statement.{statement}
 use Rattle.listing_output.proofs.print.put_lines.Tie as tie
@@ -21,8 +21,8 @@ abbrev μ-loop : tie.MeasureT-loop
 μ-loop fs rows dirs text out₀ at₀ i₀ out at i = fs .«num_files» - i
 
 -- the line that a turn writes is that of row i
-measured : (c : tie.After-row-at Inv-loop μ-loop) → length (pathIn (c .before .before .before .before .before .before .before .before .before .args .dirs .now) (c .before .before .before .before .before .before .before .before .before .args .text .now) (c .row-at .result)) ≡ length (pathIn (c .before .before .before .before .before .before .before .before .before .args .dirs .now) (c .before .before .before .before .before .before .before .before .before .args .text .now) (rowAt (c .before .before .before .before .before .before .before .before .before .args .rows .now) (c .before .before .before .before .loop .i)))
-measured c = ap (λ (r : Row). length (pathIn (c .before .before .before .before .before .before .before .before .before .args .dirs .now) (c .before .before .before .before .before .before .before .before .before .args .text .now) r)) (c .row-at .ensures)
+measured : (c : tie.After-row-at Inv-loop μ-loop) → length (rowPath (c .before .before .before .before .before .before .before .before .before .args .dirs .now) (c .before .before .before .before .before .before .before .before .before .args .text .now) (c .row-at .result)) ≡ length (rowPath (c .before .before .before .before .before .before .before .before .before .args .dirs .now) (c .before .before .before .before .before .before .before .before .before .args .text .now) (rowAt (c .before .before .before .before .before .before .before .before .before .args .rows .now) (c .before .before .before .before .loop .i)))
+measured c = ap (λ (r : Row). length (rowPath (c .before .before .before .before .before .before .before .before .before .args .dirs .now) (c .before .before .before .before .before .before .before .before .before .args .text .now) r)) (c .row-at .ensures)
 
 loop-holds : tie.Need-loop-holds Inv-loop μ-loop
 loop-holds c = (zero-add _, refl, refl)

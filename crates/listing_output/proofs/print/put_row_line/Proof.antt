@@ -5,14 +5,14 @@ use mathlib.Core.List.{List}
 use native.Mathlib.Omega.{arith}
 use lib.ListN.{length}
 use Rattle.path.specs.Join.{appended}
-use Rattle.listing_output.specs.Printing.{pathIn}
+use Rattle.listing_output.specs.private.Lines.{rowPath}
 use Rattle.listing_output.proofs.Printed.{put-line-is}
 use borrow.Author.Needs.{needs}
 use Rattle.listing_output.proofs.print.put_row_line.Statement.{statement}
 use Rattle.listing_output.proofs.print.put_row_line.Tie as tie
 
 -- the path that is written is the row's
-path-is : (c : tie.After-text-at) → appended (c .before .directory-in .result .now) (c .text-at .result .now) ≡ pathIn (c .before .before .before .before .before .before .before .before .before .before .before .args .dirs .now) (c .before .before .before .before .before .before .before .before .before .before .before .args .text .now) (c .before .before .before .before .before .before .before .before .before .before .before .args .row)
+path-is : (c : tie.After-text-at) → appended (c .before .directory-in .result .now) (c .text-at .result .now) ≡ rowPath (c .before .before .before .before .before .before .before .before .before .before .before .args .dirs .now) (c .before .before .before .before .before .before .before .before .before .before .before .args .text .now) (c .before .before .before .before .before .before .before .before .before .before .before .args .row)
 path-is c = rw (c .before .directory-in .ensures, c .text-at .ensures)
 
 put-columns-requires : tie.Need-put-columns-requires
@@ -46,7 +46,7 @@ returns c =
       omega (arith, c .before .before .before .before .before .before .put-path .ensures .0, ap length p),
       c .before .before .put-byte .ensures
           ∙ rw (c .before .before .before .before .before .before .put-path .ensures .1, p, c .before .before .before .before .before .before .before .before .before .before .before .before .put-columns .ensures)
-          (put-line-is (a .out .now) (pathIn (a .dirs .now) (a .text .now) (a .row)) (a .at) (c .before .before .before .before .before .before .put-path .result) (a .i) (a .row .offset) (a .row .size) (a .row .flags % 2) (c .before .before .before .before .before .before .put-path .ensures .0 ∙ ap (λ (x : List ℕ). a .at + 38 + length x) p)),
+          (put-line-is (a .out .now) (rowPath (a .dirs .now) (a .text .now) (a .row)) (a .at) (c .before .before .before .before .before .before .put-path .result) (a .i) (a .row .offset) (a .row .size) (a .row .flags % 2) (c .before .before .before .before .before .before .put-path .ensures .0 ∙ ap (λ (x : List ℕ). a .at + 38 + length x) p)),
     )
 
 pub put-row-line-spec : {M : Type 1} → statement M

@@ -8,7 +8,8 @@ use lib.ListN.{length}
 use borrow.Author.Tests.{leb-true, leb-false}
 use Rattle.types.specs.Refusals.{Outcome, value, refused, usizeSays}
 use Rattle.listing_output.specs.Output.{printed, listed}
-use Rattle.listing_output.specs.Printing.{linesOf, leftIn, shown}
+use Rattle.listing_output.specs.private.Lines.{linesOf, leftIn}
+use Rattle.listing_output.specs.Printing.{shown}
 use Rattle.listing_output.proofs.Printed.{put-no, put-yes, set-length, set-put}
 use borrow.Author.Needs.{needs}
 use Rattle.listing_output.proofs.print.put_set.Statement.{statement}

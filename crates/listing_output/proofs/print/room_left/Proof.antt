@@ -9,7 +9,7 @@ use borrow.Author.Tests.{le-leb, lt-leb}
 use Rattle.tables.specs.declared.rows.Row.{Row}
 use Rattle.tables.specs.Rows.{rowAt}
 use Rattle.types.specs.Refusals.{Outcome, value, refused}
-use Rattle.listing_output.specs.Printing.{linesOf, pathIn, leftIn}
+use Rattle.listing_output.specs.private.Lines.{linesOf, rowPath, leftIn}
 use Rattle.listing_output.proofs.Printed.{linesFrom, next-length, no-line}
 use Rattle.listing_output.proofs.print.room_left.Statement.{statement}
 use Rattle.listing_output.proofs.print.room_left.Tie as tie
@@ -21,8 +21,8 @@ abbrev μ-loop : tie.MeasureT-loop
 μ-loop fs rows dirs text room left₀ i₀ left i = fs .«num_files» - i
 
 -- the line that a turn measures is that of row i
-measured : (c : tie.After-path-length Inv-loop μ-loop) → c .path-length .result ≡ length (pathIn (c .before .before .before .before .before .before .before .before .args .dirs .now) (c .before .before .before .before .before .before .before .before .args .text .now) (rowAt (c .before .before .before .before .before .before .before .before .args .rows .now) (c .before .before .before .before .loop .i)))
-measured c = c .path-length .ensures ∙ ap (λ (r : Row). length (pathIn (c .before .before .before .before .before .before .before .before .args .dirs .now) (c .before .before .before .before .before .before .before .before .args .text .now) r)) (c .before .row-at .ensures)
+measured : (c : tie.After-path-length Inv-loop μ-loop) → c .path-length .result ≡ length (rowPath (c .before .before .before .before .before .before .before .before .args .dirs .now) (c .before .before .before .before .before .before .before .before .args .text .now) (rowAt (c .before .before .before .before .before .before .before .before .args .rows .now) (c .before .before .before .before .loop .i)))
+measured c = c .path-length .ensures ∙ ap (λ (r : Row). length (rowPath (c .before .before .before .before .before .before .before .before .args .dirs .now) (c .before .before .before .before .before .before .before .before .args .text .now) r)) (c .before .row-at .ensures)
 
 left-no : (needed room : ℕ) → room < needed → _≡_ {A = Outcome ℕ} (refused 10) (leftIn needed room)
 left-no needed room h = rw (lt-leb needed room h)

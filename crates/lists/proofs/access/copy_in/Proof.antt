@@ -17,11 +17,11 @@ Inv-loop target₀ source n i₀ target i =
 abbrev μ-loop : tie.MeasureT-loop
 μ-loop target₀ source n i₀ target i = n - i
 
-least-requires : tie.Need-least-requires Inv-loop μ-loop
-least-requires c κs = search needs
+min-usize-requires : tie.Need-min-usize-requires Inv-loop μ-loop
+min-usize-requires c κs = search needs
 
 loop-holds : tie.Need-loop-holds Inv-loop μ-loop
-loop-holds c = (omega arith, c .least .ensures, refl, refl)
+loop-holds c = (omega arith, c .min-usize .ensures, refl, refl)
 
 shared-slice-read-target : tie.Need-shared-slice-read-target Inv-loop μ-loop
 shared-slice-read-target c = search needs
@@ -56,7 +56,7 @@ copy-in-spec =
     (tie.spec
     Inv-loop
     μ-loop
-    least-requires
+    min-usize-requires
     loop-holds
     shared-slice-read-target
     slice-write-target

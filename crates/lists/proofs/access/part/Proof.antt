@@ -7,14 +7,14 @@ use Rattle.lists.proofs.Parts.{part-clipped}
 use Rattle.lists.proofs.access.part.Statement.{statement}
 use Rattle.lists.proofs.access.part.Tie as tie
 
-least-requires : tie.Need-least-requires
-least-requires c κs = search needs
+min-usize-requires : tie.Need-min-usize-requires
+min-usize-requires c κs = search needs
 
-sub-least : tie.Need-sub-least
-sub-least c = search needs
+sub-min-usize : tie.Need-sub-min-usize
+sub-min-usize c = search needs
 
-least-requires-2 : tie.Need-least-requires-2
-least-requires-2 c κs = search needs
+min-usize-requires-2 : tie.Need-min-usize-requires-2
+min-usize-requires-2 c κs = search needs
 
 add-to : tie.Need-add-to
 add-to c = search needs
@@ -31,18 +31,18 @@ part-result-end c = search needs
 returns : tie.Need-returns
 returns c =
     let a = c .before .before .before .before .args in
-    let from = c .before .before .least .result in
-    let count = c .before .least2 .result in
+    let from = c .before .before .min-usize .result in
+    let count = c .before .min-usize2 .result in
     let e : from + count - from ≡ count = omega arith in
-    rw (e, c .before .least2 .ensures, c .before .before .least .ensures) (part-clipped (a .bytes .now) (a .at) (a .n))
+    rw (e, c .before .min-usize2 .ensures, c .before .before .min-usize .ensures) (part-clipped (a .bytes .now) (a .at) (a .n))
 
 pub part-spec : {M : Type 1} → statement M
 part-spec =
     tie.close
     (tie.spec
-    least-requires
-    sub-least
-    least-requires-2
+    min-usize-requires
+    sub-min-usize
+    min-usize-requires-2
     add-to
     sub-result
     part-result-start

@@ -18,11 +18,11 @@ Inv-loop target₀ at count n i₀ target i =
 abbrev μ-loop : tie.MeasureT-loop
 μ-loop target₀ at count n i₀ target i = n - i
 
-minus-requires : tie.Need-minus-requires Inv-loop μ-loop
-minus-requires c κs = search needs
+saturating-sub-usize-requires : tie.Need-saturating-sub-usize-requires Inv-loop μ-loop
+saturating-sub-usize-requires c κs = search needs
 
-least-requires : tie.Need-least-requires Inv-loop μ-loop
-least-requires c κs = search needs
+min-usize-requires : tie.Need-min-usize-requires Inv-loop μ-loop
+min-usize-requires c κs = search needs
 
 loop-holds : tie.Need-loop-holds Inv-loop μ-loop
 loop-holds c = let a = c .before .before .before .args in (omega arith, omega arith, refl, rw (add-zero (a .at), sub-zero (a .count)))
@@ -61,8 +61,8 @@ put-blanks-spec =
     (tie.spec
     Inv-loop
     μ-loop
-    minus-requires
-    least-requires
+    saturating-sub-usize-requires
+    min-usize-requires
     loop-holds
     add-target
     slice-write-target

@@ -23,20 +23,20 @@ drawn l l₁ l₂ at w n k blanks count a b d e f =
 digit-count-requires : tie.Need-digit-count-requires
 digit-count-requires c κs = search needs
 
-minus-requires : tie.Need-minus-requires
-minus-requires c κs = search needs
+saturating-sub-usize-requires : tie.Need-saturating-sub-usize-requires
+saturating-sub-usize-requires c κs = search needs
 
 put-blanks-requires : tie.Need-put-blanks-requires
 put-blanks-requires c κs = search needs
 
-minus-requires-2 : tie.Need-minus-requires-2
-minus-requires-2 c κs = search needs
+saturating-sub-usize-requires-2 : tie.Need-saturating-sub-usize-requires-2
+saturating-sub-usize-requires-2 c κs = search needs
 
 add-put-digits : tie.Need-add-put-digits
 add-put-digits c = search needs
 
-least-requires : tie.Need-least-requires
-least-requires c κs = search needs
+min-usize-requires : tie.Need-min-usize-requires
+min-usize-requires c κs = search needs
 
 put-digits-requires : tie.Need-put-digits-requires
 put-digits-requires c κs = search needs
@@ -48,10 +48,10 @@ returns : tie.Need-returns
 returns c =
     let d = c .before .before in
     let b = c .before .before .before .before .before .before .before .before .before .put-blanks in
-    let m = c .before .before .before .before .before .before .before .before .before .before .before .minus in
+    let m = c .before .before .before .before .before .before .before .before .before .before .before .saturating-sub-usize in
     let k = c .before .before .before .before .before .before .before .before .before .before .before .before .digit-count in
     let a = c .before .before .before .before .before .before .before .before .before .before .before .before .before .before .args in
-    drawn (a .target .now) (b .last .0) (d .put-digits .last .0) (a .at) (a .width) (a .n) (k .result) (m .result) (d .before .least .result) (k .ensures) (m .ensures) (d .before .least .ensures) (b .ensures) (d .put-digits .ensures)
+    drawn (a .target .now) (b .last .0) (d .put-digits .last .0) (a .at) (a .width) (a .n) (k .result) (m .result) (d .before .min-usize .result) (k .ensures) (m .ensures) (d .before .min-usize .ensures) (b .ensures) (d .put-digits .ensures)
 
 same-length-2 : tie.Need-same-length-2
 same-length-2 c = search needs
@@ -61,7 +61,7 @@ returns-2 c =
     let a = c .before .before .before .before .before .before .before .before .before .args in
     let b = c .before .before .before .before .put-blanks in
     let k = c .before .before .before .before .before .before .before .digit-count in
-    let m = c .before .before .before .before .before .before .minus in
+    let m = c .before .before .before .before .before .before .saturating-sub-usize in
     let rest = drop (length (decimal (a .n)) - min (a .width) (k .result)) (decimal (a .n)) in
     drawn (a .target .now) (b .last .0) (b .last .0) (a .at) (a .width) (a .n) (k .result) (m .result) (min (a .width) (k .result)) (k .ensures) (m .ensures) refl (b .ensures) (sym (sets-past rest (b .last .0) (a .at + m .result) (omega arith)))
 
@@ -70,11 +70,11 @@ put-column-spec =
     tie.close
     (tie.spec
     digit-count-requires
-    minus-requires
+    saturating-sub-usize-requires
     put-blanks-requires
-    minus-requires-2
+    saturating-sub-usize-requires-2
     add-put-digits
-    least-requires
+    min-usize-requires
     put-digits-requires
     same-length
     returns

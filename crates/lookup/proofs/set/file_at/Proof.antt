@@ -6,8 +6,8 @@ use native.Mathlib.Omega.{arith}
 use borrow.Author.Needs.{needs}
 use Rattle.lists.specs.Lists.{equal}
 use Rattle.tables.specs.Model.{Store}
-use Rattle.lookup.specs.Lookup.{own, nothing, fileAt, lent}
-use Rattle.lookup.specs.Rows.{entryAt, entriesFrom}
+use Rattle.lookup.specs.Lookup.{ownPath, nothing, fileAt, lent}
+use Rattle.lookup.specs.private.Rows.{entryAt, entriesFrom}
 use Rattle.lookup.proofs.Rows.{own-at, flagged-at, back-start, back-turn, back-file, back-link, back-end}
 use Rattle.lookup.proofs.set.file_at.Statement.{statement}
 use Rattle.lookup.proofs.set.file_at.Tie as tie
@@ -26,7 +26,7 @@ theSet c = lent (c .args .fs) (c .args .rows .now) (c .args .dirs .now) (c .args
 abbrev place : tie.After-struct-known2 Inv-loop μ-loop → ℕ
 place c = c .before .before .before .before .before .before .before .before .args .fs .«num_files» - (c .before .before .before .loop .k + 1)
 
-is-own : (c : tie.After-own-is Inv-loop μ-loop) → c .own-is .result ≡ equal (own (entryAt (theSet (c .before .before .before .before .before .before .before .before .before)) (place (c .before)))) (c .before .before .before .before .before .before .before .before .before .args .p .now)
+is-own : (c : tie.After-own-is Inv-loop μ-loop) → c .own-is .result ≡ equal (ownPath (entryAt (theSet (c .before .before .before .before .before .before .before .before .before)) (place (c .before)))) (c .before .before .before .before .before .before .before .before .before .args .p .now)
 is-own c = c .own-is .ensures ∙ ap (λ (x : List ℕ). equal x (c .before .before .before .before .before .before .before .before .before .args .p .now)) (own-at (theSet (c .before .before .before .before .before .before .before .before .before)) (place (c .before)))
 
 loop-holds : tie.Need-loop-holds Inv-loop μ-loop

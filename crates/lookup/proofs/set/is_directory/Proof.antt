@@ -7,7 +7,7 @@ use borrow.Author.Needs.{needs}
 use Rattle.tables.specs.Model.{Store, directoryText}
 use Rattle.tables.specs.Span.{textAt}
 use Rattle.lookup.specs.Lookup.{covers, isDirectory, lent, directoriesOf}
-use Rattle.lookup.specs.Rows.{directoriesFrom}
+use Rattle.lookup.specs.private.Rows.{directoriesFrom}
 use Rattle.lookup.proofs.Rows.{directories-start, directories-turn, directories-hit, directories-end}
 use Rattle.lookup.proofs.set.is_directory.Statement.{statement}
 use Rattle.lookup.proofs.set.is_directory.Tie as tie

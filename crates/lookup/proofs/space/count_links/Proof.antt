@@ -8,7 +8,7 @@ use borrow.Author.Needs.{needs}
 use Rattle.tables.specs.Model.{Store}
 use Rattle.lookup.specs.Space.{linkCount}
 use Rattle.lookup.specs.Lookup.{lent, entriesOf}
-use Rattle.lookup.specs.Rows.{entryAt, entriesFrom}
+use Rattle.lookup.specs.private.Rows.{entryAt, entriesFrom}
 use Rattle.lookup.proofs.Rows.{flagged-at, entries-start, one-or-none}
 use Rattle.lookup.proofs.Spaces.{count-turn, count-end}
 use Rattle.lookup.proofs.space.count_links.Statement.{statement}

@@ -25,8 +25,8 @@ returns c =
     let a = c .before .before .before .before .before .args in
     lacks-marks (entriesOf (theSet (c .before .before .before .before .before))) (a .marks) (a .stage) (a .path) (omega (arith, counted (c .before), c .if1 .taken))
 
-least-requires : tie.Need-least-requires
-least-requires c κs = search needs
+min-usize-requires : tie.Need-min-usize-requires
+min-usize-requires c κs = search needs
 
 add-room : tie.Need-add-room
 add-room c = search needs
@@ -37,9 +37,9 @@ space-left-requires c κs = search needs
 returns-2 : tie.Need-returns-2
 returns-2 c =
     let a = c .before .before .before .before .before .before .before .args in
-    lacks-room (entriesOf (theSet (c .before .before .before .before .before .before .before))) (a .marks) (a .stage) (a .path) (omega (arith, counted (c .before .before .before), c .before .before .if1 .left)) (c .space-left .result) (c .space-left .ensures ∙ ap (λ (k : ℕ). k + 1 - space (entriesOf (theSet (c .before .before .before .before .before .before .before)))) (c .before .least .ensures))
+    lacks-room (entriesOf (theSet (c .before .before .before .before .before .before .before))) (a .marks) (a .stage) (a .path) (omega (arith, counted (c .before .before .before), c .before .before .if1 .left)) (c .space-left .result) (c .space-left .ensures ∙ ap (λ (k : ℕ). k + 1 - space (entriesOf (theSet (c .before .before .before .before .before .before .before)))) (c .before .min-usize .ensures))
 
 pub lacks-space-spec : {M : Type 1} → statement M
 lacks-space-spec =
     tie.close
-    (tie.spec count-links-requires returns least-requires add-room space-left-requires returns-2)
+    (tie.spec count-links-requires returns min-usize-requires add-room space-left-requires returns-2)

@@ -28,14 +28,14 @@ directory-of-requires c κs = search needs
 link-text-requires : tie.Need-link-text-requires
 link-text-requires c κs = search needs
 
-minus-requires : tie.Need-minus-requires
-minus-requires c κs = search needs
+saturating-sub-usize-requires : tie.Need-saturating-sub-usize-requires
+saturating-sub-usize-requires c κs = search needs
 
-minus-requires-2 : tie.Need-minus-requires-2
-minus-requires-2 c κs = search needs
+saturating-sub-usize-requires-2 : tie.Need-saturating-sub-usize-requires-2
+saturating-sub-usize-requires-2 c κs = search needs
 
-minus-requires-3 : tie.Need-minus-requires-3
-minus-requires-3 c κs = search needs
+saturating-sub-usize-requires-3 : tie.Need-saturating-sub-usize-requires-3
+saturating-sub-usize-requires-3 c κs = search needs
 
 returns : tie.Need-returns
 returns c =
@@ -43,7 +43,7 @@ returns c =
     let e = sym (c .before .before .before .before .before .before .before .is-link .ensures) ∙ c .before .before .before .before .before .before .if1 .taken in
     let d = ap length (c .before .before .before .before .directory-of .ensures) ∙ ap (λ (r : Row). length (textAt (a .text .now) (directorySpan (a .dirs .now) r))) (c .before .before .before .before .before .row-at .ensures) in
     let t = ap length (c .before .before .before .link-text .ensures) ∙ ap (λ (r : Row). length (cond (has (r .flags) 16) (textAt (a .text .now) (r .link)) [])) (c .before .before .before .before .before .row-at .ensures) in
-    rw (e, ← d, ← t) (taken-off (a .left) (length (c .before .before .before .before .directory-of .result .now)) (length (c .before .before .before .link-text .result .now)) (c .before .before .minus .result) (c .before .minus2 .result) (c .minus3 .result) (c .before .before .minus .ensures) (c .before .minus2 .ensures) (c .minus3 .ensures))
+    rw (e, ← d, ← t) (taken-off (a .left) (length (c .before .before .before .before .directory-of .result .now)) (length (c .before .before .before .link-text .result .now)) (c .before .before .saturating-sub-usize .result) (c .before .saturating-sub-usize2 .result) (c .saturating-sub-usize3 .result) (c .before .before .saturating-sub-usize .ensures) (c .before .saturating-sub-usize2 .ensures) (c .saturating-sub-usize3 .ensures))
 
 returns-2 : tie.Need-returns-2
 returns-2 c = let e = sym (c .before .is-link .ensures) ∙ c .if1 .left in rw (e, sub-zero)
@@ -56,8 +56,8 @@ left-behind-spec =
     row-at-requires
     directory-of-requires
     link-text-requires
-    minus-requires
-    minus-requires-2
-    minus-requires-3
+    saturating-sub-usize-requires
+    saturating-sub-usize-requires-2
+    saturating-sub-usize-requires-3
     returns
     returns-2)

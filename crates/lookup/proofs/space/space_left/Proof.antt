@@ -7,7 +7,7 @@ use borrow.Author.Needs.{needs}
 use Rattle.tables.specs.Model.{Store}
 use Rattle.lookup.specs.Lookup.{Entry, lent, entriesOf}
 use Rattle.lookup.specs.Space.{space}
-use Rattle.lookup.specs.Rows.{entriesFrom}
+use Rattle.lookup.specs.private.Rows.{entriesFrom}
 use Rattle.lookup.proofs.Rows.{entries-start}
 use Rattle.lookup.proofs.Spaces.{need-row, space-turn, space-end}
 use Rattle.lookup.proofs.space.space_left.Statement.{statement}

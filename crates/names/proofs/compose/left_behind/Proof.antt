@@ -9,16 +9,16 @@ use Rattle.names.proofs.compose.left_behind.Tie as tie
 returns : tie.Need-returns
 returns c = let a = c .before .before .args in rw (no-bytes (a .part .now) (c .if1 .taken)) (omega arith)
 
-minus-requires : tie.Need-minus-requires
-minus-requires c κs = search needs
+saturating-sub-usize-requires : tie.Need-saturating-sub-usize-requires
+saturating-sub-usize-requires c κs = search needs
 
 returns-2 : tie.Need-returns-2
 returns-2 c =
     let a = c .before .before .before .before .args in
-    c .before .minus .ensures ∙ rw (some-bytes (a .part .now) (c .before .before .if1 .left), c .if2 .taken)
+    c .before .saturating-sub-usize .ensures ∙ rw (some-bytes (a .part .now) (c .before .before .if1 .left), c .if2 .taken)
 
-minus-requires-2 : tie.Need-minus-requires-2
-minus-requires-2 c κs = search needs
+saturating-sub-usize-requires-2 : tie.Need-saturating-sub-usize-requires-2
+saturating-sub-usize-requires-2 c κs = search needs
 
 returns-3 : tie.Need-returns-3
 returns-3 c =
@@ -26,4 +26,4 @@ returns-3 c =
     rw (some-bytes (a .part .now) (c .before .before .before .if1 .left), c .before .if2 .left) (omega arith)
 
 pub left-behind-spec : {M : Type 1} → statement M
-left-behind-spec = tie.close (tie.spec returns minus-requires returns-2 minus-requires-2 returns-3)
+left-behind-spec = tie.close (tie.spec returns saturating-sub-usize-requires returns-2 saturating-sub-usize-requires-2 returns-3)

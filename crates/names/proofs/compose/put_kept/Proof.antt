@@ -31,7 +31,7 @@ after2 : (k : tie.After-grown) → let a = k .before .before .before .before .be
 after2 k =
     let a = k .before .before .before .before .before .before .before .before .before .before .before .args in
     let p = k .before .before .before .before .before .before .before .before .before .before .before .pre in
-    let w = k .before .before .before .before .copy-behind in
+    let w = k .before .before .before .before .copy-after in
     let s = short2 (a .first .now) (a .second .now) (a .third .now) (a .last .now) (length (a .buf .now)) (p .0) (p .1) in (
       length-there (a .first .now) (a .second .now) (a .buf .now) (w .last .0) (length (a .first .now)) (p .0) refl (w .ensures) s (k .grown .result) (k .grown .ensures .0),
       text-there (a .first .now) (a .second .now) (a .buf .now) (w .last .0) (length (a .first .now)) (p .0) refl (w .ensures) s (k .grown .last .0) (k .grown .ensures .1),
@@ -50,14 +50,14 @@ after3 k =
       text-there t (a .third .now) (a .buf .now) (w .last .0) (w .result) q (e .0) (e .1) s (k .grown2 .last .0) (k .grown2 .ensures .1),
     )
 
-copy-behind-requires : tie.Need-copy-behind-requires
-copy-behind-requires c κs = search needs
+copy-after-requires : tie.Need-copy-after-requires
+copy-after-requires c κs = search needs
 
 grown-requires : tie.Need-grown-requires
 grown-requires c κs =
     let a = c .before .before .before .before .before .before .before .before .before .before .args in
     let p = c .before .before .before .before .before .before .before .before .before .before .pre in
-    let w = c .before .before .before .copy-behind in
+    let w = c .before .before .before .copy-after in
     fits-there (a .first .now) (a .second .now) (a .buf .now) (w .last .0) (length (a .first .now)) (p .0) refl (w .ensures)
     (short2 (a .first .now) (a .second .now) (a .third .now) (a .last .now) (length (a .buf .now)) (p .0) (p .1))
 
@@ -100,7 +100,7 @@ pub put-kept-spec : {M : Type 1} → statement M
 put-kept-spec =
     tie.close
     (tie.spec
-    copy-behind-requires
+    copy-after-requires
     grown-requires
     grown-requires-2
     grown-requires-3

@@ -1,7 +1,6 @@
 -- `names::decide::set_span` meets its contract.
 use mathlib.Core.Path.{_≡_, sym, _∙_}
-use mathlib.Core.Bool.{true, false, not}
-use Rattle.rules.specs.Rules.{both}
+use mathlib.Core.Bool.{true, false, not, _&&_}
 use Rattle.tables.specs.Rows.{has, isInside}
 use borrow.Author.Needs.{needs}
 use Rattle.names.proofs.decide.set_span.Statement.{statement}
@@ -13,13 +12,13 @@ is-led-requires c κs = search needs
 returns : tie.Need-returns
 returns c =
     let r = c .before .before .before .args .row in
-    let e : both (isInside r) (not (has (r .flags) 32)) ≡ true = sym (c .before .is-led .ensures) ∙ c .if1 .taken in
+    let e : (isInside r && not (has (r .flags) 32)) ≡ true = sym (c .before .is-led .ensures) ∙ c .if1 .taken in
     rw e
 
 returns-2 : tie.Need-returns-2
 returns-2 c =
     let r = c .before .before .before .args .row in
-    let e : both (isInside r) (not (has (r .flags) 32)) ≡ false = sym (c .before .is-led .ensures) ∙ c .if1 .left in
+    let e : (isInside r && not (has (r .flags) 32)) ≡ false = sym (c .before .is-led .ensures) ∙ c .if1 .left in
     rw e
 
 pub set-span-spec : {M : Type 1} → statement M

@@ -1,6 +1,6 @@
 -- `names::file::file_path` meets its contract.
+use mathlib.Core.Bool.{_&&_}
 use mathlib.Core.Path.{_≡_, ap}
-use Rattle.rules.specs.Rules.{both}
 use Rattle.tables.specs.Rows.{rowAt}
 use Rattle.rules.specs.Questions.{rowsHeld}
 use Rattle.rules.proofs.Deciding.{composed-value, composed-refused}
@@ -9,8 +9,8 @@ use borrow.Author.Needs.{needs}
 use Rattle.names.proofs.file.file_path.Statement.{statement}
 use Rattle.names.proofs.file.file_path.Tie as tie
 
-held-is : (c : tie.After-are-held) → let a = c .before .before .before .before .before .before .args in both (rowsHeld (a .fs) (a .rows .now)) (c .are-held .result) ≡ namesHeld (a .fs) (a .rows .now) (a .dirs .now) (a .text .now)
-held-is c = ap (both (rowsHeld (c .before .before .before .before .before .before .args .fs) (c .before .before .before .before .before .before .args .rows .now))) (c .are-held .ensures)
+held-is : (c : tie.After-are-held) → let a = c .before .before .before .before .before .before .args in (rowsHeld (a .fs) (a .rows .now) && c .are-held .result) ≡ namesHeld (a .fs) (a .rows .now) (a .dirs .now) (a .text .now)
+held-is c = ap (_&&_ (rowsHeld (c .before .before .before .before .before .before .args .fs) (c .before .before .before .before .before .before .args .rows .now))) (c .are-held .ensures)
 
 are-held-requires : tie.Need-are-held-requires
 are-held-requires c κs = search needs
@@ -40,7 +40,7 @@ returns c =
     let h = c .before .before .before .before .before .before .before .before .before in
     let d = c .before .before .before .before .before .before .before .before .file-in in
     let k = c .before .before .before .before .before .before .k .given in
-    composed-value (a .fs) (a .index .0) (λ k. p (rowAt (a .rows .now) k)) (a .buf .now) (both (rowsHeld (a .fs) (a .rows .now)) (h .are-held .result)) _ (d .result) (d .ensures) (held-is h) (k .0 .0) (k .1)
+    composed-value (a .fs) (a .index .0) (λ k. p (rowAt (a .rows .now) k)) (a .buf .now) (rowsHeld (a .fs) (a .rows .now) && h .are-held .result) _ (d .result) (d .ensures) (held-is h) (k .0 .0) (k .1)
     _ (p (c .before .before .before .before .row-at .result)) (c .before .before .put-path .ensures) (ap p (c .before .before .before .before .row-at .ensures))
 
 returns-2 : tie.Need-returns-2
@@ -49,7 +49,7 @@ returns-2 c =
     let p = filePath (a .fs) (a .dirs .now) (a .text .now) (a .save-path .now) in
     let h = c .before .before .before .before in
     let d = c .before .before .before .file-in in
-    composed-refused (a .fs) (a .index .0) (λ k. p (rowAt (a .rows .now) k)) (a .buf .now) (both (rowsHeld (a .fs) (a .rows .now)) (h .are-held .result)) _ (d .result) (d .ensures) (held-is h) _ (c .before .e .given .1)
+    composed-refused (a .fs) (a .index .0) (λ k. p (rowAt (a .rows .now) k)) (a .buf .now) (rowsHeld (a .fs) (a .rows .now) && h .are-held .result) _ (d .result) (d .ensures) (held-is h) _ (c .before .e .given .1)
 
 pub file-path-spec : {M : Type 1} → statement M
 file-path-spec =

@@ -1,9 +1,8 @@
 -- `names::file::hash_path` meets its contract.
 use Prim.Native.Nat.{ℕ}
 use mathlib.Core.Path.{_≡_, ap, _∙_}
-use mathlib.Core.Bool.{cond, not}
+use mathlib.Core.Bool.{cond, not, _&&_}
 use mathlib.Core.List.{List, [], _∷_, _++_, map}
-use Rattle.rules.specs.Rules.{both}
 use Rattle.tables.specs.Rows.{has, isAbsolute, isInside}
 use Rattle.tables.specs.Span.{textAt}
 use Rattle.crc32c.specs.Crc.{crcFrom, lower}
@@ -47,7 +46,7 @@ returns c =
     let a = c .before .before .before .before .before .before .before .before .before .before .before .args in
     let t = a .text .now in
     let r = a .row in
-    fed (led (cond (isAbsolute r) [] (a .save-path .now))) (cond (both (isInside r) (not (has (r .flags) 32))) (textAt t (a .fs .name) ++ (47 ∷ [])) []) (led (textAt t (dirSpan (a .fs) (a .dirs .now) t r))) (nameOf t r)
+    fed (led (cond (isAbsolute r) [] (a .save-path .now))) (cond (isInside r && not (has (r .flags) 32)) (textAt t (a .fs .name) ++ (47 ∷ [])) []) (led (textAt t (dirSpan (a .fs) (a .dirs .now) t r))) (nameOf t r)
     (c .before .before .before .hash-led .result) (c .before .before .hash-set .result) (c .before .hash-led2 .result) (c .crc32c-append-lowercase .result)
     (c .before .before .before .hash-led .ensures ∙ rw (c .before .before .before .before .before .before .before .save-of .ensures)) (c .before .before .hash-set .ensures)
     (c .before .hash-led2 .ensures ∙ rw (c .before .before .before .before .before .text-at .ensures, c .before .before .before .before .before .before .directory-span .ensures))

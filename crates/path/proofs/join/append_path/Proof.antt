@@ -112,8 +112,8 @@ returns-4 c =
     (sym (length-take-le (a .used) (a .buf .now) h)) (k .is-closed .ensures) (a .buf .now) (r .result) (r .ensures) (c .if4 .taken)
     ∙ glued-is (a .buf .now) (a .used) (a .leaf .now) h (sym (t .before .is-alone .ensures) ∙ t .if2 .left) (k .before .before .if3 .left)
 
-put-behind-requires : tie.Need-put-behind-requires
-put-behind-requires c κs =
+put-after-requires : tie.Need-put-after-requires
+put-after-requires c κs =
     leb-true _ _ (sym (c .before .before .has-room .ensures) ∙ not-false (c .before .before .has-room .result) (c .before .if4 .left))
 
 same-length-4 : tie.Need-same-length-4
@@ -121,7 +121,7 @@ same-length-4 c = search needs
 
 returns-5 : tie.Need-returns-5
 returns-5 c =
-    let w = c .before .before .put-behind in
+    let w = c .before .before .put-after in
     let r = c .before .before .before .before .before .has-room in
     let k = c .before .before .before .before .before .before in
     let t = k .before .before .before in
@@ -154,6 +154,6 @@ append-path-spec =
     has-room-requires
     same-length-3
     returns-4
-    put-behind-requires
+    put-after-requires
     same-length-4
     returns-5)

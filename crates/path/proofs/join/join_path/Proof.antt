@@ -73,13 +73,13 @@ returns-3 c =
     refl (k .is-closed .ensures) (a .buf .now) (r .result) (r .ensures) (c .if3 .taken)
     ∙ glued-is (a .branch .now) (a .leaf .now) (a .buf .now) (sym (t .before .is-alone .ensures) ∙ t .if1 .left) (k .before .if2 .left)
 
-copy-behind-requires : tie.Need-copy-behind-requires
-copy-behind-requires c κs = search needs
+copy-after-requires : tie.Need-copy-after-requires
+copy-after-requires c κs = search needs
 
-put-behind-requires : tie.Need-put-behind-requires
-put-behind-requires c κs =
+put-after-requires : tie.Need-put-after-requires
+put-after-requires c κs =
     let r = c .before .before .before .before .before .before .has-room in
-    rw (c .before .before .before .copy-behind .ensures, length-sets)
+    rw (c .before .before .before .copy-after .ensures, length-sets)
     (leb-true _ _ (sym (r .ensures) ∙ not-false (r .result) (c .before .before .before .before .before .if3 .left)))
 
 same-length-3 : tie.Need-same-length-3
@@ -87,14 +87,14 @@ same-length-3 c = search needs
 
 returns-4 : tie.Need-returns-4
 returns-4 c =
-    let w = c .before .before .put-behind in
+    let w = c .before .before .put-after in
     let r = c .before .before .before .before .before .before .before .before .before .has-room in
     let k = c .before .before .before .before .before .before .before .before .before .before in
     let t = k .before .before in
     let a = t .before .before .before .before .before .args in
     glued-written (a .branch .now) (a .leaf .now) (length (a .branch .now)) (k .is-closed .result)
     refl (k .is-closed .ensures) (a .buf .now) (r .result) (r .ensures) (c .before .before .before .before .before .before .before .before .if3 .left)
-    (w .last .0) (w .result) (w .ensures .0) (w .ensures .1 ∙ rw (c .before .before .before .before .before .before .copy-behind .ensures))
+    (w .last .0) (w .result) (w .ensures .0) (w .ensures .1 ∙ rw (c .before .before .before .before .before .before .copy-after .ensures))
     ∙ glued-is (a .branch .now) (a .leaf .now) (a .buf .now) (sym (t .before .is-alone .ensures) ∙ t .if1 .left) (k .before .if2 .left)
 
 pub join-path-spec : {M : Type 1} → statement M
@@ -111,7 +111,7 @@ join-path-spec =
     is-closed-requires
     has-room-requires
     returns-3
-    copy-behind-requires
-    put-behind-requires
+    copy-after-requires
+    put-after-requires
     same-length-3
     returns-4)

@@ -13,8 +13,8 @@ returns c =
     let a = c .before .before .before .args in
     refused-is (fits (a .text .now) (a .buf .now)) (a .text .now) (a .buf .now) (lt-leb _ _ (c .if1 .taken))
 
-copy-behind-requires : tie.Need-copy-behind-requires
-copy-behind-requires c κs = search needs
+copy-after-requires : tie.Need-copy-after-requires
+copy-after-requires c κs = search needs
 
 same-length : tie.Need-same-length
 same-length c = search needs
@@ -24,7 +24,7 @@ returns-2 c =
     let k = c .before .before in
     let a = k .before .before .before .before .before .args in
     written-is (fits (a .text .now) (a .buf .now)) (a .text .now) (a .buf .now) (length (a .text .now))
-    (k .copy-behind .last .0) (le-leb _ _ (k .before .before .if1 .left)) refl (k .copy-behind .ensures)
+    (k .copy-after .last .0) (le-leb _ _ (k .before .before .if1 .left)) refl (k .copy-after .ensures)
 
 pub put-alone-spec : {M : Type 1} → statement M
-put-alone-spec = tie.close (tie.spec returns copy-behind-requires same-length returns-2)
+put-alone-spec = tie.close (tie.spec returns copy-after-requires same-length returns-2)

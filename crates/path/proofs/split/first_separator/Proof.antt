@@ -10,13 +10,13 @@ use lib.Seq.{drop-cons, take-suc, append-snoc}
 use borrow.Author.Needs.{needs}
 use borrow.Author.Tests.{eq-eqb, ne-eqb}
 use Rattle.lists.proofs.Parts.{take-clipped, drop-clipped}
-use Rattle.path.specs.Split.{beforeFirst, behindFirst}
+use Rattle.path.specs.Split.{beforeFirst, afterFirst}
 use Rattle.path.proofs.split.first_separator.Statement.{statement}
 use Rattle.path.proofs.split.first_separator.Tie as tie
 
 abbrev Inv-loop : tie.InvT-loop
 Inv-loop path from i₀ i =
-    (i ≤ length path) × (take i path ++ beforeFirst (drop i path) ≡ take from path ++ beforeFirst (drop from path)) × (behindFirst (drop i path) ≡ behindFirst (drop from path))
+    (i ≤ length path) × (take i path ++ beforeFirst (drop i path) ≡ take from path ++ beforeFirst (drop from path)) × (afterFirst (drop i path) ≡ afterFirst (drop from path))
 
 abbrev μ-loop : tie.MeasureT-loop
 μ-loop path from i₀ i = length path - i
@@ -26,29 +26,29 @@ module _ (p : List ℕ) (i : ℕ) (h : i < length p) where
   first-turn : (getD p i 0 ≡ 47 → ⊥) → take (i + 1) p ++ beforeFirst (drop (i + 1) p) ≡ take i p ++ beforeFirst (drop i p)
   first-turn q = rw (add-one i, drop-cons p i 0 h, ne-eqb _ _ q, take-suc p i 0 h, append-snoc)
 
-  rest-turn : (getD p i 0 ≡ 47 → ⊥) → behindFirst (drop (i + 1) p) ≡ behindFirst (drop i p)
+  rest-turn : (getD p i 0 ≡ 47 → ⊥) → afterFirst (drop (i + 1) p) ≡ afterFirst (drop i p)
   rest-turn q = rw (add-one i, drop-cons p i 0 h, ne-eqb _ _ q)
 
   first-stop : getD p i 0 ≡ 47 → take i p ≡ take i p ++ beforeFirst (drop i p)
   first-stop q = rw (drop-cons p i 0 h, eq-eqb _ _ q, append-nil)
 
-  rest-stop : getD p i 0 ≡ 47 → drop (i + 1) p ≡ behindFirst (drop i p)
+  rest-stop : getD p i 0 ≡ 47 → drop (i + 1) p ≡ afterFirst (drop i p)
   rest-stop q = rw (add-one i, drop-cons p i 0 h, eq-eqb _ _ q)
 
 first-end : (p : List ℕ) (i : ℕ) → length p ≤ i → take i p ≡ take i p ++ beforeFirst (drop i p)
 first-end p i h = rw (drop-of-length-le p {i = i} h, append-nil)
 
-rest-end : (p : List ℕ) (i : ℕ) → length p ≤ i → drop (i + 1) p ≡ behindFirst (drop i p)
+rest-end : (p : List ℕ) (i : ℕ) → length p ≤ i → drop (i + 1) p ≡ afterFirst (drop i p)
 rest-end p i h = rw (drop-of-length-le p {i = i} h, drop-of-length-le p {i = i + 1} (omega arith))
 
-least-requires : tie.Need-least-requires Inv-loop μ-loop
-least-requires c κs = search needs
+min-usize-requires : tie.Need-min-usize-requires Inv-loop μ-loop
+min-usize-requires c κs = search needs
 
 loop-holds : tie.Need-loop-holds Inv-loop μ-loop
 loop-holds c =
     let p = c .before .before .args .path .now in
     let n = c .before .before .args .from in
-    (omega arith, rw (c .least .ensures, take-clipped n p, drop-clipped n p), rw (c .least .ensures, drop-clipped n p))
+    (omega arith, rw (c .min-usize .ensures, take-clipped n p, drop-clipped n p), rw (c .min-usize .ensures, drop-clipped n p))
 
 shared-slice-read-if1 : tie.Need-shared-slice-read-if1 Inv-loop μ-loop
 shared-slice-read-if1 c = omega arith
@@ -83,7 +83,7 @@ first-separator-spec =
     (tie.spec
     Inv-loop
     μ-loop
-    least-requires
+    min-usize-requires
     loop-holds
     shared-slice-read-if1
     returns

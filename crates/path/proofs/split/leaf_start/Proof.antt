@@ -10,7 +10,7 @@ use lib.Seq.{split-at, drop-length}
 use borrow.Author.Tests.{ne-eqb}
 use Rattle.lists.specs.Lists.{any}
 use Rattle.lists.proofs.Tests.{any-turn}
-use Rattle.path.specs.Split.{isSeparator, beforeLast, behindLast}
+use Rattle.path.specs.Split.{isSeparator, beforeLast, afterLast}
 use Rattle.path.proofs.Splits.{branch-none, leaf-all, branch-only, leaf-only}
 use Rattle.path.proofs.split.leaf_start.Statement.{statement}
 use Rattle.path.proofs.split.leaf_start.Tie as tie
@@ -22,10 +22,10 @@ abbrev μ-loop : tie.MeasureT-loop
 μ-loop path i₀ i = i
 
 found : (p : List ℕ) (i j : ℕ) → i ≡ suc j → j < length p → getD p j 0 ≡ 47 → any isSeparator (drop i p) ≡ false
-    → (take j p ≡ beforeLast p) × (drop i p ≡ behindLast p)
+    → (take j p ≡ beforeLast p) × (drop i p ≡ afterLast p)
 found p i j e h q n =
     let s : p ≡ take j p ++ (47 ∷ drop i p) = split-at p j 0 h ∙ rw (q, e) in
-    (sym (ap beforeLast s ∙ branch-only (take j p) (drop i p) n), sym (ap behindLast s ∙ leaf-only (take j p) (drop i p) n))
+    (sym (ap beforeLast s ∙ branch-only (take j p) (drop i p) n), sym (ap afterLast s ∙ leaf-only (take j p) (drop i p) n))
 
 loop-holds : tie.Need-loop-holds Inv-loop μ-loop
 loop-holds c = (omega arith, ap (any isSeparator) (drop-length (c .args .path .now)))

@@ -11,8 +11,8 @@ use Rattle.path.proofs.split.trim.Tie as tie
 is-closed-requires : tie.Need-is-closed-requires
 is-closed-requires c κs = search needs
 
-minus-requires : tie.Need-minus-requires
-minus-requires c κs = search needs
+saturating-sub-usize-requires : tie.Need-saturating-sub-usize-requires
+saturating-sub-usize-requires c κs = search needs
 
 part-requires : tie.Need-part-requires
 part-requires c κs = search needs
@@ -22,7 +22,7 @@ returns c =
     let m = c .before in
     let k = m .before .before in
     let p = k .before .before .args .path .now in
-    c .part .ensures ∙ trim-yes isSeparator refl p (m .minus .result) (m .minus .ensures) (closed-is p (m .minus .result) (m .minus .ensures) ∙ sym (k .is-closed .ensures) ∙ m .before .if1 .taken)
+    c .part .ensures ∙ trim-yes isSeparator refl p (m .saturating-sub-usize .result) (m .saturating-sub-usize .ensures) (closed-is p (m .saturating-sub-usize .result) (m .saturating-sub-usize .ensures) ∙ sym (k .is-closed .ensures) ∙ m .before .if1 .taken)
 
 returns-2 : tie.Need-returns-2
 returns-2 c =
@@ -32,4 +32,4 @@ returns-2 c =
 
 pub trim-spec : {M : Type 1} → statement M
 trim-spec =
-    tie.close (tie.spec is-closed-requires minus-requires part-requires returns returns-2)
+    tie.close (tie.spec is-closed-requires saturating-sub-usize-requires part-requires returns returns-2)

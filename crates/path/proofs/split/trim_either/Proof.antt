@@ -6,8 +6,8 @@ use Rattle.path.proofs.Ends.{trim-yes, trim-no}
 use Rattle.path.proofs.split.trim_either.Statement.{statement}
 use Rattle.path.proofs.split.trim_either.Tie as tie
 
-minus-requires : tie.Need-minus-requires
-minus-requires c κs = search needs
+saturating-sub-usize-requires : tie.Need-saturating-sub-usize-requires
+saturating-sub-usize-requires c κs = search needs
 
 byte-requires : tie.Need-byte-requires
 byte-requires c κs = search needs
@@ -23,16 +23,16 @@ returns c =
     let e = c .before .before in
     let m = e .before .before in
     let p = m .before .before .args .path .now in
-    c .part .ensures ∙ trim-yes isEither refl p (m .minus .result) (m .minus .ensures) (ap isEither (sym (e .before .byte .ensures)) ∙ sym (e .is-either .ensures) ∙ c .before .if1 .taken)
+    c .part .ensures ∙ trim-yes isEither refl p (m .saturating-sub-usize .result) (m .saturating-sub-usize .ensures) (ap isEither (sym (e .before .byte .ensures)) ∙ sym (e .is-either .ensures) ∙ c .before .if1 .taken)
 
 returns-2 : tie.Need-returns-2
 returns-2 c =
     let e = c .before in
     let m = e .before .before in
     let p = m .before .before .args .path .now in
-    trim-no isEither refl p (m .minus .result) (m .minus .ensures) (ap isEither (sym (e .before .byte .ensures)) ∙ sym (e .is-either .ensures) ∙ c .if1 .left)
+    trim-no isEither refl p (m .saturating-sub-usize .result) (m .saturating-sub-usize .ensures) (ap isEither (sym (e .before .byte .ensures)) ∙ sym (e .is-either .ensures) ∙ c .if1 .left)
 
 pub trim-either-spec : {M : Type 1} → statement M
 trim-either-spec =
     tie.close
-    (tie.spec minus-requires byte-requires is-either-requires part-requires returns returns-2)
+    (tie.spec saturating-sub-usize-requires byte-requires is-either-requires part-requires returns returns-2)

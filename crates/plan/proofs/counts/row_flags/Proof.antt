@@ -2,7 +2,7 @@
 use native.Mathlib.Omega.{arith}
 use mathlib.Core.Bool.{Bool, true, false}
 use Prim.Native.Nat.{ℕ, _≤_, _/_, _%_, _*_}
-use Rattle.plan.specs.Plan.{bitOf}
+use Rattle.plan.specs.private.Steps.{bitOf}
 use borrow.Author.Needs.{needs}
 use Rattle.plan.proofs.counts.row_flags.Statement.{statement}
 use Rattle.plan.proofs.counts.row_flags.Tie as tie

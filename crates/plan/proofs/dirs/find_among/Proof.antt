@@ -6,14 +6,14 @@ use Prim.Native.Nat.{_-_, _≤_}
 use Rattle.lists.specs.Lists.{equal}
 use Rattle.tables.specs.declared.span.Span.{Span}
 use Rattle.tables.specs.Span.{textAt}
-use Rattle.plan.specs.Write.{placeFrom}
-use Rattle.plan.specs.Plan.{dirTexts}
+use Rattle.plan.specs.Write.{directoryIndexFrom}
+use Rattle.plan.specs.private.Steps.{dirTexts}
 use Rattle.plan.proofs.Directories.{rowText, search-turn, search-found, search-end}
 use Rattle.plan.proofs.dirs.find_among.Statement.{statement}
 use Rattle.plan.proofs.dirs.find_among.Tie as tie
 
 abbrev Inv-loop : tie.InvT-loop
-Inv-loop dirs text m n dir i₀ i = (i ≤ m) × (placeFrom n 0 dir (dirTexts dirs text i) ≡ placeFrom n 0 dir (dirTexts dirs text m))
+Inv-loop dirs text m n dir i₀ i = (i ≤ m) × (directoryIndexFrom n 0 dir (dirTexts dirs text i) ≡ directoryIndexFrom n 0 dir (dirTexts dirs text m))
 
 abbrev μ-loop : tie.MeasureT-loop
 μ-loop dirs text m n dir i₀ i = i

@@ -8,8 +8,8 @@ use borrow.Author.Tests.{eqb-true, eqb-false}
 use Rattle.plan.proofs.dirs.find_dir.Statement.{statement}
 use Rattle.plan.proofs.dirs.find_dir.Tie as tie
 
-least-requires : tie.Need-least-requires
-least-requires c κs = search needs
+min-usize-requires : tie.Need-min-usize-requires
+min-usize-requires c κs = search needs
 
 sub-result : tie.Need-sub-result
 sub-result c = search needs
@@ -26,8 +26,8 @@ returns-2 : tie.Need-returns-2
 returns-2 c =
     let a = c .before .before .before .before .before .before .args in
     c .find-among .ensures
-    ∙ table-alone (a .dirs .now) (a .text .now) (a .dir .now) (a .n) (c .before .before .least .result) (c .before .before .least .ensures) (λ h e. ⊎-elim (λ w. eqb-false _ _ (w .1 .left) e) (λ w. omega arith) (c .before .if1 .came))
+    ∙ table-alone (a .dirs .now) (a .text .now) (a .dir .now) (a .n) (c .before .before .min-usize .result) (c .before .before .min-usize .ensures) (λ h e. ⊎-elim (λ w. eqb-false _ _ (w .1 .left) e) (λ w. omega arith) (c .before .if1 .came))
 
 pub find-dir-spec : {M : Type 1} → statement M
 find-dir-spec =
-    tie.close (tie.spec least-requires sub-result returns find-among-requires returns-2)
+    tie.close (tie.spec min-usize-requires sub-result returns find-among-requires returns-2)

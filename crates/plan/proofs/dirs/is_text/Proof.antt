@@ -9,8 +9,8 @@ use borrow.Author.Needs.{needs}
 use Rattle.plan.proofs.dirs.is_text.Statement.{statement}
 use Rattle.plan.proofs.dirs.is_text.Tie as tie
 
-minus-requires : tie.Need-minus-requires
-minus-requires c κs = search needs
+saturating-sub-usize-requires : tie.Need-saturating-sub-usize-requires
+saturating-sub-usize-requires c κs = search needs
 
 returns : tie.Need-returns
 returns c = let a = c .before .before .before .before .before .before .args in length-differs (a .dir .now) (a .text .now) (a .s) (omega arith) (λ e. omega arith)
@@ -49,7 +49,7 @@ pub is-text-spec : {M : Type 1} → statement M
 is-text-spec =
     tie.close
     (tie.spec
-    minus-requires
+    saturating-sub-usize-requires
     returns
     add-end
     sub-same

@@ -7,7 +7,7 @@ use Rattle.tables.specs.Span.{textAt}
 use Rattle.tables.specs.Rows.{dirAt}
 use Rattle.tables.proofs.Tabled.{length-tabled}
 use Rattle.additions.specs.Addition.{padDirectory}
-use Rattle.plan.specs.Plan.{dirTexts, dirsWith}
+use Rattle.plan.specs.private.Steps.{dirTexts, dirsWith}
 use Rattle.plan.proofs.Directories.{there, not-there, old-is, new-is, pad-is, no-pad-is, with-length, own-there, own-place, old-there, old-place, new-there, count-le}
 use borrow.Author.Needs.{needs}
 use Rattle.plan.proofs.dirs.plan_pad_dir.Statement.{statement}

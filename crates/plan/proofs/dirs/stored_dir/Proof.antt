@@ -5,7 +5,7 @@ use lib.ListN.{length}
 use Rattle.tables.specs.Span.{textAt}
 use Rattle.tables.specs.Rows.{dirAt}
 use Rattle.tables.proofs.Tabled.{length-tabled}
-use Rattle.plan.specs.Plan.{dirTexts}
+use Rattle.plan.specs.private.Steps.{dirTexts}
 use Rattle.plan.proofs.Directories.{there, not-there, old-is, new-is}
 use borrow.Author.Needs.{needs}
 use Rattle.plan.proofs.dirs.stored_dir.Statement.{statement}

@@ -3,7 +3,7 @@ use mathlib.Core.Path.{_≡_, ap, _∙_}
 use mathlib.Core.List.{List}
 use Prim.Native.Nat.{ℕ}
 use lib.ListN.{length}
-use Rattle.additions.specs.Parts.{nameFrom}
+use Rattle.additions.specs.private.Texts.{nameFrom}
 use Rattle.plan.specs.declared.plan.TextLengths.{TextLengths}
 use borrow.Author.Needs.{needs}
 use Rattle.plan.proofs.plan.lengths_of.Statement.{statement}

@@ -7,7 +7,7 @@ use mir.Facts.{fits-le}
 use borrow.Author.Tests.{lt-ltb, le-ltb}
 use Rattle.tables.specs.Model.{Optional, present, absent}
 use Rattle.plan.specs.declared.plan.Places.{Places}
-use Rattle.plan.specs.Plan.{placesOf, placedOf}
+use Rattle.plan.specs.private.Steps.{textSpansOf, spansWithin}
 use Rattle.plan.proofs.plan.places_of.Statement.{statement}
 use Rattle.plan.proofs.plan.places_of.Tie as tie
 
@@ -23,10 +23,10 @@ beyond h p = omega arith
 more : {room n : ℕ} (k : ℕ) → room < n → room < n + k
 more k p = omega arith
 
-full : (room : ℕ) (p : Places) → room < p .end → absent ≡ placedOf room p
+full : (room : ℕ) (p : Places) → room < p .end → absent ≡ spansWithin room p
 full room p h = rw (lt-ltb room (p .end) h)
 
-fitted : (room : ℕ) (p : Places) → p .end ≤ room → present p ≡ placedOf room p
+fitted : (room : ℕ) (p : Places) → p .end ≤ room → present p ≡ spansWithin room p
 fitted room p h = rw (le-ltb room (p .end) h)
 
 -- ---- where the first text, the first two, and so on end
@@ -50,12 +50,12 @@ abbrev end6 : tie.Start → ℕ
 end6 c = end5 c + c .args .pad
 
 abbrev places : tie.Start → Places
-places c = placesOf (c .args .start) (c .args .set) (c .args .dir) (c .args .name) (c .args .link) (c .args .pad-dir) (c .args .pad)
+places c = textSpansOf (c .args .start) (c .args .set) (c .args .dir) (c .args .name) (c .args .link) (c .args .pad-dir) (c .args .pad)
 
 -- ---- where one of these ends beyond the room, the answer is that the room is full
 
 abbrev Full : tie.Start → Type 0
-Full c = _≡_ {A = Optional Places} absent (placedOf (c .args .room) (places c))
+Full c = _≡_ {A = Optional Places} absent (spansWithin (c .args .room) (places c))
 
 full6 : (c : tie.Start) → c .args .room < end6 c → Full c
 full6 c h = full (c .args .room) (places c) h

@@ -14,11 +14,13 @@ use Rattle.additions.specs.declared.checks.Sizes.{Sizes}
 use Rattle.additions.specs.declared.checks.SizesResult.the-variants.{Ok}
 use Rattle.additions.specs.declared.parts.PathParts.{PathParts}
 use Rattle.additions.specs.Addition.{Addition, isPresent, isZero, keepsLink}
-use Rattle.additions.specs.Parts.{isHere, additionBy, nameFrom, linkTextOf, partsOf}
-use Rattle.additions.specs.Checks.{sizesSays, sizesFor, numberRules}
+use Rattle.additions.specs.private.Texts.{isHere, nameFrom, linkTextOf}
+use Rattle.additions.specs.Addition.{additionOf}
+use Rattle.additions.specs.Parts.{partsOf}
+use Rattle.additions.specs.private.Checks.{sizesSays, sizesFor, numberRules}
 use Rattle.additions.proofs.Rules.{sum-in}
 use Rattle.plan.specs.declared.counts.FileFacts.{FileFacts}
-use Rattle.plan.specs.Plan.{factsOf}
+use Rattle.plan.specs.private.Steps.{factsOf}
 use Rattle.plan.proofs.Plans.{here-is, texts-of, add-stopped, add-unheld, add-planned}
 use Rattle.plan.proofs.plan.plan_add.Statement.{statement}
 use Rattle.plan.proofs.plan.plan_add.Tie as tie
@@ -27,7 +29,7 @@ abbrev tables : tie.Start → Store
 tables c = storeOf (c .args .fs) (c .args .rows .now) (c .args .roots .now) (c .args .times .now) (c .args .dirs .now) (c .args .text .now)
 
 abbrev call : tie.Start → Addition
-call c = additionBy (c .args .info) (c .args .filename .now) (c .args .path .now) (c .args .symlink-path .now)
+call c = additionOf (c .args .info) (c .args .filename .now) (c .args .path .now) (c .args .symlink-path .now)
 
 abbrev parts : tie.Start → PathParts
 parts c = partsOf (c .args .fs .«num_files») (viewOf (tables c) .name) (c .args .path .now)

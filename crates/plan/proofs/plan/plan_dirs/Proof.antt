@@ -9,12 +9,12 @@ use Rattle.change.specs.declared.rooms.Rooms.{Rooms}
 use Rattle.change.proofs.Held.{Held, held}
 use Rattle.additions.specs.declared.checks.Sizes.{Sizes}
 use Rattle.additions.specs.declared.parts.PathParts.{PathParts}
-use Rattle.additions.specs.Addition.{withPlace}
-use Rattle.additions.specs.Parts.{directoryAt, outsideKind}
+use Rattle.additions.specs.Addition.{withDirectoryOf}
+use Rattle.additions.specs.private.Texts.{directoryAt, outsideKind}
 use Rattle.plan.specs.declared.counts.Counts.{Counts}
 use Rattle.plan.specs.declared.dirs.DirPlan.{DirPlan}
 use Rattle.plan.specs.declared.plan.TextLengths.{TextLengths}
-use Rattle.plan.specs.Plan.{dirTexts, dirsWith, padDirPlanOf, rowFlags, plannedIn}
+use Rattle.plan.specs.private.Steps.{dirTexts, dirsWith, padDirPlanOf, rowFlags, plannedIn}
 use Rattle.plan.proofs.Plans.{with-place}
 use Rattle.plan.proofs.plan.plan_dirs.Statement.{statement}
 use Rattle.plan.proofs.plan.plan_dirs.Tie as tie
@@ -33,7 +33,7 @@ inside c = held _ _ (c .before .before .before .pre .0)
 
 -- the pad's directory, beside the file's own
 second-is : (c : tie.After-plan-pad-dir)
-    → c .plan-pad-dir .result ≡ padDirPlanOf (c .before .before .before .before .before .args .sizes .pad) (withPlace (directoryAt (c .before .before .before .before .before .args .parts .kind) (c .before .before .before .before .before .args .dir .now)) (dirTexts (c .before .before .before .before .before .args .dirs .now) (c .before .before .before .before .before .args .text .now) (c .before .before .before .before .before .args .fs .«num_paths»)))
+    → c .plan-pad-dir .result ≡ padDirPlanOf (c .before .before .before .before .before .args .sizes .pad) (withDirectoryOf (directoryAt (c .before .before .before .before .before .args .parts .kind) (c .before .before .before .before .before .args .dir .now)) (dirTexts (c .before .before .before .before .before .args .dirs .now) (c .before .before .before .before .before .args .text .now) (c .before .before .before .before .before .args .fs .«num_paths»)))
 second-is c =
     let a = c .before .before .before .before .before .args in
     let ds = dirTexts (a .dirs .now) (a .text .now) (a .fs .«num_paths») in

@@ -6,11 +6,11 @@ use Rattle.tables.specs.declared.storage.FileStorage.{FileStorage}
 use Rattle.change.specs.declared.rooms.Rooms.{Rooms}
 use Rattle.additions.specs.declared.checks.Sizes.{Sizes}
 use Rattle.additions.specs.declared.parts.PathParts.{PathParts}
-use Rattle.additions.specs.Parts.{outsideKind, directoryAt}
+use Rattle.additions.specs.private.Texts.{outsideKind, directoryAt}
 use Rattle.additions.proofs.Rules.{link-in}
 use Rattle.plan.specs.declared.counts.FileFacts.{FileFacts}
 use Rattle.plan.specs.declared.plan.TextLengths.{TextLengths}
-use Rattle.plan.specs.Plan.{dirTexts, plannedBeside}
+use Rattle.plan.specs.private.Steps.{dirTexts, plannedBeside}
 use borrow.Author.Needs.{needs}
 use Rattle.plan.proofs.plan.plan_texts.Statement.{statement}
 use Rattle.plan.proofs.plan.plan_texts.Tie as tie

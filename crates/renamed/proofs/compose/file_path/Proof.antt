@@ -1,15 +1,14 @@
 -- `renamed::compose::file_path` meets its contract.
 use Prim.Native.Nat.{ℕ}
 use mathlib.Core.Path.{_≡_, sym, ap, _∙_}
-use mathlib.Core.Bool.{Bool}
+use mathlib.Core.Bool.{Bool, _&&_}
 use mathlib.Core.List.{List}
-use Rattle.rules.specs.Rules.{both}
 use Rattle.types.specs.Refusals.{numberOf, value}
 use Rattle.tables.specs.Rows.{rowAt}
 use Rattle.tables.specs.Span.{textAt}
 use Rattle.tables.specs.Model.{Optional, absent, present}
-use Rattle.rules.specs.Questions.{askedFile}
-use Rattle.rules.specs.Bounds.{indexOf}
+use Rattle.rules.specs.Questions.{fileAnswer}
+use Rattle.rules.specs.Bounds.{clampedOf}
 use Rattle.names.specs.Paths.{filePath, namesHeld}
 use Rattle.renames.specs.declared.rename.Rename.{Rename}
 use Rattle.renames.specs.Renames.{renamesOf, inOrder}
@@ -41,10 +40,10 @@ newPath s k =
     renamedPath (renameFor k (renamesOf (s .args .renames) (s .args .entries .now) (s .args .names .now))) (ownPath s k) (s .args .save-path .now) (textAt (s .args .text .now) (s .args .fs .name))
 
 -- the file has a rename, or none
-renamed-is : (c : tie.After-found) → let s = c .before .before .before .before .before .before .before .before .before .before in value (present (c .found .given .0 .0)) ≡ askedFile (s .args .fs) (s .args .index .0) (both (held s) (order s)) (found s)
+renamed-is : (c : tie.After-found) → let s = c .before .before .before .before .before .before .before .before .before .before in value (present (c .found .given .0 .0)) ≡ fileAnswer (s .args .fs) (s .args .index .0) (held s && order s) (found s)
 renamed-is c = ap findSays (sym (c .found .given .1)) ∙ c .before .before .find-through .ensures
 
-own-is : (c : tie.After-enum-told) → let s = c .before .before .before .before .before .before .before .before .before .before in value absent ≡ askedFile (s .args .fs) (s .args .index .0) (both (held s) (order s)) (found s)
+own-is : (c : tie.After-enum-told) → let s = c .before .before .before .before .before .before .before .before .before .before in value absent ≡ fileAnswer (s .args .fs) (s .args .index .0) (held s && order s) (found s)
 own-is c = ap findSays (sym (c .enum-told .given .1)) ∙ c .before .before .find-through .ensures
 
 find-through-requires : tie.Need-find-through-requires
@@ -80,7 +79,7 @@ returns c =
     let a = s .args in
     let r = c .before .before .before .before .before .before .before .found .given .0 .0 in
     let k = path-asked (a .fs) (a .index .0) (held s) (order s) (found s) (newPath s) (a .buf .now) _ (renamed-is (c .before .before .before .before .before .before .before)) in
-    let one = listed-renamed (a .renames) (a .entries .now) (a .names .now) (indexOf (a .index .0)) (k .0) r (sym (k .1)) in
+    let one = listed-renamed (a .renames) (a .entries .now) (a .names .now) (clampedOf (a .index .0)) (k .0) r (sym (k .1)) in
     path-text (a .fs) (a .index .0) (held s) (order s) (found s) (newPath s) (a .buf .now) _ (renamed-is (c .before .before .before .before .before .before .before)) _ (pathBy (r .mode) (a .save-path .now) (c .before .before .before .before .before .text-at .result .now) (c .before .before .before .before .text-at2 .result .now)) (c .before .before .put-renamed .ensures)
     (rw (one, c .before .before .before .before .before .text-at .ensures, c .before .before .before .before .text-at2 .ensures))
 
@@ -92,7 +91,7 @@ returns-2 c =
     let s = c .before .before .before .before .before .before .before .before .before .before .before .before .before .before in
     let a = s .args in
     let k = path-asked (a .fs) (a .index .0) (held s) (order s) (found s) (newPath s) (a .buf .now) _ (own-is (c .before .before .before .before)) in
-    let none = listed-own (a .renames) (a .entries .now) (a .names .now) (indexOf (a .index .0)) (k .0) (sym (k .1)) in
+    let none = listed-own (a .renames) (a .entries .now) (a .names .now) (clampedOf (a .index .0)) (k .0) (sym (k .1)) in
     path-own (a .fs) (a .index .0) (held s) (order s) (found s) (newPath s) (a .buf .now) _ (own-is (c .before .before .before .before)) (ownPath s) _ (c .before .before .file-path .ensures) (rw none)
 
 returns-3 : tie.Need-returns-3

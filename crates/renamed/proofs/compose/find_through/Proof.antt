@@ -1,10 +1,9 @@
 -- `renamed::compose::find_through` meets its contract.
 use Prim.Native.Nat.{ℕ}
 use mathlib.Core.Path.{_≡_, sym, ap, _∙_}
-use mathlib.Core.Bool.{Bool}
-use Rattle.rules.specs.Rules.{both}
+use mathlib.Core.Bool.{Bool, _&&_}
 use Rattle.types.specs.Refusals.{numberOf, usizeSays}
-use Rattle.rules.specs.Questions.{askedFile, rowsHeld}
+use Rattle.rules.specs.Questions.{fileAnswer, rowsHeld}
 use Rattle.names.specs.Paths.{namesHeld}
 use Rattle.renames.specs.Renames.{inOrder}
 use Rattle.renames.specs.Finding.{renameFound}
@@ -20,10 +19,10 @@ held s = namesHeld (s .args .fs) (s .args .rows .now) (s .args .dirs .now) (s .a
 abbrev order : tie.Start → Bool
 order s = inOrder (s .args .renames) (s .args .entries .now) (s .args .names .now)
 
-file-is : (c : tie.After-file-in) → let s = c .before .before .before .before .before .before .before in usizeSays (c .file-in .result) ≡ askedFile (s .args .fs) (s .args .index .0) (held s) (λ k. k)
+file-is : (c : tie.After-file-in) → let s = c .before .before .before .before .before .before .before in usizeSays (c .file-in .result) ≡ fileAnswer (s .args .fs) (s .args .index .0) (held s) (λ k. k)
 file-is c =
     let a = c .before .before .before .before .before .before .before .args in
-    c .file-in .ensures ∙ ap (λ (h : Bool). askedFile (a .fs) (a .index .0) (both (rowsHeld (a .fs) (a .rows .now)) h) (λ (k : ℕ). k)) (c .before .are-held .ensures)
+    c .file-in .ensures ∙ ap (λ (h : Bool). fileAnswer (a .fs) (a .index .0) (rowsHeld (a .fs) (a .rows .now) && h) (λ (k : ℕ). k)) (c .before .are-held .ensures)
 
 are-held-requires : tie.Need-are-held-requires
 are-held-requires c κs = search needs

@@ -5,8 +5,8 @@ use mathlib.Core.Bool.{Bool}
 use lib.ListN.{length}
 use Rattle.types.specs.Refusals.{numberOf, value, refused}
 use Rattle.tables.specs.Rows.{rowAt, isAbsolute}
-use Rattle.rules.specs.Questions.{askedFile, rowsHeld}
-use Rattle.rules.specs.Bounds.{indexOf}
+use Rattle.rules.specs.Questions.{fileAnswer, rowsHeld}
+use Rattle.rules.specs.Bounds.{clampedOf}
 use Rattle.rules.specs.Results.{boolSays}
 use Rattle.renames.specs.Renames.{renamesOf, inOrder}
 use Rattle.renames.specs.Results.{findSays}
@@ -33,10 +33,10 @@ order s = inOrder (s .args .renames) (s .args .entries .now) (s .args .names .no
 abbrev newAnswer : tie.Start → ℕ → Bool
 newAnswer s k = renamedAbsolute (renameFor k (renamesOf (s .args .renames) (s .args .entries .now) (s .args .names .now))) (ownAnswer s k)
 
-own-is : (c : tie.After-own) → let s = c .before .before .before .before .before .before in value (c .own .given .0 .0) ≡ askedFile (s .args .fs) (s .args .index .0) (held s) (ownAnswer s)
+own-is : (c : tie.After-own) → let s = c .before .before .before .before .before .before in value (c .own .given .0 .0) ≡ fileAnswer (s .args .fs) (s .args .index .0) (held s) (ownAnswer s)
 own-is c = ap boolSays (sym (c .own .given .1)) ∙ c .before .before .file-absolute-path .ensures
 
-find-is : (c : tie.After-find-rename) → let a = c .before .before .before .before .before .before .before .before .before .args in findSays (c .find-rename .result) ≡ findGiven (a .renames) (a .entries .now) (length (a .names .now)) (indexOf (a .index .0))
+find-is : (c : tie.After-find-rename) → let a = c .before .before .before .before .before .before .before .before .before .args in findSays (c .find-rename .result) ≡ findGiven (a .renames) (a .entries .now) (length (a .names .now)) (clampedOf (a .index .0))
 find-is c =
     let a = c .before .before .before .before .before .before .before .before .before .args in
     c .find-rename .ensures ∙ ap (findGiven (a .renames) (a .entries .now) (length (a .names .now))) (c .before .get .ensures)
@@ -73,22 +73,22 @@ returns c =
     let s = c .before .before .before .before .before .before .before .before .before .before .before .before .before in
     let a = s .args in
     let r = c .before .before .found .given .0 .0 in
-    let w = found-renamed (a .renames) (a .entries .now) (a .names .now) (indexOf (a .index .0)) (c .before .before .before .before .find-rename .result) (find-is (c .before .before .before .before)) r (c .before .before .found .given .1) in
-    asked-value (a .fs) (a .index .0) (held s) (order s) (ownAnswer s) (newAnswer s) _ (own-is (c .before .before .before .before .before .before .before)) (w .0) _ (rw (listed-renamed (a .renames) (a .entries .now) (a .names .now) (indexOf (a .index .0)) (w .0) r (w .1)) (c .is-by-itself .ensures))
+    let w = found-renamed (a .renames) (a .entries .now) (a .names .now) (clampedOf (a .index .0)) (c .before .before .before .before .find-rename .result) (find-is (c .before .before .before .before)) r (c .before .before .found .given .1) in
+    asked-value (a .fs) (a .index .0) (held s) (order s) (ownAnswer s) (newAnswer s) _ (own-is (c .before .before .before .before .before .before .before)) (w .0) _ (rw (listed-renamed (a .renames) (a .entries .now) (a .names .now) (clampedOf (a .index .0)) (w .0) r (w .1)) (c .is-by-itself .ensures))
 
 returns-2 : tie.Need-returns-2
 returns-2 c =
     let s = c .before .before .before .before .before .before .before .before .before .before .before in
     let a = s .args in
     let own = own-is (c .before .before .before .before .before) in
-    let w = found-own (a .renames) (a .entries .now) (a .names .now) (indexOf (a .index .0)) (c .before .before .find-rename .result) (find-is (c .before .before)) (c .enum-told .given .1) in
-    asked-value (a .fs) (a .index .0) (held s) (order s) (ownAnswer s) (newAnswer s) _ own (w .0) _ (rw (listed-own (a .renames) (a .entries .now) (a .names .now) (indexOf (a .index .0)) (w .0) (w .1)) (asked-own (a .fs) (a .index .0) (held s) (ownAnswer s) _ own))
+    let w = found-own (a .renames) (a .entries .now) (a .names .now) (clampedOf (a .index .0)) (c .before .before .find-rename .result) (find-is (c .before .before)) (c .enum-told .given .1) in
+    asked-value (a .fs) (a .index .0) (held s) (order s) (ownAnswer s) (newAnswer s) _ own (w .0) _ (rw (listed-own (a .renames) (a .entries .now) (a .names .now) (clampedOf (a .index .0)) (w .0) (w .1)) (asked-own (a .fs) (a .index .0) (held s) (ownAnswer s) _ own))
 
 returns-3 : tie.Need-returns-3
 returns-3 c =
     let s = c .before .before .before .before .before .before .before .before .before .before .before .before in
     let a = s .args in
-    let w = found-refused (a .renames) (a .entries .now) (a .names .now) (indexOf (a .index .0)) (c .before .before .before .find-rename .result) (find-is (c .before .before .before)) (c .before .found2 .given .0 .0) (c .before .found2 .given .1) in
+    let w = found-refused (a .renames) (a .entries .now) (a .names .now) (clampedOf (a .index .0)) (c .before .before .before .find-rename .result) (find-is (c .before .before .before)) (c .before .found2 .given .0 .0) (c .before .found2 .given .1) in
     ap refused (w .1) ∙ asked-disorder (a .fs) (a .index .0) (held s) (order s) (ownAnswer s) (newAnswer s) _ (own-is (c .before .before .before .before .before .before)) (w .0)
 
 returns-4 : tie.Need-returns-4

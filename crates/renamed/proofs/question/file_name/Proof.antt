@@ -1,20 +1,19 @@
 -- `renamed::question::file_name` meets its contract.
 use Prim.Native.Nat.{ℕ}
 use mathlib.Core.Path.{_≡_, sym, ap, _∙_}
-use mathlib.Core.Bool.{Bool}
+use mathlib.Core.Bool.{Bool, _&&_}
 use lib.ListN.{length}
-use Rattle.rules.specs.Rules.{both}
 use Rattle.types.specs.Refusals.{numberOf, value, refused}
 use Rattle.tables.specs.Rows.{rowAt}
 use Rattle.tables.specs.declared.span.Span.{Span}
-use Rattle.rules.specs.Questions.{askedFile, rowsHeld, textHeld}
-use Rattle.rules.specs.Bounds.{indexOf}
+use Rattle.rules.specs.Questions.{fileAnswer, rowsHeld, textHeld}
+use Rattle.rules.specs.Bounds.{clampedOf}
 use Rattle.rules.specs.Results.{spanSays}
 use Rattle.renames.specs.Renames.{inOrder}
 use Rattle.renames.specs.Results.{findSays}
 use Rattle.renames.specs.Finding.{renameFound, findGiven}
 use Rattle.renames.proofs.Deciding.{asked-own}
-use Rattle.renamed.specs.Questions.{NamePlace, inSet, inRenames, namePlace}
+use Rattle.renamed.specs.Questions.{NameSpan, inSet, inRenames, nameSpan}
 use Rattle.renamed.proofs.Deciding.{asked-refused, asked-disorder, asked-value}
 use Rattle.renamed.proofs.Questions.{found-renamed, found-own, found-refused}
 use borrow.Author.Needs.{needs}
@@ -26,19 +25,19 @@ abbrev ownAnswer : tie.Start → ℕ → Span
 ownAnswer s k = rowAt (s .args .rows .now) k .name
 
 abbrev held : tie.Start → Bool
-held s = both (rowsHeld (s .args .fs) (s .args .rows .now)) (textHeld (s .args .fs) (s .args .text .now))
+held s = rowsHeld (s .args .fs) (s .args .rows .now) && textHeld (s .args .fs) (s .args .text .now)
 
 abbrev order : tie.Start → Bool
 order s = inOrder (s .args .renames) (s .args .entries .now) (s .args .names .now)
 
 -- what it is through the renames
-abbrev newAnswer : tie.Start → ℕ → NamePlace
-newAnswer s k = namePlace (s .args .names .now) (ownAnswer s k) (renameFound (s .args .renames) (s .args .entries .now) k)
+abbrev newAnswer : tie.Start → ℕ → NameSpan
+newAnswer s k = nameSpan (s .args .names .now) (ownAnswer s k) (renameFound (s .args .renames) (s .args .entries .now) k)
 
-own-is : (c : tie.After-own) → let s = c .before .before .before .before .before .before .before in value (c .own .given .0 .0) ≡ askedFile (s .args .fs) (s .args .index .0) (held s) (ownAnswer s)
+own-is : (c : tie.After-own) → let s = c .before .before .before .before .before .before .before in value (c .own .given .0 .0) ≡ fileAnswer (s .args .fs) (s .args .index .0) (held s) (ownAnswer s)
 own-is c = ap spanSays (sym (c .own .given .1)) ∙ c .before .before .file-name .ensures
 
-find-is : (c : tie.After-find-rename) → let a = c .before .before .before .before .before .before .before .before .before .before .args in findSays (c .find-rename .result) ≡ findGiven (a .renames) (a .entries .now) (length (a .names .now)) (indexOf (a .index .0))
+find-is : (c : tie.After-find-rename) → let a = c .before .before .before .before .before .before .before .before .before .before .args in findSays (c .find-rename .result) ≡ findGiven (a .renames) (a .entries .now) (length (a .names .now)) (clampedOf (a .index .0))
 find-is c =
     let a = c .before .before .before .before .before .before .before .before .before .before .args in
     c .find-rename .ensures ∙ ap (findGiven (a .renames) (a .entries .now) (length (a .names .now))) (c .before .get .ensures)
@@ -75,7 +74,7 @@ returns c =
     let s = c .before .before .before .before .before .before .before .before .before .before .before .before .before .before in
     let a = s .args in
     let r = c .before .before .found .given .0 .0 in
-    let w = found-renamed (a .renames) (a .entries .now) (a .names .now) (indexOf (a .index .0)) (c .before .before .before .before .find-rename .result) (find-is (c .before .before .before .before)) r (c .before .before .found .given .1) in
+    let w = found-renamed (a .renames) (a .entries .now) (a .names .now) (clampedOf (a .index .0)) (c .before .before .before .before .find-rename .result) (find-is (c .before .before .before .before)) r (c .before .before .found .given .1) in
     asked-value (a .fs) (a .index .0) (held s) (order s) (ownAnswer s) (newAnswer s) _ (own-is (c .before .before .before .before .before .before .before)) (w .0) _ (rw (w .1) (ap inRenames (c .leaf-of .ensures)))
 
 returns-2 : tie.Need-returns-2
@@ -83,14 +82,14 @@ returns-2 c =
     let s = c .before .before .before .before .before .before .before .before .before .before .before .before in
     let a = s .args in
     let own = own-is (c .before .before .before .before .before) in
-    let w = found-own (a .renames) (a .entries .now) (a .names .now) (indexOf (a .index .0)) (c .before .before .find-rename .result) (find-is (c .before .before)) (c .enum-told .given .1) in
+    let w = found-own (a .renames) (a .entries .now) (a .names .now) (clampedOf (a .index .0)) (c .before .before .find-rename .result) (find-is (c .before .before)) (c .enum-told .given .1) in
     asked-value (a .fs) (a .index .0) (held s) (order s) (ownAnswer s) (newAnswer s) _ own (w .0) _ (rw (w .1) (ap inSet (asked-own (a .fs) (a .index .0) (held s) (ownAnswer s) _ own)))
 
 returns-3 : tie.Need-returns-3
 returns-3 c =
     let s = c .before .before .before .before .before .before .before .before .before .before .before .before .before in
     let a = s .args in
-    let w = found-refused (a .renames) (a .entries .now) (a .names .now) (indexOf (a .index .0)) (c .before .before .before .find-rename .result) (find-is (c .before .before .before)) (c .before .found2 .given .0 .0) (c .before .found2 .given .1) in
+    let w = found-refused (a .renames) (a .entries .now) (a .names .now) (clampedOf (a .index .0)) (c .before .before .before .find-rename .result) (find-is (c .before .before .before)) (c .before .found2 .given .0 .0) (c .before .found2 .given .1) in
     ap refused (w .1) ∙ asked-disorder (a .fs) (a .index .0) (held s) (order s) (ownAnswer s) (newAnswer s) _ (own-is (c .before .before .before .before .before .before)) (w .0)
 
 returns-4 : tie.Need-returns-4

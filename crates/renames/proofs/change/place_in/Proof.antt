@@ -6,11 +6,12 @@ use native.Mathlib.Omega.{arith}
 use borrow.Author.Tests.{not-true, not-false}
 use lib.ListN.{length}
 use Rattle.types.specs.Refusals.{numberOf, value, usizeSays}
-use Rattle.rules.specs.Questions.{askedFile}
-use Rattle.rules.specs.Bounds.{indexOf}
+use Rattle.rules.specs.Questions.{fileAnswer}
+use Rattle.rules.specs.Bounds.{clampedOf}
 use Rattle.renames.specs.declared.place.Place.{Place}
-use Rattle.renames.specs.Places.{placeOf}
-use Rattle.renames.specs.Changing.{inOrderIn, isShort}
+use Rattle.renames.specs.private.Slots.{slotOf}
+use Rattle.renames.specs.Renames.{inOrderIn}
+use Rattle.renames.specs.private.Changing.{isShort}
 use Rattle.renames.proofs.Ordered.{order-bytes}
 use Rattle.renames.proofs.Changes.{place-in}
 use Rattle.renames.proofs.Decisions.{order-in, place-number, place-goes, place-disorder, place-stops}
@@ -19,7 +20,7 @@ use Rattle.renames.proofs.change.place_in.Statement.{statement}
 use Rattle.renames.proofs.change.place_in.Tie as tie
 
 -- the file's number
-file-is : (c : tie.After-file) → value (c .file .given .0 .0) ≡ askedFile (c .before .before .before .before .args .fs) (c .before .before .before .before .args .index .0) true (λ k. k)
+file-is : (c : tie.After-file) → value (c .file .given .0 .0) ≡ fileAnswer (c .before .before .before .before .args .fs) (c .before .before .before .before .args .index .0) true (λ k. k)
 file-is c = ap usizeSays (sym (c .file .given .1)) ∙ c .before .before .file-in .ensures
 
 -- the tables are in order
@@ -27,13 +28,13 @@ ordered : (c : tie.Else1) → inOrderIn (c .before .before .before .before .befo
 ordered c = sym (c .before .is-in-order .ensures) ∙ not-false _ (c .if1 .left)
 
 -- the place is the file's
-place-is : (c : tie.After-place-of) → c .place-of .result ≡ placeOf (c .before .before .before .before .before .before .before .before .args .renames .«num_renames») (indexOf (c .before .before .before .before .before .before .before .before .args .index .0)) (c .before .before .before .before .before .before .before .before .args .entries .now)
+place-is : (c : tie.After-place-of) → c .place-of .result ≡ slotOf (c .before .before .before .before .before .before .before .before .args .renames .«num_renames») (clampedOf (c .before .before .before .before .before .before .before .before .args .index .0)) (c .before .before .before .before .before .before .before .before .args .entries .now)
 place-is c =
     let a = c .before .before .before .before .before .before .before .before .args in
-    c .place-of .ensures ∙ ap (λ (i : ℕ). placeOf (a .renames .«num_renames») i (a .entries .now)) (place-number (a .fs) (a .renames) (a .entries .now) (a .room) (a .index .0) (a .len) _ (file-is (c .before .before .before .before)))
+    c .place-of .ensures ∙ ap (λ (i : ℕ). slotOf (a .renames .«num_renames») i (a .entries .now)) (place-number (a .fs) (a .renames) (a .entries .now) (a .room) (a .index .0) (a .len) _ (file-is (c .before .before .before .before)))
 
 -- whether the tables are too short for it
-short-is : (c : tie.After-is-short) → c .is-short .result ≡ isShort (c .before .before .before .before .before .before .before .before .before .args .renames) (placeOf (c .before .before .before .before .before .before .before .before .before .args .renames .«num_renames») (indexOf (c .before .before .before .before .before .before .before .before .before .args .index .0)) (c .before .before .before .before .before .before .before .before .before .args .entries .now)) (length (c .before .before .before .before .before .before .before .before .before .args .entries .now)) (c .before .before .before .before .before .before .before .before .before .args .room) (c .before .before .before .before .before .before .before .before .before .args .len)
+short-is : (c : tie.After-is-short) → c .is-short .result ≡ isShort (c .before .before .before .before .before .before .before .before .before .args .renames) (slotOf (c .before .before .before .before .before .before .before .before .before .args .renames .«num_renames») (clampedOf (c .before .before .before .before .before .before .before .before .before .args .index .0)) (c .before .before .before .before .before .before .before .before .before .args .entries .now)) (length (c .before .before .before .before .before .before .before .before .before .args .entries .now)) (c .before .before .before .before .before .before .before .before .before .args .room) (c .before .before .before .before .before .before .before .before .before .args .len)
 short-is c =
     let a = c .before .before .before .before .before .before .before .before .before .args in
     c .is-short .ensures ∙ ap (λ (p : Place). isShort (a .renames) p (length (a .entries .now)) (a .room) (a .len)) (place-is (c .before))
@@ -62,7 +63,7 @@ is-short-requires : tie.Need-is-short-requires
 is-short-requires c κs =
     let a = c .before .before .before .before .before .before .before .before .args in
     let o = order-in (a .renames) (a .entries .now) (a .room) (ordered (c .before)) in
-    let k = place-in (a .renames .«num_renames») (a .renames .«text_len») (indexOf (a .index .0)) (a .entries .now) (o .2) (c .place-of .result) (place-is c) in
+    let k = place-in (a .renames .«num_renames») (a .renames .«text_len») (clampedOf (a .index .0)) (a .entries .now) (o .2) (c .place-of .result) (place-is c) in
     (o .0, o .1, omega (arith, k .2), k .1)
 
 returns-2 : tie.Need-returns-2

@@ -5,7 +5,7 @@ use mathlib.Core.List.{[], _∷_}
 use native.Mathlib.Omega.{arith}
 use lib.ListN.{length}
 use Rattle.renames.specs.Renames.{Renamed}
-use Rattle.renames.specs.Places.{spliced}
+use Rattle.renames.specs.private.Slots.{spliced}
 use Rattle.renames.proofs.Changes.{place-in, put-state, put-entries, put-text}
 use borrow.Author.Needs.{needs}
 use Rattle.renames.proofs.change.put_rename.Statement.{statement}

@@ -5,20 +5,20 @@ use mathlib.Core.List.{List}
 use lib.Seq.{sets}
 use lib.ListN.{length}
 use Rattle.types.specs.Refusals.{numberOf, value}
-use Rattle.rules.specs.Bounds.{indexOf}
+use Rattle.rules.specs.Bounds.{clampedOf}
 use Rattle.renames.specs.declared.rename.RenameMode.{RenameMode}
 use Rattle.renames.specs.Renames.{Renamed, stateOf, wordsOf, textsOf, withRename, renamesOf}
-use Rattle.renames.specs.Changing.{placeSays, placeAsked}
+use Rattle.renames.specs.private.Changing.{slotSays, slotGiven}
 use Rattle.renames.proofs.Decisions.{place-known, place-changed, place-refused}
 use borrow.Author.Needs.{needs}
 use Rattle.renames.proofs.change.rename_file.Statement.{statement}
 use Rattle.renames.proofs.change.rename_file.Tie as tie
 
 -- the decided place
-place-is : (c : tie.After-place) → let a = c .before .before .before .before .before .before .before .args in value (c .place .given .0 .0) ≡ placeAsked (a .fs) (a .renames) (a .entries .now) (length (a .text .now)) (a .index .0) (length (a .new-filename .now))
-place-is c = ap placeSays (sym (c .place .given .1)) ∙ c .before .before .place-in .ensures
+place-is : (c : tie.After-place) → let a = c .before .before .before .before .before .before .before .args in value (c .place .given .0 .0) ≡ slotGiven (a .fs) (a .renames) (a .entries .now) (length (a .text .now)) (a .index .0) (length (a .new-filename .now))
+place-is c = ap slotSays (sym (c .place .given .1)) ∙ c .before .before .place-in .ensures
 
-file-is : (c : tie.After-get) → c .get .result ≡ indexOf (c .before .before .before .before .before .before .before .before .before .before .before .args .index .0)
+file-is : (c : tie.After-get) → c .get .result ≡ clampedOf (c .before .before .before .before .before .before .before .before .before .before .before .args .index .0)
 file-is c = c .get .ensures
 
 -- the rename that is written is the file's, with the name's mode
@@ -70,7 +70,7 @@ same-length-3 c = search needs
 returns-2 : tie.Need-returns-2
 returns-2 c =
     let a = c .before .before .before .before .before .before .before .before .args in
-    place-refused (a .fs) (a .renames) (a .entries .now) (a .text .now) (a .index .0) (a .new-filename .now) (numberOf (c .before .place2 .given .0 .0)) (ap placeSays (sym (c .before .place2 .given .1)) ∙ c .before .before .before .place-in .ensures)
+    place-refused (a .fs) (a .renames) (a .entries .now) (a .text .now) (a .index .0) (a .new-filename .now) (numberOf (c .before .place2 .given .0 .0)) (ap slotSays (sym (c .before .place2 .given .1)) ∙ c .before .before .before .place-in .ensures)
 
 pub rename-file-spec : {M : Type 1} → statement M
 rename-file-spec =

@@ -1,12 +1,11 @@
 -- `renames::check::is_entry_in_order` meets its contract.
 use mathlib.Core.Path.{_≡_, refl}
-use mathlib.Core.Bool.{Bool, true, false}
+use mathlib.Core.Bool.{Bool, true, false, _&&_}
 use borrow.Author.Tests.{lt-leb, le-leb}
-use Rattle.rules.specs.Rules.{both}
 use Rattle.renames.proofs.check.is_entry_in_order.Statement.{statement}
 use Rattle.renames.proofs.check.is_entry_in_order.Tie as tie
 
-no-more : (a : Bool) → both a false ≡ false
+no-more : (a : Bool) → (a && false) ≡ false
 no-more true = refl
 no-more false = refl
 

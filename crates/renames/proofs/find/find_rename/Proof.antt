@@ -4,7 +4,7 @@ use mathlib.Core.Bool.{true, false}
 use native.Mathlib.Omega.{arith}
 use borrow.Author.Tests.{not-true, not-false}
 use Rattle.types.specs.Refusals.{value}
-use Rattle.renames.specs.Changing.{inOrderIn}
+use Rattle.renames.specs.Renames.{inOrderIn}
 use Rattle.renames.proofs.Ordered.{order-bytes}
 use Rattle.renames.proofs.Decisions.{order-in}
 use Rattle.renames.proofs.Finding.{place-own, place-below, place-renamed}

@@ -9,13 +9,13 @@ use borrow.Author.Needs.{needs}
 use lib.ListN.{length}
 use Rattle.lists.specs.Lists.{partOf}
 use Rattle.renames.specs.Renames.{textsOf}
-use Rattle.renames.specs.Importing.{given}
+use Rattle.renames.specs.private.Importing.{renamesGiven}
 use Rattle.renames.proofs.Giving.{givenFrom, nameAt, name-in, given-more, given-none}
 use Rattle.renames.proofs.give.count_given.Statement.{statement}
 use Rattle.renames.proofs.give.count_given.Tie as tie
 
 abbrev Inv-loop : tie.InvT-loop
-Inv-loop numbers lengths names files i₀ at₀ count₀ bytes₀ i at count bytes = (i ≤ length numbers) × (at ≤ length names) × (count ≤ i) × (bytes ≤ at) × (count + length (givenFrom files numbers lengths names i at) ≡ length (given files numbers lengths names)) × (bytes + length (textsOf (givenFrom files numbers lengths names i at)) ≡ length (textsOf (given files numbers lengths names)))
+Inv-loop numbers lengths names files i₀ at₀ count₀ bytes₀ i at count bytes = (i ≤ length numbers) × (at ≤ length names) × (count ≤ i) × (bytes ≤ at) × (count + length (givenFrom files numbers lengths names i at) ≡ length (renamesGiven files numbers lengths names)) × (bytes + length (textsOf (givenFrom files numbers lengths names i at)) ≡ length (textsOf (renamesGiven files numbers lengths names)))
 
 abbrev μ-loop : tie.MeasureT-loop
 μ-loop numbers lengths names files i₀ at₀ count₀ bytes₀ i at count bytes = length numbers - i
@@ -85,8 +85,8 @@ returns c =
     let a = c .before .before .before .before .args in
     let l = c .before .loop in
     let z = given-none (a .files) (a .numbers .now) (a .lengths .now) (a .names .now) (l .i) (l .at) (c .loop-test .left) in
-    let p : l .count ≡ length (given (a .files) (a .numbers .now) (a .lengths .now) (a .names .now)) = omega (arith, z .0, l .inv .4) in
-    let q : l .bytes ≡ length (textsOf (given (a .files) (a .numbers .now) (a .lengths .now) (a .names .now))) = omega (arith, z .1, l .inv .5) in
+    let p : l .count ≡ length (renamesGiven (a .files) (a .numbers .now) (a .lengths .now) (a .names .now)) = omega (arith, z .0, l .inv .4) in
+    let q : l .bytes ≡ length (textsOf (renamesGiven (a .files) (a .numbers .now) (a .lengths .now) (a .names .now))) = omega (arith, z .1, l .inv .5) in
     rw (p, q)
 
 pub count-given-spec : {M : Type 1} → statement M

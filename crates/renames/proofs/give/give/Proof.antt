@@ -7,13 +7,13 @@ use borrow.Author.Needs.{needs}
 use lib.ListN.{length}
 use Rattle.lists.specs.Lists.{partOf}
 use Rattle.renames.specs.Renames.{renamesOf}
-use Rattle.renames.specs.Importing.{given, withAll}
+use Rattle.renames.specs.private.Importing.{renamesGiven, withAll}
 use Rattle.renames.proofs.Giving.{Giving, nameAt, name-in, giving-start, giving-room, giving-turn, giving-end}
 use Rattle.renames.proofs.give.give.Statement.{statement}
 use Rattle.renames.proofs.give.give.Tie as tie
 
 abbrev Inv-loop : tie.InvT-loop
-Inv-loop entries₀ text₀ numbers lengths names files rf₀ i₀ at₀ entries text rf i at = Giving files numbers lengths names (withAll (given files numbers lengths names) (renamesOf rf₀ entries₀ text₀)) entries₀ text₀ rf entries text i at
+Inv-loop entries₀ text₀ numbers lengths names files rf₀ i₀ at₀ entries text rf i at = Giving files numbers lengths names (withAll (renamesGiven files numbers lengths names) (renamesOf rf₀ entries₀ text₀)) entries₀ text₀ rf entries text i at
 
 abbrev μ-loop : tie.MeasureT-loop
 μ-loop entries₀ text₀ numbers lengths names files rf₀ i₀ at₀ entries text rf i at = length numbers - i

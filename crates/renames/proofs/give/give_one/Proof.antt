@@ -8,7 +8,7 @@ use lib.IntN.{pos}
 use lib.ListN.{length, getD, drop}
 use Rattle.renames.specs.declared.rename.RenameMode.the-variants.{FullPath}
 use Rattle.renames.specs.Renames.{Renamed, renamesOf, withRename}
-use Rattle.renames.specs.Importing.{counts, withOne}
+use Rattle.renames.specs.private.Importing.{counts, withOne}
 use Rattle.renames.proofs.Ordered.{order-bytes}
 use Rattle.renames.proofs.Decisions.{order-in}
 use Rattle.renames.proofs.Giving.{own-entries, own-text, one-comes, one-room, one-after}

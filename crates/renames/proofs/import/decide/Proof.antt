@@ -9,8 +9,8 @@ use Rattle.types.specs.Refusals.{value}
 use Rattle.rules.specs.Bounds.{badLength, isNegative}
 use Rattle.renames.specs.declared.rename.RenamedFiles.{RenamedFiles}
 use Rattle.renames.specs.Renames.{stateOf}
-use Rattle.renames.specs.Changing.{inOrderIn}
-use Rattle.renames.specs.Importing.{given, keptState, isFull}
+use Rattle.renames.specs.Renames.{inOrderIn}
+use Rattle.renames.specs.private.Importing.{renamesGiven, keptState, isFull}
 use Rattle.renames.proofs.Importing.{asked-ill, asked-negative, asked-disorder, asked-full, asked-none, stay-in}
 use borrow.Author.Needs.{needs}
 use Rattle.renames.proofs.import.decide.Statement.{statement}
@@ -18,7 +18,7 @@ use Rattle.renames.proofs.import.decide.Tie as tie
 
 -- what comes
 abbrev come : tie.Start → RenamedFiles
-come s = stateOf (given (s .args .fs .«num_files») (s .args .numbers .now) (s .args .lengths .now) (s .args .names .now))
+come s = stateOf (renamesGiven (s .args .fs .«num_files») (s .args .numbers .now) (s .args .lengths .now) (s .args .names .now))
 
 -- the set's piece length is good
 good-is : (c : tie.Else1) → badLength (c .before .before .before .before .before .args .fs .«piece_length») ≡ false

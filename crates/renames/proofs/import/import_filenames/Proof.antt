@@ -4,14 +4,14 @@ use lib.ListN.{length}
 use Rattle.types.specs.Refusals.{numberOf, value}
 use Rattle.renames.specs.Renames.{stateOf}
 use Rattle.renames.specs.Results.{renamesSays}
-use Rattle.renames.specs.Importing.{given, importAsked}
+use Rattle.renames.specs.private.Importing.{renamesGiven, importAsked}
 use Rattle.renames.proofs.Importing.{import-in, import-gives, import-changed, import-refused}
 use borrow.Author.Needs.{needs}
 use Rattle.renames.proofs.import.import_filenames.Statement.{statement}
 use Rattle.renames.proofs.import.import_filenames.Tie as tie
 
 -- the list passed, and this is the record of what stays
-decided : (c : tie.After-decision) → let a = c .before .before .before .before .before .before .before .before .args in value (c .decision .given .0 .0) ≡ importAsked (a .fs) (a .renames) (a .entries .now) (length (a .text .now)) (a .numbers .now) (stateOf (given (a .fs .«num_files») (a .numbers .now) (a .lengths .now) (a .names .now)))
+decided : (c : tie.After-decision) → let a = c .before .before .before .before .before .before .before .before .args in value (c .decision .given .0 .0) ≡ importAsked (a .fs) (a .renames) (a .entries .now) (length (a .text .now)) (a .numbers .now) (stateOf (renamesGiven (a .fs .«num_files») (a .numbers .now) (a .lengths .now) (a .names .now)))
 decided c = ap renamesSays (sym (c .decision .given .1)) ∙ c .before .before .decide .ensures
 
 decide-requires : tie.Need-decide-requires

@@ -7,8 +7,8 @@ use native.Mathlib.Nat.{sub-zero, zero-add}
 use native.Mathlib.Omega.{arith}
 use borrow.Author.Needs.{needs}
 use lib.ListN.{length}
-use Rattle.renames.specs.Places.{bytesFrom}
-use Rattle.renames.specs.Importing.{isListed, keptCount, keptBytes}
+use Rattle.renames.specs.Finding.{bytesFrom}
+use Rattle.renames.specs.private.Importing.{isListed, keptCount, keptBytes}
 use Rattle.renames.proofs.Keeping.{counted, count-end, size-end, kept-few, kept-short}
 use Rattle.renames.proofs.keep.count_kept.Statement.{statement}
 use Rattle.renames.proofs.keep.count_kept.Tie as tie

@@ -5,7 +5,7 @@ use mathlib.Core.Path.{_≡_, ap, _∙_}
 use mathlib.Core.Bool.{not}
 use native.Mathlib.Omega.{arith}
 use borrow.Author.Needs.{needs}
-use Rattle.renames.specs.Importing.{isListed}
+use Rattle.renames.specs.private.Importing.{isListed}
 use Rattle.renames.proofs.Keeping.{Moved, moved-start, moved-turn, moved-end}
 use Rattle.renames.proofs.keep.keep_entries.Statement.{statement}
 use Rattle.renames.proofs.keep.keep_entries.Tie as tie

@@ -6,7 +6,7 @@ use mathlib.Core.Bool.{not}
 use native.Mathlib.Omega.{arith}
 use borrow.Author.Needs.{needs}
 use lib.ListN.{length}
-use Rattle.renames.specs.Importing.{isListed}
+use Rattle.renames.specs.private.Importing.{isListed}
 use Rattle.renames.proofs.Keeping.{Joined, joined-start, joined-in, joined-turn, joined-end}
 use Rattle.renames.proofs.keep.keep_texts.Statement.{statement}
 use Rattle.renames.proofs.keep.keep_texts.Tie as tie

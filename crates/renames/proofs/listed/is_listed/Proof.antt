@@ -5,7 +5,7 @@ use lib.IntN.{pos}
 use lib.ListN.{length, drop}
 use borrow.Author.Needs.{needs}
 use Rattle.lists.proofs.Tests.{any-turn, any-stop, any-end}
-use Rattle.renames.specs.Importing.{isOf, isListed}
+use Rattle.renames.specs.private.Importing.{isOf, isListed}
 use Rattle.renames.proofs.listed.is_listed.Statement.{statement}
 use Rattle.renames.proofs.listed.is_listed.Tie as tie
 

@@ -6,7 +6,7 @@ use native.Mathlib.Nat.{sub-zero, zero-add}
 use native.Mathlib.Omega.{arith}
 use borrow.Author.Needs.{needs}
 use lib.ListN.{length}
-use Rattle.renames.specs.Places.{bytesFrom}
+use Rattle.renames.specs.Finding.{bytesFrom}
 use Rattle.renames.proofs.Places.{bytes-turn, bytes-end}
 use Rattle.renames.proofs.place.bytes_of.Statement.{statement}
 use Rattle.renames.proofs.place.bytes_of.Tie as tie

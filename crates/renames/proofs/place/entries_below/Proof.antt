@@ -6,7 +6,7 @@ use native.Mathlib.Nat.{sub-zero, zero-add}
 use native.Mathlib.Omega.{arith}
 use borrow.Author.Needs.{needs}
 use lib.ListN.{length}
-use Rattle.renames.specs.Places.{belowFrom}
+use Rattle.renames.specs.Finding.{belowFrom}
 use Rattle.renames.proofs.Places.{below-turn, below-stop, below-end}
 use Rattle.renames.proofs.place.entries_below.Statement.{statement}
 use Rattle.renames.proofs.place.entries_below.Tie as tie

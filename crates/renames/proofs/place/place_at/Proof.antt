@@ -1,7 +1,7 @@
 -- `renames::place::place_at` meets its contract.
 use mathlib.Core.Path.{_≡_, sym, _∙_}
 use mathlib.Core.Bool.{true, false}
-use Rattle.renames.specs.Places.{isNamed}
+use Rattle.renames.specs.Finding.{isNamed}
 use borrow.Author.Needs.{needs}
 use Rattle.renames.proofs.place.place_at.Statement.{statement}
 use Rattle.renames.proofs.place.place_at.Tie as tie

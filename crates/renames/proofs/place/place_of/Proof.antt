@@ -2,7 +2,7 @@
 use Prim.Native.Nat.{ℕ}
 use mathlib.Core.Path.{ap, _∙_}
 use native.Mathlib.Omega.{arith}
-use Rattle.renames.specs.Places.{placeAt}
+use Rattle.renames.specs.private.Slots.{slotAt}
 use Rattle.renames.proofs.Places.{below-le, bytes-first}
 use borrow.Author.Needs.{needs}
 use Rattle.renames.proofs.place.place_of.Statement.{statement}
@@ -20,7 +20,7 @@ place-at-requires c κs =
 returns : tie.Need-returns
 returns c =
     let a = c .before .before .before .args in
-    c .place-at .ensures ∙ ap (λ (i : ℕ). placeAt (a .n) (a .file) i (a .entries .now)) (c .before .entries-below .ensures)
+    c .place-at .ensures ∙ ap (λ (i : ℕ). slotAt (a .n) (a .file) i (a .entries .now)) (c .before .entries-below .ensures)
 
 pub place-of-spec : {M : Type 1} → statement M
 place-of-spec = tie.close (tie.spec entries-below-requires place-at-requires returns)

@@ -8,14 +8,14 @@ use lib.Dec.{ltb}
 use borrow.Author.Needs.{needs}
 use Rattle.types.specs.Signed.{belowOr}
 use Rattle.types.specs.Refusals.{numberOf, value, refused, usizeSays}
-use Rattle.rules.specs.Bounds.{badLength, isBelow, indexOf}
+use Rattle.rules.specs.Bounds.{badLength, isBelow, clampedOf}
 use Rattle.rules.proofs.Deciding.{allowed, denied}
 use Rattle.rules.proofs.decide.file_in.Statement.{statement}
 use Rattle.rules.proofs.decide.file_in.Tie as tie
 
 -- what `within` says: the number is that of a file, or is not
 module _ (count : ℕ) where
-  below-value : (z : ℤ) (k : ℕ) → value k ≡ belowOr 11 count z → (isBelow count z ≡ true) × (k ≡ indexOf z)
+  below-value : (z : ℤ) (k : ℕ) → value k ≡ belowOr 11 count z → (isBelow count z ≡ true) × (k ≡ clampedOf z)
   below-value (pos n) k e = allowed 11 n (ltb n count) k e
   below-value (negsuc n) k e = absurd (let z : _≡_ {A = ℕ} 0 1 = cc in omega arith)
 

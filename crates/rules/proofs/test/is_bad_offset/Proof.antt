@@ -5,7 +5,7 @@ use mathlib.Core.Bool.{true, false}
 use mir.Syntax.{w64}
 use mir.Val.{SFits}
 use mir.Facts.{toZ-ofZ}
-use Rattle.rules.specs.Bounds.{isNegative, sizeOf}
+use Rattle.rules.specs.Bounds.{isNegative, clampedOf}
 use Rattle.rules.proofs.test.is_bad_offset.Statement.{statement}
 use Rattle.rules.proofs.test.is_bad_offset.Tie as tie
 
@@ -26,7 +26,7 @@ returns-2 c =
     let a = c .before .before .before .before .args in
     let fits : SFits w64 (a .offset) = search needs in
     let n : isNegative (a .offset) ≡ false = sym (c .before .before .before .is-negative64 .ensures ∙ ap isNegative (toZ-ofZ fits)) ∙ c .before .before .if1 .left in
-    let s : c .before .clamped64 .result ≡ sizeOf (a .offset) = c .before .clamped64 .ensures ∙ ap sizeOf (toZ-ofZ fits) in
+    let s : c .before .clamped64 .result ≡ clampedOf (a .offset) = c .before .clamped64 .ensures ∙ ap clampedOf (toZ-ofZ fits) in
     rw (n, s)
 
 pub is-bad-offset-spec : {M : Type 1} → statement M

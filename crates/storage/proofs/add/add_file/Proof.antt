@@ -13,14 +13,14 @@ use Rattle.tables.specs.Model.{Store, viewOf, storeOf}
 use Rattle.rules.proofs.Rules.{outcome-value, outcome-refused}
 use Rattle.additions.specs.declared.parts.PathParts.{PathParts}
 use Rattle.additions.specs.Addition.{Addition, additionOf}
-use Rattle.additions.specs.Parts.{nameFrom, linkTextOf}
+use Rattle.additions.specs.private.Texts.{nameFrom, linkTextOf}
 use Rattle.plan.specs.declared.plan.AddPlan.{AddPlan}
 use Rattle.plan.specs.declared.plan.PlanResult.the-variants.{Ok, Err}
 use Rattle.plan.specs.Write.{storeAdded, timesAdded}
 use Rattle.plan.specs.Outcomes.{addingNumber}
 use Rattle.plan.specs.Plan.{planOf, planSays, plannedFor}
 use Rattle.plan.proofs.Plans.{add-held, texts-of}
-use Rattle.storage.specs.Written.{rowsWritten, dirsWritten, textWritten}
+use Rattle.storage.specs.private.Written.{rowsWritten, dirsWritten, textWritten}
 use Rattle.storage.proofs.Written.{text-is, rows-are, dirs-are, kept-all, wrote-all}
 use borrow.Author.Needs.{needs}
 use Rattle.storage.proofs.add.add_file.Statement.{statement}

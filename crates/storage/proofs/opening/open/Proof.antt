@@ -6,7 +6,7 @@ use mir.Syntax.{w32}
 use native.Mathlib.Omega.{arith}
 use borrow.Author.Tests.{eq-eqb, ne-eqb}
 use Rattle.types.specs.Refusals.{value, refused}
-use Rattle.storage.specs.Opening.{empty, opened}
+use Rattle.storage.specs.Opening.{newStorage, opened}
 use Rattle.additions.proofs.Signs.{of-is, negative-is}
 use borrow.Author.Needs.{needs}
 use Rattle.storage.proofs.opening.open.Statement.{statement}
@@ -18,7 +18,7 @@ opened-negative z m e = rw e
 opened-none : (z : ℤ) (n : ℕ) → z ≡ pos n → n < 1 → refused 1 ≡ opened z
 opened-none z n e h = rw (e, eq-eqb n 0 (omega arith))
 
-opened-some : (z : ℤ) (n : ℕ) → z ≡ pos n → 1 ≤ n → value (empty n) ≡ opened z
+opened-some : (z : ℤ) (n : ℕ) → z ≡ pos n → 1 ≤ n → value (newStorage n) ≡ opened z
 opened-some z n e h = rw (e, ne-eqb n 0 (λ q. omega arith))
 
 unsigned32-requires : tie.Need-unsigned32-requires

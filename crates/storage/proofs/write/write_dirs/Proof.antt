@@ -1,6 +1,6 @@
 -- `storage::write::write_dirs` meets its contract.
 use mathlib.Core.Path.{ap, _∙_}
-use Rattle.storage.specs.Written.{dirWritten}
+use Rattle.storage.specs.private.Written.{dirWritten}
 use borrow.Author.Needs.{needs}
 use Rattle.storage.proofs.write.write_dirs.Statement.{statement}
 use Rattle.storage.proofs.write.write_dirs.Tie as tie

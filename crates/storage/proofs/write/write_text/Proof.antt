@@ -5,7 +5,7 @@ use mathlib.Core.List.{List, []}
 use Prim.Native.Nat.{ℕ}
 use lib.Seq.{sets}
 use Rattle.additions.specs.Addition.{padDirectory}
-use Rattle.additions.specs.Parts.{nameFrom}
+use Rattle.additions.specs.private.Texts.{nameFrom}
 use Rattle.plan.specs.Write.{padDigits}
 use borrow.Author.Needs.{needs}
 use Rattle.storage.proofs.write.write_text.Statement.{statement}
@@ -14,8 +14,8 @@ use Rattle.storage.proofs.write.write_text.Tie as tie
 free-name-requires : tie.Need-free-name-requires
 free-name-requires c κs = search needs
 
-copy-behind-requires : tie.Need-copy-behind-requires
-copy-behind-requires c κs = search needs
+copy-after-requires : tie.Need-copy-after-requires
+copy-after-requires c κs = search needs
 
 put-new-requires : tie.Need-put-new-requires
 put-new-requires c κs = search needs
@@ -23,8 +23,8 @@ put-new-requires c κs = search needs
 put-name-requires : tie.Need-put-name-requires
 put-name-requires c κs = search needs
 
-copy-behind-requires-2 : tie.Need-copy-behind-requires-2
-copy-behind-requires-2 c κs = search needs
+copy-after-requires-2 : tie.Need-copy-after-requires-2
+copy-after-requires-2 c κs = search needs
 
 slice-aggregate-put-new : tie.Need-slice-aggregate-put-new
 slice-aggregate-put-new c = search needs
@@ -46,23 +46,23 @@ returns c =
     ∙ ap (λ (l : List ℕ). sets l (p .«pad_row» .name .at) (padDigits (p .«pad_row» .size)))
     (c .before .before .before .before .before .before .put-new2 .ensures
     ∙ ap (λ (l : List ℕ). sets l (p .«pad_dir» .text .at) (cond (p .«pad_dir» .new) padDirectory []))
-    (c .before .before .before .before .before .before .before .before .before .before .before .copy-behind2 .ensures
+    (c .before .before .before .before .before .before .before .before .before .before .before .copy-after2 .ensures
     ∙ ap (λ (l : List ℕ). sets l (p .row .link .at) (a .link .now))
     (c .before .before .before .before .before .before .before .before .before .before .before .before .before .before .before .put-name .ensures
     ∙ ap (λ (l : List ℕ). sets l (p .row .name .at) (nameFrom (a .given) (a .filename .now) (a .own .now)))
     (c .before .before .before .before .before .before .before .before .before .before .before .before .before .before .before .before .before .before .before .put-new .ensures
     ∙ ap (λ (l : List ℕ). sets l (p .dir .text .at) (cond (p .dir .new) (a .dir .now) []))
-    (c .before .before .before .before .before .before .before .before .before .before .before .before .before .before .before .before .before .before .before .before .before .before .before .copy-behind .ensures ∙ ap (λ (l : List ℕ). sets l (p .start) (a .set-name .now)) (c .before .before .before .before .before .before .before .before .before .before .before .before .before .before .before .before .before .before .before .before .before .before .before .before .before .before .before .free-name .ensures))))))
+    (c .before .before .before .before .before .before .before .before .before .before .before .before .before .before .before .before .before .before .before .before .before .before .before .copy-after .ensures ∙ ap (λ (l : List ℕ). sets l (p .start) (a .set-name .now)) (c .before .before .before .before .before .before .before .before .before .before .before .before .before .before .before .before .before .before .before .before .before .before .before .before .before .before .before .free-name .ensures))))))
 
 pub write-text-spec : {M : Type 1} → statement M
 write-text-spec =
     tie.close
     (tie.spec
     free-name-requires
-    copy-behind-requires
+    copy-after-requires
     put-new-requires
     put-name-requires
-    copy-behind-requires-2
+    copy-after-requires-2
     slice-aggregate-put-new
     put-new-requires-2
     put-pad-requires

@@ -2,9 +2,9 @@
 use mathlib.Core.Path.{_≡_, ap, _∙_}
 use mathlib.Core.List.{List}
 use Prim.Native.Nat.{ℕ}
-use Rattle.additions.specs.Parts.{nameFrom}
+use Rattle.additions.specs.private.Texts.{nameFrom}
 use Rattle.plan.specs.declared.plan.AddPlan.{AddPlan}
-use Rattle.storage.specs.Written.{textWritten}
+use Rattle.storage.specs.private.Written.{textWritten}
 use borrow.Author.Needs.{needs}
 use Rattle.storage.proofs.write.write_texts.Statement.{statement}
 use Rattle.storage.proofs.write.write_texts.Tie as tie

@@ -24,14 +24,14 @@ Inv-loop dirs₀ n c m i₀ dirs i = (m ≡ min n (length dirs₀ / 2)) × Writi
 abbrev μ-loop : tie.MeasureT-loop
 μ-loop dirs₀ n c m i₀ dirs i = m - i
 
-least-requires : tie.Need-least-requires Inv-loop μ-loop
-least-requires c κs = search needs
+min-usize-requires : tie.Need-min-usize-requires Inv-loop μ-loop
+min-usize-requires c κs = search needs
 
 loop-holds : tie.Need-loop-holds Inv-loop μ-loop
 loop-holds c =
     let a = c .before .before .args in
     let d = a .dirs .now in
-    (c .least .ensures, writing-start 2 (new d (a .c)) (c .least .result) d)
+    (c .min-usize .ensures, writing-start 2 (new d (a .c)) (c .min-usize .result) d)
 
 lower-dir-requires : tie.Need-lower-dir-requires Inv-loop μ-loop
 lower-dir-requires c κs = search needs
@@ -50,7 +50,7 @@ loop-again c =
     let same = dir-above (l .dirs) d (l .i) (l .inv .1 .2) (l .i) (omega arith) in
     let put = c .before .before .lower-dir .ensures ∙ ap (λ (s : Span). putDir (l .dirs) (l .i) (low (a .c) s)) same in
     let turn = c .before .before .before .before .loop-test .taken in
-    (l .inv .0, writing-turn 2 (new d (a .c)) (c .before .before .before .before .before .before .least .result) d (l .dirs) (l .i) refl (l .inv .1) turn put)
+    (l .inv .0, writing-turn 2 (new d (a .c)) (c .before .before .before .before .before .before .min-usize .result) d (l .dirs) (l .i) refl (l .inv .1) turn put)
 
 same-length : tie.Need-same-length Inv-loop μ-loop
 same-length c = c .before .loop .inv .1 .1
@@ -61,7 +61,7 @@ returns c =
     let d = a .dirs .now in
     let l = c .before .loop in
     let g = new d (a .c) in
-    writing-end 2 g (c .before .before .least .result) d (l .dirs) (l .i) (l .inv .1) (c .loop-test .left)
+    writing-end 2 g (c .before .before .min-usize .result) d (l .dirs) (l .i) (l .inv .1) (c .loop-test .left)
     ∙ ap (λ (m : ℕ). sets d 0 (filled g 0 m)) (l .inv .0)
 
 pub lower-dirs-spec : {M : Type 1} → statement M
@@ -70,7 +70,7 @@ lower-dirs-spec =
     (tie.spec
     Inv-loop
     μ-loop
-    least-requires
+    min-usize-requires
     loop-holds
     lower-dir-requires
     add-i

@@ -24,14 +24,14 @@ Inv-loop rows₀ n f total c d m i₀ rows i = (m ≡ min n (length rows₀ / 8)
 abbrev μ-loop : tie.MeasureT-loop
 μ-loop rows₀ n f total c d m i₀ rows i = m - i
 
-least-requires : tie.Need-least-requires Inv-loop μ-loop
-least-requires c κs = search needs
+min-usize-requires : tie.Need-min-usize-requires Inv-loop μ-loop
+min-usize-requires c κs = search needs
 
 loop-holds : tie.Need-loop-holds Inv-loop μ-loop
 loop-holds c =
     let a = c .before .before .args in
     let g = new (a .rows .now) (a .f) (a .total) (a .c) (a .d) in
-    (c .least .ensures, writing-start 8 g (c .least .result) (a .rows .now))
+    (c .min-usize .ensures, writing-start 8 g (c .min-usize .result) (a .rows .now))
 
 move-row-requires : tie.Need-move-row-requires Inv-loop μ-loop
 move-row-requires c κs = search needs
@@ -51,7 +51,7 @@ loop-again c =
     let same = row-above (l .rows) (a .rows .now) (l .i) (l .inv .1 .2) (skip (a .f) (l .i)) (omega arith) in
     let put = c .before .before .move-row .ensures ∙ ap (λ (r : Row). putRow (l .rows) (l .i) (move r)) same in
     let turn = c .before .before .before .before .loop-test .taken in
-    (l .inv .0, writing-turn 8 g (c .before .before .before .before .before .before .least .result) (a .rows .now) (l .rows) (l .i) refl (l .inv .1) turn put)
+    (l .inv .0, writing-turn 8 g (c .before .before .before .before .before .before .min-usize .result) (a .rows .now) (l .rows) (l .i) refl (l .inv .1) turn put)
 
 same-length : tie.Need-same-length Inv-loop μ-loop
 same-length c = c .before .loop .inv .1 .1
@@ -61,7 +61,7 @@ returns c =
     let a = c .before .before .before .before .args in
     let l = c .before .loop in
     let g = new (a .rows .now) (a .f) (a .total) (a .c) (a .d) in
-    writing-end 8 g (c .before .before .least .result) (a .rows .now) (l .rows) (l .i) (l .inv .1) (c .loop-test .left)
+    writing-end 8 g (c .before .before .min-usize .result) (a .rows .now) (l .rows) (l .i) (l .inv .1) (c .loop-test .left)
     ∙ ap (λ (m : ℕ). sets (a .rows .now) 0 (filled g 0 m)) (l .inv .0)
 
 pub remove-row-spec : {M : Type 1} → statement M
@@ -70,7 +70,7 @@ remove-row-spec =
     (tie.spec
     Inv-loop
     μ-loop
-    least-requires
+    min-usize-requires
     loop-holds
     move-row-requires
     add-i

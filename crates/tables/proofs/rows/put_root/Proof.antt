@@ -12,14 +12,14 @@ returns c =
     let a = c .before .before .args in
     sym (sets-past (a .t3) (a .roots .now) (a .i * 32) (omega arith))
 
-mul-copy-behind : tie.Need-mul-copy-behind
-mul-copy-behind c = search needs
+mul-copy-after : tie.Need-mul-copy-after
+mul-copy-after c = search needs
 
-slice-aggregate-copy-behind : tie.Need-slice-aggregate-copy-behind
-slice-aggregate-copy-behind c = search needs
+slice-aggregate-copy-after : tie.Need-slice-aggregate-copy-after
+slice-aggregate-copy-after c = search needs
 
-copy-behind-requires : tie.Need-copy-behind-requires
-copy-behind-requires c κs = search needs
+copy-after-requires : tie.Need-copy-after-requires
+copy-after-requires c κs = search needs
 
 same-length : tie.Need-same-length
 same-length c = search needs
@@ -32,8 +32,8 @@ put-root-spec =
     tie.close
     (tie.spec
     returns
-    mul-copy-behind
-    slice-aggregate-copy-behind
-    copy-behind-requires
+    mul-copy-after
+    slice-aggregate-copy-after
+    copy-after-requires
     same-length
     returns-2)

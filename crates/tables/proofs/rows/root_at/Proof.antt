@@ -5,7 +5,7 @@ use Prim.Native.Nat.{ℕ, zero, suc, _*_, _≤_}
 use native.Mathlib.Omega.{arith}
 use lib.ListN.{take, drop, replicate}
 use lib.Seq.{sets}
-use Rattle.lists.proofs.Runs.{sets-behind}
+use Rattle.lists.proofs.Runs.{sets-after}
 use lib.ListN.{drop-of-length-le}
 use borrow.Author.Needs.{needs}
 use Rattle.tables.proofs.rows.root_at.Statement.{statement}
@@ -21,7 +21,7 @@ copied : (n m : ℕ) (xs : List ℕ) → n ≤ m → sets (replicate n 0) 0 (tak
 copied zero m xs h = refl
 copied (suc n) m [] h = sym (take-zeros (suc n) m h)
 copied (suc n) m (x ∷ xs) h =
-    sets-behind (take n xs) (x ∷ []) (replicate n 0) 0 ∙ ap (λ (l : List ℕ). x ∷ l) (copied n m xs (omega arith))
+    sets-after (take n xs) (x ∷ []) (replicate n 0) 0 ∙ ap (λ (l : List ℕ). x ∷ l) (copied n m xs (omega arith))
 
 returns : tie.Need-returns
 returns c =

@@ -18,11 +18,11 @@ still c u text h = rw (drop-of-length-le (take u text) {i = endOf c} (omega (ari
 clipped : (c : Span) (u : ℕ) (text : List ℕ) → slid c (min u (length text)) text ≡ slid c u text
 clipped c u text = rw (take-clipped u text)
 
-least-requires : tie.Need-least-requires
-least-requires c κs = search needs
+min-usize-requires : tie.Need-min-usize-requires
+min-usize-requires c κs = search needs
 
-minus-requires : tie.Need-minus-requires
-minus-requires c κs = search needs
+saturating-sub-usize-requires : tie.Need-saturating-sub-usize-requires
+saturating-sub-usize-requires c κs = search needs
 
 returns : tie.Need-returns
 returns c =
@@ -38,8 +38,8 @@ same-length c = search needs
 returns-2 : tie.Need-returns-2
 returns-2 c =
     let a = c .before .before .before .before .before .before .before .before .before .args in
-    rw (c .before .before .before .before .before .before .before .least .ensures) at (c .before .before .slide .ensures) ∙ clipped (a .c) (a .used) (a .text .now)
+    rw (c .before .before .before .before .before .before .before .min-usize .ensures) at (c .before .before .slide .ensures) ∙ clipped (a .c) (a .used) (a .text .now)
 
 pub remove-text-spec : {M : Type 1} → statement M
 remove-text-spec =
-    tie.close (tie.spec least-requires minus-requires returns slide-requires same-length returns-2)
+    tie.close (tie.spec min-usize-requires saturating-sub-usize-requires returns slide-requires same-length returns-2)

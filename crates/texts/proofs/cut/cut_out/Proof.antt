@@ -17,8 +17,8 @@ remove-text-requires c κs = search needs
 low-span-requires : tie.Need-low-span-requires
 low-span-requires c κs = search needs
 
-minus-requires : tie.Need-minus-requires
-minus-requires c κs = search needs
+saturating-sub-usize-requires : tie.Need-saturating-sub-usize-requires
+saturating-sub-usize-requires c κs = search needs
 
 storage-with-requires : tie.Need-storage-with-requires
 storage-with-requires c κs = search needs
@@ -33,7 +33,7 @@ same-length-3 : tie.Need-same-length-3
 same-length-3 c = search needs
 
 returns : tie.Need-returns
-returns c = same-lent (c .storage-with .ensures ∙ rw (c .before .before .low-span .ensures, c .before .minus .ensures)) (c .before .before .before .before .before .before .before .before .before .before .before .before .before .lower-rows .ensures) (c .before .before .before .before .before .before .before .before .before .lower-dirs .ensures) (c .before .before .before .before .before .remove-text .ensures)
+returns c = same-lent (c .storage-with .ensures ∙ rw (c .before .before .low-span .ensures, c .before .saturating-sub-usize .ensures)) (c .before .before .before .before .before .before .before .before .before .before .before .before .before .lower-rows .ensures) (c .before .before .before .before .before .before .before .before .before .lower-dirs .ensures) (c .before .before .before .before .before .remove-text .ensures)
 
 pub cut-out-spec : {M : Type 1} → statement M
 cut-out-spec =
@@ -43,7 +43,7 @@ cut-out-spec =
     lower-dirs-requires
     remove-text-requires
     low-span-requires
-    minus-requires
+    saturating-sub-usize-requires
     storage-with-requires
     same-length
     same-length-2

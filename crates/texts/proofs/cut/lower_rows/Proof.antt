@@ -25,13 +25,13 @@ Inv-loop rows₀ n c m i₀ rows i = (m ≡ min n (length rows₀ / 8)) × Writi
 abbrev μ-loop : tie.MeasureT-loop
 μ-loop rows₀ n c m i₀ rows i = m - i
 
-least-requires : tie.Need-least-requires Inv-loop μ-loop
-least-requires c κs = search needs
+min-usize-requires : tie.Need-min-usize-requires Inv-loop μ-loop
+min-usize-requires c κs = search needs
 
 loop-holds : tie.Need-loop-holds Inv-loop μ-loop
 loop-holds c =
     let a = c .before .before .args in
-    (c .least .ensures, writing-start 8 (new (a .rows .now) (a .c)) (c .least .result) (a .rows .now))
+    (c .min-usize .ensures, writing-start 8 (new (a .rows .now) (a .c)) (c .min-usize .result) (a .rows .now))
 
 lower-row-requires : tie.Need-lower-row-requires Inv-loop μ-loop
 lower-row-requires c κs = search needs
@@ -49,7 +49,7 @@ loop-again c =
     let same = row-above (l .rows) (a .rows .now) (l .i) (l .inv .1 .2) (l .i) (omega arith) in
     let put = c .before .before .lower-row .ensures ∙ ap (λ (r : Row). putRow (l .rows) (l .i) (rowLowered (a .c) r)) same in
     let turn = c .before .before .before .before .loop-test .taken in
-    (l .inv .0, writing-turn 8 (new (a .rows .now) (a .c)) (c .before .before .before .before .before .before .least .result) (a .rows .now) (l .rows) (l .i) refl (l .inv .1) turn put)
+    (l .inv .0, writing-turn 8 (new (a .rows .now) (a .c)) (c .before .before .before .before .before .before .min-usize .result) (a .rows .now) (l .rows) (l .i) refl (l .inv .1) turn put)
 
 same-length : tie.Need-same-length Inv-loop μ-loop
 same-length c = c .before .loop .inv .1 .1
@@ -59,7 +59,7 @@ returns c =
     let a = c .before .before .before .before .args in
     let l = c .before .loop in
     let g = new (a .rows .now) (a .c) in
-    writing-end 8 g (c .before .before .least .result) (a .rows .now) (l .rows) (l .i) (l .inv .1) (c .loop-test .left)
+    writing-end 8 g (c .before .before .min-usize .result) (a .rows .now) (l .rows) (l .i) (l .inv .1) (c .loop-test .left)
     ∙ ap (λ (m : ℕ). sets (a .rows .now) 0 (filled g 0 m)) (l .inv .0)
 
 pub lower-rows-spec : {M : Type 1} → statement M
@@ -68,7 +68,7 @@ lower-rows-spec =
     (tie.spec
     Inv-loop
     μ-loop
-    least-requires
+    min-usize-requires
     loop-holds
     lower-row-requires
     add-i

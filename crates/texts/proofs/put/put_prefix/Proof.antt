@@ -7,7 +7,7 @@ use native.Mathlib.Omega.{arith}
 use lib.ListN.{length, length-append}
 use Rattle.path.specs.Join.{isAlone}
 use Rattle.tables.specs.Span.{textAt}
-use Rattle.texts.specs.Parts.{isParted}
+use Rattle.texts.specs.private.Parts.{isParted}
 use Rattle.texts.proofs.NewTexts.{prefix-parted, prefix-long}
 use Rattle.texts.proofs.Placed.{put-alone, put-parted, put-plain}
 use Rattle.texts.proofs.put.put_prefix.Statement.{statement}

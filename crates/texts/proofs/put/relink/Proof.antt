@@ -30,8 +30,8 @@ clipped-requires c κs = search needs
 cut-out-requires : tie.Need-cut-out-requires
 cut-out-requires c κs = search needs
 
-copy-behind-requires : tie.Need-copy-behind-requires
-copy-behind-requires c κs = search needs
+copy-after-requires : tie.Need-copy-after-requires
+copy-after-requires c κs = search needs
 
 put-link-requires : tie.Need-put-link-requires
 put-link-requires c κs =
@@ -52,7 +52,7 @@ returns : tie.Need-returns
 returns c =
     let s = given (c .before .before .before .before .before .before .before .before .before .before .before .before .before .before .before .before .before .before .before .before .before .before .before .before .before) in
     let t = left (c .before .before .before .before .before .before .before .before .before .before .before .before .before .before) in
-    let put = linked-is (t .fs) (t .rows) (t .dirs) (t .text) (c .before .before .before .before .before .before .before .before .before .before .before .before .before .before .before .before .before .before .before .before .before .before .before .before .before .args .i) (c .before .before .before .before .before .before .before .before .before .before .before .before .before .before .before .before .before .before .before .before .before .before .before .before .before .args .new .now) refl (c .before .before .put-link .ensures .0) (c .before .before .put-link .ensures .1) (c .before .before .before .before .before .before .copy-behind .ensures) in
+    let put = linked-is (t .fs) (t .rows) (t .dirs) (t .text) (c .before .before .before .before .before .before .before .before .before .before .before .before .before .before .before .before .before .before .before .before .before .before .before .before .before .args .i) (c .before .before .before .before .before .before .before .before .before .before .before .before .before .before .before .before .before .before .before .before .before .before .before .before .before .args .new .now) refl (c .before .before .put-link .ensures .0) (c .before .before .put-link .ensures .1) (c .before .before .before .before .before .before .copy-after .ensures) in
     relinked-is s (left (c .before .before .before .before .before .before .before .before .before .before .before .before .before .before)) (c .before .before .before .before .before .before .before .before .before .before .before .before .before .before .before .before .before .before .before .before .before .before .before .before .before .args .i) (c .before .before .before .before .before .before .before .before .before .before .before .before .before .before .before .before .before .before .before .before .before .before .before .before .before .args .new .now) (c .before .before .before .before .before .before .before .before .before .before .before .before .before .before .before .before .before .before .clipped .result) (gone-is (c .before .before .before .before .before .before .before .before .before .before .before .before .before .before .before .before .before .before)) (c .before .before .before .before .before .before .before .before .before .before .before .before .before .before .cut-out .ensures) _ put
 
 pub relink-spec : {M : Type 1} → statement M
@@ -62,7 +62,7 @@ relink-spec =
     row-at-requires
     clipped-requires
     cut-out-requires
-    copy-behind-requires
+    copy-after-requires
     put-link-requires
     same-length
     same-length-2

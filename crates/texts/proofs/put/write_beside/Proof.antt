@@ -37,11 +37,11 @@ gone-is c = c .clipped .ensures ∙ ap (λ (r : Row). clip (c .before .before .b
 fits-behind : (u l n : ℕ) → n ≤ l - u → l < 2 ^ 64 → u < 2 ^ 64 → u + n < 2 ^ 64
 fits-behind u l n h p q = omega arith
 
-room-is : (c : tie.After-minus2) → c .minus2 .result ≡ roomBeside (given (c .before .before .before .before .before .before .before .before .before)) (c .before .before .before .before .before .before .before .before .before .args .i) (length (c .before .before .before .before .before .before .before .before .before .args .stage .now)) (c .before .before .before .row-at .result) (c .before .before .before .row-at .ensures)
+room-is : (c : tie.After-saturating-sub-usize2) → c .saturating-sub-usize2 .result ≡ roomBeside (given (c .before .before .before .before .before .before .before .before .before)) (c .before .before .before .before .before .before .before .before .before .args .i) (length (c .before .before .before .before .before .before .before .before .before .args .stage .now)) (c .before .before .before .row-at .result) (c .before .before .before .row-at .ensures)
 room-is c =
     let a = c .before .before .before .before .before .before .before .before .before .args in
-    c .minus2 .ensures
-    ∙ ap (λ (x : ℕ). length (a .text .now) - x) (c .before .minus .ensures)
+    c .saturating-sub-usize2 .ensures
+    ∙ ap (λ (x : ℕ). length (a .text .now) - x) (c .before .saturating-sub-usize .ensures)
     ∙ ap (λ (x : Span). length (a .text .now) - (a .fs .«text_len» - x .len)) (gone-is (c .before .before))
 
 -- what the stage then holds
@@ -71,11 +71,11 @@ row-at-requires c κs = search needs
 clipped-requires : tie.Need-clipped-requires
 clipped-requires c κs = search needs
 
-minus-requires : tie.Need-minus-requires
-minus-requires c κs = search needs
+saturating-sub-usize-requires : tie.Need-saturating-sub-usize-requires
+saturating-sub-usize-requires c κs = search needs
 
-minus-requires-2 : tie.Need-minus-requires-2
-minus-requires-2 c κs = search needs
+saturating-sub-usize-requires-2 : tie.Need-saturating-sub-usize-requires-2
+saturating-sub-usize-requires-2 c κs = search needs
 
 stage-text-requires : tie.Need-stage-text-requires
 stage-text-requires c κs = search needs
@@ -133,10 +133,10 @@ part-requires c κs = search needs
 relink-requires : tie.Need-relink-requires
 relink-requires c κs =
     let a = c .before .before .before .before .before .before .before .before .before .before .before .before .before .before .before .before .before .before .before .before .before .before .before .before .args in
-    let used = c .before .before .before .before .before .before .before .before .before .before .before .before .before .before .before .before .minus .ensures ∙ ap (λ (x : Span). a .fs .«text_len» - x .len) (gone-is (c .before .before .before .before .before .before .before .before .before .before .before .before .before .before .before .before .before)) in
-    let n : length (now (c .part .result)) ≤ length (a .text .now) - c .before .before .before .before .before .before .before .before .before .before .before .before .before .before .before .before .minus .result = omega (arith, ap length (part-is c), said (c .before .before .before .before .before .before) .1, c .before .before .before .before .before .before .before .before .before .before .before .before .before .before .before .minus2 .ensures, c .before .before .before .before .before .if1 .left) in
-    let b : c .before .before .before .before .before .before .before .before .before .before .before .before .before .before .before .before .minus .result < 2 ^ 64 = omega (arith, c .before .before .before .before .before .before .before .before .before .before .before .before .before .before .before .before .minus .ok) in
-    rw (sym used) (fits-behind (c .before .before .before .before .before .before .before .before .before .before .before .before .before .before .before .before .minus .result) (length (a .text .now)) (length (now (c .part .result))) n (c .before .before .before .before .before .before .before .before .before .before .before .before .before .before .before .before .before .before .before .before .before .before .before .before .good .1 .1 .1 .0 .0) b)
+    let used = c .before .before .before .before .before .before .before .before .before .before .before .before .before .before .before .before .saturating-sub-usize .ensures ∙ ap (λ (x : Span). a .fs .«text_len» - x .len) (gone-is (c .before .before .before .before .before .before .before .before .before .before .before .before .before .before .before .before .before)) in
+    let n : length (now (c .part .result)) ≤ length (a .text .now) - c .before .before .before .before .before .before .before .before .before .before .before .before .before .before .before .before .saturating-sub-usize .result = omega (arith, ap length (part-is c), said (c .before .before .before .before .before .before) .1, c .before .before .before .before .before .before .before .before .before .before .before .before .before .before .before .saturating-sub-usize2 .ensures, c .before .before .before .before .before .if1 .left) in
+    let b : c .before .before .before .before .before .before .before .before .before .before .before .before .before .before .before .before .saturating-sub-usize .result < 2 ^ 64 = omega (arith, c .before .before .before .before .before .before .before .before .before .before .before .before .before .before .before .before .saturating-sub-usize .ok) in
+    rw (sym used) (fits-behind (c .before .before .before .before .before .before .before .before .before .before .before .before .before .before .before .before .saturating-sub-usize .result) (length (a .text .now)) (length (now (c .part .result))) n (c .before .before .before .before .before .before .before .before .before .before .before .before .before .before .before .before .before .before .before .before .before .before .before .before .good .1 .1 .1 .0 .0) b)
 
 same-length-9 : tie.Need-same-length-9
 same-length-9 c = search needs
@@ -164,8 +164,8 @@ write-beside-spec =
     (tie.spec
     row-at-requires
     clipped-requires
-    minus-requires
-    minus-requires-2
+    saturating-sub-usize-requires
+    saturating-sub-usize-requires-2
     stage-text-requires
     enum-known-n
     enum-told

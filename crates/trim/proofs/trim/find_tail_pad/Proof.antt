@@ -6,7 +6,7 @@ use borrow.Author.Needs.{needs}
 use Prim.Native.Nat.{ℕ, _-_, _<_, _≤_}
 use Rattle.tables.specs.Rows.{rowAt, has}
 use Rattle.tables.specs.Model.{presentIf}
-use Rattle.trim.specs.Search.{tailPadIn}
+use Rattle.trim.specs.private.Search.{tailPadIn}
 use Rattle.trim.proofs.Trims.{search-none, search-turn, search-stop}
 use Rattle.trim.proofs.trim.find_tail_pad.Statement.{statement}
 use Rattle.trim.proofs.trim.find_tail_pad.Tie as tie

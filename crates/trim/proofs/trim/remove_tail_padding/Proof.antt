@@ -7,7 +7,7 @@ use borrow.Author.Tests.{not-true, not-false}
 use Rattle.tables.specs.Model.{Store}
 use Rattle.rules.specs.Bounds.{badLength}
 use Rattle.change.specs.Rooms.{holds}
-use Rattle.trim.specs.Search.{foundSays}
+use Rattle.trim.specs.private.Search.{foundSays}
 use Rattle.trim.proofs.Trims.{found-below, few-files, trim-refused, trim-roomless, trim-none, trim-done}
 use Rattle.trim.proofs.trim.remove_tail_padding.Statement.{statement}
 use Rattle.trim.proofs.trim.remove_tail_padding.Tie as tie

@@ -7,8 +7,8 @@ use Rattle.trim.proofs.trim.remove_texts.Tie as tie
 remove-text-requires : tie.Need-remove-text-requires
 remove-text-requires c κs = search needs
 
-minus-requires : tie.Need-minus-requires
-minus-requires c κs = search needs
+saturating-sub-usize-requires : tie.Need-saturating-sub-usize-requires
+saturating-sub-usize-requires c κs = search needs
 
 remove-text-requires-2 : tie.Need-remove-text-requires-2
 remove-text-requires-2 c κs = search needs
@@ -17,9 +17,9 @@ same-length : tie.Need-same-length
 same-length c = search needs
 
 returns : tie.Need-returns
-returns c = c .before .before .remove-text2 .ensures ∙ rw (c .before .before .before .minus .ensures, c .before .before .before .before .before .before .before .remove-text .ensures)
+returns c = c .before .before .remove-text2 .ensures ∙ rw (c .before .before .before .saturating-sub-usize .ensures, c .before .before .before .before .before .before .before .remove-text .ensures)
 
 pub remove-texts-spec : {M : Type 1} → statement M
 remove-texts-spec =
     tie.close
-    (tie.spec remove-text-requires minus-requires remove-text-requires-2 same-length returns)
+    (tie.spec remove-text-requires saturating-sub-usize-requires remove-text-requires-2 same-length returns)

@@ -1,12 +1,12 @@
--- `lists::access::copy_behind` meets its contract: the rest of the target is lent, and comes back with the copy at its start.
+-- `lists::access::copy_after` meets its contract: the rest of the target is lent, and comes back with the copy at its start.
 use native.Mathlib.Omega.{arith}
 use mathlib.Core.Path.{refl, sym}
 use Prim.Native.Nat.{_-_}
 use lib.ListN.{length}
 use Rattle.lists.proofs.Runs.{sets-lent, sets-past}
 use borrow.Author.Needs.{needs}
-use Rattle.lists.proofs.access.copy_behind.Statement.{statement}
-use Rattle.lists.proofs.access.copy_behind.Tie as tie
+use Rattle.lists.proofs.access.copy_after.Statement.{statement}
+use Rattle.lists.proofs.access.copy_after.Tie as tie
 
 sub-copy-in : tie.Need-sub-copy-in
 sub-copy-in c = search needs
@@ -32,8 +32,8 @@ returns c =
 returns-2 : tie.Need-returns-2
 returns-2 c = let a = c .before .before .before .args in sym (sets-past (a .source .now) (a .target .now) (a .used) (c .if1 .left))
 
-pub copy-behind-spec : {M : Type 1} → statement M
-copy-behind-spec =
+pub copy-after-spec : {M : Type 1} → statement M
+copy-after-spec =
     tie.close
     (tie.spec
     sub-copy-in
