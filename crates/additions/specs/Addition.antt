@@ -12,12 +12,15 @@ use Rattle.path.specs.Split.{isSeparator, rsplitBranch, rsplitLeaf, isComplete,
 use Rattle.path.specs.Join.{isEmpty}
 use Rattle.tables.specs.declared.rows.Presence.{Presence}
 use Rattle.tables.specs.declared.rows.Presence.the-variants.{Absent, Present}
-use Rattle.tables.specs.Model.{Optional, absent, present, Directory, single, absolute, stored, presentIf, File, Model}
+use Rattle.tables.specs.Rows.{padBit, symlinkBit}
+use Rattle.tables.specs.Model.{Optional, absent, present, Directory, single, absolute, stored, presentIf}
+use Rattle.tables.specs.Model.{File, isPad, Model}
 use Rattle.types.specs.Refusals.{Outcome}
 use Rattle.rules.specs.Rules.{Rule, when, firstOf, outcomeOf}
-use Rattle.rules.specs.Bounds.{limit, isNegative, clampedOf, badLength}
+use Rattle.rules.specs.Bounds.{limit, maxLinks, nameLimit, isNegative, clampedOf, badLength}
 use Rattle.change.specs.declared.rooms.Rooms.{Rooms}
 use Rattle.change.specs.Rooms.{filesRoom, dirsRoom}
+use Rattle.additions.specs.declared.info.FileInfo.{FileInfo}
 
 -- what an addition is given
 pub record Addition : Type 0 where
@@ -34,17 +37,17 @@ abbrev pub optionalOf : Presence → List ℕ → Optional (List ℕ)
 optionalOf Absent xs = absent
 optionalOf Present xs = present xs
 
--- what a call brings
-abbrev pub additionOf : Presence → List ℕ → List ℕ → ℤ → ℕ → ℤ → List ℕ → Presence → List ℕ → Addition
-additionOf given filename path size flags time link rooted root =
+-- the addition of a file, with its given name, its path and its link text
+abbrev pub additionOf : FileInfo → List ℕ → List ℕ → List ℕ → Addition
+additionOf file filename path link =
     record {
-      given = optionalOf given filename;
+      given = optionalOf (file .given) filename;
       path = path;
-      size = size;
-      flags = flags;
-      time = time;
+      size = file .size;
+      flags = file .flags;
+      time = file .mtime;
       link = link;
-      root = optionalOf rooted root;
+      root = optionalOf (file .rooted) (file .root);
     }
 
 abbrev pub isZero : ℤ → Bool
@@ -63,7 +66,7 @@ setNameOf path = cond (hasParent path) (lsplitFirst path) path
 abbrev pub nameAfter : ℕ → List ℕ → List ℕ → List ℕ
 nameAfter files name path = cond (eqb files 0) (setNameOf path) name
 
--- without the separators at its start
+-- a path without the separators at its start
 abbrev pub withoutLeading : List ℕ → List ℕ
 withoutLeading [] = []
 withoutLeading (c ∷ t) = cond (isSeparator c) (withoutLeading t) (c ∷ t)
@@ -76,7 +79,8 @@ directoryUnder name branch =
 -- where a path's file lies: an absolute path and a single name have no directory; else it is the path's branch
 abbrev pub directoryFor : List ℕ → List ℕ → Directory
 directoryFor name path =
-    cond (isComplete path) absolute (cond (isEmpty (rsplitBranch path)) single (directoryUnder name (rsplitBranch path)))
+    cond (isComplete path) absolute
+    (cond (isEmpty (rsplitBranch path)) single (directoryUnder name (rsplitBranch path)))
 
 -- the name that a path gives: its last part; an absolute path is its own name
 abbrev pub pathName : List ℕ → List ℕ
@@ -105,8 +109,8 @@ decides size link = ltb 0 size && isEmpty link
 abbrev pub isOpen : ℕ → ℕ → ℕ → Bool
 isOpen total links files = eqb total 0 || eqb links files
 
--- whether the set is v2 after a file with a root or none: one that decides ('plain') 'fixes v2 or v1 (root or none)' in a
--- set that is open ('free')
+-- whether the set is v2 after a file with a root or none: one that decides ('plain') 'fixes v2 or v1 (root or none)' in
+-- a set that is open ('free')
 abbrev pub versionBy : Bool → Bool → Bool → Bool → Bool
 versionBy v2 plain free root = cond (plain && free) root v2
 
@@ -132,11 +136,11 @@ padAfter v2 pieceLength total = cond v2 (padTo pieceLength total) 0
 
 -- 'Link text makes a link until 32766 are held'
 abbrev pub keepsLink : ℕ → List ℕ → Bool
-keepsLink links link = not (isEmpty link) && ltb links 32766
+keepsLink links link = not (isEmpty link) && ltb links maxLinks
 
 -- 'the symlink flag is dropped where none is held'
 abbrev pub flagsKept : ℕ → Bool → ℕ
-flagsKept flags keeps = flags % 8 + cond keeps (flags / 8 % 2 * 8) 0
+flagsKept flags keeps = flags % symlinkBit + cond keeps (flags / symlinkBit % 2 * symlinkBit) 0
 
 -- `.pad`
 abbrev pub padDirectory : List ℕ
@@ -149,12 +153,13 @@ isAmong d ds = any (equal d) ds
 abbrev pub withDirectory : List ℕ → List (List ℕ) → List (List ℕ)
 withDirectory d ds = cond (isAmong d ds) ds (ds ++ (d ∷ []))
 
+-- the same of a file's directory, which may be none
 abbrev pub withDirectoryOf : Directory → List (List ℕ) → List (List ℕ)
 withDirectoryOf single ds = ds
 withDirectoryOf absolute ds = ds
 withDirectoryOf (stored d outside) ds = withDirectory d ds
 
--- the times after one is given to file i: 0 gives none, and takes what its place holds
+-- the times after file i is given one: a time of 0 changes none, and the file has what is held for it
 abbrev pub withTime : ℕ → ℤ → List ℤ → List ℤ
 withTime i t times = cond (isZero t) times (set (times ++ replicate (i + 1 - length times) (pos 0)) i t)
 
@@ -203,7 +208,7 @@ padAdded offset size =
       size = size;
       name = decimal size;
       directory = stored padDirectory false;
-      flags = 1;
+      flags = padBit;
       link = absent;
       root = absent;
       made = true;
@@ -214,8 +219,8 @@ directoriesAfter m a =
     cond (eqb (padOf m a) 0) (withDirectoryOf (directoryAdded m a) (m .directories))
     (withDirectory padDirectory (withDirectoryOf (directoryAdded m a) (m .directories)))
 
--- the set after an addition: the file follows those held, its offset 'the sum of the sizes before it', and its pad follows
--- it where there is one
+-- the set after an addition: the file follows those held, its offset 'the sum of the sizes before it', and its pad
+-- follows it where there is one
 abbrev pub added : Model → Addition → Model
 added m a =
     record {
@@ -227,7 +232,7 @@ added m a =
       times = withTime (filesOf m) (a .time) (m .times);
       links = m .links + cond (keeps m a) 1 0;
       total = m .total + sizeAdded a + padOf m a;
-      onDisk = m .onDisk + cond (eqb (a .flags % 2) 1) 0 (sizeAdded a);
+      onDisk = m .onDisk + cond (isPad (a .flags)) 0 (sizeAdded a);
       trimmed = m .trimmed;
     }
 
@@ -256,7 +261,8 @@ lacks rooms m text =
 abbrev pub disagree : Model → Addition → Bool
 disagree m a = disagrees (m .v2) (m .total) (m .links) (filesOf m) (sizeAdded a) (a .link) (isPresent (a .root))
 
--- the table's rows for adding, in its order, in four groups: sizes, names, v1 or v2, and the pad. Refusals 1, 2, 3, 4:
+-- the table's rows for adding, in its order, in four groups: sizes, names, v1 or v2, and the pad; then room. Refusals
+-- 1, 2, 3, 4:
 abbrev pub sizeRules : ℕ → ℕ → Bool → ℕ → List Rule
 sizeRules pieceLength total negative size =
     when (badLength pieceLength) 1 ∷
@@ -268,7 +274,7 @@ sizeRules pieceLength total negative size =
 -- refusals 5, 6, 7
 abbrev pub nameRules : ℕ → ℕ → Bool → Bool → List Rule
 nameRules files limited bad parent =
-    when (leb 4096 limited) 5 ∷
+    when (leb nameLimit limited) 5 ∷
     when bad 6 ∷
     when (not parent && ltb 0 files) 7 ∷
     []
@@ -284,14 +290,52 @@ versionRules v2 plain free root =
 abbrev pub padRules : ℕ → ℕ → List Rule
 padRules total pad = when (ltb limit (total + pad)) 4 ∷ []
 
+-- what these rules look at: numbers of the set and of the file; the length of the name that refusal 5 looks at; whether
+-- the name is bad and the path has a parent; whether the file decides ('plain') and the set is open ('free'); the pad
+pub record Tested : Type 0 where
+  pub pieceLength : ℕ
+  pub total : ℕ
+  pub files : ℕ
+  pub v2 : Bool
+  pub negative : Bool
+  pub size : ℕ
+  pub limited : ℕ
+  pub bad : Bool
+  pub parent : Bool
+  pub plain : Bool
+  pub free : Bool
+  pub root : Bool
+  pub pad : ℕ
+
+-- the four groups in their order
+abbrev pub rulesOn : Tested → List Rule
+rulesOn t =
+    sizeRules (t .pieceLength) (t .total) (t .negative) (t .size)
+    ++ (nameRules (t .files) (t .limited) (t .bad) (t .parent)
+    ++ (versionRules (t .v2) (t .plain) (t .free) (t .root)
+    ++ padRules (t .total + t .size) (t .pad)))
+
+abbrev pub testedOf : Model → Addition → Tested
+testedOf m a =
+    record {
+      pieceLength = m .pieceLength;
+      total = m .total;
+      files = filesOf m;
+      v2 = m .v2;
+      negative = isNegative (a .size);
+      size = sizeAdded a;
+      limited = length (limitedName (a .given) (a .path));
+      bad = badName (a .given) (a .path);
+      parent = hasParent (a .path);
+      plain = decides (sizeAdded a) (a .link);
+      free = isOpen (m .total) (m .links) (filesOf m);
+      root = isPresent (a .root);
+      pad = padOf m a;
+    }
+
 -- all of them; whether room is lacking is decided beside them
 abbrev pub addingRules : Model → Addition → Bool → List Rule
-addingRules m a noRoom =
-    sizeRules (m .pieceLength) (m .total) (isNegative (a .size)) (sizeAdded a)
-    ++ (nameRules (filesOf m) (length (limitedName (a .given) (a .path))) (badName (a .given) (a .path)) (hasParent (a .path))
-    ++ (versionRules (m .v2) (decides (sizeAdded a) (a .link)) (isOpen (m .total) (m .links) (filesOf m)) (isPresent (a .root))
-    ++ (padRules (m .total + sizeAdded a) (padOf m a)
-    ++ (when noRoom 10 ∷ []))))
+addingRules m a noRoom = rulesOn (testedOf m a) ++ (when noRoom 10 ∷ [])
 
 -- an addition to a set whose tables have these rooms: the set after it, or the refusal
 abbrev pub addedTo : Rooms → Model → Addition → Outcome Model

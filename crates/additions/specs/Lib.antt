@@ -1,4 +1,4 @@
--- The definitions that the contracts of `additions` cite: what an addition means, the parts of its path, and its tests.
+-- The definitions that the contracts of `additions` cite: what an addition means, and the parts of its path.
 pub mod Addition
 pub mod Parts
-pub mod Checks
+pub mod private

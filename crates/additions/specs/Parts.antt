@@ -1,47 +1,19 @@
--- The parts of a path as spans in it, and the texts that an addition keeps. What the spans read is what Addition.antt says of
--- the path: proofs/Texts.antt shows it.
+-- The parts of a path as spans in it. What the spans read is what Addition.antt says of the path: proofs/Texts.antt
+-- shows it.
 use Prim.Native.Nat.{ℕ, _-_}
-use mathlib.Core.Bool.{Bool, true, false, cond, not, _&&_}
-use mathlib.Core.List.{List, []}
+use mathlib.Core.Bool.{Bool, cond}
+use mathlib.Core.List.{List}
 use lib.Dec.{eqb}
 use lib.ListN.{length}
 use Rattle.lists.specs.Lists.{equal}
-use Rattle.path.specs.Split.{isSeparator, trimmed, hasParent, rsplitBranch, rsplitLeaf, isComplete, lsplitFirst, lsplitRest}
+use Rattle.path.specs.Split.{isSeparator, trimmed, hasParent, isComplete}
+use Rattle.path.specs.Split.{rsplitBranch, rsplitLeaf, lsplitFirst, lsplitRest}
 use Rattle.path.specs.Join.{isEmpty}
 use Rattle.tables.specs.declared.span.Span.{Span}
-use Rattle.tables.specs.declared.rows.Presence.{Presence}
-use Rattle.tables.specs.declared.rows.Presence.the-variants.{Absent, Present}
-use Rattle.tables.specs.Model.{Directory, single, absolute, stored}
 use Rattle.additions.specs.declared.parts.PathKind.{PathKind}
 use Rattle.additions.specs.declared.parts.PathKind.the-variants.{Single, Absolute, Inside, Outside}
 use Rattle.additions.specs.declared.parts.PathParts.{PathParts}
-use Rattle.additions.specs.declared.info.FileInfo.{FileInfo}
-use Rattle.additions.specs.Addition.{Addition, additionOf, setNameOf, nameAfter, withoutLeading, keepsLink}
-
-abbrev pub isHere : Presence → Bool
-isHere Absent = false
-isHere Present = true
-
--- the addition of a file
-abbrev pub additionOf : FileInfo → List ℕ → List ℕ → List ℕ → Addition
-additionOf f filename path link =
-    additionOf (f .given) filename path (f .size) (f .flags) (f .mtime) link (f .rooted) (f .root)
-
--- ---- texts
-
--- the given name where it has bytes, else the path's own
-abbrev pub nameFrom : Presence → List ℕ → List ℕ → List ℕ
-nameFrom given filename own = cond (isHere given && not (isEmpty filename)) filename own
-
--- the link text that is kept where `links` are held
-abbrev pub linkTextOf : ℕ → List ℕ → List ℕ
-linkTextOf links link = cond (keepsLink links link) link []
-
--- the name that a path gives a set that has `files` files
-abbrev pub setTextOf : ℕ → List ℕ → List ℕ
-setTextOf files path = cond (eqb files 0) (setNameOf path) []
-
--- ---- kinds
+use Rattle.additions.specs.Addition.{nameAfter, withoutLeading}
 
 -- where a path lies under a set's name
 abbrev pub kindFor : List ℕ → List ℕ → PathKind
@@ -49,34 +21,6 @@ kindFor name path =
     cond (isComplete path) Absolute
     (cond (isEmpty (rsplitBranch path)) Single
     (cond (equal (lsplitFirst (rsplitBranch path)) name) Inside Outside))
-
--- the directory's text, as a part of the path's branch
-abbrev pub textUnder : PathKind → List ℕ → List ℕ
-textUnder Single branch = []
-textUnder Absolute branch = []
-textUnder Inside branch = withoutLeading (lsplitRest branch)
-textUnder Outside branch = branch
-
--- the model's directory
-abbrev pub directoryAt : PathKind → List ℕ → Directory
-directoryAt Single d = single
-directoryAt Absolute d = absolute
-directoryAt Inside d = stored d false
-directoryAt Outside d = stored d true
-
-abbrev pub outsideKind : PathKind → Bool
-outsideKind Single = false
-outsideKind Absolute = false
-outsideKind Inside = false
-outsideKind Outside = true
-
-abbrev pub absoluteKind : PathKind → Bool
-absoluteKind Single = false
-absoluteKind Absolute = true
-absoluteKind Inside = false
-absoluteKind Outside = false
-
--- ---- spans
 
 abbrev pub noSpan : Span
 noSpan = record { at = 0; len = 0 }
@@ -106,10 +50,13 @@ abbrev pub directorySpan : PathKind → List ℕ → Span
 directorySpan Single branch = noSpan
 directorySpan Absolute branch = noSpan
 directorySpan Inside branch =
-    record { at = length branch - length (withoutLeading (lsplitRest branch)); len = length (withoutLeading (lsplitRest branch)) }
+    record {
+      at = length branch - length (withoutLeading (lsplitRest branch));
+      len = length (withoutLeading (lsplitRest branch));
+    }
 directorySpan Outside branch = wholeSpan branch
 
--- the parts of the path of a file that is added to a set of that many files and that name
+-- the parts of the path of a file that is added to a set of `files` files and that name
 abbrev pub partsOf : ℕ → List ℕ → List ℕ → PathParts
 partsOf files name path =
     record {

@@ -4,9 +4,11 @@ ghost use mathlib.Core.Path.{_≡_};
 ghost use Prim.Native.Nat.{_≤_};
 ghost use Rattle.rules.specs.Rules.{firstOf, outcomeOf};
 ghost use Rattle.rules.specs.Results.{checkNumber};
-ghost use Rattle.additions.specs.Addition.{optionalOf, decides, isOpen, versionBy, padAfter, sizeRules, versionRules};
+ghost use Rattle.additions.specs.Addition.{optionalOf, decides, isOpen};
+ghost use Rattle.additions.specs.Addition.{versionBy, padAfter, sizeRules, versionRules};
 ghost use Rattle.additions.specs.private.Texts.{isHere};
-ghost use Rattle.additions.specs.private.Checks.{limitedLength, badBeside, sizesSays, namesOf, sizesFor, numberRules};
+ghost use Rattle.additions.specs.private.Checks.{limitedLength, badBeside, sizesSays};
+ghost use Rattle.additions.specs.private.Checks.{namesOf, sizesFor, numberRules};
 use crate::info::FileInfo;
 use crate::info::is_given;
 use crate::info::is_here;
@@ -21,6 +23,9 @@ use types::is_negative64;
 
 // The largest size, offset and total.
 const LIMIT: u64 = 281474976710655;
+
+// A name has fewer bytes.
+const NAME_LIMIT: usize = 4096;
 
 // The size of an addition, whether the set is v2 after it, and the size of the pad after it, 0 for none.
 pub struct Sizes {
@@ -81,7 +86,7 @@ fn is_bad_name(given: Presence, filename: &[u8], absolute: bool) -> bool
 fn check_names(files: usize, given: Presence, filename: &[u8], parts: PathParts) -> Check
     ensures { λ r. ⌜ checkNumber r ≡ firstOf (namesOf files (optionalOf given (now (filename .entry))) parts) ⌝ }
 {
-    if 4096 <= limited_length(given, filename, parts.leaf.len) {
+    if NAME_LIMIT <= limited_length(given, filename, parts.leaf.len) {
         return Check::Stop(Refusal::FilenameTooLong);
     }
     let kind = parts.kind;
@@ -118,7 +123,7 @@ fn is_open(total: u64, links: usize, files: usize) -> bool
 }
 
 // Refusals 8, 9.
-fn check_kind(v2: bool, plain: bool, free: bool, root: bool) -> Check
+fn check_version(v2: bool, plain: bool, free: bool, root: bool) -> Check
     ensures { λ r. ⌜ checkNumber r ≡ firstOf (versionRules v2 plain free root) ⌝ }
 {
     if !plain {
@@ -140,7 +145,7 @@ fn check_kind(v2: bool, plain: bool, free: bool, root: bool) -> Check
 }
 
 // Whether the set is v2 after an addition.
-fn kind_after(v2: bool, plain: bool, free: bool, root: bool) -> bool
+fn version_by(v2: bool, plain: bool, free: bool, root: bool) -> bool
     ensures { λ r. ⌜ r ≡ versionBy v2 plain free root ⌝ }
 {
     if plain {
@@ -170,38 +175,41 @@ fn pad_after(v2: bool, piece_length: u64, total: u64) -> u64
 // The sizes of an addition, or the first refusal but that of room.
 pub fn decide_sizes(
     fs: FileStorage,
-    info: FileInfo,
+    file: FileInfo,
     filename: &[u8],
     parts: PathParts,
     link: &[u8],
 ) -> SizesResult
     ensures { λ r. ⌜
         sizesSays r
-        ≡ outcomeOf (firstOf (numberRules fs (optionalOf (info .given) (now (filename .entry))) parts (info .size) (now (link .entry)) (isHere (info .rooted))))
-        (sizesFor fs (info .size) (now (link .entry)) (isHere (info .rooted)))
+        ≡ outcomeOf
+        (firstOf
+        (numberRules fs (optionalOf (file .given) (now (filename .entry))) parts (file .size) (now (link .entry))
+        (isHere (file .rooted))))
+        (sizesFor fs (file .size) (now (link .entry)) (isHere (file .rooted)))
         ⌝ }
 {
-    let size = clamped64(info.size);
+    let size = clamped64(file.size);
     if let Check::Stop(e) = check_size(
         fs.piece_length,
         fs.total_size,
-        is_negative64(info.size),
+        is_negative64(file.size),
         size,
     ) {
         return SizesResult::Err(e);
     }
-    let given = info.given;
+    let given = file.given;
     if let Check::Stop(e) = check_names(fs.num_files, given, filename, parts) {
         return SizesResult::Err(e);
     }
     let plain = is_plain(size, link);
     let free = is_open(fs.total_size, fs.num_symlinks, fs.num_files);
-    let rooted = info.rooted;
+    let rooted = file.rooted;
     let root = is_here(rooted);
-    if let Check::Stop(e) = check_kind(fs.v2, plain, free, root) {
+    if let Check::Stop(e) = check_version(fs.v2, plain, free, root) {
         return SizesResult::Err(e);
     }
-    let v2 = kind_after(fs.v2, plain, free, root);
+    let v2 = version_by(fs.v2, plain, free, root);
     let total = fs.total_size + size;
     let pad = pad_after(v2, fs.piece_length, total);
     if LIMIT - total < pad {

@@ -9,6 +9,9 @@ use tables::Presence;
 use tables::Sha256Hash;
 use types::Unsigned;
 
+// The most link texts that a set holds.
+const MAX_LINKS: usize = 32766;
+
 // A file to add, besides its texts: whether a name is given, its size, flags and modified time, and its root, if it is
 // there.
 pub struct FileInfo {
@@ -60,14 +63,14 @@ pub fn name_length(given: Presence, filename: &[u8], own: &[u8]) -> usize
     own.len()
 }
 
-// Whether an addition keeps its link text: it has one, and fewer than 32766 are held.
+// Whether an addition keeps its link text: it has one, and a set of `links` link texts may hold one more.
 pub fn keeps_link(links: usize, link: &[u8]) -> bool
     ensures { λ r. ⌜ r ≡ keepsLink links (now (link .entry)) ⌝ }
 {
     if link.len() == 0 {
         return false;
     }
-    links < 32766
+    links < MAX_LINKS
 }
 
 // The link text where it is kept, no bytes where not.

@@ -1,5 +1,5 @@
-// What an addition decides before it looks for room: the parts of its path, its size and pad, and the refusals but that of
-// room, from file_storage.rs. Relies on the splits of `path` and the rules of `rules`; what an addition means is in
+// What an addition decides before it looks for room: the parts of its path, its size and pad, and the refusals but that
+// of room, from file_storage.rs. Relies on the splits of `path` and the rules of `rules`; what an addition means is in
 // specs/Addition.antt.
 mod checks;
 mod info;

@@ -7,7 +7,8 @@ ghost use Rattle.lists.specs.Lists.{equal};
 ghost use Rattle.path.specs.Split.{rsplitBranch, rsplitLeaf, lsplitFirst, lsplitRest, isComplete, hasParent};
 ghost use Rattle.tables.specs.Span.{textAt};
 ghost use Rattle.additions.specs.Addition.{withoutLeading};
-ghost use Rattle.additions.specs.Parts.{wholeSpan, leafSpan, firstSpan, setNameSpan, kindFor, directorySpan, partsOf};
+ghost use Rattle.additions.specs.Parts.{wholeSpan, leafSpan, firstSpan};
+ghost use Rattle.additions.specs.Parts.{setNameSpan, kindFor, directorySpan, partsOf};
 ghost use Rattle.additions.specs.private.Texts.{outsideKind, absoluteKind};
 use tables::FileStorage;
 use tables::Span;
@@ -70,8 +71,8 @@ fn branch_before(path: &[u8], leaf: Span) -> &[u8]
     lists::part(path, 0, lists::saturating_sub_usize(leaf.at, 1))
 }
 
-// Whether a path has a part above its leaf, whose length is known. A path longer than its leaf and one separator has one,
-// without a scan.
+// Whether a path has a part above its leaf, whose length is known. A path longer than its leaf and one separator has
+// one, without a scan.
 fn is_below(path: &[u8], leaf: usize) -> bool
     requires { ⌜ leaf ≡ length (rsplitLeaf (now path)) ⌝ }
     ensures { λ r. ⌜ r ≡ hasParent (now (path .entry)) ⌝ }

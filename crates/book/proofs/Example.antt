@@ -42,7 +42,7 @@ storage files links used total trimmed =
       trimmed = trimmed;
     }
 
--- the file's root; the places of other roots are newStorage
+-- the file's root; the places of other roots are empty
 abbrev root : List ℕ
 root = replicate 32 1
 

@@ -1,4 +1,4 @@
--- The relation of calls is not newStorage: on every store each call that it knows has exactly one outcome and store after it,
+-- The relation of calls is not empty: on every store each call that it knows has exactly one outcome and store after it,
 -- from every newly opened set, whatever its tables hold, every list of calls has a run, a refused call can be made again on
 -- longer tables, and after every list of calls an addition is refused as document 01's table says. Relies on the
 -- definitions, on Agree.antt and on Lent.antt, and on `model` for what an addition and a cleaning answer.

@@ -86,12 +86,7 @@ module _ (κs : Lifetimes.Lfts 8) (a : World.ArgsD add_file.signature κs) (r : 
       (a .1 .1 .1 .1 .1 .1 .0)
       (now (a .1 .1 .1 .1 .1 .1 .1 .0))
       (now (a .1 .1 .1 .1 .1 .1 .1 .1 .0))
-      (a .1 .1 .1 .1 .1 .1 .1 .1 .1 .0)
-      (a .1 .1 .1 .1 .1 .1 .1 .1 .1 .1 .0)
-      (a .1 .1 .1 .1 .1 .1 .1 .1 .1 .1 .1 .0)
-      (now (a .1 .1 .1 .1 .1 .1 .1 .1 .1 .1 .1 .1 .0))
-      (a .1 .1 .1 .1 .1 .1 .1 .1 .1 .1 .1 .1 .1 .0)
-      (a .1 .1 .1 .1 .1 .1 .1 .1 .1 .1 .1 .1 .1 .1 .0)
+      (now (a .1 .1 .1 .1 .1 .1 .1 .1 .1 .0))
 
   -- the answer, and the tables as they were left
   abbrev pub addedBy : Changed

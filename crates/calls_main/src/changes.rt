@@ -18,6 +18,7 @@ use crate::sets::Made;
 use crate::sets::Set;
 use crate::strings;
 use crate::words;
+use additions::FileInfo;
 use change::StorageResult;
 use tables::FileStorage;
 
@@ -97,6 +98,14 @@ fn add_read(
     let given = words.given;
     let rooted = words.rooted;
     let root = words.root;
+    let file = FileInfo {
+        given,
+        size: words.size,
+        flags: words.flags,
+        mtime: words.time,
+        rooted,
+        root,
+    };
     storage::add_file(
         fs,
         places::words_of(rows, parts.rows),
@@ -104,15 +113,10 @@ fn add_read(
         places::times_of(times, parts.times),
         places::words_of(dirs, parts.dirs),
         places::bytes_of(text, parts.text),
-        given,
+        file,
         strings::between(texts, 0, words.name),
         strings::between(texts, words.name, words.path),
-        words.size,
-        words.flags,
-        words.time,
         strings::between(texts, words.path, words.link),
-        rooted,
-        root,
     )
 }
 

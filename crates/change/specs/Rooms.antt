@@ -4,23 +4,30 @@ use mathlib.Core.Bool.{Bool, _&&_}
 use lib.Dec.{leb}
 use lib.ListN.{length}
 use Rattle.tables.specs.declared.storage.FileStorage.{FileStorage}
+use Rattle.tables.specs.Rows.{rowWidth, rootWidth, dirWidth}
 use Rattle.tables.specs.Model.{Store}
+use Rattle.rules.specs.Bounds.{maxEntries}
 use Rattle.change.specs.declared.rooms.Rooms.{Rooms}
 
--- a file row has 8 words, a root 32 bytes, a directory row 2 words
+-- the rooms of tables that have these lengths
 abbrev pub roomsIn : ℕ → ℕ → ℕ → ℕ → ℕ → Rooms
 roomsIn rows roots times dirs text =
-    record { files = min (rows / 8) (roots / 32); directories = dirs / 2; times = times; text = text }
+    record {
+      files = min (rows / rowWidth) (roots / rootWidth);
+      directories = dirs / dirWidth;
+      times = times;
+      text = text;
+    }
 
 abbrev pub roomsOf : Store → Rooms
 roomsOf s = roomsIn (length (s .rows)) (length (s .roots)) (length (s .times)) (length (s .dirs)) (length (s .text))
 
 -- refusal 10: 'over 65535 files or directories'
 abbrev pub filesRoom : Rooms → ℕ
-filesRoom rooms = min 65535 (rooms .files)
+filesRoom rooms = min maxEntries (rooms .files)
 
 abbrev pub dirsRoom : Rooms → ℕ
-dirsRoom rooms = min 65535 (rooms .directories)
+dirsRoom rooms = min maxEntries (rooms .directories)
 
 -- the tables hold what the set's record counts
 abbrev pub holdsIn : FileStorage → Rooms → Bool

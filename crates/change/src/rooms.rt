@@ -1,10 +1,17 @@
-// How much the lent tables hold, and whether that is what a set counts. Relies on specs/Rooms.antt and proofs/Held.antt.
+// How much the lent tables hold, and whether that is what a set counts. Relies on `tables` and on the laws of
+// proofs/Held.antt.
 ghost use mathlib.Core.Path.{_≡_};
 ghost use Rattle.change.specs.Rooms.{roomsIn, filesRoom, dirsRoom, holdsIn};
 use lists::min_usize;
+use tables::DIR_WIDTH;
 use tables::FileStorage;
+use tables::ROOT_WIDTH;
+use tables::ROW_WIDTH;
 
-// How many files, directories, times and bytes of text the lent tables have places for.
+// The most files, and the most directories, of a set.
+const MAX_ENTRIES: usize = 65535;
+
+// How many files, directories, times and bytes of text the lent tables can hold.
 pub struct Rooms {
     pub files: usize,
     pub directories: usize,
@@ -17,25 +24,25 @@ pub fn rooms_in(rows: usize, roots: usize, times: usize, dirs: usize, text: usiz
     ensures { λ r. ⌜ r ≡ roomsIn rows roots times dirs text ⌝ }
 {
     Rooms {
-        files: min_usize(rows / 8, roots / 32),
-        directories: dirs / 2,
+        files: min_usize(rows / ROW_WIDTH, roots / ROOT_WIDTH),
+        directories: dirs / DIR_WIDTH,
         times,
         text,
     }
 }
 
-// How many files a set may have: no more than 65535.
+// How many files a set may have: no more than 65535, and what the tables can hold.
 pub fn files_room(rooms: Rooms) -> usize
     ensures { λ r. ⌜ r ≡ filesRoom rooms ⌝ }
 {
-    min_usize(65535, rooms.files)
+    min_usize(MAX_ENTRIES, rooms.files)
 }
 
-// How many directories a set may have: no more than 65535.
+// How many directories a set may have: no more than 65535, and what the tables can hold.
 pub fn dirs_room(rooms: Rooms) -> usize
     ensures { λ r. ⌜ r ≡ dirsRoom rooms ⌝ }
 {
-    min_usize(65535, rooms.directories)
+    min_usize(MAX_ENTRIES, rooms.directories)
 }
 
 // Whether the lent tables hold what a set counts.

@@ -12,6 +12,7 @@ ghost use Rattle.exports.specs.State.{Exported, exported, storageOf, sto
 mod questions;
 mod slices;
 
+use additions::FileInfo;
 use change::StorageResult;
 use tables::FileStorage;
 use tables::Presence;
@@ -148,6 +149,14 @@ pub extern "C" fn niflathen_add_file(
           root = optionalOf (presenceOf rooted) (rootAt (now (root .entry)) 0);
         }))) ⌝ }
 {
+    let file = FileInfo {
+        given: presence_of(given),
+        size: file_size,
+        flags: file_flags,
+        mtime,
+        rooted: presence_of(rooted),
+        root: tables::root_at(root, 0),
+    };
     let answer = storage::add_file(
         storage_at(state),
         rows,
@@ -155,15 +164,10 @@ pub extern "C" fn niflathen_add_file(
         times,
         dirs,
         text,
-        presence_of(given),
+        file,
         filename,
         path,
-        file_size,
-        file_flags,
-        mtime,
         symlink_path,
-        presence_of(rooted),
-        tables::root_at(root, 0),
     );
     put_answer(state, answer)
 }

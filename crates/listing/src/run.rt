@@ -14,6 +14,7 @@ ghost use Rattle.listing_input.specs.Form.{lines, pieceLengthIn, fileIn};
 ghost use Rattle.listing_output.specs.Printing.{putText};
 ghost use Rattle.listing.specs.Run.{run, runFrom, places, listing};
 ghost use Rattle.listing.specs.private.Steps.{openedBy, obeyed, stoppedBy, countedBy, runSays, Placed};
+use additions::FileInfo;
 use change::StorageResult;
 use listing_input::FileLine;
 use listing_input::Number;
@@ -81,23 +82,15 @@ fn add_line(
     let none = lists::part(line, 0, 0);
     let path = lists::part(line, 19, line.len());
     let ones = [1u8; 32];
-    storage::add_file(
-        fs,
-        rows,
-        roots,
-        times,
-        dirs,
-        text,
-        Presence::Absent,
-        none,
-        path,
-        types::signed64(size),
-        (flags % 8) as u8,
-        0,
-        none,
-        rooted_by(flags),
-        ones,
-    )
+    let file = FileInfo {
+        given: Presence::Absent,
+        size: types::signed64(size),
+        flags: (flags % 8) as u8,
+        mtime: 0,
+        rooted: rooted_by(flags),
+        root: ones,
+    };
+    storage::add_file(fs, rows, roots, times, dirs, text, file, none, path, none)
 }
 
 // The run that a refused line ends. Callers come here with a refusal only: `let else` hands on the whole answer,

@@ -1,4 +1,4 @@
--- Laws of the search for a directory: the last place of a text among others, whether it is there, and both once one more
+-- Laws of the search for a directory: the last index of a text among others, whether it is there, and both once one more
 -- is stored.
 use Prim.Native.Nat.{ℕ, zero, suc, _+_, _-_, _*_, _/_, _≤_, _<_, min}
 use mathlib.Core.Path.{_≡_, refl, sym, ap, _∙_}
@@ -22,30 +22,30 @@ use Rattle.plan.specs.Write.{directoryIndexFrom, directoryIndex}
 use Rattle.plan.specs.private.Steps.{dirTexts, dirPlanOf, dirsWith, countWith, padDirPlanOf}
 
 -- one more text, at the end
-pub place-more : (d : List ℕ) (xs : List (List ℕ)) (x : List ℕ) (found i : ℕ)
+pub index-more : (d : List ℕ) (xs : List (List ℕ)) (x : List ℕ) (found i : ℕ)
     → directoryIndexFrom found i d (xs ++ (x ∷ [])) ≡ cond (equal d x) (i + length xs) (directoryIndexFrom found i d xs)
 unfolding directoryIndexFrom
-place-more d [] x found i = let e : i + 0 ≡ i = omega arith in rw e
-place-more d (y ∷ xs) x found i =
+index-more d [] x found i = let e : i + 0 ≡ i = omega arith in rw e
+index-more d (y ∷ xs) x found i =
     let e : i + suc (length xs) ≡ i + 1 + length xs = omega arith in
-    rw e (place-more d xs x (cond (equal d y) i found) (i + 1))
+    rw e (index-more d xs x (cond (equal d y) i found) (i + 1))
 
--- a text that is not there has the place given for that; one that is there has a place among them, whatever is given
+-- a text that is not there has the index given for that; one that is there has an index among them, whatever is given
 either-false : (a b : Bool) → cond a true b ≡ false → (a ≡ false) × (b ≡ false)
 either-false true b e = absurd (true≢false e)
 either-false false b e = (refl, e)
 
-pub place-none : (d : List ℕ) (xs : List (List ℕ)) (found i : ℕ) → isAmong d xs ≡ false → directoryIndexFrom found i d xs ≡ found
+pub index-none : (d : List ℕ) (xs : List (List ℕ)) (found i : ℕ) → isAmong d xs ≡ false → directoryIndexFrom found i d xs ≡ found
 unfolding directoryIndexFrom
-place-none d [] found i e = refl
-place-none d (x ∷ xs) found i e =
+index-none d [] found i e = refl
+index-none d (x ∷ xs) found i e =
     let p = either-false (equal d x) (any (equal d) xs) e in
-    rw (p .0) (place-none d xs found (i + 1) (p .1))
+    rw (p .0) (index-none d xs found (i + 1) (p .1))
 
-pub place-in : (d : List ℕ) (xs : List (List ℕ)) (found i : ℕ) → isAmong d xs ≡ true → directoryIndexFrom found i d xs < i + length xs
+pub index-in : (d : List ℕ) (xs : List (List ℕ)) (found i : ℕ) → isAmong d xs ≡ true → directoryIndexFrom found i d xs < i + length xs
 unfolding directoryIndexFrom
-place-in d [] found i e = absurd (false≢true e)
-place-in d (x ∷ xs) found i e = at (equal d x) (any (equal d) xs) refl e (place-in d xs) (place-none d xs)
+index-in d [] found i e = absurd (false≢true e)
+index-in d (x ∷ xs) found i e = at (equal d x) (any (equal d) xs) refl e (index-in d xs) (index-none d xs)
   where
     at : (t u : Bool) → any (equal d) xs ≡ u → cond t true u ≡ true
         → ((found i : ℕ) → any (equal d) xs ≡ true → directoryIndexFrom found i d xs < i + length xs)
@@ -55,10 +55,10 @@ place-in d (x ∷ xs) found i e = at (equal d x) (any (equal d) xs) refl e (plac
     at true false q e f g = omega (arith, g i (i + 1) q)
     at false false q e f g = absurd (false≢true e)
 
-pub place-same : (d : List ℕ) (xs : List (List ℕ)) (a b i : ℕ) → isAmong d xs ≡ true → directoryIndexFrom a i d xs ≡ directoryIndexFrom b i d xs
+pub index-same : (d : List ℕ) (xs : List (List ℕ)) (a b i : ℕ) → isAmong d xs ≡ true → directoryIndexFrom a i d xs ≡ directoryIndexFrom b i d xs
 unfolding directoryIndexFrom
-place-same d [] a b i e = absurd (false≢true e)
-place-same d (x ∷ xs) a b i e = at (equal d x) e (place-same d xs a b (i + 1))
+index-same d [] a b i e = absurd (false≢true e)
+index-same d (x ∷ xs) a b i e = at (equal d x) e (index-same d xs a b (i + 1))
   where
     at : (t : Bool) → cond t true (any (equal d) xs) ≡ true
         → (any (equal d) xs ≡ true → directoryIndexFrom a (i + 1) d xs ≡ directoryIndexFrom b (i + 1) d xs)
@@ -66,23 +66,23 @@ place-same d (x ∷ xs) a b i e = at (equal d x) e (place-same d xs a b (i + 1))
     at true e f = refl
     at false e f = f e
 
--- the place says whether the text is there
+-- the index says whether the text is there
 module _ (d : List ℕ) (xs : List (List ℕ)) where
   pub there : directoryIndex d xs < length xs → isAmong d xs ≡ true
   there h = at (isAmong d xs) refl
     where
       at : (t : Bool) → isAmong d xs ≡ t → t ≡ true
       at true q = refl
-      at false q = absurd (omega (arith, place-none d xs (length xs) 0 q))
+      at false q = absurd (omega (arith, index-none d xs (length xs) 0 q))
 
   pub not-there : length xs ≤ directoryIndex d xs → isAmong d xs ≡ false
   not-there h = at (isAmong d xs) refl
     where
       at : (t : Bool) → isAmong d xs ≡ t → t ≡ false
-      at true q = absurd (omega (arith, place-in d xs (length xs) 0 q))
+      at true q = absurd (omega (arith, index-in d xs (length xs) 0 q))
       at false q = refl
 
--- the search from the back: one more place, and what is found
+-- the search from the back: one more row, and what is found
 module _ (g : ℕ → List ℕ) (d : List ℕ) (n i : ℕ) (h : 0 < i) where
   more : directoryIndexFrom n 0 d (tabled i g) ≡ cond (equal d (g (i - 1))) (i - 1) (directoryIndexFrom n 0 d (tabled (i - 1) g))
   more =
@@ -90,7 +90,7 @@ module _ (g : ℕ → List ℕ) (d : List ℕ) (n i : ℕ) (h : 0 < i) where
       let z : 0 + length (tabled (i - 1) g) ≡ i - 1 = omega (arith, length-tabled (i - 1) g) in
       ap (λ (k : ℕ). directoryIndexFrom n 0 d (tabled k g)) e
       ∙ ap (directoryIndexFrom n 0 d) (tabled-more (i - 1) g)
-      ∙ place-more d (tabled (i - 1) g) (g (i - 1)) n 0
+      ∙ index-more d (tabled (i - 1) g) (g (i - 1)) n 0
       ∙ ap (λ (k : ℕ). cond (equal d (g (i - 1))) k (directoryIndexFrom n 0 d (tabled (i - 1) g))) z
 
   pub search-turn : equal d (g (i - 1)) ≡ false → directoryIndexFrom n 0 d (tabled (i - 1) g) ≡ directoryIndexFrom n 0 d (tabled i g)
@@ -131,7 +131,7 @@ empty-is : (d : List ℕ) → length d ≡ 0 → equal d [] ≡ true
 empty-is [] e = refl
 empty-is (x ∷ d) e = absurd (omega arith)
 
--- so the empty text has the last of n places that are more than the table's rows, and any other is searched in the table alone
+-- so the empty text has the last of n indices that are more than the table's rows, and any other is searched in the table alone
 module _ (dirs text d : List ℕ) where
   pub empty-last : (n : ℕ) → length dirs / 2 < n → length d ≡ 0 → n - 1 ≡ directoryIndex d (dirTexts dirs text n)
   empty-last n h e =
@@ -152,7 +152,7 @@ module _ (d : List ℕ) (xs : List (List ℕ)) (n : ℕ) (l : length xs ≡ n) w
 
   pub new-is : isAmong d xs ≡ false → _≡_ {A = DirPlan} (record { index = n; new = true; len = length d; count = n + 1 }) (dirPlanOf (stored d false) xs)
   new-is h =
-      let p : directoryIndex d xs ≡ n = place-none d xs (length xs) 0 h ∙ l in
+      let p : directoryIndex d xs ≡ n = index-none d xs (length xs) 0 h ∙ l in
       rw (h, p, length-append xs (d ∷ []), l)
 
 pub pad-is : (pad : ℕ) (xs : List (List ℕ)) → eqb pad 0 ≡ false → dirPlanOf (stored padDirectory false) xs ≡ padDirPlanOf pad xs
@@ -179,21 +179,21 @@ module _ (p : List ℕ) (d : List ℕ) (xs : List (List ℕ)) where
       at false q = among-with false true q e
   own-there false e = absurd (false≢true e)
 
-  pub own-place : (new : Bool) → (new && equal p d) ≡ true → length xs ≡ directoryIndex p (dirsWith new d xs)
-  own-place true e =
+  pub own-index : (new : Bool) → (new && equal p d) ≡ true → length xs ≡ directoryIndex p (dirsWith new d xs)
+  own-index true e =
       let z : 0 + length xs ≡ length xs = omega arith in
-      sym (place-more p xs d (length (xs ++ (d ∷ []))) 0 ∙ rw (e, z))
-  own-place false e = absurd (false≢true e)
+      sym (index-more p xs d (length (xs ++ (d ∷ []))) 0 ∙ rw (e, z))
+  own-index false e = absurd (false≢true e)
 
   module _ (a : isAmong p xs ≡ true) where
     pub old-there : (new : Bool) → (new && equal p d) ≡ false → isAmong p (dirsWith new d xs) ≡ true
     old-there true e = among-with true false a e
     old-there false e = a
 
-    pub old-place : (new : Bool) → (new && equal p d) ≡ false → directoryIndex p xs ≡ directoryIndex p (dirsWith new d xs)
-    old-place true e =
-        place-same p xs (length xs) (length (xs ++ (d ∷ []))) 0 a ∙ sym (place-more p xs d (length (xs ++ (d ∷ []))) 0 ∙ rw e)
-    old-place false e = refl
+    pub old-index : (new : Bool) → (new && equal p d) ≡ false → directoryIndex p xs ≡ directoryIndex p (dirsWith new d xs)
+    old-index true e =
+        index-same p xs (length xs) (length (xs ++ (d ∷ []))) 0 a ∙ sym (index-more p xs d (length (xs ++ (d ∷ []))) 0 ∙ rw e)
+    old-index false e = refl
 
   pub new-there : (new : Bool) → (new && equal p d) ≡ false → isAmong p xs ≡ false → isAmong p (dirsWith new d xs) ≡ false
   new-there true e a = among-with false false a e

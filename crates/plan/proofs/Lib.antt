@@ -1,3 +1,4 @@
--- Laws of directories and of plans.
+-- Laws of directories, of texts in a row and of plans.
 pub mod Directories
+pub mod Joined
 pub mod Plans

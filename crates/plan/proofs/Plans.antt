@@ -40,7 +40,7 @@ use Rattle.additions.proofs.Texts.{set-read, directory-read, name-read, name-is
 use Rattle.plan.specs.declared.dirs.DirPlan.{DirPlan}
 use Rattle.plan.specs.declared.counts.Counts.{Counts}
 use Rattle.plan.specs.declared.counts.FileFacts.{FileFacts}
-use Rattle.plan.specs.declared.plan.Places.{Places}
+use Rattle.plan.specs.declared.plan.TextSpans.{TextSpans}
 use Rattle.plan.specs.declared.plan.TextLengths.{TextLengths}
 use Rattle.plan.specs.declared.plan.AddPlan.{AddPlan}
 use Rattle.plan.specs.Write.{setText, nameText, linkNew, isNewDirectory, isOutside, oldName, textAfter}
@@ -56,15 +56,15 @@ kindBy a b c = cond a Absolute (cond b Single (cond c Inside Outside))
 abbrev directoryBy : Bool → Bool → Bool → List ℕ → Directory
 directoryBy a b c branch = cond a absolute (cond b single (cond c (stored (withoutLeading (lsplitRest branch)) false) (stored branch true)))
 
-placed : (a b c : Bool) (branch : List ℕ) → directoryAt (kindBy a b c) (textUnder (kindBy a b c) branch) ≡ directoryBy a b c branch
-placed true b c branch = refl
-placed false true c branch = refl
-placed false false true branch = refl
-placed false false false branch = refl
+by-kind : (a b c : Bool) (branch : List ℕ) → directoryAt (kindBy a b c) (textUnder (kindBy a b c) branch) ≡ directoryBy a b c branch
+by-kind true b c branch = refl
+by-kind false true c branch = refl
+by-kind false false true branch = refl
+by-kind false false false branch = refl
 
 -- the directory of a path under a set's name
 pub directory-is : (name path : List ℕ) → directoryAt (kindFor name path) (textUnder (kindFor name path) (rsplitBranch path)) ≡ directoryFor name path
-directory-is name path = placed (isComplete path) (isEmpty (rsplitBranch path)) (equal (lsplitFirst (rsplitBranch path)) name) (rsplitBranch path)
+directory-is name path = by-kind (isComplete path) (isEmpty (rsplitBranch path)) (equal (lsplitFirst (rsplitBranch path)) name) (rsplitBranch path)
 
 -- the texts of an addition, as the parts of its path give them
 pub texts-of : (s : Store) (a : Addition) (given : Presence) (filename : List ℕ) (p : PathParts)
@@ -114,15 +114,15 @@ seen fs name files directories times =
     }
 
 -- the directories with a file's own
-pub with-place : (kind : PathKind) (d : List ℕ) (ds : List (List ℕ)) → dirsWith (isNewDirectory (directoryAt kind d) ds) d ds ≡ withDirectoryOf (directoryAt kind d) ds
-with-place Single d ds = refl
-with-place Absolute d ds = refl
-with-place Inside d ds = at (any (equal d) ds)
+pub with-directory : (kind : PathKind) (d : List ℕ) (ds : List (List ℕ)) → dirsWith (isNewDirectory (directoryAt kind d) ds) d ds ≡ withDirectoryOf (directoryAt kind d) ds
+with-directory Single d ds = refl
+with-directory Absolute d ds = refl
+with-directory Inside d ds = at (any (equal d) ds)
   where
     at : (t : Bool) → cond (not t) (ds ++ (d ∷ [])) ds ≡ cond t ds (ds ++ (d ∷ []))
     at true = refl
     at false = refl
-with-place Outside d ds = at (any (equal d) ds)
+with-directory Outside d ds = at (any (equal d) ds)
   where
     at : (t : Bool) → cond (not t) (ds ++ (d ∷ [])) ds ≡ cond t ds (ds ++ (d ∷ []))
     at true = refl
@@ -171,8 +171,8 @@ module _ (fs : FileStorage) (name : List ℕ) (files : List File) (ds : List (Li
   abbrev lengths : TextLengths
   lengths = record { «set_name» = length (setText m a); name = length (nameText m a); link = length (linkNew m a) }
 
-  abbrev places : Places
-  places = textSpansFor fs sizes first second lengths
+  abbrev spans : TextSpans
+  spans = textSpansFor fs sizes first second lengths
 
   abbrev facts : FileFacts
   facts = record { flags = a .flags; «keeps_link» = keeps m a; untimed = isZero (a .time); «has_root» = isPresent (a .root) }
@@ -209,7 +209,7 @@ module _ (fs : FileStorage) (name : List ℕ) (files : List File) (ds : List (Li
   pub room-is : (rooms : Rooms) → length times ≡ fs .«num_mtimes»
       → lacks rooms (added m a) (textAfter fs m a)
       ≡ (shortOf rooms (counts .«num_files») (second .count) (counts .«num_mtimes»)
-      || ltb (rooms .text) (places .end))
+      || ltb (rooms .text) (spans .end))
   room-is rooms l =
       room rooms (filesOf (added m a)) (counts .«num_files») (second .count)
       (length (withTime (filesOf m) (a .time) times))
@@ -222,7 +222,7 @@ module _ (fs : FileStorage) (name : List ℕ) (files : List File) (ds : List (Li
       held z = rw (l, e)
 
   -- the plan
-  pub plan-is : planFrom fs sizes counts (rowFlags facts (isOutside (directoryAdded m a))) first second places (oldName fs) parts ≡ planOf fs m a
+  pub plan-is : planFrom fs sizes counts (rowFlags facts (isOutside (directoryAdded m a))) first second spans (oldName fs) parts ≡ planOf fs m a
   plan-is = refl
 
 -- ---- the same on the model that the tables mean
@@ -297,13 +297,13 @@ module _ (s : Store) (a : Addition) where
       abbrev lengthsFor : List ℕ → List ℕ → List ℕ → TextLengths
       lengthsFor x y z = record { «set_name» = length x; name = length y; link = length z }
 
-      abbrev place : Directory
-      place = directoryAdded (viewOf s) a
+      abbrev directory : Directory
+      directory = directoryAdded (viewOf s) a
 
       abbrev partsSeen : PathParts
       partsSeen = partsOf (s .fs .«num_files») (viewOf s .name) (a .path)
 
-      decided-is : decided sizesSeen factsSeen (isOutside place) place (lengthsFor (setText (viewOf s) a) (nameText (viewOf s) a) (linkNew (viewOf s) a)) partsSeen ≡ result
+      decided-is : decided sizesSeen factsSeen (isOutside directory) directory (lengthsFor (setText (viewOf s) a) (nameText (viewOf s) a) (linkNew (viewOf s) a)) partsSeen ≡ result
       decided-is =
           let l = length-take-le (s .fs .«num_mtimes») (s .times) (store-held s h .mtimes) in
           ap (λ (t : Bool). outcomeOf (cond t 10 0) (planOf (s .fs) (viewOf s) a))
@@ -321,7 +321,7 @@ module _ (s : Store) (a : Addition) where
           ∙ ap (λ (v : PathParts). decided sizesSeen factsSeen (outsideKind kind) (directoryAt kind dir) (lengthsFor x name link) v) ep
           ∙ ap (λ (v : Bool). decided sizesSeen factsSeen v (directoryAt kind dir) (lengthsFor x name link) partsSeen) (out-is kind dir)
           ∙ ap (λ (v : Directory). decided sizesSeen factsSeen (isOutside v) v (lengthsFor x name link) partsSeen) (t .dir-is)
-          ∙ ap (λ (v : List ℕ). decided sizesSeen factsSeen (isOutside place) place (lengthsFor v name link) partsSeen) (t .set-is)
-          ∙ ap (λ (v : List ℕ). decided sizesSeen factsSeen (isOutside place) place (lengthsFor (setText (viewOf s) a) v link) partsSeen) (t .name-is)
-          ∙ ap (λ (v : List ℕ). decided sizesSeen factsSeen (isOutside place) place (lengthsFor (setText (viewOf s) a) (nameText (viewOf s) a) v) partsSeen) (t .link-is)
+          ∙ ap (λ (v : List ℕ). decided sizesSeen factsSeen (isOutside directory) directory (lengthsFor v name link) partsSeen) (t .set-is)
+          ∙ ap (λ (v : List ℕ). decided sizesSeen factsSeen (isOutside directory) directory (lengthsFor (setText (viewOf s) a) v link) partsSeen) (t .name-is)
+          ∙ ap (λ (v : List ℕ). decided sizesSeen factsSeen (isOutside directory) directory (lengthsFor (setText (viewOf s) a) (nameText (viewOf s) a) v) partsSeen) (t .link-is)
           ∙ decided-is

@@ -2,3 +2,4 @@
 pub mod Write
 pub mod Outcomes
 pub mod Plan
+pub mod private

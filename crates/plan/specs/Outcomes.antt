@@ -1,5 +1,5 @@
--- What an addition answers and what every lent table holds after it, for tables of any content and length. It relies on the
--- rules of Addition.antt and the tables after an addition of Write.antt.
+-- What an addition answers and what every lent table holds after it, for tables of any content and length. It relies on
+-- the rules of Addition.antt and the tables after an addition of Write.antt.
 use Prim.Native.Nat.{ℕ}
 use mathlib.Core.Bool.{not, _||_}
 use Rattle.tables.specs.Model.{Model, Store, viewOf}

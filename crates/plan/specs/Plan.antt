@@ -1,220 +1,31 @@
--- What an addition's plan is: `plannedFor`, by the definitions of Write.antt and Outcomes.antt on what the tables mean. Before it
--- stand the steps that the code takes to it, which only private functions cite; proofs/Plans.antt ties them to it.
-use Prim.Native.Nat.{ℕ, _+_, _%_, _≤_, _<_, max}
-use mathlib.Core.Path.{_≡_}
-use mathlib.Core.Bool.{Bool, true, cond, not, _&&_, _||_}
-use mathlib.Core.List.{List, [], _∷_, _++_}
-use lib.Dec.{eqb, ltb}
+-- What an addition's plan is, by the definitions of Write.antt and Outcomes.antt on what the tables mean.
+use Prim.Native.Nat.{ℕ, _+_}
+use mathlib.Core.Bool.{cond}
+use lib.Dec.{eqb}
 use lib.ListN.{length}
 use Rattle.types.specs.Refusals.{numberOf, Outcome, value, refused}
-use Rattle.tables.specs.declared.span.Span.{Span}
-use Rattle.tables.specs.declared.rows.Presence.{Presence}
 use Rattle.tables.specs.declared.storage.FileStorage.{FileStorage}
-use Rattle.tables.specs.Span.{textAt}
-use Rattle.tables.specs.Rows.{dirAt}
-use Rattle.tables.specs.Model.{Optional, absent, present, Directory, Model, Store, viewOf, tabled}
+use Rattle.tables.specs.Rows.{madePadFlags}
+use Rattle.tables.specs.Model.{Model, Store, viewOf}
 use Rattle.rules.specs.Rules.{outcomeOf}
-use Rattle.rules.specs.Bounds.{limit}
-use Rattle.change.specs.declared.rooms.Rooms.{Rooms}
-use Rattle.change.specs.Rooms.{filesRoom, dirsRoom}
-use Rattle.additions.specs.declared.checks.Sizes.{Sizes}
-use Rattle.additions.specs.declared.info.FileInfo.{FileInfo}
-use Rattle.additions.specs.declared.parts.PathKind.{PathKind}
-use Rattle.additions.specs.declared.parts.PathParts.{PathParts}
-use Rattle.additions.specs.Addition.{Addition, flagsKept, keepsLink, isZero, padDirectory, withDirectoryOf, withDirectory, sizeAdded, padOf, directoryAdded}
-use Rattle.additions.specs.private.Texts.{isHere, nameFrom, linkTextOf, directoryAt}
+use Rattle.additions.specs.Addition.{Addition, padDirectory, withDirectoryOf, sizeAdded, padOf, directoryAdded}
 use Rattle.additions.specs.Parts.{partsOf}
-use Rattle.plan.specs.declared.dirs.DirPlan.{DirPlan}
-use Rattle.plan.specs.declared.counts.Counts.{Counts}
-use Rattle.plan.specs.declared.counts.FileFacts.{FileFacts}
-use Rattle.plan.specs.declared.plan.Places.{Places}
-use Rattle.plan.specs.declared.plan.PlacesResult.{PlacesResult}
-use Rattle.plan.specs.declared.plan.PlacesResult.the-variants as placed
-use Rattle.plan.specs.declared.plan.TextLengths.{TextLengths}
 use Rattle.plan.specs.declared.plan.AddPlan.{AddPlan}
 use Rattle.plan.specs.declared.plan.PlanResult.{PlanResult}
 use Rattle.plan.specs.declared.plan.PlanResult.the-variants.{Ok, Err}
-use Rattle.plan.specs.Write.{directoryIndex, pathIndexOf, textIfNew, newTextOf, isNew, isNewDirectory, isNewPad, setText, directoryNew, nameText, linkNew, padDigits, padText, oldName, textKept, directoryStart, padDirectoryStart, padNameStart, textAfter, storageAdded, rowAdded}
+use Rattle.plan.specs.Write.{directoryIndex, isNewDirectory, isNewPad, directoryNew, padText, oldName, textKept}
+use Rattle.plan.specs.Write.{directoryStart, padDirectoryStart, padNameStart, textAfter, storageAdded, rowAdded}
 use Rattle.plan.specs.Outcomes.{addingNumber}
-
--- the texts of the first n directory rows
-abbrev pub dirTexts : List ℕ → List ℕ → ℕ → List (List ℕ)
-dirTexts dirs text n = tabled n (λ i. textAt text (dirAt dirs i))
-
--- a directory beside those stored: its path index, whether it is new, the length of its new text, and how many there are
--- with it
-abbrev pub dirPlanOf : Directory → List (List ℕ) → DirPlan
-dirPlanOf d ds = record { index = pathIndexOf d ds; new = isNewDirectory d ds; len = length (newTextOf d ds); count = length (withDirectoryOf d ds) }
-
--- the directories with one more, where it is new
-abbrev pub dirsWith : Bool → List ℕ → List (List ℕ) → List (List ℕ)
-dirsWith new d ds = cond new (ds ++ (d ∷ [])) ds
-
-abbrev pub countWith : Bool → ℕ → ℕ
-countWith new n = n + cond new 1 0
-
--- the same of the pad's directory; without a pad there is none
-abbrev pub padDirPlanOf : ℕ → List (List ℕ) → DirPlan
-padDirPlanOf pad ds =
-    record {
-      index = cond (eqb pad 0) 0 (directoryIndex padDirectory ds);
-      new = (not (eqb pad 0) && isNew padDirectory ds);
-      len = length (cond (eqb pad 0) [] (textIfNew padDirectory ds));
-      count = length (cond (eqb pad 0) ds (withDirectory padDirectory ds));
-    }
-
--- ---- numbers
-
-abbrev pub bitOf : Bool → ℕ → ℕ
-bitOf on n = cond on n 0
-
--- the flags of a file's row: what is given, a link text, a directory outside the set's name, a root
-abbrev pub rowFlags : FileFacts → Bool → ℕ
-rowFlags f outside =
-    flagsKept (f .flags) (f .«keeps_link») + cond (f .«keeps_link») 16 0 + cond outside 32 0 + cond (f .«has_root») 128 0
-
--- the facts of a file and its link text, where a set is added to
-abbrev pub factsOf : FileStorage → FileInfo → List ℕ → FileFacts
-factsOf fs info link =
-    record {
-      flags = info .flags;
-      «keeps_link» = keepsLink (fs .«num_symlinks») link;
-      untimed = isZero (info .mtime);
-      «has_root» = isHere (info .rooted);
-    }
-
--- counts and sums that fit
-pub record Countable (fs : FileStorage) (z : Sizes) (keeps : Bool) : Type 0 where
-  pub files : fs .«num_files» ≤ 65535
-  pub links : keeps ≡ true → fs .«num_symlinks» < 32766
-  pub total : fs .«total_size» + z .size + z .pad ≤ limit
-  pub disk : fs .«size_on_disk» ≤ fs .«total_size»
-
-abbrev pub countsOf : FileStorage → Sizes → FileFacts → Counts
-countsOf fs z f =
-    record {
-      «num_files» = fs .«num_files» + cond (eqb (z .pad) 0) 1 2;
-      «num_symlinks» = fs .«num_symlinks» + cond (f .«keeps_link») 1 0;
-      «num_mtimes» = cond (f .untimed) (fs .«num_mtimes») (max (fs .«num_mtimes») (fs .«num_files» + 1));
-      «file_end» = fs .«total_size» + z .size;
-      «total_size» = fs .«total_size» + z .size + z .pad;
-      «size_on_disk» = fs .«size_on_disk» + cond (eqb (f .flags % 2) 1) 0 (z .size);
-    }
-
--- the tables have too few rows or times for these counts of files, directories and times
-abbrev pub shortOf : Rooms → ℕ → ℕ → ℕ → Bool
-shortOf rooms files dirs times =
-    ltb (filesRoom rooms) files || (ltb (dirsRoom rooms) dirs || ltb (rooms .times) times)
-
--- texts of these lengths, one after the other from `start` on
-abbrev pub textSpansOf : ℕ → ℕ → ℕ → ℕ → ℕ → ℕ → ℕ → Places
-textSpansOf start set dir name link padDir pad =
-    record {
-      set = record { at = start; len = set };
-      directory = record { at = start + set; len = dir };
-      name = record { at = start + set + dir; len = name };
-      link = record { at = start + set + dir + name; len = link };
-      «pad_directory» = start + set + dir + name + link;
-      «pad_name» = record { at = start + set + dir + name + link + padDir; len = pad };
-      end = start + set + dir + name + link + padDir + pad;
-    }
-
-abbrev pub textSpansSays : PlacesResult → Optional Places
-textSpansSays (placed.Ok p) = present p
-textSpansSays placed.Full = absent
-
--- places that end within the room
-abbrev pub spansWithin : ℕ → Places → Optional Places
-spansWithin room p = cond (ltb room (p .end)) absent (present p)
-
--- ---- the plan
 
 abbrev pub planSays : PlanResult → Outcome AddPlan
 planSays (Ok p) = value p
 planSays (Err e) = refused (numberOf e)
 
-abbrev pub planFrom : FileStorage → Sizes → Counts → ℕ → DirPlan → DirPlan → Places → Span → PathParts → AddPlan
-planFrom fs z counts flags first second places old parts =
-    record {
-      after = record {
-        «piece_length» = fs .«piece_length»;
-        v2 = z .v2;
-        «num_files» = counts .«num_files»;
-        «num_paths» = second .count;
-        «num_symlinks» = counts .«num_symlinks»;
-        «num_mtimes» = counts .«num_mtimes»;
-        name = cond (eqb (fs .«num_files») 0) (places .set) (fs .name);
-        «text_len» = places .end;
-        «total_size» = counts .«total_size»;
-        «size_on_disk» = counts .«size_on_disk»;
-        trimmed = fs .trimmed;
-      };
-      row = record {
-        offset = fs .«total_size»;
-        size = z .size;
-        name = places .name;
-        link = places .link;
-        «path_index» = first .index;
-        flags = flags;
-      };
-      «pad_row» = record {
-        offset = counts .«file_end»;
-        size = z .pad;
-        name = places .«pad_name»;
-        link = record { at = places .end; len = 0 };
-        «path_index» = second .index;
-        flags = 65;
-      };
-      dir = record { new = first .new; place = fs .«num_paths»; text = places .directory };
-      «pad_dir» = record { new = second .new; place = first .count; text = record { at = places .«pad_directory»; len = 4 } };
-      old = old;
-      start = places .set .at;
-      parts = parts;
-    }
-
--- the places of an addition whose texts have these lengths
-abbrev pub textSpansFor : FileStorage → Sizes → DirPlan → DirPlan → TextLengths → Places
-textSpansFor fs z first second l =
-    textSpansOf (textKept fs) (l .«set_name») (first .len) (l .name) (l .link) (second .len) (length (padDigits (z .pad)))
-
--- the plan where there is room, else refusal 10
-abbrev pub plannedIn : FileStorage → Rooms → Sizes → Counts → ℕ → DirPlan → DirPlan → TextLengths → PathParts → Outcome AddPlan
-plannedIn fs rooms z counts flags first second l parts =
-    outcomeOf
-    (cond
-    (shortOf rooms (counts .«num_files») (second .count) (counts .«num_mtimes»)
-    || ltb (rooms .text) (textSpansFor fs z first second l .end))
-    10
-    0)
-    (planFrom fs z counts flags first second (textSpansFor fs z first second l) (oldName fs) parts)
-
--- the same of a directory's text beside the directories that are stored
-abbrev pub plannedBeside : FileStorage → Rooms → List (List ℕ) → Sizes → FileFacts → Bool → Directory → TextLengths → PathParts → Outcome AddPlan
-plannedBeside fs rooms ds z f outside d l parts =
-    plannedIn fs rooms z (countsOf fs z f) (rowFlags f outside) (dirPlanOf d ds) (padDirPlanOf (z .pad) (withDirectoryOf d ds)) l parts
-
--- the lengths of the texts of an addition, whose path has these parts
-abbrev pub lengthsOf : ℕ → Presence → List ℕ → List ℕ → PathParts → List ℕ → TextLengths
-lengthsOf links given filename path parts link =
-    record {
-      «set_name» = length (textAt path (parts .«set_name»));
-      name = length (nameFrom given filename (textAt path (parts .name)));
-      link = length (linkTextOf links link);
-    }
-
--- ---- the plan on the model
-
--- the texts of an addition are those of the model
-pub record TextsOf (m : Model) (a : Addition) (called : List ℕ) (kind : PathKind) (dir name link : List ℕ) : Type 0 where
-  pub set-is : called ≡ setText m a
-  pub dir-is : directoryAt kind dir ≡ directoryAdded m a
-  pub name-is : name ≡ nameText m a
-  pub link-is : link ≡ linkNew m a
-
 -- the plan by the public definitions; without a pad, its row has path index 0
 abbrev pub planOf : FileStorage → Model → Addition → AddPlan
 planOf fs m a =
     record {
+      before = fs;
       after = storageAdded fs m a;
       row = rowAdded fs m a;
       «pad_row» = record {
@@ -222,17 +33,19 @@ planOf fs m a =
         size = padOf m a;
         name = record { at = padNameStart fs m a; len = length (padText m a) };
         link = record { at = textAfter fs m a; len = 0 };
-        «path_index» = cond (eqb (padOf m a) 0) 0 (directoryIndex padDirectory (withDirectoryOf (directoryAdded m a) (m .directories)));
-        flags = 65;
+        «path_index» =
+            cond (eqb (padOf m a) 0) 0
+            (directoryIndex padDirectory (withDirectoryOf (directoryAdded m a) (m .directories)));
+        flags = madePadFlags;
       };
       dir = record {
         new = isNewDirectory (directoryAdded m a) (m .directories);
-        place = fs .«num_paths»;
+        slot = fs .«num_paths»;
         text = record { at = directoryStart fs m a; len = length (directoryNew m a) };
       };
       «pad_dir» = record {
         new = isNewPad m a;
-        place = length (withDirectoryOf (directoryAdded m a) (m .directories));
+        slot = length (withDirectoryOf (directoryAdded m a) (m .directories));
         text = record { at = padDirectoryStart fs m a; len = 4 };
       };
       old = oldName fs;

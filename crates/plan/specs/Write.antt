@@ -5,7 +5,7 @@ use mathlib.Core.Bool.{Bool, false, cond, not, _&&_}
 use mathlib.Core.List.{List, [], _∷_, _++_}
 use lib.Dec.{eqb}
 use lib.IntN.{ℤ, pos}
-use lib.ListN.{length, set, replicate}
+use lib.ListN.{length, set, take, replicate}
 use lib.Seq.{sets}
 use Rattle.lists.specs.Lists.{equal}
 use Rattle.lists.specs.Decimal.{decimal}
@@ -14,12 +14,26 @@ use Rattle.tables.specs.declared.rows.Row.{Row}
 use Rattle.tables.specs.declared.storage.FileStorage.{FileStorage}
 use Rattle.tables.specs.Span.{clip, slid}
 use Rattle.tables.specs.Rows.{putRow, putDir, noPath, pathIsAbsolute, putRoot, dirsLowered}
-use Rattle.tables.specs.Model.{Optional, absent, present, Directory, single, absolute, stored, Model, Store}
-use Rattle.additions.specs.Addition.{Addition, filesOf, sizeAdded, keeps, isV2, padOf, directoryAdded, storedName, setNameOf, flagsKept, padDirectory, isAmong, withDirectoryOf, added, isPresent, isZero}
+use Rattle.tables.specs.Rows.{linkHeldBit, outsideBit, rootBit, madePadFlags}
+use Rattle.tables.specs.Model.{Optional, absent, present, Directory, single, absolute, stored, isPad, Model, Store}
+use Rattle.additions.specs.Addition.{Addition, filesOf, sizeAdded, keeps, isV2, padOf, directoryAdded, storedName}
+use Rattle.additions.specs.Addition.{setNameOf, flagsKept, padDirectory, isAmong}
+use Rattle.additions.specs.Addition.{withDirectoryOf, added, isPresent, isZero}
 
--- ---- where texts and rows go
+-- ---- texts one after the other
 
--- the place of the last directory that is `d`, or the next free one
+abbrev pub joined : List (List ℕ) → List ℕ
+joined [] = []
+joined (t ∷ ts) = t ++ joined ts
+
+-- where they end, if the first begins at position p
+abbrev pub endFrom : ℕ → List (List ℕ) → ℕ
+endFrom p [] = p
+endFrom p (t ∷ ts) = endFrom (p + length t) ts
+
+-- ---- directories among those stored
+
+-- the index of the last directory that is `d`, or the next free one
 unfoldable pub directoryIndexFrom : ℕ → ℕ → List ℕ → List (List ℕ) → ℕ
 directoryIndexFrom found i d [] = found
 directoryIndexFrom found i d (e ∷ es) = directoryIndexFrom (cond (equal d e) i found) (i + 1) d es
@@ -47,21 +61,28 @@ isOutside single = false
 isOutside absolute = false
 isOutside (stored d outside) = outside
 
--- the six new texts of an addition, in the order in which they are appended; a text that there is not is empty
+-- ---- the new texts of an addition
+
+-- the set's name, where the set is named
 abbrev pub setText : Model → Addition → List ℕ
 setText m a = cond (eqb (filesOf m) 0) (setNameOf (a .path)) []
 
+-- its directory, where that is not stored yet
 abbrev pub directoryNew : Model → Addition → List ℕ
 directoryNew m a = newTextOf (directoryAdded m a) (m .directories)
 
+-- its name
 abbrev pub nameText : Model → Addition → List ℕ
 nameText m a = storedName (a .given) (a .path)
 
+-- its link text, where it is kept
 abbrev pub linkNew : Model → Addition → List ℕ
 linkNew m a = cond (keeps m a) (a .link) []
 
+-- the directory of its pad, where there is a pad and that is not stored yet
 abbrev pub padDirectoryNew : Model → Addition → List ℕ
-padDirectoryNew m a = cond (eqb (padOf m a) 0) [] (textIfNew padDirectory (withDirectoryOf (directoryAdded m a) (m .directories)))
+padDirectoryNew m a =
+    cond (eqb (padOf m a) 0) [] (textIfNew padDirectory (withDirectoryOf (directoryAdded m a) (m .directories)))
 
 -- the name of a pad, 'the pad's size in decimal digits'; nothing where there is none
 abbrev pub padDigits : ℕ → List ℕ
@@ -69,10 +90,6 @@ padDigits pad = cond (eqb pad 0) [] (decimal pad)
 
 abbrev pub padText : Model → Addition → List ℕ
 padText m a = padDigits (padOf m a)
-
-abbrev pub newTexts : Model → Addition → List ℕ
-newTexts m a =
-    setText m a ++ (directoryNew m a ++ (nameText m a ++ (linkNew m a ++ (padDirectoryNew m a ++ padText m a))))
 
 -- the set's old name, which goes where the set is named again; its bytes within the used part
 abbrev pub oldName : FileStorage → Span
@@ -82,31 +99,41 @@ oldName fs = cond (eqb (fs .«num_files») 0) (clip (fs .«text_len») (fs .name
 abbrev pub textKept : FileStorage → ℕ
 textKept fs = fs .«text_len» - oldName fs .len
 
--- where each new text begins, and where the last one ends: the text needed after the addition
+-- the new texts in the order in which they are appended; one that there is not has no bytes
+abbrev pub newTexts : Model → Addition → List (List ℕ)
+newTexts m a = setText m a ∷ directoryNew m a ∷ nameText m a ∷ linkNew m a ∷ padDirectoryNew m a ∷ padText m a ∷ []
+
+-- where the first n of them end; they begin where the text that stays ends
+abbrev pub textsEnd : ℕ → FileStorage → Model → Addition → ℕ
+textsEnd n fs m a = endFrom (textKept fs) (take n (newTexts m a))
+
+-- where each of them but the first begins, and where the last one ends: the text needed after the addition
 abbrev pub directoryStart : FileStorage → Model → Addition → ℕ
-directoryStart fs m a = textKept fs + length (setText m a)
+directoryStart fs m a = textsEnd 1 fs m a
 
 abbrev pub nameStart : FileStorage → Model → Addition → ℕ
-nameStart fs m a = directoryStart fs m a + length (directoryNew m a)
+nameStart fs m a = textsEnd 2 fs m a
 
 abbrev pub linkStart : FileStorage → Model → Addition → ℕ
-linkStart fs m a = nameStart fs m a + length (nameText m a)
+linkStart fs m a = textsEnd 3 fs m a
 
 abbrev pub padDirectoryStart : FileStorage → Model → Addition → ℕ
-padDirectoryStart fs m a = linkStart fs m a + length (linkNew m a)
+padDirectoryStart fs m a = textsEnd 4 fs m a
 
 abbrev pub padNameStart : FileStorage → Model → Addition → ℕ
-padNameStart fs m a = padDirectoryStart fs m a + length (padDirectoryNew m a)
+padNameStart fs m a = textsEnd 5 fs m a
 
 abbrev pub textAfter : FileStorage → Model → Addition → ℕ
-textAfter fs m a = padNameStart fs m a + length (padText m a)
+textAfter fs m a = textsEnd 6 fs m a
 
 -- ---- the tables after an addition
 
 -- the text area: the set's old name goes where the set is named again, and the new texts follow what stays
 abbrev pub textAdded : Store → Model → Addition → List ℕ
 textAdded s m a =
-    sets (cond (eqb (s .fs .«num_files») 0) (slid (oldName (s .fs)) (s .fs .«text_len») (s .text)) (s .text)) (textKept (s .fs)) (newTexts m a)
+    sets (cond (eqb (s .fs .«num_files») 0) (slid (oldName (s .fs)) (s .fs .«text_len») (s .text)) (s .text))
+    (textKept (s .fs))
+    (joined (newTexts m a))
 
 -- whether a directory is a new row, which it may be with no bytes of text
 abbrev pub isNew : List ℕ → List (List ℕ) → Bool
@@ -121,7 +148,8 @@ abbrev pub putDirIf : Bool → List ℕ → ℕ → Span → List ℕ
 putDirIf new dirs i s = cond new (putDir dirs i s) dirs
 
 abbrev pub isNewPad : Model → Addition → Bool
-isNewPad m a = not (eqb (padOf m a) 0) && isNew padDirectory (withDirectoryOf (directoryAdded m a) (m .directories))
+isNewPad m a =
+    not (eqb (padOf m a) 0) && isNew padDirectory (withDirectoryOf (directoryAdded m a) (m .directories))
 
 -- the directory rows: the file's, then the pad's
 abbrev pub dirsAdded : Store → Model → Addition → List ℕ
@@ -134,7 +162,7 @@ dirsAdded s m a =
     (length (withDirectoryOf (directoryAdded m a) (m .directories)))
     (record { at = padDirectoryStart (s .fs) m a; len = 4 })
 
--- the file's row: bits 16 a link text, 32 a directory outside the set's name, 128 a root
+-- the file's row
 abbrev pub rowAdded : FileStorage → Model → Addition → Row
 rowAdded fs m a =
     record {
@@ -143,10 +171,14 @@ rowAdded fs m a =
       name = record { at = nameStart fs m a; len = length (nameText m a) };
       link = record { at = linkStart fs m a; len = length (linkNew m a) };
       «path_index» = pathIndexOf (directoryAdded m a) (m .directories);
-      flags = flagsKept (a .flags) (keeps m a) + cond (keeps m a) 16 0 + cond (isOutside (directoryAdded m a)) 32 0 + cond (isPresent (a .root)) 128 0;
+      flags =
+          flagsKept (a .flags) (keeps m a)
+          + cond (keeps m a) linkHeldBit 0
+          + cond (isOutside (directoryAdded m a)) outsideBit 0
+          + cond (isPresent (a .root)) rootBit 0;
     }
 
--- the row of the pad that an addition makes: bits 1 a pad, 64 made here
+-- the row of the pad that an addition makes
 abbrev pub padRow : FileStorage → Model → Addition → Row
 padRow fs m a =
     record {
@@ -155,19 +187,22 @@ padRow fs m a =
       name = record { at = padNameStart fs m a; len = length (padText m a) };
       link = record { at = textAfter fs m a; len = 0 };
       «path_index» = directoryIndex padDirectory (withDirectoryOf (directoryAdded m a) (m .directories));
-      flags = 65;
+      flags = madePadFlags;
     }
 
 abbrev pub rowsAdded : Store → Model → Addition → List ℕ
 rowsAdded s m a =
     cond (eqb (padOf m a) 0) (putRow (s .rows) (s .fs .«num_files») (rowAdded (s .fs) m a))
-    (putRow (putRow (s .rows) (s .fs .«num_files») (rowAdded (s .fs) m a)) (s .fs .«num_files» + 1) (padRow (s .fs) m a))
+    (putRow
+    (putRow (s .rows) (s .fs .«num_files») (rowAdded (s .fs) m a))
+    (s .fs .«num_files» + 1)
+    (padRow (s .fs) m a))
 
 abbrev pub rootsAdded : List ℕ → ℕ → Optional (List ℕ) → List ℕ
 rootsAdded roots i absent = roots
 rootsAdded roots i (present root) = putRoot roots i root
 
--- times up to the file's, 0 where none was held
+-- the times with that of file i; files before it that have none get 0
 abbrev pub timesAdded : List ℤ → ℕ → ℕ → ℤ → List ℤ
 timesAdded times held i t = cond (isZero t) times (set (sets times held (replicate (i + 1 - held) (pos 0))) i t)
 
@@ -184,7 +219,7 @@ storageAdded fs m a =
       name = cond (eqb (fs .«num_files») 0) (record { at = textKept fs; len = length (setText m a) }) (fs .name);
       «text_len» = textAfter fs m a;
       «total_size» = fs .«total_size» + sizeAdded a + padOf m a;
-      «size_on_disk» = fs .«size_on_disk» + cond (eqb (a .flags % 2) 1) 0 (sizeAdded a);
+      «size_on_disk» = fs .«size_on_disk» + cond (isPad (a .flags)) 0 (sizeAdded a);
       trimmed = fs .trimmed;
     }
 

@@ -4,10 +4,16 @@ ghost use mathlib.Core.Path.{_≡_};
 ghost use mathlib.Core.Bool.{true, cond};
 ghost use Prim.Native.Nat.{_+_, _%_, _≤_, _<_, _^_, max};
 ghost use lib.Dec.{eqb};
+ghost use Rattle.tables.specs.Model.{isPad};
+ghost use Rattle.rules.specs.Bounds.{maxEntries, maxLinks};
 ghost use Rattle.plan.specs.private.Steps.{Countable, bitOf, rowFlags, countsOf, shortOf};
 use additions::Sizes;
 use change::Rooms;
 use tables::FileStorage;
+use tables::LINK_HELD_BIT;
+use tables::OUTSIDE_BIT;
+use tables::ROOT_BIT;
+use tables::SYMLINK_BIT;
 
 // What a set counts after an addition; `file_end` is where the added file ends.
 pub(crate) struct Counts {
@@ -41,16 +47,16 @@ pub(crate) fn row_flags(facts: FileFacts, outside: bool) -> u64
 {
     let flags = facts.flags as u64;
     let keeps = facts.keeps_link;
-    flags % 8
-        + bit(keeps, flags / 8 % 2 * 8)
-        + bit(keeps, 16)
-        + bit(outside, 32)
-        + bit(facts.has_root, 128)
+    flags % SYMLINK_BIT
+        + bit(keeps, flags / SYMLINK_BIT % 2 * SYMLINK_BIT)
+        + bit(keeps, LINK_HELD_BIT)
+        + bit(outside, OUTSIDE_BIT)
+        + bit(facts.has_root, ROOT_BIT)
 }
 
 // How many files there are after an addition.
 fn files_after(files: usize, pad: u64) -> usize
-    requires { ⌜ files ≤ 65535 ⌝ }
+    requires { ⌜ files ≤ maxEntries ⌝ }
     ensures { λ r. ⌜ r ≡ files + cond (eqb pad 0) 1 2 ⌝ }
 {
     if pad == 0 { files + 1 } else { files + 2 }
@@ -58,7 +64,7 @@ fn files_after(files: usize, pad: u64) -> usize
 
 // How many link texts there are after an addition.
 fn links_after(links: usize, keeps: bool) -> usize
-    requires { ⌜ (keeps ≡ true → links < 32766) ⌝ }
+    requires { ⌜ (keeps ≡ true → links < maxLinks) ⌝ }
     ensures { λ r. ⌜ r ≡ links + cond keeps 1 0 ⌝ }
 {
     if keeps { links + 1 } else { links }
@@ -66,7 +72,7 @@ fn links_after(links: usize, keeps: bool) -> usize
 
 // How many times are held after an addition.
 fn times_after(held: usize, files: usize, untimed: bool) -> usize
-    requires { ⌜ files ≤ 65535 ⌝ }
+    requires { ⌜ files ≤ maxEntries ⌝ }
     ensures { λ r. ⌜ r ≡ cond untimed held (max held (files + 1)) ⌝ }
 {
     if untimed {
@@ -78,7 +84,7 @@ fn times_after(held: usize, files: usize, untimed: bool) -> usize
 // The bytes on disk after an addition: a pad counts for none.
 fn disk_after(on_disk: u64, flags: u8, size: u64) -> u64
     requires { ⌜ «on_disk» + size < 2 ^ 64 ⌝ }
-    ensures { λ r. ⌜ r ≡ «on_disk» + cond (eqb (flags % 2) 1) 0 size ⌝ }
+    ensures { λ r. ⌜ r ≡ «on_disk» + cond (isPad flags) 0 size ⌝ }
 {
     if flags % 2 == 1 {
         on_disk

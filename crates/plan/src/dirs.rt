@@ -6,13 +6,15 @@ ghost use Prim.Native.Nat.{_/_, _≤_, _<_};
 ghost use lib.ListN.{length};
 ghost use Rattle.lists.specs.Lists.{equal};
 ghost use Rattle.tables.specs.Span.{textAt};
-ghost use Rattle.tables.specs.Rows.{dirAt};
+ghost use Rattle.tables.specs.Rows.{dirAt, dirWidth};
 ghost use Rattle.tables.specs.Model.{stored};
+ghost use Rattle.rules.specs.Bounds.{maxEntries};
 ghost use Rattle.additions.specs.Addition.{padDirectory};
 ghost use Rattle.plan.specs.Write.{directoryIndexFrom, directoryIndex};
 ghost use Rattle.additions.specs.private.Texts.{directoryAt};
 ghost use Rattle.plan.specs.private.Steps.{dirTexts, countWith, dirPlanOf, padDirPlanOf, dirsWith};
 use additions::PathKind;
+use tables::DIR_WIDTH;
 use tables::Span;
 
 // The path index of a directory, whether it is new, the length of its new text, and how many
@@ -24,7 +26,7 @@ pub(crate) struct DirPlan {
     pub count: usize,
 }
 
-// Whether a span's text is that one; where the area's end cannot cut a longer span to its length, the
+// Whether a span's text is `dir`; where the area's end cannot cut a longer span to its length, the
 // two lengths are compared before the text is read.
 fn is_text(text: &[u8], s: Span, dir: &[u8]) -> bool
     ensures { λ r. ⌜ r ≡ equal (now (dir .entry)) (textAt (now (text .entry)) s) ⌝ }
@@ -43,19 +45,21 @@ fn is_text(text: &[u8], s: Span, dir: &[u8]) -> bool
 
 // Directory row i, without a test of the length, as the table holds it whole.
 fn whole_row(dirs: &[u64], i: usize) -> Span
-    requires { ⌜ i < length (now dirs) / 2 ⌝ }
+    requires { ⌜ i < length (now dirs) / dirWidth ⌝ }
     ensures { λ r. ⌜ r ≡ dirAt (now (dirs .entry)) i ⌝ }
 {
     Span {
-        at: dirs[i * 2] as usize,
-        len: dirs[i * 2 + 1] as usize,
+        at: dirs[i * DIR_WIDTH] as usize,
+        len: dirs[i * DIR_WIDTH + 1] as usize,
     }
 }
 
-// The place of the last of the first m directories with that text, n where there is none.
+// The index of the last of the first m directories whose text is `dir`, n where there is none.
 fn find_among(dirs: &[u64], text: &[u8], m: usize, n: usize, dir: &[u8]) -> usize
-    requires { ⌜ m ≤ length (now dirs) / 2 ⌝ }
-    ensures { λ r. ⌜ r ≡ directoryIndexFrom n 0 (now (dir .entry)) (dirTexts (now (dirs .entry)) (now (text .entry)) m) ⌝ }
+    requires { ⌜ m ≤ length (now dirs) / dirWidth ⌝ }
+    ensures { λ r. ⌜
+        r ≡ directoryIndexFrom n 0 (now (dir .entry)) (dirTexts (now (dirs .entry)) (now (text .entry)) m)
+        ⌝ }
 {
     let mut i = m;
     while 0 < i {
@@ -68,12 +72,12 @@ fn find_among(dirs: &[u64], text: &[u8], m: usize, n: usize, dir: &[u8]) -> usiz
     n
 }
 
-// The place of the last of n directories with that text, n where there is none; rows past the table's
+// The index of the last of n directories whose text is `dir`, n where there is none; rows past the table's
 // end have the empty text and are not looked at.
 fn find_dir(dirs: &[u64], text: &[u8], n: usize, dir: &[u8]) -> usize
     ensures { λ r. ⌜ r ≡ directoryIndex (now (dir .entry)) (dirTexts (now (dirs .entry)) (now (text .entry)) n) ⌝ }
 {
-    let m = lists::min_usize(n, dirs.len() / 2);
+    let m = lists::min_usize(n, dirs.len() / DIR_WIDTH);
     if m < n && dir.len() == 0 {
         return n - 1;
     }
@@ -82,8 +86,10 @@ fn find_dir(dirs: &[u64], text: &[u8], n: usize, dir: &[u8]) -> usize
 
 // A stored directory, whose text is new where no row has it.
 fn stored_dir(dirs: &[u64], text: &[u8], n: usize, dir: &[u8]) -> DirPlan
-    requires { ⌜ n ≤ 65535 ⌝ }
-    ensures { λ r. ⌜ r ≡ dirPlanOf (stored (now (dir .entry)) false) (dirTexts (now (dirs .entry)) (now (text .entry)) n) ⌝ }
+    requires { ⌜ n ≤ maxEntries ⌝ }
+    ensures { λ r. ⌜
+        r ≡ dirPlanOf (stored (now (dir .entry)) false) (dirTexts (now (dirs .entry)) (now (text .entry)) n)
+        ⌝ }
 {
     let k = find_dir(dirs, text, n, dir);
     if k < n {
@@ -104,8 +110,10 @@ fn stored_dir(dirs: &[u64], text: &[u8], n: usize, dir: &[u8]) -> DirPlan
 
 // A file's directory.
 pub(crate) fn plan_dir(kind: PathKind, dirs: &[u64], text: &[u8], n: usize, dir: &[u8]) -> DirPlan
-    requires { ⌜ n ≤ 65535 ⌝ }
-    ensures { λ r. ⌜ r ≡ dirPlanOf (directoryAt kind (now (dir .entry))) (dirTexts (now (dirs .entry)) (now (text .entry)) n) ⌝ }
+    requires { ⌜ n ≤ maxEntries ⌝ }
+    ensures { λ r. ⌜
+        r ≡ dirPlanOf (directoryAt kind (now (dir .entry))) (dirTexts (now (dirs .entry)) (now (text .entry)) n)
+        ⌝ }
 {
     match kind {
         PathKind::Single => DirPlan {
@@ -127,7 +135,7 @@ pub(crate) fn plan_dir(kind: PathKind, dirs: &[u64], text: &[u8], n: usize, dir:
 
 // How many directories there are, one of them new or not.
 fn count_with(new: bool, n: usize) -> usize
-    requires { ⌜ n ≤ 65535 ⌝ }
+    requires { ⌜ n ≤ maxEntries ⌝ }
     ensures { λ r. ⌜ r ≡ countWith new n ⌝ }
 {
     if new { n + 1 } else { n }
@@ -152,8 +160,10 @@ pub(crate) fn plan_pad_dir(
     n: usize,
     dir: &[u8],
 ) -> DirPlan
-    requires { ⌜ n ≤ 65535 ⌝ }
-    ensures { λ r. ⌜ r ≡ padDirPlanOf pad (dirsWith new (now (dir .entry)) (dirTexts (now (dirs .entry)) (now (text .entry)) n)) ⌝ }
+    requires { ⌜ n ≤ maxEntries ⌝ }
+    ensures { λ r. ⌜
+        r ≡ padDirPlanOf pad (dirsWith new (now (dir .entry)) (dirTexts (now (dirs .entry)) (now (text .entry)) n))
+        ⌝ }
 {
     let count = count_with(new, n);
     if pad == 0 {

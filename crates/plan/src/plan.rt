@@ -1,5 +1,5 @@
-// The plan of an addition: its rows, its directories, where its texts go, and the set's record after it. It is decided on
-// what the caller lends, before anything is written. Relies on `additions`, dirs.rt, counts.rt and the laws of
+// The plan of an addition: its rows, its directories, where its texts go, and the set's record after it. It is decided
+// on what the caller lends, before anything is written. Relies on `additions`, dirs.rt, counts.rt and the laws of
 // proofs/Plans.antt.
 ghost use mathlib.Core.Path.{_≡_};
 ghost use mathlib.Core.Bool.{true, cond};
@@ -8,12 +8,13 @@ ghost use lib.Dec.{eqb};
 ghost use lib.ListN.{length};
 ghost use Rattle.tables.specs.Span.{textAt};
 ghost use Rattle.tables.specs.Model.{storeOf};
-ghost use Rattle.rules.specs.Bounds.{limit};
+ghost use Rattle.rules.specs.Bounds.{limit, maxLinks};
 ghost use Rattle.change.specs.Rooms.{holdsIn};
-ghost use Rattle.additions.specs.private.Texts.{outsideKind, directoryAt};
 ghost use Rattle.additions.specs.Addition.{additionOf};
+ghost use Rattle.additions.specs.private.Texts.{outsideKind, directoryAt};
 ghost use Rattle.plan.specs.Write.{padDigits, oldName};
-ghost use Rattle.plan.specs.private.Steps.{dirTexts, factsOf, lengthsOf, textSpansOf, textSpansSays, spansWithin, planFrom, plannedIn, plannedBeside};
+ghost use Rattle.plan.specs.private.Steps.{dirTexts, factsOf, lengthsOf, textSpansOf};
+ghost use Rattle.plan.specs.private.Steps.{textSpansSays, spansWithin, planFrom, plannedIn, plannedBeside};
 ghost use Rattle.plan.specs.Plan.{planSays, plannedFor};
 use crate::counts::Counts;
 use crate::counts::FileFacts;
@@ -29,13 +30,18 @@ use additions::Sizes;
 use additions::SizesResult;
 use change::Rooms;
 use tables::FileStorage;
+use tables::MADE_BIT;
+use tables::PAD_BIT;
 use tables::Presence;
 use tables::Row;
 use tables::Span;
 use types::Refusal;
 
+// The flags of a pad that an addition makes.
+const MADE_PAD_FLAGS: u64 = PAD_BIT + MADE_BIT;
+
 // Where the new texts of an addition go, in this order, and where the last of them ends.
-pub(crate) struct Places {
+pub(crate) struct TextSpans {
     pub set: Span,
     pub directory: Span,
     pub name: Span,
@@ -45,23 +51,24 @@ pub(crate) struct Places {
     pub end: usize,
 }
 
-// Places, or that the text area is too short.
-pub(crate) enum PlacesResult {
-    Ok(Places),
+// Spans, or that the text area is too short.
+pub(crate) enum TextSpansResult {
+    Ok(TextSpans),
     Full,
 }
 
 // A directory row to be written, if it is new.
 pub struct NewDir {
     pub new: bool,
-    pub place: usize,
+    pub slot: usize,
     pub text: Span,
 }
 
-// What an addition writes: the set's record, the file's row, the pad's row, which has size 0 where no
-// pad follows, both directories, the set's old name, which is removed, where the new texts begin, and
+// What an addition writes: the set's record before and after it, the file's row, the pad's row, which has size 0 where
+// no pad follows, both directories, the set's old name, which is removed, the position where the new texts begin, and
 // the parts of the path, in which they stand.
 pub struct AddPlan {
+    pub before: FileStorage,
     pub after: FileStorage,
     pub row: Row,
     pub pad_row: Row,
@@ -95,8 +102,8 @@ fn pad_length(pad: u64) -> usize
     lists::digit_count(pad)
 }
 
-// Places for texts of these lengths after the first `start` bytes of `room`, in which they must fit.
-fn places_of(
+// Spans for texts of these lengths after the first `start` bytes of `room`, in which they must fit.
+fn text_spans(
     start: usize,
     room: usize,
     set: usize,
@@ -105,34 +112,34 @@ fn places_of(
     link: usize,
     pad_dir: usize,
     pad: usize,
-) -> PlacesResult
+) -> TextSpansResult
     requires { ⌜ start ≤ room ⌝ }
     ensures { λ r. ⌜ textSpansSays r ≡ spansWithin room (textSpansOf start set dir name link «pad_dir» pad) ⌝ }
 {
     if room - start < set {
-        return PlacesResult::Full;
+        return TextSpansResult::Full;
     }
     let at_dir = start + set;
     if room - at_dir < dir {
-        return PlacesResult::Full;
+        return TextSpansResult::Full;
     }
     let at_name = at_dir + dir;
     if room - at_name < name {
-        return PlacesResult::Full;
+        return TextSpansResult::Full;
     }
     let at_link = at_name + name;
     if room - at_link < link {
-        return PlacesResult::Full;
+        return TextSpansResult::Full;
     }
     let at_pad_dir = at_link + link;
     if room - at_pad_dir < pad_dir {
-        return PlacesResult::Full;
+        return TextSpansResult::Full;
     }
     let at_pad = at_pad_dir + pad_dir;
     if room - at_pad < pad {
-        return PlacesResult::Full;
+        return TextSpansResult::Full;
     }
-    PlacesResult::Ok(Places {
+    TextSpansResult::Ok(TextSpans {
         set: Span {
             at: start,
             len: set,
@@ -169,7 +176,7 @@ fn old_name(fs: FileStorage) -> Span
     Span { at: 0, len: 0 }
 }
 
-// The place of the set's name after an addition.
+// Where the set's name lies after an addition.
 fn name_after(fs: FileStorage, set: Span) -> Span
     ensures { λ r. ⌜ r ≡ cond (eqb (fs .«num_files») 0) set (fs .name) ⌝ }
 {
@@ -187,18 +194,19 @@ fn make_plan(
     flags: u64,
     first: DirPlan,
     second: DirPlan,
-    places: Places,
+    spans: TextSpans,
     old: Span,
     parts: PathParts,
 ) -> AddPlan
-    ensures { λ r. ⌜ r ≡ planFrom fs sizes counts flags first second places old parts ⌝ }
+    ensures { λ r. ⌜ r ≡ planFrom fs sizes counts flags first second spans old parts ⌝ }
 {
-    let set = places.set;
-    let directory = places.directory;
-    let name = places.name;
-    let link = places.link;
-    let pad_name = places.pad_name;
+    let set = spans.set;
+    let directory = spans.directory;
+    let name = spans.name;
+    let link = spans.link;
+    let pad_name = spans.pad_name;
     AddPlan {
+        before: fs,
         after: FileStorage {
             piece_length: fs.piece_length,
             v2: sizes.v2,
@@ -207,7 +215,7 @@ fn make_plan(
             num_symlinks: counts.num_symlinks,
             num_mtimes: counts.num_mtimes,
             name: name_after(fs, set),
-            text_len: places.end,
+            text_len: spans.end,
             total_size: counts.total_size,
             size_on_disk: counts.size_on_disk,
             trimmed: fs.trimmed,
@@ -225,22 +233,22 @@ fn make_plan(
             size: sizes.pad,
             name: pad_name,
             link: Span {
-                at: places.end,
+                at: spans.end,
                 len: 0,
             },
             path_index: second.index,
-            flags: 65,
+            flags: MADE_PAD_FLAGS,
         },
         dir: NewDir {
             new: first.new,
-            place: fs.num_paths,
+            slot: fs.num_paths,
             text: directory,
         },
         pad_dir: NewDir {
             new: second.new,
-            place: first.count,
+            slot: first.count,
             text: Span {
-                at: places.pad_directory,
+                at: spans.pad_directory,
                 len: 4,
             },
         },
@@ -269,7 +277,7 @@ fn plan_numbers(
         return PlanResult::Err(Refusal::NoRoom);
     }
     let old = old_name(fs);
-    let placed = places_of(
+    let laid = text_spans(
         lists::saturating_sub_usize(fs.text_len, old.len),
         rooms.text,
         lengths.set_name,
@@ -279,14 +287,14 @@ fn plan_numbers(
         second.len,
         pad_length(sizes.pad),
     );
-    let PlacesResult::Ok(places) = placed else {
+    let TextSpansResult::Ok(spans) = laid else {
         return PlanResult::Err(Refusal::NoRoom);
     };
-    PlanResult::Ok(make_plan(fs, sizes, counts, flags, first, second, places, old, parts))
+    PlanResult::Ok(make_plan(fs, sizes, counts, flags, first, second, spans, old, parts))
 }
 
-// The plan of an addition whose sizes are decided, to a set that its tables hold: `dir` is the text of its directory, for
-// which the stored directories are searched.
+// The plan of an addition whose sizes are decided, to a set that its tables hold: `dir` is the text of its directory,
+// for which the stored directories are searched.
 fn plan_dirs(
     fs: FileStorage,
     rooms: Rooms,
@@ -300,7 +308,7 @@ fn plan_dirs(
 ) -> PlanResult
     requires { ⌜ holdsIn fs rooms ≡ true ⌝ }
     requires { ⌜ fs .«total_size» + sizes .size + sizes .pad ≤ limit ⌝ }
-    requires { ⌜ (facts .«keeps_link» ≡ true → fs .«num_symlinks» < 32766) ⌝ }
+    requires { ⌜ (facts .«keeps_link» ≡ true → fs .«num_symlinks» < maxLinks) ⌝ }
     ensures { λ r. ⌜
         planSays r
         ≡ plannedBeside fs rooms (dirTexts (now (dirs .entry)) (now (text .entry)) (fs .«num_paths»)) sizes facts
@@ -326,14 +334,14 @@ fn plan_dirs(
 }
 
 // What an addition to a set adds to its counts.
-fn facts_of(fs: FileStorage, info: FileInfo, link: &[u8]) -> FileFacts
-    ensures { λ r. ⌜ r ≡ factsOf fs info (now (link .entry)) ⌝ }
+fn facts_of(fs: FileStorage, file: FileInfo, link: &[u8]) -> FileFacts
+    ensures { λ r. ⌜ r ≡ factsOf fs file (now (link .entry)) ⌝ }
 {
-    let rooted = info.rooted;
+    let rooted = file.rooted;
     FileFacts {
-        flags: info.flags,
+        flags: file.flags,
         keeps_link: additions::keeps_link(fs.num_symlinks, link),
-        untimed: additions::is_zero(info.mtime),
+        untimed: additions::is_zero(file.mtime),
         has_root: additions::is_here(rooted),
     }
 }
@@ -370,7 +378,7 @@ fn plan_texts(
     dirs: &[u64],
     text: &[u8],
     sizes: Sizes,
-    info: FileInfo,
+    file: FileInfo,
     filename: &[u8],
     path: &[u8],
     parts: PathParts,
@@ -381,15 +389,16 @@ fn plan_texts(
     ensures { λ r. ⌜
         planSays r
         ≡ plannedBeside fs rooms (dirTexts (now (dirs .entry)) (now (text .entry)) (fs .«num_paths»)) sizes
-        (factsOf fs info (now («symlink_path» .entry)))
+        (factsOf fs file (now («symlink_path» .entry)))
         (outsideKind (parts .kind))
         (directoryAt (parts .kind) (textAt (now (path .entry)) (parts .directory)))
-        (lengthsOf (fs .«num_symlinks») (info .given) (now (filename .entry)) (now (path .entry)) parts (now («symlink_path» .entry)))
+        (lengthsOf (fs .«num_symlinks») (file .given)
+        (now (filename .entry)) (now (path .entry)) parts (now («symlink_path» .entry)))
         parts
         ⌝ }
 {
-    let facts = facts_of(fs, info, symlink_path);
-    let given = info.given;
+    let facts = facts_of(fs, file, symlink_path);
+    let given = file.given;
     let lengths = lengths_of(fs.num_symlinks, given, filename, path, parts, symlink_path);
     let directory = parts.directory;
     let dir = tables::text_at(path, directory);
@@ -404,7 +413,7 @@ pub fn plan_add(
     times: &[i64],
     dirs: &[u64],
     text: &[u8],
-    info: FileInfo,
+    file: FileInfo,
     filename: &[u8],
     path: &[u8],
     symlink_path: &[u8],
@@ -412,12 +421,13 @@ pub fn plan_add(
     ensures { λ r. ⌜
         planSays r
         ≡ plannedFor
-        (storeOf fs (now (rows .entry)) (now (roots .entry)) (now (times .entry)) (now (dirs .entry)) (now (text .entry)))
-        (additionOf info (now (filename .entry)) (now (path .entry)) (now («symlink_path» .entry)))
+        (storeOf fs
+        (now (rows .entry)) (now (roots .entry)) (now (times .entry)) (now (dirs .entry)) (now (text .entry)))
+        (additionOf file (now (filename .entry)) (now (path .entry)) (now («symlink_path» .entry)))
         ⌝ }
 {
     let parts = additions::parts_of(fs, text, path);
-    match additions::decide_sizes(fs, info, filename, parts, symlink_path) {
+    match additions::decide_sizes(fs, file, filename, parts, symlink_path) {
         SizesResult::Err(e) => PlanResult::Err(e),
         SizesResult::Ok(sizes) => {
             let rooms = change::rooms_in(
@@ -436,7 +446,7 @@ pub fn plan_add(
                 dirs,
                 text,
                 sizes,
-                info,
+                file,
                 filename,
                 path,
                 parts,

@@ -12,11 +12,10 @@ use lib.Seq.{getD-drop}
 use borrow.Author.Tests.{eqb-true, eq-eqb}
 use Rattle.lists.specs.Lists.{sum}
 use Rattle.lists.proofs.Sums.{sum-append}
-use Rattle.tables.specs.Model.{Optional, absent, present, presentIf, File, Model}
+use Rattle.tables.specs.Model.{Optional, absent, present, presentIf, File, isPad, Model}
 use Rattle.additions.specs.Addition.{Addition, added, fileAdded, padAdded, padOf, sizeAdded, flagsKept, keeps, isPresent, filesOf, isV2, isOpen, decides, padTo, padAfter}
 use Rattle.trim.specs.Trim.{tailPad, sizeAt, beginningAt, withoutFile, trimmedIf}
 use Rattle.links.specs.Clean.{cleanedOf}
-use Rattle.sound.specs.Documents as documents
 use Rattle.sound.specs.Documents.{sizes, EndToEnd, sizeOnDisk, OnDisk, Marked, OnPiece, Each, none, more, LinkEmpty}
 use Rattle.reached.specs.Reached.{Reached, opened, addition, trim, cleaning}
 use Rattle.rules.proofs.Rules.{both-true}
@@ -187,20 +186,20 @@ pad-marked o n = at (eqb n 0) refl
   where
     at : (b : Bool) → eqb n 0 ≡ b → Each Marked (padAdded o n)
     at true e = rw e none
-    at false e = rw e (more (documents.marked refl) none)
+    at false e = rw e (more (λ made. refl) none)
 
 begin-marked : (o : ℕ) (f : File) → Marked f → Marked (beginningAt o f)
-begin-marked o f (documents.given e) = documents.given e
-begin-marked o f (documents.marked e) = documents.marked e
+begin-marked o f p = p
 
 clean-marked : (m : Model) (f : File) → Marked f → Marked (cleanedIn m f)
-clean-marked m f (documents.given e) = documents.given (clean-same m (λ (g : File). g .made) (λ l g. refl) f ∙ e)
-clean-marked m f (documents.marked e) = documents.marked (clean-same m (λ (g : File). g .flags % 2) (λ l g. refl) f ∙ e)
+clean-marked m f p made =
+    clean-same m (λ (g : File). isPad (g .flags)) (λ l g. refl) f
+    ∙ p (sym (clean-same m (λ (g : File). g .made) (λ l g. refl) f) ∙ made)
 
 pub marked : {m : Model} → Reached m → Each Marked (m .files)
 marked (opened n h k) = none
 marked (addition {m} r rooms a p) =
-    each-append (marked r) (more (documents.given refl) (pad-marked (m .total + sizeAdded a) (padOf m a)))
+    each-append (marked r) (more (λ made. absurd (false≢true made)) (pad-marked (m .total + sizeAdded a) (padOf m a)))
 marked (trim {m} r) = at (tailPad (m .files)) (marked r)
   where
     at : (o : Optional ℕ) → Each Marked (m .files) → Each Marked (trimmedIf o m .files)
@@ -232,9 +231,11 @@ linked-at-most (f ∷ fs) = omega (arith, link-at-most (f .link), linked-at-most
 
 -- where every file has link text and links have no bytes, no file has any
 link-size : (f : File) → LinkEmpty f → linkOne f ≡ 1 → f .size ≡ 0
-link-size f (documents.no-size e) h = e
-link-size f (documents.no-link e) h =
-    let z : linkOne f ≡ 0 = ap (λ (l : Optional (List ℕ)). cond (isPresent l) 1 0) e in absurd (omega arith)
+link-size f p h = p (held (f .link) h)
+  where
+    held : (o : Optional (List ℕ)) → _≡_ {A = ℕ} (cond (isPresent o) 1 0) 1 → isPresent o ≡ true
+    held absent q = absurd (omega arith)
+    held (present l) q = refl
 
 all-linked : (fs : List File) → Each LinkEmpty fs → linked fs ≡ length fs → sum (sizesOf fs) ≡ 0
 all-linked [] p h = refl
@@ -243,9 +244,12 @@ all-linked (f ∷ fs) (more p ps) h =
     let b = linked-at-most fs in
     omega (arith, link-size f p (omega arith), all-linked fs ps (omega arith))
 
+empty-on-piece : (n : ℕ) (f : File) → f .size ≡ 0 → OnPiece n f
+empty-on-piece n f e made some = absurd (omega arith)
+
 all-empty : (n : ℕ) (fs : List File) → sum (sizesOf fs) ≡ 0 → Each (OnPiece n) fs
 all-empty n [] h = none
-all-empty n (f ∷ fs) h = let e : f .size ≡ 0 = omega arith in more (documents.empty e) (all-empty n fs (omega arith))
+all-empty n (f ∷ fs) h = let e : f .size ≡ 0 = omega arith in more (empty-on-piece n f e) (all-empty n fs (omega arith))
 
 -- a pad ends on a piece
 pad-ends : (n t : ℕ) → 1 ≤ n → (t + padTo n t) % n ≡ 0
@@ -269,7 +273,7 @@ pad-pieces l o n = at (eqb n 0) refl
   where
     at : (b : Bool) → eqb n 0 ≡ b → Each (OnPiece l) (padAdded o n)
     at true e = rw e none
-    at false e = rw e (more (documents.pad refl) none)
+    at false e = rw e (more (λ made. absurd (false≢true (sym made))) none)
 
 record Pieces (m : Model) : Type 0 where
   long : 1 ≤ m .pieceLength
@@ -302,23 +306,19 @@ module _ (m : Model) (a : Addition) (total : m .total ≡ sum (sizes m)) (links 
         long = p .long;
         counted = omega (arith, p .counted, linked-append (m .files) (fileAdded m a ∷ padAdded (m .total + sizeAdded a) (padOf m a)), pad-link (m .total + sizeAdded a) (padOf m a), kept-link (keeps m a) (a .link));
         whole = λ e. ap (λ (b : Bool). (m .total + sizeAdded a + padAfter b (m .pieceLength) (m .total + sizeAdded a)) % m .pieceLength) e ∙ pad-ends (m .pieceLength) (m .total + sizeAdded a) (p .long);
-        each = λ e. each-append (before e .1) (more (documents.starts (before e .0)) (pad-pieces (m .pieceLength) (m .total + sizeAdded a) (padOf m a)));
+        each = λ e. each-append (before e .1) (more (λ made some. before e .0) (pad-pieces (m .pieceLength) (m .total + sizeAdded a) (padOf m a)));
       }
 
 -- a cleaning keeps all that counts here
 module _ (m : Model) (f : File) where
   clean-on-piece : (n : ℕ) → OnPiece n f → OnPiece n (cleanedIn m f)
-  clean-on-piece n (documents.empty e) = documents.empty (clean-same m (λ (g : File). g .size) (λ l g. refl) f ∙ e)
-  clean-on-piece n (documents.pad e) = documents.pad (clean-same m (λ (g : File). g .made) (λ l g. refl) f ∙ e)
-  clean-on-piece n (documents.starts e) = documents.starts (clean-same m (λ (g : File). g .offset % n) (λ l g. refl) f ∙ e)
+  clean-on-piece n p made some =
+      let e = clean-same m (λ (g : File). g .size) (λ l g. refl) f in
+      clean-same m (λ (g : File). g .offset % n) (λ l g. refl) f
+      ∙ p (sym (clean-same m (λ (g : File). g .made) (λ l g. refl) f) ∙ made) (omega arith)
 
   uncleaned-empty : LinkEmpty (cleanedIn m f) → LinkEmpty f
-  uncleaned-empty (documents.no-link e) = documents.no-link (none (f .link) (sym (clean-held m f) ∙ ap isPresent e))
-    where
-      none : (l : Optional (List ℕ)) → isPresent l ≡ false → l ≡ absent
-      none absent q = refl
-      none (present t) q = absurd (false≢true (sym q))
-  uncleaned-empty (documents.no-size e) = documents.no-size (sym (clean-same m (λ (g : File). g .size) (λ l g. refl) f) ∙ e)
+  uncleaned-empty p held = sym (clean-same m (λ (g : File). g .size) (λ l g. refl) f) ∙ p (clean-held m f ∙ held)
 
 pieces-cleaned : (m : Model) → Pieces m → Pieces (cleanedOf m)
 pieces-cleaned m p =

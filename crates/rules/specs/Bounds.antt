@@ -11,6 +11,26 @@ use Rattle.types.specs.Signed.{clampedOf}
 abbrev pub limit : ℕ
 limit = 281474976710655
 
+-- the most pieces, refusal 13
+abbrev pub maxPieces : ℕ
+maxPieces = 2147483647
+
+-- the most files, and the most directories, refusal 10
+abbrev pub maxEntries : ℕ
+maxEntries = 65535
+
+-- the most link texts
+abbrev pub maxLinks : ℕ
+maxLinks = 32766
+
+-- a name has fewer bytes, refusal 5
+abbrev pub nameLimit : ℕ
+nameLimit = 4096
+
+-- the bytes of a block
+abbrev pub blockSize : ℕ
+blockSize = 16384
+
 -- a size or an offset, 0 where it is negative
 abbrev pub clampedOf : ℤ → ℕ
 clampedOf z = clampedOf z

@@ -1,6 +1,6 @@
--- When a set's tables are in order: the tables hold what the set's record counts, every text lies in the used part of the
--- text area, no two have a byte in common and together they fill it, and offsets are the sums of the sizes before. It relies
--- on the rows and spans of `tables`.
+-- When a set's tables are in order: the tables hold what the set's record counts, every text lies in the used part of
+-- the text area, no two have a byte in common and together they fill it, and offsets are the sums of the sizes before.
+-- It relies on the rows and spans of `tables`.
 use Prim.Native.Nat.{ℕ, zero, suc, _+_, _*_, _≤_, _<_}
 use mathlib.Core.Path.{_≡_}
 use mathlib.Core.Bool.{false, cond}
@@ -8,11 +8,12 @@ use lib.Dec.{ltb}
 use lib.ListN.{length}
 use Rattle.tables.specs.declared.span.Span.{Span}
 use Rattle.tables.specs.Span.{endOf, Apart}
-use Rattle.tables.specs.Rows.{rowAt, dirAt, has, dirWidth, linkHeldBit, padBit, rootWidth, rowWidth}
+use Rattle.tables.specs.Rows.{rowAt, dirAt, noPath, pathIsAbsolute, rowWidth}
+use Rattle.tables.specs.Rows.{dirWidth, rootWidth, has, padBit, linkHeldBit}
 use Rattle.tables.specs.Model.{Store}
-use Rattle.rules.specs.Bounds.{limit}
+use Rattle.rules.specs.Bounds.{limit, maxEntries}
 
--- what a text is
+-- the texts of a set, each by what it is the text of
 pub data TextId : Type 0 where
   setName : TextId
   dirName : ℕ → TextId
@@ -40,7 +41,9 @@ textAtRow s k = spanOf s (fileName k) .len + spanOf s (linkText k) .len
 -- the texts' lengths together
 abbrev pub lengths : Store → ℕ
 lengths s =
-    s .fs .name .len + sumTo (s .fs .«num_paths») (λ k. spanOf s (dirName k) .len) + sumTo (s .fs .«num_files») (textAtRow s)
+    s .fs .name .len
+    + sumTo (s .fs .«num_paths») (λ k. spanOf s (dirName k) .len)
+    + sumTo (s .fs .«num_files») (textAtRow s)
 
 abbrev pub sizeOfRow : Store → ℕ → ℕ
 sizeOfRow s k = rowAt (s .rows) k .size
@@ -55,8 +58,8 @@ pub record Sound (s : Store) : Type 0 where
   pub dirs-hold : s .fs .«num_paths» * dirWidth ≤ length (s .dirs)
   pub times-hold : s .fs .«num_mtimes» ≤ length (s .times)
   pub text-holds : s .fs .«text_len» ≤ length (s .text)
-  pub few-files : s .fs .«num_files» ≤ 65535
-  pub few-paths : s .fs .«num_paths» ≤ 65535
+  pub few-files : s .fs .«num_files» ≤ maxEntries
+  pub few-paths : s .fs .«num_paths» ≤ maxEntries
   pub within : (p : TextId) → endOf (spanOf s p) ≤ s .fs .«text_len»
   pub apart : (p q : TextId) → (p ≡ q → ⊥) → Apart (spanOf s p) (spanOf s q)
   pub full : lengths s ≡ s .fs .«text_len»
@@ -65,8 +68,10 @@ pub record Sound (s : Store) : Type 0 where
   pub limited : s .fs .«total_size» ≤ limit
   pub on-disk : s .fs .«size_on_disk» + sumTo (s .fs .«num_files») (padOfRow s) ≡ s .fs .«total_size»
   -- a row without link text has no bytes of it
-  pub unlinked : (k : ℕ) → k < s .fs .«num_files» → has (rowAt (s .rows) k .flags) linkHeldBit ≡ false → rowAt (s .rows) k .link .len ≡ 0
-  -- a row's directory is there, or it has none
-  pub placed : (k : ℕ) → k < s .fs .«num_files» → rowAt (s .rows) k .«path_index» < 1073741822 → rowAt (s .rows) k .«path_index» < s .fs .«num_paths»
-  -- the path index is one of 30 bits, as upstream holds it
-  pub indexed : (k : ℕ) → k < s .fs .«num_files» → rowAt (s .rows) k .«path_index» ≤ 1073741823
+  pub unlinked : (k : ℕ) → k < s .fs .«num_files» → has (rowAt (s .rows) k .flags) linkHeldBit ≡ false
+      → rowAt (s .rows) k .link .len ≡ 0
+  -- a row has no directory, or a stored one
+  pub placed : (k : ℕ) → k < s .fs .«num_files» → rowAt (s .rows) k .«path_index» < pathIsAbsolute
+      → rowAt (s .rows) k .«path_index» < s .fs .«num_paths»
+  -- a path index has 30 bits, as upstream holds it; `noPath` is the largest
+  pub indexed : (k : ℕ) → k < s .fs .«num_files» → rowAt (s .rows) k .«path_index» ≤ noPath

@@ -7,7 +7,6 @@ use lib.Dec.{eqb}
 use lib.IntN.{ℤ}
 use lib.ListN.{length}
 use lib.Seq.{sets}
-use Rattle.lists.proofs.Runs.{sets-append}
 use Rattle.types.specs.Refusals.{value, refused}
 use Rattle.tables.specs.declared.storage.FileStorage.{FileStorage}
 use Rattle.tables.specs.Rows.{putRow}
@@ -17,23 +16,13 @@ use Rattle.additions.specs.declared.parts.PathKind.{PathKind}
 use Rattle.additions.specs.declared.parts.PathKind.the-variants.{Single, Absolute, Inside, Outside}
 use Rattle.additions.specs.Addition.{Addition, padDirectory, padOf, isAmong, directoryAdded, withDirectoryOf}
 use Rattle.additions.specs.private.Texts.{directoryAt}
-use Rattle.plan.specs.Write.{newTextOf, isNewDirectory, setText, directoryNew, nameText, linkNew, padDirectoryNew, padText, oldName, textKept, directoryStart, nameStart, linkStart, padDirectoryStart, padNameStart, isNewPad, rowAdded, padRow, textAdded, rowsAdded, dirsAdded}
+use Rattle.plan.specs.Write.{newTextOf, isNewDirectory, newTexts, setText, directoryNew, nameText, linkNew, padDirectoryNew, padText, oldName, textKept, directoryStart, nameStart, linkStart, padDirectoryStart, padNameStart, isNewPad, rowAdded, padRow, textAdded, rowsAdded, dirsAdded}
 use Rattle.plan.specs.private.Steps.{TextsOf}
 use Rattle.plan.specs.Plan.{planOf}
+use Rattle.plan.proofs.Joined.{sets-joined}
 use Rattle.storage.specs.private.Written.{renamed, textWritten, dirsWritten, rowsWritten}
 
 -- ---- the text area
-
-six : (t a b c d e f : List ℕ) (k : ℕ)
-    → sets (sets (sets (sets (sets (sets t k a) (k + length a) b) (k + length a + length b) c) (k + length a + length b + length c) d) (k + length a + length b + length c + length d) e) (k + length a + length b + length c + length d + length e) f
-    ≡ sets t k (a ++ (b ++ (c ++ (d ++ (e ++ f)))))
-six t a b c d e f k =
-    sym
-    (sets-append a (b ++ (c ++ (d ++ (e ++ f)))) t k
-    ∙ sets-append b (c ++ (d ++ (e ++ f))) (sets t k a) (k + length a)
-    ∙ sets-append c (d ++ (e ++ f)) (sets (sets t k a) (k + length a) b) (k + length a + length b)
-    ∙ sets-append d (e ++ f) (sets (sets (sets t k a) (k + length a) b) (k + length a + length b) c) (k + length a + length b + length c)
-    ∙ sets-append e f (sets (sets (sets (sets t k a) (k + length a) b) (k + length a + length b) c) (k + length a + length b + length c) d) (k + length a + length b + length c + length d))
 
 new-text : (t : Bool) (d : List ℕ) → cond (not t) d [] ≡ cond t [] d
 new-text true d = refl
@@ -60,7 +49,7 @@ module _ (s : Store) (m : Model) (a : Addition) where
       subst (λ (p : Directory). cond (isNewDirectory p (m .directories)) dir [] ≡ newTextOf p (m .directories)) (t .dir-is) (new-dir kind dir (m .directories)) in
       let p : cond (isNewPad m a) padDirectory [] ≡ padDirectoryNew m a = new-pad (eqb (padOf m a) 0) (isAmong padDirectory (withDirectoryOf (directoryAdded m a) (m .directories))) padDirectory in
       all (renamed (fs .«num_files») (oldName fs) (fs .«text_len») (s .text)) (t .set-is) d (t .name-is) (t .link-is) p
-      ∙ six (renamed (fs .«num_files») (oldName fs) (fs .«text_len») (s .text)) (setText m a) (directoryNew m a) (nameText m a) (linkNew m a) (padDirectoryNew m a) (padText m a) (textKept fs)
+      ∙ sym (sets-joined (renamed (fs .«num_files») (oldName fs) (fs .«text_len») (s .text)) (textKept fs) (newTexts m a))
     where
       all : (t : List ℕ) {c d n l p c' d' n' l' p' : List ℕ} → c ≡ c' → d ≡ d' → n ≡ n' → l ≡ l' → p ≡ p'
           → sets (sets (sets (sets (sets (sets t (textKept fs) c) (directoryStart fs m a) d) (nameStart fs m a) n) (linkStart fs m a) l) (padDirectoryStart fs m a) p) (padNameStart fs m a) (padText m a)

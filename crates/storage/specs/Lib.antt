@@ -1,3 +1,3 @@
--- The definitions that the contracts of `storage` cite: a set that is opened; then those of its private writers.
+-- The definitions that the contracts of `storage` cite, beside those of `plan`: a set that is opened.
 pub mod Opening
-pub mod Written
+pub mod private

@@ -1,5 +1,5 @@
--- Document 01, opening: refusal 1 for a piece length below 1, else a set without files, as its record and as a model. It
--- relies on the record and the model of `tables`.
+-- Document 01, opening: refusal 1 for a piece length below 1, else a set without files, as its record and as a model.
+-- It relies on the record and the model of `tables`.
 use Prim.Native.Nat.{ℕ}
 use mathlib.Core.Bool.{false, cond}
 use mathlib.Core.List.{[]}
@@ -8,6 +8,10 @@ use lib.IntN.{ℤ, pos, negsuc}
 use Rattle.types.specs.Refusals.{Outcome, value, refused}
 use Rattle.tables.specs.declared.storage.FileStorage.{FileStorage}
 use Rattle.tables.specs.Model.{Model}
+
+-- the largest piece length, as an i32 holds it
+abbrev pub maxPieceLength : ℕ
+maxPieceLength = 2147483647
 
 -- the record of a newly opened set
 abbrev pub newStorage : ℕ → FileStorage

@@ -9,11 +9,9 @@ use additions::FileInfo;
 use change::StorageResult;
 use plan::PlanResult;
 use tables::FileStorage;
-use tables::Presence;
-use tables::Sha256Hash;
 
-// Adds a file: its given name if it is there, path, size, flags, modified time, link text, and root if
-// it is there. In a v2 set a pad follows where the total is no multiple of the piece length.
+// Adds a file, whose texts are its given name, its path and its link text. In a v2 set a pad follows where the total is
+// no multiple of the piece length.
 pub fn add_file(
     fs: FileStorage,
     rows: &mut [u64],
@@ -21,32 +19,20 @@ pub fn add_file(
     times: &mut [i64],
     dirs: &mut [u64],
     text: &mut [u8],
-    given: Presence,
+    file: FileInfo,
     filename: &[u8],
     path: &[u8],
-    file_size: i64,
-    file_flags: u8,
-    mtime: i64,
     symlink_path: &[u8],
-    rooted: Presence,
-    root: Sha256Hash,
 ) -> StorageResult
     ensures { λ r. ⌜
-        changedOf (storageSays r) (now (rows .exit)) (now (roots .exit)) (now (times .exit)) (now (dirs .exit)) (now (text .exit))
+        changedOf (storageSays r)
+        (now (rows .exit)) (now (roots .exit)) (now (times .exit)) (now (dirs .exit)) (now (text .exit))
         ≡ addStored
-        (storeOf fs (now (rows .entry)) (now (roots .entry)) (now (times .entry)) (now (dirs .entry)) (now (text .entry)))
-        (additionOf given (now (filename .entry)) (now (path .entry)) «file_size» «file_flags» mtime
-        (now («symlink_path» .entry)) rooted root)
+        (storeOf fs
+        (now (rows .entry)) (now (roots .entry)) (now (times .entry)) (now (dirs .entry)) (now (text .entry)))
+        (additionOf file (now (filename .entry)) (now (path .entry)) (now («symlink_path» .entry)))
         ⌝ }
 {
-    let info = FileInfo {
-        given,
-        size: file_size,
-        flags: file_flags,
-        mtime,
-        rooted,
-        root,
-    };
     let planned = plan::plan_add(
         fs,
         rows,
@@ -54,7 +40,7 @@ pub fn add_file(
         times,
         dirs,
         text,
-        info,
+        file,
         filename,
         path,
         symlink_path,
@@ -63,14 +49,13 @@ pub fn add_file(
         PlanResult::Err(e) => StorageResult::Err(e),
         PlanResult::Ok(plan) => {
             write_all(
-                fs,
                 rows,
                 roots,
                 times,
                 dirs,
                 text,
                 plan,
-                info,
+                file,
                 filename,
                 path,
                 symlink_path,

@@ -8,14 +8,15 @@ ghost use lib.IntN.{pos};
 ghost use lib.ListN.{replicate};
 ghost use lib.Seq.{sets};
 ghost use Rattle.tables.specs.Span.{textAt};
+ghost use Rattle.rules.specs.Bounds.{maxEntries};
 ghost use Rattle.additions.specs.private.Texts.{nameFrom, linkTextOf};
 ghost use Rattle.plan.specs.Write.{padDigits, rootsAdded, timesAdded};
 ghost use Rattle.additions.specs.Addition.{optionalOf};
-ghost use Rattle.storage.specs.private.Written.{renamed, textWritten, dirsRenamed, dirWritten, dirsWritten, rowsWritten};
+ghost use Rattle.storage.specs.private.Written.{renamed, textWritten, dirsRenamed};
+ghost use Rattle.storage.specs.private.Written.{dirWritten, dirsWritten, rowsWritten};
 use additions::FileInfo;
 use plan::AddPlan;
 use plan::NewDir;
-use tables::FileStorage;
 use tables::Presence;
 use tables::Sha256Hash;
 use tables::Span;
@@ -60,8 +61,8 @@ fn put_pad(text: &mut [u8], at: usize, pad: u64)
     }
 }
 
-// Writes the new texts: the set's name, the directory, the name, the link, the pad's directory and name. `own` is the name
-// that the path gives.
+// Writes the new texts: the set's name, the directory, the name, the link, the pad's directory and name. `own` is the
+// name that the path gives.
 fn write_text(
     text: &mut [u8],
     files: usize,
@@ -93,7 +94,6 @@ fn write_text(
 // Writes the new texts of an addition, which stand in its path, its given name and its link text.
 fn write_texts(
     text: &mut [u8],
-    fs: FileStorage,
     plan: AddPlan,
     given: Presence,
     filename: &[u8],
@@ -102,11 +102,11 @@ fn write_texts(
 )
     ensures { λ _. ⌜
         now (text .exit)
-        ≡ textWritten (fs .«num_files») (fs .«text_len») plan (now (text .entry))
+        ≡ textWritten (plan .before .«num_files») (plan .before .«text_len») plan (now (text .entry))
         (textAt (now (path .entry)) (plan .parts .«set_name»))
         (textAt (now (path .entry)) (plan .parts .directory))
         (nameFrom given (now (filename .entry)) (textAt (now (path .entry)) (plan .parts .name)))
-        (linkTextOf (fs .«num_symlinks») (now («symlink_path» .entry)))
+        (linkTextOf (plan .before .«num_symlinks») (now («symlink_path» .entry)))
         ⌝ }
 {
     let parts = plan.parts;
@@ -115,15 +115,15 @@ fn write_texts(
     let name_span = parts.name;
     write_text(
         text,
-        fs.num_files,
-        fs.text_len,
+        plan.before.num_files,
+        plan.before.text_len,
         plan,
         tables::text_at(path, set_span),
         tables::text_at(path, dir_span),
         given,
         filename,
         tables::text_at(path, name_span),
-        additions::link_text(fs.num_symlinks, symlink_path),
+        additions::link_text(plan.before.num_symlinks, symlink_path),
     );
 }
 
@@ -142,7 +142,7 @@ fn put_new_dir(dirs: &mut [u64], dir: NewDir)
 {
     if dir.new {
         let text = dir.text;
-        tables::put_dir(dirs, dir.place, text);
+        tables::put_dir(dirs, dir.slot, text);
     }
 }
 
@@ -160,7 +160,7 @@ fn write_dirs(dirs: &mut [u64], files: usize, n: usize, plan: AddPlan)
 
 // Writes the file's row, and the pad's where there is one.
 fn write_rows(rows: &mut [u64], files: usize, plan: AddPlan)
-    requires { ⌜ files ≤ 65535 ⌝ }
+    requires { ⌜ files ≤ maxEntries ⌝ }
     ensures { λ _. ⌜ now (rows .exit) ≡ rowsWritten files plan (now (rows .entry)) ⌝ }
 {
     let row = plan.row;
@@ -181,7 +181,7 @@ fn write_root(roots: &mut [u8], i: usize, rooted: Presence, root: Sha256Hash)
     }
 }
 
-// Writes 0 to the places from `from` up to, and without, `to`.
+// Writes time 0 to the files from `from` up to, and without, `to`.
 fn clear_times(times: &mut [i64], from: usize, to: usize)
     ensures { λ _. ⌜ now (times .exit) ≡ sets (now (times .entry)) from (replicate (to - from) (pos 0)) ⌝ }
 {
@@ -192,9 +192,9 @@ fn clear_times(times: &mut [i64], from: usize, to: usize)
     }
 }
 
-// Writes the time of file i, and 0 to the places before it that were not held; a time of 0 writes nothing.
+// Writes the time of file i, and 0 to the files before it that have none; a time of 0 writes nothing.
 fn write_time(times: &mut [i64], held: usize, i: usize, time: i64)
-    requires { ⌜ i ≤ 65535 ⌝ }
+    requires { ⌜ i ≤ maxEntries ⌝ }
     ensures { λ _. ⌜ now (times .exit) ≡ timesAdded (now (times .entry)) held i time ⌝ }
 {
     if additions::is_zero(time) {
@@ -206,42 +206,50 @@ fn write_time(times: &mut [i64], held: usize, i: usize, time: i64)
 
 // Writes an addition by its plan: rows, root, time, directory rows and texts.
 pub(crate) fn write_all(
-    fs: FileStorage,
     rows: &mut [u64],
     roots: &mut [u8],
     times: &mut [i64],
     dirs: &mut [u64],
     text: &mut [u8],
     plan: AddPlan,
-    info: FileInfo,
+    file: FileInfo,
     filename: &[u8],
     path: &[u8],
     symlink_path: &[u8],
 )
-    requires { ⌜ fs .«num_files» ≤ 65535 ⌝ }
-    ensures { λ _. ⌜ now (rows .exit) ≡ rowsWritten (fs .«num_files») plan (now (rows .entry)) ⌝ }
+    requires { ⌜ plan .before .«num_files» ≤ maxEntries ⌝ }
+    ensures { λ _. ⌜ now (rows .exit) ≡ rowsWritten (plan .before .«num_files») plan (now (rows .entry)) ⌝ }
     ensures { λ _. ⌜
-        now (roots .exit) ≡ rootsAdded (now (roots .entry)) (fs .«num_files») (optionalOf (info .rooted) (info .root))
+        now (roots .exit)
+        ≡ rootsAdded (now (roots .entry)) (plan .before .«num_files») (optionalOf (file .rooted) (file .root))
         ⌝ }
     ensures { λ _. ⌜
-        now (times .exit) ≡ timesAdded (now (times .entry)) (fs .«num_mtimes») (fs .«num_files») (info .mtime)
+        now (times .exit)
+        ≡ timesAdded (now (times .entry)) (plan .before .«num_mtimes») (plan .before .«num_files») (file .mtime)
         ⌝ }
-    ensures { λ _. ⌜ now (dirs .exit) ≡ dirsWritten (fs .«num_files») (fs .«num_paths») plan (now (dirs .entry)) ⌝ }
+    ensures { λ _. ⌜
+        now (dirs .exit) ≡ dirsWritten (plan .before .«num_files») (plan .before .«num_paths») plan (now (dirs .entry))
+        ⌝ }
     ensures { λ _. ⌜
         now (text .exit)
-        ≡ textWritten (fs .«num_files») (fs .«text_len») plan (now (text .entry))
+        ≡ textWritten (plan .before .«num_files») (plan .before .«text_len») plan (now (text .entry))
         (textAt (now (path .entry)) (plan .parts .«set_name»))
         (textAt (now (path .entry)) (plan .parts .directory))
-        (nameFrom (info .given) (now (filename .entry)) (textAt (now (path .entry)) (plan .parts .name)))
-        (linkTextOf (fs .«num_symlinks») (now («symlink_path» .entry)))
+        (nameFrom (file .given) (now (filename .entry)) (textAt (now (path .entry)) (plan .parts .name)))
+        (linkTextOf (plan .before .«num_symlinks») (now («symlink_path» .entry)))
         ⌝ }
 {
-    let given = info.given;
-    let rooted = info.rooted;
-    let root = info.root;
-    write_rows(rows, fs.num_files, plan);
-    write_root(roots, fs.num_files, rooted, root);
-    write_time(times, fs.num_mtimes, fs.num_files, info.mtime);
-    write_dirs(dirs, fs.num_files, fs.num_paths, plan);
-    write_texts(text, fs, plan, given, filename, path, symlink_path);
+    let given = file.given;
+    let rooted = file.rooted;
+    let root = file.root;
+    write_rows(rows, plan.before.num_files, plan);
+    write_root(roots, plan.before.num_files, rooted, root);
+    write_time(
+        times,
+        plan.before.num_mtimes,
+        plan.before.num_files,
+        file.mtime,
+    );
+    write_dirs(dirs, plan.before.num_files, plan.before.num_paths, plan);
+    write_texts(text, plan, given, filename, path, symlink_path);
 }

@@ -11,6 +11,11 @@ abbrev pub presenceIf : Bool → Presence
 presenceIf true = Present
 presenceIf false = Absent
 
--- file i; bit 128 of its flags says whether it has a root
+-- file i
 abbrev pub entryAt : List ℕ → List ℕ → ℕ → FileEntry
-entryAt rows roots i = record { row = rowAt rows i; presence = presenceIf (has (rowAt rows i .flags) rootBit); root = rootAt roots i }
+entryAt rows roots i =
+    record {
+      row = rowAt rows i;
+      presence = presenceIf (has (rowAt rows i .flags) rootBit);
+      root = rootAt roots i;
+    }

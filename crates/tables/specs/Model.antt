@@ -1,6 +1,6 @@
--- What a set's tables mean: document 01, 'The set'. A set is its files in order, each with offset, size, name, directory,
--- flags, link text and root, its directories, its times, its name, v1 or v2, and its totals. It relies on the rows of
--- Rows.antt, the texts of Span.antt and the joins of `path`.
+-- What a set's tables mean: document 01, 'The set'. A set is its files in order, each with offset, size, name,
+-- directory, flags, link text and root, its directories, its times, its name, v1 or v2, and its totals. It relies on the
+-- rows of Rows.antt, the texts of Span.antt and the joins of `path`.
 use Prim.Native.Nat.{ℕ, zero, suc, _%_}
 use mathlib.Core.Bool.{Bool, true, false, cond}
 use mathlib.Core.List.{List, [], _∷_}
@@ -11,7 +11,8 @@ use Rattle.path.specs.Join.{appended}
 use Rattle.tables.specs.declared.rows.Row.{Row}
 use Rattle.tables.specs.declared.storage.FileStorage.{FileStorage}
 use Rattle.tables.specs.Span.{textAt}
-use Rattle.tables.specs.Rows.{rowAt, dirAt, noPath, isAbsolute, rootAt, has, linkHeldBit, madeBit, outsideBit, rootBit}
+use Rattle.tables.specs.Rows.{rowAt, dirAt, noPath, isAbsolute, rootAt, has}
+use Rattle.tables.specs.Rows.{linkHeldBit, outsideBit, madeBit, rootBit}
 
 pub data Optional (A : Type 0) : Type 0 where
   absent : Optional A
@@ -28,13 +29,15 @@ pub data Directory : Type 0 where
   absolute : Directory
   stored : List ℕ → Bool → Directory
 
--- the internal path of a name in a directory: the name alone where there is none. A link's text is joined to its directory alike
+-- the internal path of a name in a directory: the name alone where there is none. A link's text is joined to its
+-- directory alike
 abbrev pub pathIn : Directory → List ℕ → List ℕ
 pathIn single name = name
 pathIn absolute name = name
 pathIn (stored d outside) name = appended d name
 
--- flags: pad 1, hidden 2, executable 4, symlink 8; `made` marks a pad that an addition made
+-- 'A file has offset, size, name, directory, flags …, modified time, link text and a root of 32 bytes or none'; `made` is
+-- true of a pad that an addition made. Times are held beside the files
 pub record File : Type 0 where
   pub offset : ℕ
   pub size : ℕ
@@ -45,7 +48,7 @@ pub record File : Type 0 where
   pub root : Optional (List ℕ)
   pub made : Bool
 
--- `links` counts link texts, a trimmed pad's too; `times` are held by place, and behind them each time is 0
+-- `links` counts link texts, a trimmed pad's too; file i has time i of `times`, and 0 where they are fewer
 pub record Model : Type 0 where
   pub pieceLength : ℕ
   pub v2 : Bool
@@ -57,6 +60,10 @@ pub record Model : Type 0 where
   pub total : ℕ
   pub onDisk : ℕ
   pub trimmed : Bool
+
+-- whether a file's flags mark a pad
+abbrev pub isPad : ℕ → Bool
+isPad flags = eqb (flags % 2) 1
 
 -- the set's record and its tables
 pub record Store : Type 0 where
@@ -85,15 +92,14 @@ directoryIn dirs text r =
     cond (eqb (r .«path_index») noPath) single
     (cond (isAbsolute r) absolute (stored (textAt text (dirAt dirs (r .«path_index»))) (has (r .flags) outsideBit)))
 
--- the internal path of the file with that row
+-- the internal path of a row's file
 abbrev pub internalPath : List ℕ → List ℕ → Row → List ℕ
 internalPath dirs text r = pathIn (directoryIn dirs text r) (textAt text (r .name))
 
 abbrev pub directoryOf : Store → Row → Directory
 directoryOf s r = directoryIn (s .dirs) (s .text) r
 
--- bits of a row's flags: 16 a link text is held, 32 the directory stands outside the set's name, 64 a pad made by an
--- addition, 128 a root is there
+-- file i; its flags are the four that an addition gives
 abbrev pub fileOf : Store → ℕ → File
 fileOf s i =
     record {
@@ -101,7 +107,7 @@ fileOf s i =
       size = rowAt (s .rows) i .size;
       name = textAt (s .text) (rowAt (s .rows) i .name);
       directory = directoryOf s (rowAt (s .rows) i);
-      flags = rowAt (s .rows) i .flags % 16;
+      flags = rowAt (s .rows) i .flags % linkHeldBit;
       link = presentIf (has (rowAt (s .rows) i .flags) linkHeldBit) (textAt (s .text) (rowAt (s .rows) i .link));
       root = presentIf (has (rowAt (s .rows) i .flags) rootBit) (rootAt (s .roots) i);
       made = has (rowAt (s .rows) i .flags) madeBit;

@@ -1,5 +1,5 @@
 -- Texts side by side in the used part of a text area, which is a prefix without gaps. A span says where a text lies; a
--- text is removed by sliding down what lies behind it. All is total: spans may lie anywhere, and empty ones are harmless.
+-- text is removed by sliding down what follows it. All is total: spans may lie anywhere, and empty ones are harmless.
 -- It relies on `partOf` of `lists`.
 use Prim.Native.Nat.{ℕ, _+_, _-_, _≤_, min, max}
 use mathlib.Core.List.{List}
@@ -19,7 +19,7 @@ textAt text s = partOf text (s .at) (s .len)
 abbrev pub Apart : Span → Span → Type 0
 Apart s t = min (endOf s) (endOf t) ≤ max (s .at) (t .at)
 
--- where the byte at p lies once the bytes of span c are removed
+-- the position of the byte at p once the bytes of span c are removed
 abbrev pub lower : Span → ℕ → ℕ
 lower c p = p - min (c .len) (p - c .at)
 
@@ -30,7 +30,7 @@ low c s = record { at = lower c (s .at); len = s .len }
 abbrev pub clip : ℕ → Span → Span
 clip u s = record { at = min (s .at) u; len = min (s .len) (u - s .at) }
 
--- the area once span c of its first u bytes is removed: what lies behind c slides down; what lay behind the used part,
--- and as many bytes before it as were removed, are left as they were
+-- the area once span c of its first u bytes is removed: what follows c slides down; the bytes after the used part, and as
+-- many before them as were removed, are left as they were
 abbrev pub slid : Span → ℕ → List ℕ → List ℕ
 slid c u text = sets text (c .at) (drop (endOf c) (take u text))

@@ -6,9 +6,34 @@ ghost use Prim.Native.Nat.{_+_, _<_, _^_};
 ghost use lib.ListN.{getD, set};
 ghost use lib.Seq.{sets};
 ghost use lib.IntN.{pos};
-ghost use Rattle.tables.specs.Rows.{rowAt, putRow, dirAt, putDir, isStored, directorySpan, rootAt, putRoot, has, linkHeldBit, outsideBit, padBit, rootBit, symlinkBit};
+ghost use Rattle.tables.specs.Rows.{rowAt, putRow, dirAt, putDir, isStored, directorySpan, rootAt, putRoot, has};
+ghost use Rattle.tables.specs.Rows.{padBit, symlinkBit, linkHeldBit, outsideBit, rootBit};
 ghost use Rattle.tables.specs.Entry.{entryAt};
 use crate::span::Span;
+
+// The words of a file row and of a directory row, and the bytes of a root.
+pub const ROW_WIDTH: usize = 8;
+
+pub const DIR_WIDTH: usize = 2;
+
+pub const ROOT_WIDTH: usize = 32;
+
+// Bits of a row's flags: pad and symlink as an addition gives them; a link text is held; the directory stands outside the
+// set's name; a pad that an addition made; a root is there.
+pub const PAD_BIT: u64 = 1;
+
+pub const SYMLINK_BIT: u64 = 8;
+
+pub const LINK_HELD_BIT: u64 = 16;
+
+pub const OUTSIDE_BIT: u64 = 32;
+
+pub const MADE_BIT: u64 = 64;
+
+pub const ROOT_BIT: u64 = 128;
+
+// Offsets and sizes are held in 48 bits.
+const SIZE_RANGE: u64 = 0x1_0000_0000_0000;
 
 // The path index of a single name, which has no directory.
 pub const NO_PATH: u64 = 1073741823;
@@ -17,7 +42,7 @@ pub const NO_PATH: u64 = 1073741823;
 pub const PATH_IS_ABSOLUTE: u64 = 1073741822;
 
 // A root's 32 bytes.
-pub type Sha256Hash = [u8; 32];
+pub type Sha256Hash = [u8; ROOT_WIDTH];
 
 // Whether something that may be missing is there.
 pub enum Presence {
@@ -56,10 +81,10 @@ pub fn row_at(rows: &[u64], i: usize) -> Row
             flags: 0,
         };
     }
-    let base = i * 8;
+    let base = i * ROW_WIDTH;
     Row {
-        offset: lists::word(rows, base) % 0x1_0000_0000_0000,
-        size: lists::word(rows, base + 1) % 0x1_0000_0000_0000,
+        offset: lists::word(rows, base) % SIZE_RANGE,
+        size: lists::word(rows, base + 1) % SIZE_RANGE,
         name: Span {
             at: lists::word(rows, base + 2) as usize,
             len: lists::word(rows, base + 3) as usize,
@@ -80,7 +105,7 @@ pub fn offset_at(rows: &[u64], i: usize) -> u64
     if rows.len() <= i {
         return 0;
     }
-    lists::word(rows, i * 8) % 0x1_0000_0000_0000
+    lists::word(rows, i * ROW_WIDTH) % SIZE_RANGE
 }
 
 // The size of row i.
@@ -90,7 +115,7 @@ pub fn size_at(rows: &[u64], i: usize) -> u64
     if rows.len() <= i {
         return 0;
     }
-    lists::word(rows, i * 8 + 1) % 0x1_0000_0000_0000
+    lists::word(rows, i * ROW_WIDTH + 1) % SIZE_RANGE
 }
 
 // The flags of row i.
@@ -100,10 +125,10 @@ pub fn flags_at(rows: &[u64], i: usize) -> u64
     if rows.len() <= i {
         return 0;
     }
-    lists::word(rows, i * 8 + 7)
+    lists::word(rows, i * ROW_WIDTH + 7)
 }
 
-// Stores four words side by side, from place `at` on; one test of the length serves all four where they fit.
+// Stores four words side by side from position `at` on; one test of the length serves all four where they fit.
 fn put_four(words: &mut [u64], at: usize, w0: u64, w1: u64, w2: u64, w3: u64)
     requires { ⌜ at + 3 < 2 ^ 64 ⌝ }
     ensures { λ _. ⌜ now (words .exit) ≡ sets (now (words .entry)) at (w0 ∷ w1 ∷ w2 ∷ w3 ∷ []) ⌝ }
@@ -128,7 +153,7 @@ pub fn put_row(rows: &mut [u64], i: usize, row: Row)
     if rows.len() <= i {
         return;
     }
-    let base = i * 8;
+    let base = i * ROW_WIDTH;
     put_four(
         rows,
         base,
@@ -151,17 +176,17 @@ pub fn put_row(rows: &mut [u64], i: usize, row: Row)
 pub fn dir_at(dirs: &[u64], i: usize) -> Span
     ensures { λ r. ⌜ r ≡ dirAt (now (dirs .entry)) i ⌝ }
 {
-    if i < dirs.len() / 2 {
+    if i < dirs.len() / DIR_WIDTH {
         return Span {
-            at: dirs[i * 2] as usize,
-            len: dirs[i * 2 + 1] as usize,
+            at: dirs[i * DIR_WIDTH] as usize,
+            len: dirs[i * DIR_WIDTH + 1] as usize,
         };
     }
     if dirs.len() <= i {
         return Span { at: 0, len: 0 };
     }
     Span {
-        at: lists::word(dirs, i * 2) as usize,
+        at: lists::word(dirs, i * DIR_WIDTH) as usize,
         len: 0,
     }
 }
@@ -173,8 +198,8 @@ pub fn put_dir(dirs: &mut [u64], i: usize, s: Span)
     if dirs.len() <= i {
         return;
     }
-    lists::put_word(dirs, i * 2, s.at as u64);
-    lists::put_word(dirs, i * 2 + 1, s.len as u64);
+    lists::put_word(dirs, i * DIR_WIDTH, s.at as u64);
+    lists::put_word(dirs, i * DIR_WIDTH + 1, s.len as u64);
 }
 
 // Whether a path index is that of a stored directory.
@@ -187,7 +212,7 @@ pub fn is_inside(path_index: u64) -> bool
     path_index != PATH_IS_ABSOLUTE
 }
 
-// Where the text of a file's directory lies; nowhere for a single name and an absolute path.
+// Where the text of a file's directory lies; a span of no bytes for a single name and an absolute path.
 pub fn directory_span(dirs: &[u64], row: Row) -> Span
     ensures { λ r. ⌜ r ≡ directorySpan (now (dirs .entry)) row ⌝ }
 {
@@ -201,11 +226,11 @@ pub fn directory_span(dirs: &[u64], row: Row) -> Span
 pub fn root_at(roots: &[u8], i: usize) -> Sha256Hash
     ensures { λ r. ⌜ r ≡ rootAt (now (roots .entry)) i ⌝ }
 {
-    let mut root = [0u8; 32];
-    if roots.len() / 32 < i {
+    let mut root = [0u8; ROOT_WIDTH];
+    if roots.len() / ROOT_WIDTH < i {
         return root;
     }
-    lists::copy_in(&mut root, lists::part(roots, i * 32, 32));
+    lists::copy_in(&mut root, lists::part(roots, i * ROOT_WIDTH, ROOT_WIDTH));
     root
 }
 
@@ -213,13 +238,13 @@ pub fn root_at(roots: &[u8], i: usize) -> Sha256Hash
 pub fn put_root(roots: &mut [u8], i: usize, root: Sha256Hash)
     ensures { λ _. ⌜ now (roots .exit) ≡ putRoot (now (roots .entry)) i root ⌝ }
 {
-    if roots.len() / 32 < i {
+    if roots.len() / ROOT_WIDTH < i {
         return;
     }
-    lists::copy_after(roots, i * 32, &root);
+    lists::copy_after(roots, i * ROOT_WIDTH, &root);
 }
 
-// The time at place i, 0 past the end.
+// The time of file i, 0 past the end.
 pub fn time_at(times: &[i64], i: usize) -> i64
     ensures { λ r. ⌜ r ≡ getD (now (times .entry)) i (pos 0) ⌝ }
 {
@@ -229,7 +254,7 @@ pub fn time_at(times: &[i64], i: usize) -> i64
     0
 }
 
-// Writes the time at place i, nothing past the end.
+// Writes the time of file i, nothing past the end.
 pub fn put_time(times: &mut [i64], i: usize, time: i64)
     ensures { λ _. ⌜ now (times .exit) ≡ set (now (times .entry)) i time ⌝ }
 {
@@ -238,39 +263,39 @@ pub fn put_time(times: &mut [i64], i: usize, time: i64)
     }
 }
 
-// Whether a row's flags have pad, 1.
+// Whether a row's flags have pad.
 pub fn is_pad(flags: u64) -> bool
     ensures { λ r. ⌜ r ≡ has flags padBit ⌝ }
 {
     flags % 2 == 1
 }
 
-// Whether a row's flags have symlink, 8.
+// Whether a row's flags have symlink.
 pub fn is_symlink(flags: u64) -> bool
     ensures { λ r. ⌜ r ≡ has flags symlinkBit ⌝ }
 {
-    flags / 8 % 2 == 1
+    flags / SYMLINK_BIT % 2 == 1
 }
 
-// Whether a row holds a link text, 16.
+// Whether a row holds a link text.
 pub fn holds_link(flags: u64) -> bool
     ensures { λ r. ⌜ r ≡ has flags linkHeldBit ⌝ }
 {
-    flags / 16 % 2 == 1
+    flags / LINK_HELD_BIT % 2 == 1
 }
 
-// Whether a row's directory stands outside the set's name, 32.
+// Whether a row's directory stands outside the set's name.
 pub fn is_outside(flags: u64) -> bool
     ensures { λ r. ⌜ r ≡ has flags outsideBit ⌝ }
 {
-    flags / 32 % 2 == 1
+    flags / OUTSIDE_BIT % 2 == 1
 }
 
-// Whether a row has a root, 128.
+// Whether a row has a root.
 pub fn has_root(flags: u64) -> bool
     ensures { λ r. ⌜ r ≡ has flags rootBit ⌝ }
 {
-    flags / 128 % 2 == 1
+    flags / ROOT_BIT % 2 == 1
 }
 
 // File i, its row and its root.

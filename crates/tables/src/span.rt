@@ -20,7 +20,7 @@ pub fn text_at(text: &[u8], s: Span) -> &[u8]
     lists::part(text, s.at, s.len)
 }
 
-// Where the byte at `p` lies once the bytes of the span `c` are removed.
+// The position of the byte at `p` once the bytes of the span `c` are removed.
 pub fn lowered(c: Span, p: usize) -> usize
     ensures { λ r. ⌜ r ≡ lower c p ⌝ }
 {
@@ -60,7 +60,7 @@ fn slide(text: &mut [u8], used: usize, c: Span)
     }
 }
 
-// Removes the bytes of a span from the first `used` bytes: what lies behind it slides down.
+// Removes the bytes of a span from the first `used` bytes: what follows it slides down.
 pub fn remove_text(text: &mut [u8], used: usize, c: Span)
     ensures { λ _. ⌜ now (text .exit) ≡ slid c used (now (text .entry)) ⌝ }
 {

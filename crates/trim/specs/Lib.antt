@@ -1,4 +1,4 @@
--- The definitions that the contracts of `trim` cite: what a trim means and what it writes; then that of its private search.
+-- The definitions that the contracts of `trim` cite: what a trim means and what it writes.
 pub mod Trim
 pub mod Removal
-pub mod Search
+pub mod private

@@ -1,5 +1,5 @@
--- What a trim writes and answers, for tables of any content and length. The search is that of Trim.antt on what the tables
--- mean (`viewOf`); here stands what the removal of a row leaves.
+-- What a trim writes and answers, for tables of any content and length. The search is that of Trim.antt on what the
+-- tables mean (`viewOf`); here stands what the removal of a row leaves.
 use Prim.Native.Nat.{ℕ, _-_, _*_}
 use mathlib.Core.Bool.{true, not}
 use mathlib.Core.List.{[], _∷_}
@@ -17,6 +17,7 @@ use Rattle.trim.specs.Trim.{tailPad}
 
 -- ---- the tables after a trim that removes row f
 
+-- the spans that go: the name of the row, then its link text, each within the used part
 abbrev pub firstGone : FileStorage → Row → Span
 firstGone fs r = clip (fs .«text_len») (r .name)
 
@@ -44,7 +45,7 @@ storeWithout s f r c d =
     record {
       fs = storageWithout (s .fs) r c d;
       rows = rowsWithout (s .rows) (s .fs .«num_files» - 1) f (s .fs .«total_size» - r .size) c d;
-      roots = slid (record { at = f * 32; len = 32 }) (s .fs .«num_files» * rootWidth) (s .roots);
+      roots = slid (record { at = f * rootWidth; len = rootWidth }) (s .fs .«num_files» * rootWidth) (s .roots);
       times = s .times;
       dirs = dirsLowered (dirsLowered (s .dirs) (s .fs .«num_paths») c) (s .fs .«num_paths») d;
       text = slid d (s .fs .«text_len» - c .len) (slid c (s .fs .«text_len») (s .text));
@@ -52,7 +53,10 @@ storeWithout s f r c d =
 
 abbrev pub storeTrimmed : Store → ℕ → Store
 storeTrimmed s f =
-    storeWithout s f (rowAt (s .rows) f) (firstGone (s .fs) (rowAt (s .rows) f)) (secondGone (s .fs) (rowAt (s .rows) f))
+    storeWithout s f
+    (rowAt (s .rows) f)
+    (firstGone (s .fs) (rowAt (s .rows) f))
+    (secondGone (s .fs) (rowAt (s .rows) f))
 
 -- ---- the answer
 

@@ -1,17 +1,18 @@
 -- Document 01, `remove_tail_padding`: 'skips empty files, removes at most one pad, and moves no modified time'.
 -- All on the model; it relies on that of `tables`.
-use Prim.Native.Nat.{ℕ, _+_, _-_, _%_}
+use Prim.Native.Nat.{ℕ, _+_, _-_}
 use mathlib.Core.Bool.{true, cond}
 use mathlib.Core.List.{List, [], _∷_, _++_, map}
 use lib.Dec.{eqb}
 use lib.ListN.{getD, take, drop}
-use Rattle.tables.specs.Model.{Optional, absent, present, presentIf, File, Model}
+use Rattle.tables.specs.Model.{Optional, absent, present, presentIf, File, isPad, Model}
 
--- the place of the last file that is not empty, where that is a pad; files are counted from i, `found` before them
+-- the index of the last file that is not empty, where that is a pad; the files are counted from i on, and `found` is
+-- what those before them give
 abbrev pub tailPadFrom : ℕ → Optional ℕ → List File → Optional ℕ
 tailPadFrom i found [] = found
 tailPadFrom i found (f ∷ fs) =
-    tailPadFrom (i + 1) (cond (eqb (f .size) 0) found (presentIf (eqb (f .flags % 2) 1) i)) fs
+    tailPadFrom (i + 1) (cond (eqb (f .size) 0) found (presentIf (isPad (f .flags)) i)) fs
 
 abbrev pub tailPad : List File → Optional ℕ
 tailPad files = tailPadFrom 0 absent files
@@ -32,7 +33,7 @@ beginningAt offset g =
       made = g .made;
     }
 
--- the set withoutFile file f; the files after it, which are empty, begin at the new total
+-- the set without file f; the files after it, which are empty, begin at the new total
 abbrev pub withoutFile : ℕ → Model → Model
 withoutFile f m =
     record {

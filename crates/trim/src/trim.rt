@@ -4,14 +4,16 @@ ghost use mathlib.Core.Path.{_≡_};
 ghost use mathlib.Core.List.{[]};
 ghost use Prim.Native.Nat.{_-_, _*_, _<_, _≤_};
 ghost use Rattle.tables.specs.Span.{slid};
-ghost use Rattle.tables.specs.Rows.{has, dirsLowered, padBit};
+ghost use Rattle.tables.specs.Rows.{has, dirsLowered, padBit, rootWidth};
 ghost use Rattle.tables.specs.Model.{presentIf, storeOf};
+ghost use Rattle.rules.specs.Bounds.{maxEntries};
 ghost use Rattle.trim.specs.Removal.{firstGone, secondGone, storageWithout, storeTrimmed, trimStored};
 ghost use Rattle.change.specs.Changes.{changedOf, storageSays};
 ghost use Rattle.trim.specs.private.Search.{foundSays, tailPadIn};
 use change::StorageResult;
 use lists::saturating_sub_usize;
 use tables::FileStorage;
+use tables::ROOT_WIDTH;
 use tables::Row;
 use tables::Span;
 use types::Refusal;
@@ -98,8 +100,8 @@ fn remove_texts(text: &mut [u8], used: usize, c: Span, d: Span)
     tables::remove_text(text, saturating_sub_usize(used, c.len), d);
 }
 
-// Lowers the places of the first n directory rows for the removed spans `c` and then `d`.
-fn lower_places(dirs: &mut [u64], n: usize, c: Span, d: Span)
+// Lowers the spans of the first n directory rows for the removed spans `c` and then `d`.
+fn lower_spans(dirs: &mut [u64], n: usize, c: Span, d: Span)
     ensures { λ _. ⌜ now (dirs .exit) ≡ dirsLowered (dirsLowered (now (dirs .entry)) n c) n d ⌝ }
 {
     tables::lower_dirs(dirs, n, c);
@@ -108,15 +110,18 @@ fn lower_places(dirs: &mut [u64], n: usize, c: Span, d: Span)
 
 // Removes root f of n.
 fn remove_root(roots: &mut [u8], n: usize, f: usize)
-    requires { ⌜ (f < n) × (n ≤ 65535) ⌝ }
-    ensures { λ _. ⌜ now (roots .exit) ≡ slid (record { at = f * 32; len = 32 }) (n * 32) (now (roots .entry)) ⌝ }
+    requires { ⌜ (f < n) × (n ≤ maxEntries) ⌝ }
+    ensures { λ _. ⌜
+        now (roots .exit)
+        ≡ slid (record { at = f * rootWidth; len = rootWidth }) (n * rootWidth) (now (roots .entry))
+        ⌝ }
 {
     tables::remove_text(
         roots,
-        n * 32,
+        n * ROOT_WIDTH,
         Span {
-            at: f * 32,
-            len: 32,
+            at: f * ROOT_WIDTH,
+            len: ROOT_WIDTH,
         },
     );
 }
@@ -130,10 +135,11 @@ fn remove_file(
     text: &mut [u8],
     f: usize,
 ) -> FileStorage
-    requires { ⌜ (f < fs .«num_files») × (fs .«num_files» ≤ 65535) ⌝ }
+    requires { ⌜ (f < fs .«num_files») × (fs .«num_files» ≤ maxEntries) ⌝ }
     ensures { λ r. ⌜
         storeOf r (now (rows .exit)) (now (roots .exit)) [] (now (dirs .exit)) (now (text .exit))
-        ≡ storeTrimmed (storeOf fs (now (rows .entry)) (now (roots .entry)) [] (now (dirs .entry)) (now (text .entry))) f
+        ≡ storeTrimmed
+        (storeOf fs (now (rows .entry)) (now (roots .entry)) [] (now (dirs .entry)) (now (text .entry))) f
         ⌝ }
 {
     let row = tables::row_at(rows, f);
@@ -142,7 +148,7 @@ fn remove_file(
     let left = storage_without(fs, row, c, d);
     tables::remove_row(rows, left.num_files, f, left.total_size, c, d);
     remove_root(roots, fs.num_files, f);
-    lower_places(dirs, fs.num_paths, c, d);
+    lower_spans(dirs, fs.num_paths, c, d);
     remove_texts(text, fs.text_len, c, d);
     left
 }
@@ -157,8 +163,11 @@ pub fn remove_tail_padding(
     text: &mut [u8],
 ) -> StorageResult
     ensures { λ r. ⌜
-        changedOf (storageSays r) (now (rows .exit)) (now (roots .exit)) (now (times .exit)) (now (dirs .exit)) (now (text .exit))
-        ≡ trimStored (storeOf fs (now (rows .entry)) (now (roots .entry)) (now (times .entry)) (now (dirs .entry)) (now (text .entry)))
+        changedOf (storageSays r)
+        (now (rows .exit)) (now (roots .exit)) (now (times .exit)) (now (dirs .exit)) (now (text .exit))
+        ≡ trimStored
+        (storeOf fs
+        (now (rows .entry)) (now (roots .entry)) (now (times .entry)) (now (dirs .entry)) (now (text .entry)))
         ⌝ }
 {
     if rules::is_bad_length(fs.piece_length) {

@@ -53,15 +53,12 @@ module _ (c : tie.After-add-file) where
       let time = toZ w64 (ofZ w64 (start .args .mtime)) in
       let root = rootAt (start .args .root .now) 0 in
       c .add-file .ensures
-      ∙ ap (λ (x : FileStorage). added start x (c .before .before .before .presence-of .result) (c .before .before .presence-of2 .result) (c .before .root-at .result) size time) (c .before .before .before .before .before .before .before .before .before .storage-at .ensures)
-      ∙ ap (λ (x : Presence). added start fs x (c .before .before .presence-of2 .result) (c .before .root-at .result) size time) (c .before .before .before .presence-of .ensures)
-      ∙ ap (λ (x : Presence). added start fs (presenceOf (start .args .given)) x (c .before .root-at .result) size time) (c .before .before .presence-of2 .ensures)
-      ∙ ap (λ (x : List ℕ). added start fs (presenceOf (start .args .given)) (presenceOf (start .args .rooted)) x size time) (c .before .root-at .ensures)
+      ∙ ap (λ (x : FileStorage). added start x (c .before .before .before .before .before .before .before .before .before .before .presence-of .result) (c .before .before .before .before .before .before .before .before .before .presence-of2 .result) (c .before .before .before .before .before .before .before .before .root-at .result) size time) (c .before .before .before .before .before .before .storage-at .ensures)
+      ∙ ap (λ (x : Presence). added start fs x (c .before .before .before .before .before .before .before .before .before .presence-of2 .result) (c .before .before .before .before .before .before .before .before .root-at .result) size time) (c .before .before .before .before .before .before .before .before .before .before .presence-of .ensures)
+      ∙ ap (λ (x : Presence). added start fs (presenceOf (start .args .given)) x (c .before .before .before .before .before .before .before .before .root-at .result) size time) (c .before .before .before .before .before .before .before .before .before .presence-of2 .ensures)
+      ∙ ap (λ (x : List ℕ). added start fs (presenceOf (start .args .given)) (presenceOf (start .args .rooted)) x size time) (c .before .before .before .before .before .before .before .before .root-at .ensures)
       ∙ ap (λ (x : ℤ). added start fs (presenceOf (start .args .given)) (presenceOf (start .args .rooted)) root x time) (toZ-ofZ (start .fits .file-size))
       ∙ ap (λ (x : ℤ). added start fs (presenceOf (start .args .given)) (presenceOf (start .args .rooted)) root (start .args .file-size) x) (toZ-ofZ (start .fits .mtime))
-
-storage-at-requires : tie.Need-storage-at-requires
-storage-at-requires c κs = search needs
 
 presence-of-requires : tie.Need-presence-of-requires
 presence-of-requires c κs = search needs
@@ -71,6 +68,9 @@ presence-of-requires-2 c κs = search needs
 
 root-at-requires : tie.Need-root-at-requires
 root-at-requires c κs = search needs
+
+storage-at-requires : tie.Need-storage-at-requires
+storage-at-requires c κs = search needs
 
 add-file-requires : tie.Need-add-file-requires
 add-file-requires c κs = search needs
@@ -103,10 +103,10 @@ pub niflathen-add-file-spec : {M : Type 1} → statement M
 niflathen-add-file-spec =
     tie.close
     (tie.spec
-    storage-at-requires
     presence-of-requires
     presence-of-requires-2
     root-at-requires
+    storage-at-requires
     add-file-requires
     put-answer-requires
     same-length

@@ -1,4 +1,4 @@
--- An addition as a whole is its stages one after the other. Relies on Added/Stages.antt and the laws of runs of `lists`.
+-- An addition as a whole is its stages one after the other. Relies on Added/Stages.antt and on the law of texts in a row of `plan`.
 use mathlib.Core.Path.{_≡_, refl, ap, _∙_}
 use mathlib.Core.Bool.{Bool, true, false, cond, not, _&&_}
 use mathlib.Core.List.{List, [], _∷_, _++_}
@@ -8,13 +8,13 @@ use lib.Dec.{eqb}
 use lib.IntN.{ℤ}
 use lib.ListN.{length, length-append}
 use lib.Seq.{sets}
-use Rattle.lists.proofs.Runs.{sets-append}
 use Rattle.tables.specs.declared.storage.FileStorage.{FileStorage}
 use Rattle.tables.specs.Span.{slid}
 use Rattle.tables.specs.Rows.{has}
 use Rattle.tables.specs.Model.{absent, Directory, single, absolute, stored, Model, Store}
 use Rattle.additions.specs.Addition.{Addition, added, filesOf, sizeAdded, keeps, isV2, padOf, directoryAdded, fileAdded, padAdded, padDirectory, flagsKept, isAmong, withDirectory, withDirectoryOf, isPresent, isZero}
-use Rattle.plan.specs.Write.{directoryIndex, pathIndexOf, isOutside, textIfNew, setText, directoryNew, nameText, linkNew, padDirectoryNew, padText, oldName, textKept, putDirIf, isNew, isNewDirectory, isNewPad, rootsAdded, timesAdded, storageAdded, storeAdded}
+use Rattle.plan.specs.Write.{directoryIndex, pathIndexOf, isOutside, textIfNew, newTexts, setText, directoryNew, nameText, linkNew, padDirectoryNew, padText, oldName, textKept, putDirIf, isNew, isNewDirectory, isNewPad, rootsAdded, timesAdded, storageAdded, storeAdded}
+use Rattle.plan.proofs.Joined.{sets-joined}
 use Rattle.sound.proofs.Added.SetName.{nameStage}
 use Rattle.sound.proofs.Added.Directories.{dirStage}
 use Rattle.sound.proofs.Added.Files.{NewFile, withFile, padStage}
@@ -100,15 +100,6 @@ rows-count false n = omega arith
 
 -- ---- the same store
 
-six : (l : List ℕ) (i : ℕ) (a b c d e f : List ℕ)
-    → sets l i (a ++ (b ++ (c ++ (d ++ (e ++ f))))) ≡ sets (sets (sets (sets (sets (sets l i a) (i + length a) b) (i + length a + length b) c) (i + length a + length b + length c) d) (i + length a + length b + length c + length d) e) (i + length a + length b + length c + length d + length e) f
-six l i a b c d e f =
-    sets-append a (b ++ (c ++ (d ++ (e ++ f)))) l i
-    ∙ sets-append b (c ++ (d ++ (e ++ f))) _ _
-    ∙ sets-append c (d ++ (e ++ f)) _ _
-    ∙ sets-append d (e ++ f) _ _
-    ∙ sets-append e f _ _
-
 always : {A : Type 0} (b : Bool) (x : A) → x ≡ cond b x x
 always true x = refl
 always false x = refl
@@ -157,7 +148,7 @@ module _ (s : Store) (m : Model) (a : Addition) (e : length (m .directories) ≡
 
   text-is : storeAdded s m a .text ≡ stage6 s m a .text
   text-is =
-      six (cond (eqb (s .fs .«num_files») 0) (slid (oldName (s .fs)) (s .fs .«text_len») (s .text)) (s .text)) (textKept (s .fs)) (setText m a) (directoryNew m a) (nameText m a) (linkNew m a) (padDirectoryNew m a) (padText m a)
+      sets-joined (cond (eqb (s .fs .«num_files») 0) (slid (oldName (s .fs)) (s .fs .«text_len») (s .text)) (s .text)) (textKept (s .fs)) (newTexts m a)
 
   -- the set's record by what is computed in another way
   abbrev storage : ℕ → ℕ → ℕ → ℕ → FileStorage

@@ -1,4 +1,4 @@
--- What tables in order mean once row f is removed: the set withoutFile file f. It relies on Trimmed/Texts.antt and on the laws of
+-- What tables in order mean once row f is removed: the set without file f. It relies on Trimmed/Texts.antt and on the laws of
 -- spans in `tables`, which serve the roots as well.
 use mathlib.Core.Path.{_≡_, refl, sym, ap, _∙_}
 use mathlib.Core.Bool.{Bool, true, false, cond}

@@ -51,8 +51,8 @@ part-requires-2 c κs = search needs
 signed64-requires : tie.Need-signed64-requires
 signed64-requires c κs = search needs
 
-cast-add-file : tie.Need-cast-add-file
-cast-add-file c = search needs
+cast-t20 : tie.Need-cast-t20
+cast-t20 c = search needs
 
 rooted-by-requires : tie.Need-rooted-by-requires
 rooted-by-requires c κs = search needs
@@ -82,12 +82,12 @@ returns-2 c =
     let size = c .before .before .before .before .before .before .before .before .before .before .before .before .before .before .before .before .before .before .before .before .size .given .0 .0 in
     let flags = c .before .before .before .before .before .before .before .before .before .before .before .before .before .before .before .before .before .before .before .before .size .given .0 .1 .0 in
     let told = sym (ap (λ (f : FileLine). fileSays f (a .line .now)) (c .before .before .before .before .before .before .before .before .before .before .before .before .before .before .before .before .before .before .before .before .size .given .1)) ∙ c .before .before .before .before .before .before .before .before .before .before .before .before .before .before .before .before .before .before .before .before .before .before .file-in .ensures in
-    let f : SFits w64 (c .before .before .before .before .before .before .before .before .before .before .before .signed64 .result) = record { sfits = c .before .before .before .before .before .before .before .before .before .before .before .signed64 .ok } in
+    let f : SFits w64 (c .before .before .before .before .before .before .before .before .before .before .before .before .before .before .before .before .signed64 .result) = record { sfits = c .before .before .before .before .before .before .before .before .before .before .before .before .before .before .before .before .signed64 .ok } in
     c .before .before .before .before .before .before .before .before .before .add-file .ensures
     ∙ ap (addStored s)
     (addition-is size flags (c .before .before .before .before .before .before .before .before .before .before .before .before .before .before .before .before .before .before .part .result .now) (c .before .before .before .before .before .before .before .before .before .before .before .before .before .before .before .before .before .part2 .result .now) (a .line .now) _ _ _ (c .before .before .before .before .before .before .before .before .before .before .before .before .before .before .before .before .before .before .part .ensures) (c .before .before .before .before .before .before .before .before .before .before .before .before .before .before .before .before .before .part2 .ensures ∙ part-rest (a .line .now) 19)
-    (toZ-ofZ f ∙ c .before .before .before .before .before .before .before .before .before .before .before .signed64 .ensures ∙ ap pos (size-is (a .line .now) size flags told)) refl
-    (ap (λ (r : Presence). optionalOf r (replicate 32 1)) (c .before .before .before .before .before .before .before .before .before .before .rooted-by .ensures) ∙ root-by (leb 16 flags) (replicate 32 1)))
+    (toZ-ofZ f ∙ c .before .before .before .before .before .before .before .before .before .before .before .before .before .before .before .before .signed64 .ensures ∙ ap pos (size-is (a .line .now) size flags told)) refl
+    (ap (λ (r : Presence). optionalOf r (replicate 32 1)) (c .before .before .before .before .before .before .before .before .before .before .before .before .before .before .before .rooted-by .ensures) ∙ root-by (leb 16 flags) (replicate 32 1)))
     ∙ ap (λ (o : Optional FileEntry). obeyed o s) told
 
 pub add-line-spec : {M : Type 1} → statement M
@@ -101,7 +101,7 @@ add-line-spec =
     part-requires
     part-requires-2
     signed64-requires
-    cast-add-file
+    cast-t20
     rooted-by-requires
     add-file-requires
     same-length

@@ -8,7 +8,7 @@ use Rattle.tables.specs.Rows.{dirAt}
 use Rattle.tables.proofs.Tabled.{length-tabled}
 use Rattle.additions.specs.Addition.{padDirectory}
 use Rattle.plan.specs.private.Steps.{dirTexts, dirsWith}
-use Rattle.plan.proofs.Directories.{there, not-there, old-is, new-is, pad-is, no-pad-is, with-length, own-there, own-place, old-there, old-place, new-there, count-le}
+use Rattle.plan.proofs.Directories.{there, not-there, old-is, new-is, pad-is, no-pad-is, with-length, own-there, own-index, old-there, old-index, new-there, count-le}
 use borrow.Author.Needs.{needs}
 use Rattle.plan.proofs.dirs.plan_pad_dir.Statement.{statement}
 use Rattle.plan.proofs.dirs.plan_pad_dir.Tie as tie
@@ -39,7 +39,7 @@ returns-2 c =
     let a = c .before .before .before .before .before .before .before .args in
     let ds = dirTexts (a .dirs .now) (a .text .now) (a .n) in
     let e = sym (c .before .is-pads .ensures) ∙ c .if2 .taken in
-    old-is padDirectory (dirsWith (a .new) (a .dir .now) ds) (c .before .before .before .count-with .result) (together (c .before .before .before)) (a .n) (sym (counted (c .before .before .before)) ∙ own-place padDirectory (a .dir .now) ds (a .new) e) (own-there padDirectory (a .dir .now) ds (a .new) e)
+    old-is padDirectory (dirsWith (a .new) (a .dir .now) ds) (c .before .before .before .count-with .result) (together (c .before .before .before)) (a .n) (sym (counted (c .before .before .before)) ∙ own-index padDirectory (a .dir .now) ds (a .new) e) (own-there padDirectory (a .dir .now) ds (a .new) e)
     ∙ pad-is (a .pad) (dirsWith (a .new) (a .dir .now) ds) (ne-eqb (a .pad) 0 (c .before .before .if1 .left))
 
 slice-aggregate-find-dir : tie.Need-slice-aggregate-find-dir
@@ -54,7 +54,7 @@ returns-3 c =
     let ds = dirTexts (a .dirs .now) (a .text .now) (a .n) in
     let e = sym (c .before .before .before .before .is-pads .ensures) ∙ c .before .before .before .if2 .left in
     let t = there padDirectory ds (omega (arith, c .before .find-dir .ensures, counted (c .before .before .before .before .before .before))) in
-    old-is padDirectory (dirsWith (a .new) (a .dir .now) ds) (c .before .before .before .before .before .before .count-with .result) (together (c .before .before .before .before .before .before)) (c .before .find-dir .result) (c .before .find-dir .ensures ∙ old-place padDirectory (a .dir .now) ds t (a .new) e) (old-there padDirectory (a .dir .now) ds t (a .new) e)
+    old-is padDirectory (dirsWith (a .new) (a .dir .now) ds) (c .before .before .before .before .before .before .count-with .result) (together (c .before .before .before .before .before .before)) (c .before .find-dir .result) (c .before .find-dir .ensures ∙ old-index padDirectory (a .dir .now) ds t (a .new) e) (old-there padDirectory (a .dir .now) ds t (a .new) e)
     ∙ pad-is (a .pad) (dirsWith (a .new) (a .dir .now) ds) (ne-eqb (a .pad) 0 (c .before .before .before .before .before .if1 .left))
 
 add-t17 : tie.Need-add-t17

@@ -26,7 +26,7 @@ is-here-requires c κs = search needs
 
 returns : tie.Need-returns
 returns c =
-    let i = c .before .before .before .before .before .args .info in
+    let i = c .before .before .before .before .before .args .file in
     same (c .before .before .before .keeps-link .ensures) (c .before .is-zero .ensures ∙ ap isZero (toZ-ofZ {w = w64} {z = i .mtime} (record { sfits = c .before .before .struct-told .given .1 .1 .1 .0 .1 }))) (c .is-here .ensures)
 
 pub facts-of-spec : {M : Type 1} → statement M

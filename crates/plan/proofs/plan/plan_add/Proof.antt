@@ -13,9 +13,8 @@ use Rattle.change.specs.Rooms.{holds}
 use Rattle.additions.specs.declared.checks.Sizes.{Sizes}
 use Rattle.additions.specs.declared.checks.SizesResult.the-variants.{Ok}
 use Rattle.additions.specs.declared.parts.PathParts.{PathParts}
-use Rattle.additions.specs.Addition.{Addition, isPresent, isZero, keepsLink}
+use Rattle.additions.specs.Addition.{Addition, isPresent, isZero, keepsLink, additionOf}
 use Rattle.additions.specs.private.Texts.{isHere, nameFrom, linkTextOf}
-use Rattle.additions.specs.Addition.{additionOf}
 use Rattle.additions.specs.Parts.{partsOf}
 use Rattle.additions.specs.private.Checks.{sizesSays, sizesFor, numberRules}
 use Rattle.additions.proofs.Rules.{sum-in}
@@ -29,7 +28,7 @@ abbrev tables : tie.Start → Store
 tables c = storeOf (c .args .fs) (c .args .rows .now) (c .args .roots .now) (c .args .times .now) (c .args .dirs .now) (c .args .text .now)
 
 abbrev call : tie.Start → Addition
-call c = additionOf (c .args .info) (c .args .filename .now) (c .args .path .now) (c .args .symlink-path .now)
+call c = additionOf (c .args .file) (c .args .filename .now) (c .args .path .now) (c .args .symlink-path .now)
 
 abbrev parts : tie.Start → PathParts
 parts c = partsOf (c .args .fs .«num_files») (viewOf (tables c) .name) (c .args .path .now)
@@ -52,8 +51,8 @@ sized : (c : tie.After-decide-sizes) → sizesSays (c .decide-sizes .result) ≡
 sized c =
     let a = c .before .before .before .before .before .before .before .before .before in
     c .decide-sizes .ensures
-    ∙ ap (λ (p : PathParts). outcomeOf (numberBy a p (isHere (a .args .info .rooted))) (sizesBy a (isHere (a .args .info .rooted)))) (c .before .parts-of .ensures)
-    ∙ ap (λ (r : Bool). outcomeOf (numberBy a (parts a) r) (sizesBy a r)) (here-is (a .args .info .rooted) (a .args .info .root))
+    ∙ ap (λ (p : PathParts). outcomeOf (numberBy a p (isHere (a .args .file .rooted))) (sizesBy a (isHere (a .args .file .rooted)))) (c .before .parts-of .ensures)
+    ∙ ap (λ (r : Bool). outcomeOf (numberBy a (parts a) r) (sizesBy a r)) (here-is (a .args .file .rooted) (a .args .file .root))
 
 passed : (c : tie.After-decide-sizes) (z : Sizes) → c .decide-sizes .result ≡ Ok z → (number (c .before .before .before .before .before .before .before .before .before) ≡ 0) × (z ≡ sizes (c .before .before .before .before .before .before .before .before .before))
 passed c z e = outcome-value (number (c .before .before .before .before .before .before .before .before .before)) z (sizes (c .before .before .before .before .before .before .before .before .before)) (sym (ap sizesSays e) ∙ sized c)
@@ -72,8 +71,8 @@ with-root c root =
       «has_root» = root;
     }
 
-facts-are : (c : tie.Start) → factsOf (c .args .fs) (c .args .info) (c .args .symlink-path .now) ≡ with-root c (isPresent (call c .root))
-facts-are c = ap (with-root c) (here-is (c .args .info .rooted) (c .args .info .root))
+facts-are : (c : tie.Start) → factsOf (c .args .fs) (c .args .file) (c .args .symlink-path .now) ≡ with-root c (isPresent (call c .root))
+facts-are c = ap (with-root c) (here-is (c .args .file .rooted) (c .args .file .root))
 
 parts-of-requires : tie.Need-parts-of-requires
 parts-of-requires c κs = search needs
@@ -114,16 +113,16 @@ returns-3 c =
     let p = passed (c .before .before .before .before .before .before .before) z (c .before .before .before .before .before .sizes .given .1) in
     let q = c .before .before .before .before .before .before .before .before .parts-of .result in
     rw (c .before .before .before .rooms-in .ensures) at (c .plan-texts .ensures)
-    ∙ add-planned (tables a) (call a) (p .0) (holding (c .before)) z (factsOf (a .args .fs) (a .args .info) (a .args .symlink-path .now)) (q .kind)
+    ∙ add-planned (tables a) (call a) (p .0) (holding (c .before)) z (factsOf (a .args .fs) (a .args .file) (a .args .symlink-path .now)) (q .kind)
     (textAt (a .args .path .now) (q .«set_name»))
     (textAt (a .args .path .now) (q .directory))
-    (nameFrom (a .args .info .given) (a .args .filename .now) (textAt (a .args .path .now) (q .name)))
+    (nameFrom (a .args .file .given) (a .args .filename .now) (textAt (a .args .path .now) (q .name)))
     (linkTextOf (a .args .fs .«num_symlinks») (a .args .symlink-path .now))
     q
     (p .1)
     (facts-are a)
     (c .before .before .before .before .before .before .before .before .parts-of .ensures)
-    (texts-of (tables a) (call a) (a .args .info .given) (a .args .filename .now) q refl (c .before .before .before .before .before .before .before .before .parts-of .ensures))
+    (texts-of (tables a) (call a) (a .args .file .given) (a .args .filename .now) q refl (c .before .before .before .before .before .before .before .before .parts-of .ensures))
 
 pub plan-add-spec : {M : Type 1} → statement M
 plan-add-spec =

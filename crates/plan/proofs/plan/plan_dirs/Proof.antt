@@ -15,7 +15,7 @@ use Rattle.plan.specs.declared.counts.Counts.{Counts}
 use Rattle.plan.specs.declared.dirs.DirPlan.{DirPlan}
 use Rattle.plan.specs.declared.plan.TextLengths.{TextLengths}
 use Rattle.plan.specs.private.Steps.{dirTexts, dirsWith, padDirPlanOf, rowFlags, plannedIn}
-use Rattle.plan.proofs.Plans.{with-place}
+use Rattle.plan.proofs.Plans.{with-directory}
 use Rattle.plan.proofs.plan.plan_dirs.Statement.{statement}
 use Rattle.plan.proofs.plan.plan_dirs.Tie as tie
 
@@ -39,7 +39,7 @@ second-is c =
     let ds = dirTexts (a .dirs .now) (a .text .now) (a .fs .«num_paths») in
     c .plan-pad-dir .ensures
     ∙ ap (λ (x : DirPlan). padDirPlanOf (a .sizes .pad) (dirsWith (x .new) (a .dir .now) ds)) (c .before .plan-dir .ensures)
-    ∙ ap (padDirPlanOf (a .sizes .pad)) (with-place (a .parts .kind) (a .dir .now) ds)
+    ∙ ap (padDirPlanOf (a .sizes .pad)) (with-directory (a .parts .kind) (a .dir .now) ds)
 
 flags-are : (c : tie.After-row-flags) → c .row-flags .result ≡ rowFlags (c .before .before .before .before .before .before .before .before .args .facts) (outsideKind (c .before .before .before .before .before .before .before .before .args .parts .kind))
 flags-are c = c .row-flags .ensures ∙ ap (λ (x : Bool). rowFlags (c .before .before .before .before .before .before .before .before .args .facts) x) (c .before .is-outside .ensures)

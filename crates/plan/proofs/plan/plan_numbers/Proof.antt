@@ -6,7 +6,7 @@ use native.Mathlib.Omega.{arith}
 use Rattle.types.specs.Refusals.{value, refused}
 use Rattle.tables.specs.declared.span.Span.{Span}
 use Rattle.tables.specs.Model.{absent, present}
-use Rattle.plan.specs.declared.plan.Places.{Places}
+use Rattle.plan.specs.declared.plan.TextSpans.{TextSpans}
 use Rattle.plan.specs.declared.plan.AddPlan.{AddPlan}
 use Rattle.rules.specs.Rules.{outcomeOf}
 use Rattle.plan.specs.Write.{textKept}
@@ -25,21 +25,21 @@ module _ (short full : Bool) (p : AddPlan) where
   go : (q : AddPlan) → short ≡ false → full ≡ false → q ≡ p → value q ≡ outcomeOf (cond (short || full) 10 0) p
   go q e f g = rw (e, f, g)
 
-full-is : (t : Bool) (p : Places) → absent ≡ cond t absent (present p) → t ≡ true
+full-is : (t : Bool) (p : TextSpans) → absent ≡ cond t absent (present p) → t ≡ true
 full-is true p e = refl
 full-is false p e = absurd (let z : _≡_ {A = ℕ} 0 1 = cc in omega arith)
 
-placed-is : (t : Bool) (p q : Places) → present q ≡ cond t absent (present p) → (t ≡ false) × (q ≡ p)
-placed-is true p q e = absurd (let z : _≡_ {A = ℕ} 0 1 = cc in omega arith)
-placed-is false p q e = (refl, cc)
+spans-is : (t : Bool) (p q : TextSpans) → present q ≡ cond t absent (present p) → (t ≡ false) × (q ≡ p)
+spans-is true p q e = absurd (let z : _≡_ {A = ℕ} 0 1 = cc in omega arith)
+spans-is false p q e = (refl, cc)
 
 -- where the texts go, on the call's own numbers
 kept-is : (c : tie.After-saturating-sub-usize) → c .saturating-sub-usize .result ≡ textKept (c .before .before .before .before .args .fs)
 kept-is c = c .saturating-sub-usize .ensures ∙ ap (λ (s : Span). c .before .before .before .before .args .fs .«text_len» - s .len) (c .before .old-name .ensures)
 
-places-are : (c : tie.After-places-of)
-    → textSpansSays (c .places-of .result) ≡ spansWithin (c .before .before .before .before .before .before .args .rooms .text) (textSpansFor (c .before .before .before .before .before .before .args .fs) (c .before .before .before .before .before .before .args .sizes) (c .before .before .before .before .before .before .args .first) (c .before .before .before .before .before .before .args .second) (c .before .before .before .before .before .before .args .lengths))
-places-are c = rw (kept-is (c .before .before), c .before .pad-length .ensures) at (c .places-of .ensures)
+spans-are : (c : tie.After-text-spans)
+    → textSpansSays (c .text-spans .result) ≡ spansWithin (c .before .before .before .before .before .before .args .rooms .text) (textSpansFor (c .before .before .before .before .before .before .args .fs) (c .before .before .before .before .before .before .args .sizes) (c .before .before .before .before .before .before .args .first) (c .before .before .before .before .before .before .args .second) (c .before .before .before .before .before .before .args .lengths))
+spans-are c = rw (kept-is (c .before .before), c .before .pad-length .ensures) at (c .text-spans .ensures)
 
 is-short-requires : tie.Need-is-short-requires
 is-short-requires c κs = search needs
@@ -56,24 +56,24 @@ saturating-sub-usize-requires c κs = search needs
 pad-length-requires : tie.Need-pad-length-requires
 pad-length-requires c κs = search needs
 
-places-of-requires : tie.Need-places-of-requires
-places-of-requires c κs = search needs
+text-spans-requires : tie.Need-text-spans-requires
+text-spans-requires c κs = search needs
 
-enum-known-placed : tie.Need-enum-known-placed
-enum-known-placed c = search needs
+enum-known-laid : tie.Need-enum-known-laid
+enum-known-laid c = search needs
 
 enum-told : tie.Need-enum-told
 enum-told c = search needs
 
 returns-2 : tie.Need-returns-2
-returns-2 c = stop-full _ _ _ (sym (c .before .before .before .before .before .before .before .is-short .ensures) ∙ c .before .before .before .before .before .before .if1 .left) (full-is _ _ (sym (ap textSpansSays (c .enum-told .given .1)) ∙ places-are (c .before .before)))
+returns-2 c = stop-full _ _ _ (sym (c .before .before .before .before .before .before .before .is-short .ensures) ∙ c .before .before .before .before .before .before .if1 .left) (full-is _ _ (sym (ap textSpansSays (c .enum-told .given .1)) ∙ spans-are (c .before .before)))
 
 make-plan-requires : tie.Need-make-plan-requires
 make-plan-requires c κs = search needs
 
 returns-3 : tie.Need-returns-3
 returns-3 c =
-    let p = placed-is _ _ (c .before .before .placed .given .0 .0) (sym (ap textSpansSays (c .before .before .placed .given .1)) ∙ places-are (c .before .before .before .before)) in
+    let p = spans-is _ _ (c .before .before .laid .given .0 .0) (sym (ap textSpansSays (c .before .before .laid .given .1)) ∙ spans-are (c .before .before .before .before)) in
     go _ _ _ _ (sym (c .before .before .before .before .before .before .before .before .before .is-short .ensures) ∙ c .before .before .before .before .before .before .before .before .if1 .left) (p .0) (rw (p .1, c .before .before .before .before .before .before .before .old-name .ensures) at (c .make-plan .ensures))
 
 pub plan-numbers-spec : {M : Type 1} → statement M
@@ -85,8 +85,8 @@ plan-numbers-spec =
     old-name-requires
     saturating-sub-usize-requires
     pad-length-requires
-    places-of-requires
-    enum-known-placed
+    text-spans-requires
+    enum-known-laid
     enum-told
     returns-2
     make-plan-requires

@@ -1,10 +1,6 @@
 -- `storage::add::add_file` meets its contract: a refusal leaves every table, and a plan is written table by table.
-use mathlib.Core.Path.{_≡_, refl, sym, ap, _∙_}
-use Prim.Native.Nat.{ℕ}
-use lib.IntN.{ℤ}
-use mir.Syntax.{w64}
-use mir.Val.{toZ, ofZ}
-use mir.Facts.{toZ-ofZ}
+use mathlib.Core.Path.{_≡_, refl, sym, ap, subst, _∙_}
+use Prim.Native.Nat.{ℕ, _≤_}
 use Rattle.types.specs.Refusals.{numberOf}
 use Rattle.types.specs.declared.refusal.Refusal.{Refusal}
 use Rattle.types.proofs.Refusals.{numbered}
@@ -16,7 +12,7 @@ use Rattle.additions.specs.Addition.{Addition, additionOf}
 use Rattle.additions.specs.private.Texts.{nameFrom, linkTextOf}
 use Rattle.plan.specs.declared.plan.AddPlan.{AddPlan}
 use Rattle.plan.specs.declared.plan.PlanResult.the-variants.{Ok, Err}
-use Rattle.plan.specs.Write.{storeAdded, timesAdded}
+use Rattle.plan.specs.Write.{storeAdded, rootsAdded, timesAdded}
 use Rattle.plan.specs.Outcomes.{addingNumber}
 use Rattle.plan.specs.Plan.{planOf, planSays, plannedFor}
 use Rattle.plan.proofs.Plans.{add-held, texts-of}
@@ -29,12 +25,8 @@ use Rattle.storage.proofs.add.add_file.Tie as tie
 abbrev tables : tie.Start → Store
 tables c = storeOf (c .args .fs) (c .args .rows .now) (c .args .roots .now) (c .args .times .now) (c .args .dirs .now) (c .args .text .now)
 
--- the call, with a size and a time
-abbrev callWith : tie.Start → ℤ → ℤ → Addition
-callWith c size time = additionOf (c .args .given) (c .args .filename .now) (c .args .path .now) size (c .args .file-flags) time (c .args .symlink-path .now) (c .args .rooted) (c .args .root)
-
 abbrev call : tie.Start → Addition
-call c = callWith c (c .args .file-size) (c .args .mtime)
+call c = additionOf (c .args .file) (c .args .filename .now) (c .args .path .now) (c .args .symlink-path .now)
 
 abbrev number : tie.Start → ℕ
 number c = addingNumber (tables c) (viewOf (tables c)) (call c)
@@ -47,11 +39,7 @@ after c = storeAdded (tables c) (viewOf (tables c)) (call c)
 
 -- what the plan's answer says of the call
 said : (c : tie.After-plan-add) → planSays (c .plan-add .result) ≡ plannedFor (tables (c .before .before .before .before .before .before .before .before .before .before .before .before .before)) (call (c .before .before .before .before .before .before .before .before .before .before .before .before .before))
-said c =
-    let a = c .before .before .before .before .before .before .before .before .before .before .before .before .before in
-    c .plan-add .ensures
-    ∙ ap (λ (z : ℤ). plannedFor (tables a) (callWith a z (toZ w64 (ofZ w64 (a .args .mtime))))) (toZ-ofZ (a .fits .file-size))
-    ∙ ap (λ (t : ℤ). plannedFor (tables a) (callWith a (a .args .file-size) t)) (toZ-ofZ (a .fits .mtime))
+said c = c .plan-add .ensures
 
 planned : (c : tie.After-plan-add) (p : AddPlan) → c .plan-add .result ≡ Ok p → (number (c .before .before .before .before .before .before .before .before .before .before .before .before .before) ≡ 0) × (p ≡ plan (c .before .before .before .before .before .before .before .before .before .before .before .before .before))
 planned c p e = outcome-value (number (c .before .before .before .before .before .before .before .before .before .before .before .before .before)) p (plan (c .before .before .before .before .before .before .before .before .before .before .before .before .before)) (sym (ap planSays e) ∙ said c)
@@ -70,37 +58,39 @@ module _ (c : tie.After-write-all) where
   plan-is : made ≡ plan start
   plan-is = planned (c .before .before .before .before .before .before .before .before .before) made (c .before .before .before .before .before .before .before .planned2 .given .1) .1
 
-  rows-is : c .write-all .last .1 .0 ≡ after start .rows
+  rows-is : c .write-all .last .0 ≡ after start .rows
   rows-is =
       c .write-all .ensures .0
-      ∙ ap (λ (p : AddPlan). rowsWritten (start .args .fs .«num_files») p (start .args .rows .now)) plan-is
+      ∙ ap (λ (p : AddPlan). rowsWritten (p .before .«num_files») p (start .args .rows .now)) plan-is
       ∙ rows-are (tables start) (viewOf (tables start)) (call start)
 
-  roots-is : c .write-all .last .1 .1 .0 ≡ after start .roots
-  roots-is = c .write-all .ensures .1 .0
+  roots-is : c .write-all .last .1 .0 ≡ after start .roots
+  roots-is =
+      c .write-all .ensures .1 .0
+      ∙ ap (λ (p : AddPlan). rootsAdded (start .args .roots .now) (p .before .«num_files») (call start .root)) plan-is
 
-  times-is : c .write-all .last .1 .1 .1 .0 ≡ after start .times
+  times-is : c .write-all .last .1 .1 .0 ≡ after start .times
   times-is =
       c .write-all .ensures .1 .1 .0
-      ∙ ap (λ (t : ℤ). timesAdded (start .args .times .now) (start .args .fs .«num_mtimes») (start .args .fs .«num_files») t) (toZ-ofZ (start .fits .mtime))
+      ∙ ap (λ (p : AddPlan). timesAdded (start .args .times .now) (p .before .«num_mtimes») (p .before .«num_files») (call start .time)) plan-is
 
-  dirs-is : c .write-all .last .1 .1 .1 .1 .0 ≡ after start .dirs
+  dirs-is : c .write-all .last .1 .1 .1 .0 ≡ after start .dirs
   dirs-is =
       c .write-all .ensures .1 .1 .1 .0
-      ∙ ap (λ (p : AddPlan). dirsWritten (start .args .fs .«num_files») (start .args .fs .«num_paths») p (start .args .dirs .now)) plan-is
+      ∙ ap (λ (p : AddPlan). dirsWritten (p .before .«num_files») (p .before .«num_paths») p (start .args .dirs .now)) plan-is
       ∙ dirs-are (tables start) (viewOf (tables start)) (call start)
 
   -- the parts of the path
   abbrev own : PathParts
   own = plan start .parts
 
-  area-is : c .write-all .last .1 .1 .1 .1 .1 .0 ≡ after start .text
+  area-is : c .write-all .last .1 .1 .1 .1 .0 ≡ after start .text
   area-is =
       let a = start .args in
       c .write-all .ensures .1 .1 .1 .1
-      ∙ ap (λ (p : AddPlan). textWritten (a .fs .«num_files») (a .fs .«text_len») p (a .text .now) (textAt (a .path .now) (p .parts .«set_name»)) (textAt (a .path .now) (p .parts .directory)) (nameFrom (a .given) (a .filename .now) (textAt (a .path .now) (p .parts .name))) (linkTextOf (a .fs .«num_symlinks») (a .symlink-path .now))) plan-is
-      ∙ text-is (tables start) (viewOf (tables start)) (call start) (textAt (a .path .now) (own .«set_name»)) (textAt (a .path .now) (own .directory)) (nameFrom (a .given) (a .filename .now) (textAt (a .path .now) (own .name))) (linkTextOf (a .fs .«num_symlinks») (a .symlink-path .now)) (own .kind)
-      (texts-of (tables start) (call start) (a .given) (a .filename .now) own refl refl)
+      ∙ ap (λ (p : AddPlan). textWritten (p .before .«num_files») (p .before .«text_len») p (a .text .now) (textAt (a .path .now) (p .parts .«set_name»)) (textAt (a .path .now) (p .parts .directory)) (nameFrom (a .file .given) (a .filename .now) (textAt (a .path .now) (p .parts .name))) (linkTextOf (p .before .«num_symlinks») (a .symlink-path .now))) plan-is
+      ∙ text-is (tables start) (viewOf (tables start)) (call start) (textAt (a .path .now) (own .«set_name»)) (textAt (a .path .now) (own .directory)) (nameFrom (a .file .given) (a .filename .now) (textAt (a .path .now) (own .name))) (linkTextOf (a .fs .«num_symlinks») (a .symlink-path .now)) (own .kind)
+      (texts-of (tables start) (call start) (a .file .given) (a .filename .now) own refl refl)
 
 plan-add-requires : tie.Need-plan-add-requires
 plan-add-requires c κs = search needs
@@ -112,7 +102,10 @@ enum-known-planned-2 : tie.Need-enum-known-planned-2
 enum-known-planned-2 c = search needs
 
 write-all-requires : tie.Need-write-all-requires
-write-all-requires c κs = add-held (tables (c .before .before .before .before .before .before .before .before .before .before .before .before .before .before .before .before .before .before .before .before .before)) (call (c .before .before .before .before .before .before .before .before .before .before .before .before .before .before .before .before .before .before .before .before .before)) (planned (c .before .before .before .before .before .before .before .before) (c .before .before .before .before .before .before .planned2 .given .0 .0) (c .before .before .before .before .before .before .planned2 .given .1) .0)
+write-all-requires c κs =
+    let s = c .before .before .before .before .before .before .before .before .before .before .before .before .before .before .before .before .before .before .before .before .before in
+    let q = planned (c .before .before .before .before .before .before .before .before) (c .before .before .before .before .before .before .planned2 .given .0 .0) (c .before .before .before .before .before .before .planned2 .given .1) in
+    subst (λ (p : AddPlan). p .before .«num_files» ≤ 65535) (sym (q .1)) (add-held (tables s) (call s) (q .0))
 
 same-length : tie.Need-same-length
 same-length c = search needs
@@ -152,7 +145,7 @@ same-length-10 c = search needs
 returns-2 : tie.Need-returns-2
 returns-2 c =
     let w = c .before .before .before .before .before .before .before .before .before .before in
-    wrote-all (number (c .before .before .before .before .before .before .before .before .before .before .before .before .before .before .before .before .before .before .before .before .before .before .before .before .before .before .before .before .before .before .before .before)) (tables (c .before .before .before .before .before .before .before .before .before .before .before .before .before .before .before .before .before .before .before .before .before .before .before .before .before .before .before .before .before .before .before .before)) (after (c .before .before .before .before .before .before .before .before .before .before .before .before .before .before .before .before .before .before .before .before .before .before .before .before .before .before .before .before .before .before .before .before)) (made w .after) (w .write-all .last .1 .0) (w .write-all .last .1 .1 .0) (w .write-all .last .1 .1 .1 .0) (w .write-all .last .1 .1 .1 .1 .0) (w .write-all .last .1 .1 .1 .1 .1 .0) (planned (c .before .before .before .before .before .before .before .before .before .before .before .before .before .before .before .before .before .before .before) (made w) (c .before .before .before .before .before .before .before .before .before .before .before .before .before .before .before .before .before .planned2 .given .1) .0) (ap (λ (p : AddPlan). p .after) (plan-is w)) (rows-is w) (roots-is w) (times-is w) (dirs-is w) (area-is w)
+    wrote-all (number (c .before .before .before .before .before .before .before .before .before .before .before .before .before .before .before .before .before .before .before .before .before .before .before .before .before .before .before .before .before .before .before .before)) (tables (c .before .before .before .before .before .before .before .before .before .before .before .before .before .before .before .before .before .before .before .before .before .before .before .before .before .before .before .before .before .before .before .before)) (after (c .before .before .before .before .before .before .before .before .before .before .before .before .before .before .before .before .before .before .before .before .before .before .before .before .before .before .before .before .before .before .before .before)) (made w .after) (w .write-all .last .0) (w .write-all .last .1 .0) (w .write-all .last .1 .1 .0) (w .write-all .last .1 .1 .1 .0) (w .write-all .last .1 .1 .1 .1 .0) (planned (c .before .before .before .before .before .before .before .before .before .before .before .before .before .before .before .before .before .before .before) (made w) (c .before .before .before .before .before .before .before .before .before .before .before .before .before .before .before .before .before .planned2 .given .1) .0) (ap (λ (p : AddPlan). p .after) (plan-is w)) (rows-is w) (roots-is w) (times-is w) (dirs-is w) (area-is w)
 
 pub add-file-spec : {M : Type 1} → statement M
 add-file-spec =

@@ -25,12 +25,12 @@ same-length c = search needs
 returns : tie.Need-returns
 returns c =
     let d = c .before .before .before .before .before .before .before .args .dir in
-    c .before .before .put-dir .ensures ∙ put (d .new) (c .before .before .before .before .before .before .before .args .dirs .now) (d .place) (d .text) (c .before .before .before .before .before .if1 .taken)
+    c .before .before .put-dir .ensures ∙ put (d .new) (c .before .before .before .before .before .before .before .args .dirs .now) (d .slot) (d .text) (c .before .before .before .before .before .if1 .taken)
 
 returns-2 : tie.Need-returns-2
 returns-2 c =
     let d = c .before .before .args .dir in
-    kept (d .new) (c .before .before .args .dirs .now) (d .place) (d .text) (c .if1 .left)
+    kept (d .new) (c .before .before .args .dirs .now) (d .slot) (d .text) (c .if1 .left)
 
 pub put-new-dir-spec : {M : Type 1} → statement M
 put-new-dir-spec = tie.close (tie.spec put-dir-requires same-length returns returns-2)

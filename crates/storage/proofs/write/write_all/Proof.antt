@@ -41,8 +41,8 @@ same-length-5 c = search needs
 returns : tie.Need-returns
 returns c =
     let a = c .before .before .before .before .before .before .before .before .before .before .before .before .before .before .before .before .before .before .before .before .before .before .before .before .before .before .before .before .args in
-    let time = toZ-ofZ {w = w64} {z = a .info .mtime} (record { sfits = c .before .before .before .before .before .before .before .before .before .before .struct-told .given .1 .1 .1 .0 .1 }) in
-    (c .before .before .before .before .before .before .before .before .before .before .before .before .before .before .before .before .before .before .write-rows .ensures, (c .before .before .before .before .before .before .before .before .before .before .before .before .before .before .write-root .ensures, (c .before .before .before .before .before .before .before .before .before .write-time .ensures ∙ ap (λ (t : ℤ). timesAdded (a .times .now) (a .fs .«num_mtimes») (a .fs .«num_files») t) time, (c .before .before .before .before .before .before .write-dirs .ensures, c .before .before .write-texts .ensures))))
+    let time = toZ-ofZ {w = w64} {z = a .file .mtime} (record { sfits = c .before .before .before .before .before .before .before .before .before .before .struct-told .given .1 .1 .1 .0 .1 }) in
+    (c .before .before .before .before .before .before .before .before .before .before .before .before .before .before .before .before .before .before .write-rows .ensures, (c .before .before .before .before .before .before .before .before .before .before .before .before .before .before .write-root .ensures, (c .before .before .before .before .before .before .before .before .before .write-time .ensures ∙ ap (λ (t : ℤ). timesAdded (a .times .now) (a .plan .before .«num_mtimes») (a .plan .before .«num_files») t) time, (c .before .before .before .before .before .before .write-dirs .ensures, c .before .before .write-texts .ensures))))
 
 pub write-all-spec : {M : Type 1} → statement M
 write-all-spec =

@@ -38,7 +38,7 @@ same-length c = search needs
 returns : tie.Need-returns
 returns c =
     let a = c .before .before .before .before .before .before .before .before .before .before .before .before .before .before .before .before .args in
-    c .before .before .write-text .ensures ∙ same (a .fs .«num_files») (a .fs .«text_len») (a .plan) (a .text .now) (c .before .before .before .before .before .before .text-at .ensures) (c .before .before .before .before .before .text-at2 .ensures) (ap (nameFrom (a .given) (a .filename .now)) (c .before .before .before .before .text-at3 .ensures)) (c .before .before .before .link-text .ensures)
+    c .before .before .write-text .ensures ∙ same (a .plan .before .«num_files») (a .plan .before .«text_len») (a .plan) (a .text .now) (c .before .before .before .before .before .before .text-at .ensures) (c .before .before .before .before .before .text-at2 .ensures) (ap (nameFrom (a .given) (a .filename .now)) (c .before .before .before .before .text-at3 .ensures)) (c .before .before .before .link-text .ensures)
 
 pub write-texts-spec : {M : Type 1} → statement M
 write-texts-spec =

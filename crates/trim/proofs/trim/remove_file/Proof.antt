@@ -25,8 +25,8 @@ remove-row-requires c κs = search needs
 remove-root-requires : tie.Need-remove-root-requires
 remove-root-requires c κs = search needs
 
-lower-places-requires : tie.Need-lower-places-requires
-lower-places-requires c κs = search needs
+lower-spans-requires : tie.Need-lower-spans-requires
+lower-spans-requires c κs = search needs
 
 remove-texts-requires : tie.Need-remove-texts-requires
 remove-texts-requires c κs = search needs
@@ -57,7 +57,7 @@ returns c =
       rows = c .before .before .before .before .before .before .before .before .before .before .before .before .before .before .remove-row .last .0;
       roots = c .before .before .before .before .before .before .before .before .before .before .remove-root .last .0;
       times = [];
-      dirs = c .before .before .before .before .before .before .lower-places .last .0;
+      dirs = c .before .before .before .before .before .before .lower-spans .last .0;
       text = c .before .before .remove-texts .last .0;
     } in
     trimmed s t (a .f) (row .result) (first .result) (second .result)
@@ -66,7 +66,7 @@ returns c =
       rows = c .before .before .before .before .before .before .before .before .before .before .before .before .before .before .remove-row .ensures;
       roots = c .before .before .before .before .before .before .before .before .before .before .remove-root .ensures;
       times = refl;
-      dirs = c .before .before .before .before .before .before .lower-places .ensures;
+      dirs = c .before .before .before .before .before .before .lower-spans .ensures;
       text = c .before .before .remove-texts .ensures;
     })
     (row .ensures)
@@ -83,7 +83,7 @@ remove-file-spec =
     storage-without-requires
     remove-row-requires
     remove-root-requires
-    lower-places-requires
+    lower-spans-requires
     remove-texts-requires
     same-length
     same-length-2

@@ -1,4 +1,4 @@
--- `plan::plan::places_of` meets its contract: where one text does not fit, all together do not.
+-- `plan::plan::text_spans` meets its contract: where one text does not fit, all together do not.
 -- Each text that fits gives the bound that the next one starts from.
 use native.Mathlib.Omega.{arith}
 use mathlib.Core.Path.{_≡_}
@@ -6,12 +6,12 @@ use Prim.Native.Nat.{ℕ, _+_, _-_, _≤_, _<_}
 use mir.Facts.{fits-le}
 use borrow.Author.Tests.{lt-ltb, le-ltb}
 use Rattle.tables.specs.Model.{Optional, present, absent}
-use Rattle.plan.specs.declared.plan.Places.{Places}
+use Rattle.plan.specs.declared.plan.TextSpans.{TextSpans}
 use Rattle.plan.specs.private.Steps.{textSpansOf, spansWithin}
-use Rattle.plan.proofs.plan.places_of.Statement.{statement}
-use Rattle.plan.proofs.plan.places_of.Tie as tie
+use Rattle.plan.proofs.plan.text_spans.Statement.{statement}
+use Rattle.plan.proofs.plan.text_spans.Tie as tie
 
--- a text that fits behind a place ends within the room
+-- a text that fits after a position ends within the room
 ends : {room at n : ℕ} → at ≤ room → n ≤ room - at → at + n ≤ room
 ends h p = omega arith
 
@@ -23,10 +23,10 @@ beyond h p = omega arith
 more : {room n : ℕ} (k : ℕ) → room < n → room < n + k
 more k p = omega arith
 
-full : (room : ℕ) (p : Places) → room < p .end → absent ≡ spansWithin room p
+full : (room : ℕ) (p : TextSpans) → room < p .end → absent ≡ spansWithin room p
 full room p h = rw (lt-ltb room (p .end) h)
 
-fitted : (room : ℕ) (p : Places) → p .end ≤ room → present p ≡ spansWithin room p
+fitted : (room : ℕ) (p : TextSpans) → p .end ≤ room → present p ≡ spansWithin room p
 fitted room p h = rw (le-ltb room (p .end) h)
 
 -- ---- where the first text, the first two, and so on end
@@ -49,16 +49,16 @@ end5 c = end4 c + c .args .pad-dir
 abbrev end6 : tie.Start → ℕ
 end6 c = end5 c + c .args .pad
 
-abbrev places : tie.Start → Places
-places c = textSpansOf (c .args .start) (c .args .set) (c .args .dir) (c .args .name) (c .args .link) (c .args .pad-dir) (c .args .pad)
+abbrev spans : tie.Start → TextSpans
+spans c = textSpansOf (c .args .start) (c .args .set) (c .args .dir) (c .args .name) (c .args .link) (c .args .pad-dir) (c .args .pad)
 
 -- ---- where one of these ends beyond the room, the answer is that the room is full
 
 abbrev Full : tie.Start → Type 0
-Full c = _≡_ {A = Optional Places} absent (spansWithin (c .args .room) (places c))
+Full c = _≡_ {A = Optional TextSpans} absent (spansWithin (c .args .room) (spans c))
 
 full6 : (c : tie.Start) → c .args .room < end6 c → Full c
-full6 c h = full (c .args .room) (places c) h
+full6 c h = full (c .args .room) (spans c) h
 
 full5 : (c : tie.Start) → c .args .room < end5 c → Full c
 full5 c h = full6 c (more (c .args .pad) h)
@@ -150,10 +150,10 @@ add-t14 : tie.Need-add-t14
 add-t14 c = fits-le (within6 c) (c .before .before .before .before .before .before .fits .room)
 
 returns-7 : tie.Need-returns-7
-returns-7 c = fitted (c .before .before .before .before .before .before .args .room) (places (c .before .before .before .before .before .before)) (within6 c)
+returns-7 c = fitted (c .before .before .before .before .before .before .args .room) (spans (c .before .before .before .before .before .before)) (within6 c)
 
-pub places-of-spec : {M : Type 1} → statement M
-places-of-spec =
+pub text-spans-spec : {M : Type 1} → statement M
+text-spans-spec =
     tie.close
     (tie.spec
     sub-if1

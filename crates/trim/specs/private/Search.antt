@@ -1,5 +1,5 @@
--- The search for the pad that a trim removes, on the file rows. Private: the public definition is `tailPad` of Trim.antt on
--- what the tables mean, and proofs/Trims.antt ties this to it.
+-- The search for the pad that a trim removes, on the file rows. Private: the public definition is `tailPad` of
+-- Trim.antt on what the tables mean, and proofs/Trims.antt ties this to it.
 use Prim.Native.Nat.{ℕ, zero, suc}
 use mathlib.Core.Bool.{cond}
 use mathlib.Core.List.{List}
@@ -13,7 +13,7 @@ abbrev pub foundSays : Found → Optional ℕ
 foundSays Nothing = absent
 foundSays (At f) = present f
 
--- the place of the last of the first n rows that is not empty, where that is a pad
+-- the index of the last of the first n rows that is not empty, where that is a pad
 unfoldable pub tailPadIn : List ℕ → ℕ → Optional ℕ
 tailPadIn rows zero = absent
 tailPadIn rows (suc n) =

@@ -1,8 +1,8 @@
--- The tests of an addition on numbers and on the parts of its path, and what they settle: every rule of Addition.antt but that
--- of room.
+-- What the rules of Addition.antt but that of room look at, by a set's record and the parts of a path, and what they
+-- settle.
 use Prim.Native.Nat.{ℕ, _+_}
 use mathlib.Core.Bool.{Bool, false, not, _&&_, _||_}
-use mathlib.Core.List.{List, _++_}
+use mathlib.Core.List.{List}
 use lib.IntN.{ℤ}
 use lib.ListN.{length}
 use Rattle.path.specs.Split.{isComplete}
@@ -16,7 +16,7 @@ use Rattle.additions.specs.declared.checks.Sizes.{Sizes}
 use Rattle.additions.specs.declared.checks.SizesResult.{SizesResult}
 use Rattle.additions.specs.declared.checks.SizesResult.the-variants.{Ok, Err}
 use Rattle.additions.specs.declared.parts.PathParts.{PathParts}
-use Rattle.additions.specs.Addition.{decides, isOpen, versionBy, padAfter, sizeRules, nameRules, versionRules, padRules}
+use Rattle.additions.specs.Addition.{decides, isOpen, v2After, padAfter, nameRules, Tested, rulesOn}
 use Rattle.additions.specs.private.Texts.{absoluteKind}
 
 abbrev pub sizesSays : SizesResult → Outcome Sizes
@@ -36,26 +36,44 @@ badBeside (present given) absolute = isComplete given || (not (isEmpty given) &&
 -- refusals 5, 6, 7
 abbrev pub namesOf : ℕ → Optional (List ℕ) → PathParts → List Rule
 namesOf files given parts =
-    nameRules files (limitedLength given (parts .leaf .len)) (badBeside given (absoluteKind (parts .kind))) (parts .«has_parent»)
+    nameRules files
+    (limitedLength given (parts .leaf .len))
+    (badBeside given (absoluteKind (parts .kind)))
+    (parts .«has_parent»)
 
--- size, version and pad of an addition to a set: with a link text or none, with a root or none
+-- whether a set is v2 after an addition: with a link text or none, with a root or none
+abbrev pub versionFor : FileStorage → ℤ → List ℕ → Bool → Bool
+versionFor fs size link root =
+    v2After (fs .v2) (fs .«total_size») (fs .«num_symlinks») (fs .«num_files») (clampedOf size) link root
+
+-- size, version and pad of such an addition
 abbrev pub sizesFor : FileStorage → ℤ → List ℕ → Bool → Sizes
 sizesFor fs size link root =
     record {
       size = clampedOf size;
-      v2 =
-          versionBy (fs .v2) (decides (clampedOf size) link) (isOpen (fs .«total_size») (fs .«num_symlinks») (fs .«num_files»)) root;
-      pad =
-          padAfter
-          (versionBy (fs .v2) (decides (clampedOf size) link) (isOpen (fs .«total_size») (fs .«num_symlinks») (fs .«num_files»)) root)
-          (fs .«piece_length»)
-          (fs .«total_size» + clampedOf size);
+      v2 = versionFor fs size link root;
+      pad = padAfter (versionFor fs size link root) (fs .«piece_length») (fs .«total_size» + clampedOf size);
+    }
+
+-- what the rules look at, by a set's record and the parts of a path
+abbrev pub testedFor : FileStorage → Optional (List ℕ) → PathParts → ℤ → List ℕ → Bool → Tested
+testedFor fs given parts size link root =
+    record {
+      pieceLength = fs .«piece_length»;
+      total = fs .«total_size»;
+      files = fs .«num_files»;
+      v2 = fs .v2;
+      negative = isNegative size;
+      size = clampedOf size;
+      limited = limitedLength given (parts .leaf .len);
+      bad = badBeside given (absoluteKind (parts .kind));
+      parent = parts .«has_parent»;
+      plain = decides (clampedOf size) link;
+      free = isOpen (fs .«total_size») (fs .«num_symlinks») (fs .«num_files»);
+      root = root;
+      pad = sizesFor fs size link root .pad;
     }
 
 -- every rule but that of room
 abbrev pub numberRules : FileStorage → Optional (List ℕ) → PathParts → ℤ → List ℕ → Bool → List Rule
-numberRules fs given parts size link root =
-    sizeRules (fs .«piece_length») (fs .«total_size») (isNegative size) (clampedOf size)
-    ++ (namesOf (fs .«num_files») given parts
-    ++ (versionRules (fs .v2) (decides (clampedOf size) link) (isOpen (fs .«total_size») (fs .«num_symlinks») (fs .«num_files»)) root
-    ++ padRules (fs .«total_size» + clampedOf size) (sizesFor fs size link root .pad)))
+numberRules fs given parts size link root = rulesOn (testedFor fs given parts size link root)

@@ -1,5 +1,5 @@
--- What each table holds once a plan is written. Private: the public definitions are those of `plan`, and proofs/Written.antt
--- ties these to them.
+-- What each table holds once a plan is written. Private: the public definitions are those of `plan`, and
+-- proofs/Written.antt ties these to them.
 use Prim.Native.Nat.{ℕ, _+_}
 use mathlib.Core.Bool.{cond}
 use mathlib.Core.List.{List, []}
@@ -40,11 +40,12 @@ abbrev pub dirsRenamed : ℕ → Span → ℕ → List ℕ → List ℕ
 dirsRenamed files old n dirs = cond (eqb files 0) (dirsLowered dirs n old) dirs
 
 abbrev pub dirWritten : NewDir → List ℕ → List ℕ
-dirWritten d dirs = putDirIf (d .new) dirs (d .place) (d .text)
+dirWritten d dirs = putDirIf (d .new) dirs (d .slot) (d .text)
 
 abbrev pub dirsWritten : ℕ → ℕ → AddPlan → List ℕ → List ℕ
 dirsWritten files n p dirs = dirWritten (p .«pad_dir») (dirWritten (p .dir) (dirsRenamed files (p .old) n dirs))
 
 abbrev pub rowsWritten : ℕ → AddPlan → List ℕ → List ℕ
 rowsWritten files p rows =
-    cond (eqb (p .«pad_row» .size) 0) (putRow rows files (p .row)) (putRow (putRow rows files (p .row)) (files + 1) (p .«pad_row»))
+    cond (eqb (p .«pad_row» .size) 0) (putRow rows files (p .row))
+    (putRow (putRow rows files (p .row)) (files + 1) (p .«pad_row»))

@@ -1,12 +1,12 @@
--- `additions::checks::check_kind` meets its contract.
+-- `additions::checks::check_version` meets its contract.
 use mathlib.Core.Path.{_≡_, refl}
 use mathlib.Core.Bool.{Bool}
 use borrow.Author.Tests.{not-true, not-false}
 use Prim.Native.Nat.{ℕ}
 use Rattle.rules.specs.Rules.{firstOf}
 use Rattle.additions.specs.Addition.{versionRules}
-use Rattle.additions.proofs.checks.check_kind.Statement.{statement}
-use Rattle.additions.proofs.checks.check_kind.Tie as tie
+use Rattle.additions.proofs.checks.check_version.Statement.{statement}
+use Rattle.additions.proofs.checks.check_version.Tie as tie
 
 -- the numbers at four given truth values
 module _ {v2 plain free root : Bool} where
@@ -31,5 +31,5 @@ returns-5 c = at 9 refl (c .before .if3 .left) (not-false (c .before .before .be
 returns-6 : tie.Need-returns-6
 returns-6 c = at 0 refl (c .before .if3 .left) (not-false (c .before .before .before .before .args .plain) (c .before .before .before .if1 .left)) (c .before .before .if2 .left) (c .if5 .left)
 
-pub check-kind-spec : {M : Type 1} → statement M
-check-kind-spec = tie.close (tie.spec returns returns-2 returns-3 returns-4 returns-5 returns-6)
+pub check-version-spec : {M : Type 1} → statement M
+check-version-spec = tie.close (tie.spec returns returns-2 returns-3 returns-4 returns-5 returns-6)

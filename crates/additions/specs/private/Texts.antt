@@ -1,0 +1,56 @@
+-- The texts that an addition keeps, by what a call brings and the parts of its path. What they are is in Addition.antt;
+-- proofs/Texts.antt shows that they are the same.
+use mathlib.Core.Bool.{Bool, true, false, cond, not, _&&_}
+use mathlib.Core.List.{List, []}
+use Prim.Native.Nat.{ℕ}
+use lib.Dec.{eqb}
+use Rattle.path.specs.Split.{lsplitRest}
+use Rattle.path.specs.Join.{isEmpty}
+use Rattle.tables.specs.declared.rows.Presence.{Presence}
+use Rattle.tables.specs.declared.rows.Presence.the-variants.{Absent, Present}
+use Rattle.tables.specs.Model.{Directory, single, absolute, stored}
+use Rattle.additions.specs.declared.parts.PathKind.{PathKind}
+use Rattle.additions.specs.declared.parts.PathKind.the-variants.{Single, Absolute, Inside, Outside}
+use Rattle.additions.specs.Addition.{setNameOf, withoutLeading, keepsLink}
+
+abbrev pub isHere : Presence → Bool
+isHere Absent = false
+isHere Present = true
+
+-- the given name where it has bytes, else the path's own
+abbrev pub nameFrom : Presence → List ℕ → List ℕ → List ℕ
+nameFrom given filename own = cond (isHere given && not (isEmpty filename)) filename own
+
+-- the link text that is kept where `links` are held
+abbrev pub linkTextOf : ℕ → List ℕ → List ℕ
+linkTextOf links link = cond (keepsLink links link) link []
+
+-- the name that a path gives a set that has `files` files
+abbrev pub setTextOf : ℕ → List ℕ → List ℕ
+setTextOf files path = cond (eqb files 0) (setNameOf path) []
+
+-- the directory's text, as a part of the path's branch
+abbrev pub textUnder : PathKind → List ℕ → List ℕ
+textUnder Single branch = []
+textUnder Absolute branch = []
+textUnder Inside branch = withoutLeading (lsplitRest branch)
+textUnder Outside branch = branch
+
+-- the model's directory
+abbrev pub directoryAt : PathKind → List ℕ → Directory
+directoryAt Single d = single
+directoryAt Absolute d = absolute
+directoryAt Inside d = stored d false
+directoryAt Outside d = stored d true
+
+abbrev pub outsideKind : PathKind → Bool
+outsideKind Single = false
+outsideKind Absolute = false
+outsideKind Inside = false
+outsideKind Outside = true
+
+abbrev pub absoluteKind : PathKind → Bool
+absoluteKind Single = false
+absoluteKind Absolute = true
+absoluteKind Inside = false
+absoluteKind Outside = false
