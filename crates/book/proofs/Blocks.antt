@@ -96,13 +96,13 @@ before-lie xs t p r h w =
     (λ e. let z : t + p .size ≡ t = omega arith in rw z at w)
     (λ k. (h k, w))
 
--- behind files of the sizes a
-lie-behind : (a xs : List ℕ) (f s n t : ℕ) → f ≡ length a → (0 < n → t ≡ sum a + s) → Lie (a ++ xs) t (walk f xs s n)
-lie-behind a [] f s n t e h = tt
-lie-behind a (x ∷ xs) f s n t e h =
+-- after files of the sizes a
+lie-after : (a xs : List ℕ) (f s n t : ℕ) → f ≡ length a → (0 < n → t ≡ sum a + s) → Lie (a ++ xs) t (walk f xs s n)
+lie-after a [] f s n t e h = tt
+lie-after a (x ∷ xs) f s n t e h =
     before-lie (a ++ x ∷ xs) t (slice f s (min (x - s) n)) (walk (suc f) xs (s - x) (n - (x - s))) here
     (rw (← append-snoc a x xs)
-    (lie-behind (a ++ (x ∷ [])) xs (suc f) (s - x) (n - (x - s)) (t + min (x - s) n) (omega (arith, length-append a (x ∷ []))) later))
+    (lie-after (a ++ (x ∷ [])) xs (suc f) (s - x) (n - (x - s)) (t + min (x - s) n) (omega (arith, length-append a (x ∷ []))) later))
   where
     here : 0 < min (x - s) n → Lies (a ++ x ∷ xs) t (slice f s (min (x - s) n))
     here k =
@@ -117,7 +117,7 @@ lie-behind a (x ∷ xs) f s n t e h =
     later k = omega (arith, h (omega arith), sum-append a (x ∷ []))
 
 pub walk-lie : (xs : List ℕ) (t n : ℕ) → Lie xs t (walk 0 xs t n)
-walk-lie xs t n = lie-behind [] xs 0 t n t refl (λ (h : 0 < n). omega arith)
+walk-lie xs t n = lie-after [] xs 0 t n t refl (λ (h : 0 < n). omega arith)
 
 -- ---- content
 
@@ -127,14 +127,14 @@ content-before cs p r =
     (λ e. rw e)
     (λ h. refl)
 
--- behind files of the contents a
-content-behind : (a cs : List (List ℕ)) (f s n : ℕ) → f ≡ length a → contentOf (a ++ cs) (walk f (map length cs) s n) ≡ partOf (endToEnd cs) s n
-content-behind a [] f s n e = rw (drop-nil {A = ℕ} s, take-nil {A = ℕ} n)
-content-behind a (c ∷ cs) f s n e =
+-- after files of the contents a
+content-after : (a cs : List (List ℕ)) (f s n : ℕ) → f ≡ length a → contentOf (a ++ cs) (walk f (map length cs) s n) ≡ partOf (endToEnd cs) s n
+content-after a [] f s n e = rw (drop-nil {A = ℕ} s, take-nil {A = ℕ} n)
+content-after a (c ∷ cs) f s n e =
     content-before (a ++ c ∷ cs) (slice f s (min (length c - s) n)) (walk (suc f) (map length cs) (s - length c) (n - (length c - s))) ∙
     ap₂ (λ (l r : List ℕ). l ++ r) here
     (rw (← append-snoc a c cs)
-    (content-behind (a ++ (c ∷ [])) cs (suc f) (s - length c) (n - (length c - s)) (omega (arith, length-append a (c ∷ []))))) ∙
+    (content-after (a ++ (c ∷ [])) cs (suc f) (s - length c) (n - (length c - s)) (omega (arith, length-append a (c ∷ []))))) ∙
     sym (part-append c (endToEnd cs) s n)
   where
     here : partOf (getD (a ++ c ∷ cs) f []) s (min (length c - s) n) ≡ partOf c s n
@@ -143,20 +143,20 @@ content-behind a (c ∷ cs) f s n e =
         rw (e, getD-append-seam a c cs [], q, ← length-drop s c) (take-clipped n (drop s c))
 
 pub walk-content : (cs : List (List ℕ)) (xs : List ℕ) (t n : ℕ) → map length cs ≡ xs → contentOf cs (walk 0 xs t n) ≡ partOf (endToEnd cs) t n
-walk-content cs xs t n e = rw (← e) (content-behind [] cs 0 t n refl)
+walk-content cs xs t n e = rw (← e) (content-after [] cs 0 t n refl)
 
 -- ---- from a later file, and cut to what is left
 
-walk-behind : (f : ℕ) (xs : List ℕ) (s n k : ℕ) → sum (take k xs) ≤ s → k ≤ length xs → walk f xs s n ≡ walk (f + k) (drop k xs) (s - sum (take k xs)) n
-walk-behind f xs s n zero h l =
+walk-after : (f : ℕ) (xs : List ℕ) (s n k : ℕ) → sum (take k xs) ≤ s → k ≤ length xs → walk f xs s n ≡ walk (f + k) (drop k xs) (s - sum (take k xs)) n
+walk-after f xs s n zero h l =
     let e : f + 0 ≡ f = omega arith in
     let d : s - 0 ≡ s = omega arith in
     rw (e, d)
-walk-behind f [] s n (suc k) h l = refl
-walk-behind f (x ∷ xs) s n (suc k) h l =
+walk-after f [] s n (suc k) h l = refl
+walk-after f (x ∷ xs) s n (suc k) h l =
     let e : f + suc k ≡ suc f + k = omega arith in
     let d : s - (x + sum (take k xs)) ≡ s - x - sum (take k xs) = omega arith in
-    walk-skip f x xs s n (omega arith) ∙ walk-behind (suc f) xs (s - x) n k (omega arith) (omega arith) ∙
+    walk-skip f x xs s n (omega arith) ∙ walk-after (suc f) xs (s - x) n k (omega arith) (omega arith) ∙
     ap₂ (λ (a b : ℕ). walk a (drop k xs) b n) (sym e) (sym d)
 
 left-over : (x a s : ℕ) → x + a - s - (x - s) ≡ a - (s - x)
@@ -174,5 +174,5 @@ pub walk-from : (xs : List ℕ) (t n k : ℕ) → sum (take k xs) ≤ t → k �
 walk-from xs t n k h l =
     let d : k ≡ 0 + k = omega arith in
     ap (λ (f : ℕ). walk f (drop k xs) (t - sum (take k xs)) (min n (sum xs - t))) d ∙
-    sym (walk-behind 0 xs t (min n (sum xs - t)) k h l) ∙
+    sym (walk-after 0 xs t (min n (sum xs - t)) k h l) ∙
     walk-cut 0 xs t n

@@ -38,26 +38,26 @@ module _ (n : ℕ) (sizes : List ℕ) (s : Store) (from : ℕ → ℕ) (low : (t
         left = answered t m .table;
       }
 
-  -- the questions of a cut from byte t to byte e
-  pub record Cut (t e : ℕ) (ms : List ℕ) : Type 0 where
-    pub askings : List MapCall
-    pub blocks : map (λ (q : MapCall). q .size) askings ≡ ms
-    pub asked : Cut n sizes s t e askings
+  -- the calls of a cut from byte t to byte e into blocks of the sizes ms
+  pub record CutInto (t e : ℕ) (ms : List ℕ) : Type 0 where
+    pub calls : List MapCall
+    pub blocks : map (λ (q : MapCall). q .size) calls ≡ ms
+    pub cut : Cut n sizes s t e calls
 
-  pub cut-asked : (t e : ℕ) (ms : List ℕ) → Nonempty ms → t + sum ms ≡ e → Cut t e ms
-  cut-asked t e [] h k = record { askings = []; blocks = refl; asked = omega arith }
+  pub cut-asked : (t e : ℕ) (ms : List ℕ) → Nonempty ms → t + sum ms ≡ e → CutInto t e ms
+  cut-asked t e [] h k = record { calls = []; blocks = refl; cut = omega arith }
   cut-asked t e (m ∷ ms) (h, hs) k =
       let r = cut-asked (t + m) e ms hs (omega arith) in
       record {
-        askings = asking t m ∷ r .askings;
+        calls = asking t m ∷ r .calls;
         blocks = ap (λ (l : List ℕ). m ∷ l) (r .blocks);
-        asked = (
+        cut = (
           record {
             place = omega (arith, low t);
             nonempty = h;
             room = omega (arith, length-replicate (meets sizes t m) (recordOf (slice 0 0 0)));
             call = refl;
           },
-          r .asked,
+          r .cut,
         );
       }

@@ -1,7 +1,7 @@
 -- One list of calls in which each kind of call occurs, done and refused (a trim is never refused): a file of v2 leaves a pad,
 -- a link is cleaned and the trim takes the pad. What comes of each call is computed, and so are the book's rows before and
 -- after the trim. It relies on Runs.antt.
-use mathlib.Core.Path.{_≡_, refl, ap}
+use mathlib.Core.Path.{_≡_, refl}
 use mathlib.Core.Bool.{Bool, true, false}
 use mathlib.Core.List.{List, [], _∷_, _++_}
 use Prim.Native.Nat.{ℕ, _+_}
@@ -62,7 +62,7 @@ start =
       text = replicate 15 0;
     }
 
--- the rows of the file, of its pad, and of a link whose name begins at a place, its text behind it
+-- the rows of the file, of its pad, and of a link whose name of one byte begins at `at` and its text after that
 abbrev fileRow : List ℕ
 fileRow = 0 ∷ 10000 ∷ 1 ∷ 1 ∷ 2 ∷ 0 ∷ 0 ∷ 128 ∷ []
 
@@ -72,32 +72,32 @@ padRow = 10000 ∷ 6384 ∷ 6 ∷ 4 ∷ 10 ∷ 0 ∷ 1 ∷ 65 ∷ []
 abbrev linkRow : ℕ → ℕ → ℕ → List ℕ
 linkRow offset at len = offset ∷ 0 ∷ at ∷ 1 ∷ (at + 1) ∷ len ∷ 0 ∷ 24 ∷ []
 
--- texts behind sf.pad
-abbrev behind : List ℕ → List ℕ
-behind text = 115 ∷ 102 ∷ 46 ∷ 112 ∷ 97 ∷ 100 ∷ text
+-- the texts sf.pad and then `text`
+abbrev afterPad : List ℕ → List ℕ
+afterPad text = 115 ∷ 102 ∷ 46 ∷ 112 ∷ 97 ∷ 100 ∷ text
 
--- with the file and the pad behind it: sf.pad6384
+-- with the file and the pad after it: sf.pad6384
 abbrev one : Store
 one =
-    tables (storage 2 0 10 16384 false) (fileRow ++ (padRow ++ replicate 8 0)) (behind (54 ∷ 51 ∷ 56 ∷ 52 ∷ replicate 5 0))
+    tables (storage 2 0 10 16384 false) (fileRow ++ (padRow ++ replicate 8 0)) (afterPad (54 ∷ 51 ∷ 56 ∷ 52 ∷ replicate 5 0))
 
 -- with the link s/n to /etc: sf.pad6384n/etc
 abbrev two : Store
 two =
     tables (storage 3 1 15 16384 false) (fileRow ++ (padRow ++ linkRow 16384 10 4))
-    (behind (54 ∷ 51 ∷ 56 ∷ 52 ∷ 110 ∷ 47 ∷ 101 ∷ 116 ∷ 99 ∷ []))
+    (afterPad (54 ∷ 51 ∷ 56 ∷ 52 ∷ 110 ∷ 47 ∷ 101 ∷ 116 ∷ 99 ∷ []))
 
 -- and cleaned, so that the link holds its own path: sf.pad6384nn
 abbrev three : Store
 three =
     tables (storage 3 1 12 16384 false) (fileRow ++ (padRow ++ linkRow 16384 10 1))
-    (behind (54 ∷ 51 ∷ 56 ∷ 52 ∷ 110 ∷ 110 ∷ 101 ∷ 116 ∷ 99 ∷ []))
+    (afterPad (54 ∷ 51 ∷ 56 ∷ 52 ∷ 110 ∷ 110 ∷ 101 ∷ 116 ∷ 99 ∷ []))
 
--- and trimmed, so that the pad is gone: sf.padnn; what stands behind the used part is left over
+-- and trimmed, so that the pad is gone: sf.padnn; what stands after the used part is left over
 abbrev four : Store
 four =
     tables (storage 2 1 8 10000 true) (fileRow ++ (linkRow 10000 6 1 ++ linkRow 16384 10 1))
-    (behind (110 ∷ 110 ∷ 56 ∷ 52 ∷ 110 ∷ 110 ∷ 101 ∷ 116 ∷ 99 ∷ []))
+    (afterPad (110 ∷ 110 ∷ 56 ∷ 52 ∷ 110 ∷ 110 ∷ 101 ∷ 116 ∷ 99 ∷ []))
 
 -- ---- the calls
 

@@ -11,8 +11,8 @@ use native.Mathlib.Omega.{arith}
 use borrow.Author.Tests.{eqb-true, ltb-true, ltb-false, le-leb}
 use lib.Dec.{eqb, ltb, leb}
 use lib.IntN.{ℤ, pos, negsuc}
-use lib.ListN.{length, getD, take, length-take}
-use lib.Seq.{sets, getD-take}
+use lib.ListN.{length, getD}
+use lib.Seq.{sets}
 use Rattle.types.specs.Refusals.{value, refused}
 use Rattle.tables.specs.Model.{Store, fileOf, viewOf}
 use Rattle.tables.proofs.Tabled.{length-tabled}

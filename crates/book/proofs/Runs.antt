@@ -100,7 +100,7 @@ stepped {n} {made} {s} {r} {a} k p q =
     at (renaming x) = calls.renaming x (renameFile (s .fs) (r .rf) (r .entries) (r .text) (x .file) (x .name)) p refl
     at (importing xs) = calls.importing xs (importFilenames (s .fs) (r .rf) (r .entries) (r .text) xs) p refl
 
--- the last call led to the tables of `left`; those at the end are they, or others lent behind it that hold the same
+-- the last call led to the tables of `left`; those at the end are they, or others lent after it that hold the same
 pub record LastStep (n : ℕ) (made : List Made) (m : Made) (t : Store) (q : Renames) : Type 0 where
   pub before : Store
   pub names : Renames
@@ -269,7 +269,7 @@ none-first : (rs : List Rule) → NoneHolds rs → firstOf rs ≡ 0
 none-first [] h = refl
 none-first (r ∷ rs) h = rw (h .0) (none-first rs (h .1))
 
--- behind rows with lower numbers, a number comes from the last row alone
+-- after rows with lower numbers, a number comes from the last row alone
 abbrev highest : List Rule → ℕ
 highest [] = 0
 highest (r ∷ rs) = max (r .number) (highest rs)

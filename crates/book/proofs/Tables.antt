@@ -41,7 +41,7 @@ pub record Holds (n : ℕ) (xs : List ℕ) (fs : FileStorage) (rows : List ℕ) 
   pub count : fs .«num_files» ≡ length xs
   pub few : length xs ≤ 65535
   pub held : length xs * 8 ≤ length rows
-  -- each of its size, behind those before it
+  -- each of its size, after those before it
   pub sizes : (k : ℕ) → k < length xs → getD xs k 0 ≡ rowAt rows k .size
   pub offsets : (k : ℕ) → k < length xs → rowAt rows k .offset ≡ sum (take k xs)
   pub total : fs .«total_size» ≡ sum xs

@@ -1,5 +1,5 @@
 -- A walk over files given by their sizes: s bytes are skipped, and the next n are taken, a slice a file. Two walks of which
--- one begins where the other ends join into one, so blocks in a row join to each file once, wholeFiles. It relies on nothing but
+-- one begins where the other ends join into one, so blocks in a row join to each file once and in full. It relies on nothing but
 -- the definitions of slices.
 --     walk                the slices of n bytes from byte s on
 --     walk-ascends        one slice a file at most, in file order

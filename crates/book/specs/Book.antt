@@ -1,6 +1,8 @@
 -- Document 01, 'The book of demand 3'. The book 'is fed the calls' arguments, no table of the set among them, and which
--- calls were refused'. Nothing here speaks of the port's tables or of its model; it relies on the records of the calls'
--- arguments in `storage` and `renames`.
+-- calls were refused'. Nothing here speaks of the port's tables or of its model. Of the port it relies on the records
+-- of the calls' arguments (`Addition` of `additions`, `Naming` of `renames`), on `clampedOf` of `rules`, a signed size as
+-- a natural number, and on `isPresent` of `additions`, whether an argument is given; besides, on the sums and tests of
+-- `lists` and `rules`.
 use Prim.Native.Nat.{ℕ, _+_, _-_, _%_}
 use mathlib.Core.Bool.{Bool, true, false, cond, not, _&&_, _||_}
 use mathlib.Core.List.{List, [], _∷_, _++_, map}
@@ -19,11 +21,12 @@ pub data Call : Type 0 where
   rename : Naming → Call
   «import» : List Naming → Call
 
--- whether it was refused, and by which number
+-- what came of a call: done, or refused by a number of document 01
 pub data Came : Type 0 where
   done : Came
   refused : ℕ → Came
 
+-- a call that was made, and what came of it
 pub record Made : Type 0 where
   pub call : Call
   pub came : Came
@@ -55,7 +58,8 @@ hasLink a = ltb 0 (length (a .link))
 -- 'a nonempty file without link text, while the sizes sum to 0 or there are as many link texts as rows'
 abbrev pub fixes : Book → Addition → Bool
 fixes b a =
-    (ltb 0 (clampedOf (a .size)) && not (hasLink a)) && (eqb (bytesOf (b .rows)) 0 || eqb (b .links) (length (b .rows)))
+    (ltb 0 (clampedOf (a .size)) && not (hasLink a))
+    && (eqb (bytesOf (b .rows)) 0 || eqb (b .links) (length (b .rows)))
 
 -- 'sets v2 if it has a root, else v1'
 abbrev pub versionAfter : Book → Addition → Bool
@@ -82,7 +86,7 @@ afterAddition b a =
       links = linksAfter b a;
     }
 
--- 'Trim: the last nonempty row goes if marked': the one behind which all rows are empty
+-- 'Trim: the last nonempty row goes if marked': the row after which all are empty
 abbrev pub trimmedRows : List Row → List Row
 trimmedRows [] = []
 trimmedRows (r ∷ rs) =

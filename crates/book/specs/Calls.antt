@@ -1,7 +1,7 @@
--- Which calls, with which outcomes, lead from a newly opened set to which tables. Each step's premise is what the function
--- called ensures: `opened`, `addStored`, `trimStored`, `cleanStored`, `renameFile` and `importFilenames` are the definitions that the
--- contracts of `storage`, `cleaning` and `renames` cite, so a refused call is a step like any other. 'Each call gets the set and
--- renames as the last one left them'.
+-- Which calls, with which outcomes, lead from a newly opened set to which tables: 'Each call gets the set and renames
+-- as the last one left them'. It relies on the port: a step's premise is what the called function ensures. `opened`,
+-- `addStored`, `trimStored`, `cleanStored`, `renameFile` and `importFilenames` are the definitions that the contracts
+-- of `storage`, `trim`, `cleaning` and `renames` cite, so a refused call is a step like any other.
 use mathlib.Core.Path.{_≡_}
 use mathlib.Core.List.{List, [], _∷_}
 use Prim.Native.Nat.{ℕ, _*_, _≤_}
@@ -36,7 +36,14 @@ kept (refused k) old = old
 
 abbrev pub storeAfter : FileStorage → Changed → Store
 storeAfter old c =
-    record { fs = kept (c .says) old; rows = c .rows; roots = c .roots; times = c .times; dirs = c .dirs; text = c .text }
+    record {
+      fs = kept (c .says) old;
+      rows = c .rows;
+      roots = c .roots;
+      times = c .times;
+      dirs = c .dirs;
+      text = c .text;
+    }
 
 abbrev pub call : Call → Changed → Made
 call k c = record { call = k; came = cameOf (c .says) }
@@ -46,8 +53,8 @@ abbrev pub cleanedBy : Store → Cleaned → Changed
 cleanedBy s c =
     record { says = c .says; rows = c .rows; roots = s .roots; times = s .times; dirs = c .dirs; text = c .text }
 
--- tables that hold the same set: other ones may be lent to the next call, longer or shorter, if the part that the set uses
--- was copied over
+-- tables t that hold the set of the tables s: other tables may be lent to the next call, longer or shorter, where the
+-- part that the set uses was copied over
 pub record SameSet (s t : Store) : Type 0 where
   pub fs : t .fs ≡ s .fs
   pub rows : take (s .fs .«num_files» * rowWidth) (t .rows) ≡ take (s .fs .«num_files» * rowWidth) (s .rows)
@@ -73,18 +80,42 @@ keptNames (refused k) old = old
 abbrev pub renamesAfter : Renames → renames.RenamesChanged → Renames
 renamesAfter r c = record { rf = keptNames (c .says) (r .rf); entries = c .entries; text = c .text }
 
--- other tables may be lent for the renames, too
+-- tables q that hold the renames of the tables r
 pub record SameRenames (r q : Renames) : Type 0 where
   pub rf : q .rf ≡ r .rf
   pub entries : take (r .rf .«num_renames» * 3) (q .entries) ≡ take (r .rf .«num_renames» * 3) (r .entries)
   pub text : take (r .rf .«text_len») (q .text) ≡ take (r .rf .«text_len») (r .text)
 
--- the calls, the latest first, on a set of that piece length, which an i32 holds, and the tables that they lead to
+-- the calls `made`, the latest first, on a set of piece length n, which an i32 holds, lead to the tables s and the
+-- renames r
 pub data Leads (n : ℕ) : List Made → Store → Renames → Type 0 where
-  opening : {s : Store} {r : Renames} → n ≤ 2147483647 → opened (pos n) ≡ value (s .fs) → r .rf ≡ noEntries → Leads n [] s r
-  addition : {made : List Made} {s : Store} {r : Renames} (a : Addition) (c : Changed) → Leads n made s r → c ≡ addStored s a → Leads n (call (book.add a) c ∷ made) (storeAfter (s .fs) c) r
-  trim : {made : List Made} {s : Store} {r : Renames} (c : Changed) → Leads n made s r → c ≡ trimStored s → Leads n (call book.trim c ∷ made) (storeAfter (s .fs) c) r
-  cleaning : {made : List Made} {s : Store} {r : Renames} (marks stage path : List ℕ) (c : Cleaned) → Leads n made s r → c ≡ cleanStored (lent (s .fs) (s .rows) (s .dirs) (s .text)) marks stage path → Leads n (call book.clean (cleanedBy s c) ∷ made) (storeAfter (s .fs) (cleanedBy s c)) r
-  renaming : {made : List Made} {s : Store} {r : Renames} (x : Naming) (c : renames.RenamesChanged) → Leads n made s r → c ≡ renameFile (s .fs) (r .rf) (r .entries) (r .text) (x .file) (x .name) → Leads n (record { call = book.rename x; came = cameOf (c .says) } ∷ made) s (renamesAfter r c)
-  importing : {made : List Made} {s : Store} {r : Renames} (xs : List Naming) (c : renames.RenamesChanged) → Leads n made s r → c ≡ importFilenames (s .fs) (r .rf) (r .entries) (r .text) xs → Leads n (record { call = book.«import» xs; came = cameOf (c .says) } ∷ made) s (renamesAfter r c)
-  lending : {made : List Made} {s t : Store} {r q : Renames} → Leads n made s r → SameSet s t → SameRenames r q → Leads n made t q
+  opening : {s : Store} {r : Renames}
+      → n ≤ 2147483647
+      → opened (pos n) ≡ value (s .fs)
+      → r .rf ≡ noEntries
+      → Leads n [] s r
+  addition : {made : List Made} {s : Store} {r : Renames} (a : Addition) (c : Changed)
+      → Leads n made s r
+      → c ≡ addStored s a
+      → Leads n (call (book.add a) c ∷ made) (storeAfter (s .fs) c) r
+  trim : {made : List Made} {s : Store} {r : Renames} (c : Changed)
+      → Leads n made s r
+      → c ≡ trimStored s
+      → Leads n (call book.trim c ∷ made) (storeAfter (s .fs) c) r
+  cleaning : {made : List Made} {s : Store} {r : Renames} (marks stage path : List ℕ) (c : Cleaned)
+      → Leads n made s r
+      → c ≡ cleanStored (lent (s .fs) (s .rows) (s .dirs) (s .text)) marks stage path
+      → Leads n (call book.clean (cleanedBy s c) ∷ made) (storeAfter (s .fs) (cleanedBy s c)) r
+  renaming : {made : List Made} {s : Store} {r : Renames} (x : Naming) (c : renames.RenamesChanged)
+      → Leads n made s r
+      → c ≡ renameFile (s .fs) (r .rf) (r .entries) (r .text) (x .file) (x .name)
+      → Leads n (record { call = book.rename x; came = cameOf (c .says) } ∷ made) s (renamesAfter r c)
+  importing : {made : List Made} {s : Store} {r : Renames} (xs : List Naming) (c : renames.RenamesChanged)
+      → Leads n made s r
+      → c ≡ importFilenames (s .fs) (r .rf) (r .entries) (r .text) xs
+      → Leads n (record { call = book.«import» xs; came = cameOf (c .says) } ∷ made) s (renamesAfter r c)
+  lending : {made : List Made} {s t : Store} {r q : Renames}
+      → Leads n made s r
+      → SameSet s t
+      → SameRenames r q
+      → Leads n made t q

@@ -1,5 +1,7 @@
--- Demand 3: what is asked of the set that a list of calls led to, and what must hold of the answers. The questions' premises
--- are what `map_block` and `map_file` ensure (`blockMapped` and `fileMapped` of layout).
+-- Demand 3: what is asked of the set that a list of calls led to, and what must hold of the answers. It relies on the
+-- port: a question's premise is what `map_block` and `map_file` ensure (`blockMapped` of `mapping`, `fileMapped` of
+-- `files`). What must hold is said by Slices.antt, by `clampedOf` of `rules`, which reads the numbers of a table's record,
+-- and by `recordOf` of `mapping`, the record of a slice.
 use Prim.Native.Nat.{ℕ, _+_, _*_, _≤_, _<_}
 use mathlib.Core.Path.{_≡_}
 use mathlib.Core.List.{List, [], _∷_, _++_, map}
@@ -14,9 +16,9 @@ use Rattle.rules.specs.Results.{SignedRequest}
 use Rattle.layout.specs.Mapping.{Slice}
 use Rattle.files.specs.Given.{fileMapped}
 use Rattle.mapping.specs.Table.{Filled, recordOf, blockMapped}
-use Rattle.book.specs.Slices.{slice, joined, wholeFiles as wholeFiles, bytesIn, AscendingFrom, meets, endToEnd, contentOf}
+use Rattle.book.specs.Slices.{slice, joined, wholeFiles, bytesIn, AscendingFrom, meets, endToEnd, contentOf}
 
--- a call of `map_block`: what it was asked, the table lent to it, and what came of it
+-- a call of `map_block`: its arguments, the table lent to it, its answer, and the table that it left
 pub record MapCall : Type 0 where
   pub piece : ℕ
   pub offset : ℕ
@@ -25,7 +27,7 @@ pub record MapCall : Type 0 where
   pub says : Outcome ℕ
   pub left : List FileSlice
 
--- the slices that it gave: so many of the table's first records as it says
+-- the number of slices in an answer
 abbrev pub counted : Outcome ℕ → ℕ
 counted (value n) = n
 counted (refused k) = 0
@@ -33,23 +35,25 @@ counted (refused k) = 0
 abbrev pub sliceOf : FileSlice → Slice
 sliceOf p = slice (clampedOf (p .«file_index» .0)) (clampedOf (p .offset)) (clampedOf (p .size))
 
+-- the slices that a call returned: the first `counted` records of the table
 abbrev pub slicesGiven : MapCall → List Slice
 slicesGiven q = map sliceOf (take (counted (q .says)) (q .left))
 
--- 'A block here has any size above 0, asked from any piece starting at or before it', with a table that has a place for each
--- file that the block meets
+-- the call q asks for the block at byte t: 'A block here has any size above 0, asked from any piece starting at or
+-- before it', with a table that has a record for each file that the block meets
 pub record ValidCall (pieceLength : ℕ) (sizes : List ℕ) (s : Store) (t : ℕ) (q : MapCall) : Type 0 where
   pub place : q .piece * pieceLength + q .offset ≡ t
   pub nonempty : 0 < q .size
   pub room : meets sizes t (q .size) ≤ length (q .lent)
-  pub call : _≡_ {A = Filled} (record { says = q .says; table = q .left }) (blockMapped (s .fs) (s .rows) (pos (q .piece)) (pos (q .offset)) (pos (q .size)) (q .lent))
+  pub call : _≡_ {A = Filled} (record { says = q .says; table = q .left })
+      (blockMapped (s .fs) (s .rows) (pos (q .piece)) (pos (q .offset)) (pos (q .size)) (q .lent))
 
--- consecutive blocks from byte t to byte e
+-- the calls ask for consecutive blocks from byte t to byte e
 abbrev pub Cut : ℕ → List ℕ → Store → ℕ → ℕ → List MapCall → Type 0
 Cut n sizes s t e [] = t ≡ e
 Cut n sizes s t e (q ∷ qs) = ValidCall n sizes s t q × Cut n sizes s (t + q .size) e qs
 
--- the answer of `map_file` is the piece that holds a byte of the set, and the byte's place in it
+-- the answer r of `map_file` is the piece that holds a byte of the set, and the byte's offset in it
 pub record Back (pieceLength byte : ℕ) (r : Outcome SignedRequest) : Type 0 where
   pub piece : ℕ
   pub start : ℕ
@@ -58,22 +62,29 @@ pub record Back (pieceLength byte : ℕ) (r : Outcome SignedRequest) : Type 0 wh
   pub holds : piece * pieceLength + start ≡ byte
   pub inside : start < pieceLength
 
--- a slice whose first byte is that byte of the set; 'Mapping back is `map_file` at the slice's file and offset, any size from 0'
+-- the slice p is nonempty, its first byte is the byte `byte` of the set, and it maps back to it: 'Mapping back is
+-- `map_file` at the slice's file and offset, any size from 0'
 pub record Right (pieceLength : ℕ) (sizes : List ℕ) (s : Store) (byte : ℕ) (p : Slice) : Type 0 where
   pub nonempty : 0 < p .size
   pub first : sum (take (p .file) sizes) + p .offset ≡ byte
-  pub back : (n : ℕ) (r : Outcome SignedRequest) → r ≡ fileMapped (s .fs) (s .rows) (pos (p .file)) (pos (p .offset)) (pos n) → Back pieceLength byte r
+  pub back : (n : ℕ) (r : Outcome SignedRequest)
+      → r ≡ fileMapped (s .fs) (s .rows) (pos (p .file)) (pos (p .offset)) (pos n)
+      → Back pieceLength byte r
 
--- what must hold of a block at byte t
+-- what must hold of the call q for the block at byte t
 pub record Block (pieceLength : ℕ) (sizes : List ℕ) (s : Store) (t : ℕ) (q : MapCall) : Type 0 where
   pub answered : q .says ≡ value (meets sizes t (q .size))
   -- the table's records are those of the slices, so no number in them is negative
   pub plain : take (counted (q .says)) (q .left) ≡ map recordOf (slicesGiven q)
   pub ascending : AscendingFrom 0 (slicesGiven q)
   pub all : bytesIn (slicesGiven q) ≡ q .size
-  pub each : (a : List Slice) (p : Slice) (b : List Slice) → slicesGiven q ≡ a ++ p ∷ b → Right pieceLength sizes s (t + bytesIn a) p
+  pub each : (a : List Slice) (p : Slice) (b : List Slice)
+      → slicesGiven q ≡ a ++ p ∷ b
+      → Right pieceLength sizes s (t + bytesIn a) p
   -- whatever the files hold, the slices stand for the block's bytes
-  pub content : (cs : List (List ℕ)) → map length cs ≡ sizes → contentOf cs (slicesGiven q) ≡ partOf (endToEnd cs) t (q .size)
+  pub content : (cs : List (List ℕ))
+      → map length cs ≡ sizes
+      → contentOf cs (slicesGiven q) ≡ partOf (endToEnd cs) t (q .size)
 
 abbrev pub Blocks : ℕ → List ℕ → Store → ℕ → List MapCall → Type 0
 Blocks n sizes s t [] = Unit {0}
@@ -83,6 +94,7 @@ abbrev pub allSlicesGiven : List MapCall → List Slice
 allSlicesGiven [] = []
 allSlicesGiven (q ∷ qs) = slicesGiven q ++ allSlicesGiven qs
 
+-- the blocks' slices, joined, are each nonempty file once and whole; and each block is right
 pub record Demand3 (pieceLength : ℕ) (sizes : List ℕ) (s : Store) (qs : List MapCall) : Type 0 where
   pub whole : joined (allSlicesGiven qs) ≡ wholeFiles sizes
   pub blocks : Blocks pieceLength sizes s 0 qs

@@ -1,5 +1,6 @@
--- Slices of files that lie end to end (BEP 3): what it is to join them, what each file once and wholeFiles is, and which bytes
--- they stand for. The files are given by their sizes. It relies on the record of a slice in `layout`.
+-- Slices of files that lie end to end (BEP 3): joined slices, the slices that hold each file once and in full, and the
+-- bytes that slices stand for. The files are given by their sizes. Of the port it relies on the record of a slice in
+-- `layout` alone.
 use Prim.Native.Nat.{ℕ, zero, suc, _+_, _-_, _≤_, min, max}
 use mathlib.Core.Bool.{cond, _&&_}
 use mathlib.Core.List.{List, [], _∷_, _++_}
@@ -11,18 +12,19 @@ use Rattle.layout.specs.Mapping.{Slice}
 abbrev pub slice : ℕ → ℕ → ℕ → Slice
 slice f o n = record { file = f; offset = o; size = n }
 
--- a slice in front of others: one with the first of them where that goes on in the same file
+-- the slice a in front of others, made one with the first of them where that continues a in the same file
 abbrev pub joinedTo : Slice → List Slice → List Slice
 joinedTo a [] = a ∷ []
 joinedTo a (b ∷ r) =
-    cond (eqb (a .file) (b .file) && eqb (a .offset + a .size) (b .offset)) (slice (a .file) (a .offset) (a .size + b .size) ∷ r)
+    cond (eqb (a .file) (b .file) && eqb (a .offset + a .size) (b .offset))
+    (slice (a .file) (a .offset) (a .size + b .size) ∷ r)
     (a ∷ b ∷ r)
 
 abbrev pub joined : List Slice → List Slice
 joined [] = []
 joined (a ∷ r) = joinedTo a (joined r)
 
--- each nonempty file once, wholeFiles: 'Whole is offset 0 and the row's size'; the files are numbered from k
+-- each nonempty file once and in full: 'Whole is offset 0 and the row's size'; the files are numbered from k
 abbrev pub wholeFrom : ℕ → List ℕ → List Slice
 wholeFrom k [] = []
 wholeFrom k (x ∷ xs) = cond (eqb x 0) (wholeFrom (suc k) xs) (slice k 0 x ∷ wholeFrom (suc k) xs)
@@ -34,16 +36,17 @@ abbrev pub bytesIn : List Slice → ℕ
 bytesIn [] = 0
 bytesIn (p ∷ r) = p .size + bytesIn r
 
--- one slice a file at most, in file order: no file below k
+-- at most one slice of each file, in file order, and no file below k
 abbrev pub AscendingFrom : ℕ → List Slice → Type 0
 AscendingFrom k [] = Unit {0}
 AscendingFrom k (p ∷ r) = (k ≤ p .file) × AscendingFrom (suc (p .file)) r
 
--- how many of the files, the first of which starts at byte o, have a byte of the n from byte t on
+-- 0 for 0, else 1
 abbrev pub oneIf : ℕ → ℕ
 oneIf zero = 0
 oneIf (suc n) = 1
 
+-- the number of files with a byte among the n bytes from byte t on, where the first file starts at byte o
 abbrev pub meetsFrom : ℕ → List ℕ → ℕ → ℕ → ℕ
 meetsFrom o [] t n = 0
 meetsFrom o (x ∷ xs) t n = oneIf (min (o + x) (t + n) - max o t) + meetsFrom (o + x) xs t n

@@ -7,7 +7,9 @@ use lib.ListN.{replicate}
 use Rattle.types.specs.Refusals.{Outcome, value, refused}
 use Rattle.tables.specs.Model.{Optional, absent, present, Store}
 use Rattle.additions.specs.Addition.{Addition}
-use Rattle.cases.specs.Questions.{newStore, built, Question, addFile, fileOffset, numPieces, mapBlock, fileIndexAtOffset, mapFile, exclusive, inclusive, pieceSize2, linkAfterCleaning, answer, sameAnswer}
+use Rattle.cases.specs.Questions.{newStore, built, answer, sameAnswer, Question, addFile, fileOffset, numPieces}
+use Rattle.cases.specs.Questions.{mapBlock, fileIndexAtOffset, mapFile, exclusive, inclusive, pieceSize2}
+use Rattle.cases.specs.Questions.{linkAfterCleaning}
 
 -- a question, and the answer that document 01 gives
 pub record Case : Type 0 where
@@ -24,6 +26,7 @@ pub record Scenario : Type 0 where
 abbrev pub under : ℕ → List ℕ
 under letter = 115 ∷ 47 ∷ letter ∷ []
 
+-- the addition of a plain file
 abbrev pub file : ℕ → ℕ → Optional (List ℕ) → Addition
 file letter size root =
     record { given = absent; path = under letter; size = pos size; flags = 0; time = pos 0; link = []; root = root }
@@ -35,6 +38,7 @@ setA = file 97 7 absent ∷ file 98 0 absent ∷ file 99 15 absent ∷ file 100 
 abbrev pub case : Question → Outcome (List ℤ) → Case
 case q e = record { question = q; expected = e }
 
+-- the answer that is these numbers
 abbrev pub says : List ℕ → Outcome (List ℤ)
 says ns = value (signed ns)
   where
@@ -82,6 +86,7 @@ casesOfV2 =
     case (addFile (file 97 281474976710655 (present (replicate 32 1)))) (refused 4) ∷
     []
 
+-- the addition of a link with this text
 abbrev pub link : ℕ → List ℕ → Addition
 link letter text =
     record { given = absent; path = under letter; size = pos 0; flags = 8; time = pos 0; link = text; root = absent }
@@ -89,7 +94,15 @@ link letter text =
 -- s/x/f, s/l to `x`, s/m to `l/f`, s/n to `/etc`
 abbrev pub linkedSet : List Addition
 linkedSet =
-    record { given = absent; path = 115 ∷ 47 ∷ 120 ∷ 47 ∷ 102 ∷ []; size = pos 1; flags = 0; time = pos 0; link = []; root = absent } ∷
+    record {
+      given = absent;
+      path = 115 ∷ 47 ∷ 120 ∷ 47 ∷ 102 ∷ [];
+      size = pos 1;
+      flags = 0;
+      time = pos 0;
+      link = [];
+      root = absent;
+    } ∷
     link 108 (120 ∷ []) ∷
     link 109 (108 ∷ 47 ∷ 102 ∷ []) ∷
     link 110 (47 ∷ 101 ∷ 116 ∷ 99 ∷ []) ∷

@@ -1,5 +1,5 @@
--- A set built by additions, and a question to it, after a cleaning or not: each answer is what the contract of the function
--- of that name promises. It relies on the definitions that those contracts cite.
+-- A set built by additions, and questions to it, some after a cleaning: each answer is what the contract of the
+-- function with the question's name promises. It relies on the definitions that those contracts cite.
 use Prim.Native.Nat.{ℕ}
 use mathlib.Core.Bool.{Bool, true, false, _&&_}
 use mathlib.Core.List.{List, [], _∷_, map}
@@ -25,7 +25,8 @@ use Rattle.mapping.specs.Table.{Filled, recordOf, blockMapped}
 use Rattle.layout.specs.Given.{numPiecesGiven, pieceSize2Given, fileAtOffsetGiven}
 use Rattle.files.specs.Given.{exclusiveGiven, inclusiveGiven}
 
--- tables with places for 4 files, 2 directories and 14 bytes of text, and a table for 4 slices: enough for the sets below
+-- tables with places for 4 files, 2 directories and 14 bytes of text, and a table for 4 slices: enough for the sets of
+-- Cases.antt
 abbrev pub newStore : ℕ → Store
 newStore n =
     record {
@@ -45,7 +46,8 @@ abbrev pub kept : Store → Changed → Store
 kept s c = by (c .says)
   where
     by : Outcome FileStorage → Store
-    by (value fs) = record { fs = fs; rows = c .rows; roots = c .roots; times = c .times; dirs = c .dirs; text = c .text }
+    by (value fs) =
+        record { fs = fs; rows = c .rows; roots = c .roots; times = c .times; dirs = c .dirs; text = c .text }
     by (refused k) = s
 
 abbrev pub built : Store → List Addition → Store
@@ -54,15 +56,26 @@ built s (a ∷ rest) = built (kept s (addStored s a)) rest
 
 -- the tables after a cleaning, with a work space of 3 marks, 14 bytes and twice 14
 abbrev pub cleaned : Store → Store
-cleaned s = by (cleanStored (lent (s .fs) (s .rows) (s .dirs) (s .text)) (replicate 3 0) (replicate 14 0) (replicate 28 0))
+cleaned s =
+    by (cleanStored (lent (s .fs) (s .rows) (s .dirs) (s .text)) (replicate 3 0) (replicate 14 0) (replicate 28 0))
   where
     by : Cleaned → Store
-    by c = kept s (record { says = c .says; rows = c .rows; roots = s .roots; times = s .times; dirs = c .dirs; text = c .text })
+    by c =
+        kept s
+        (record {
+          says = c .says;
+          rows = c .rows;
+          roots = s .roots;
+          times = s .times;
+          dirs = c .dirs;
+          text = c .text;
+        })
 
 -- the link text of a file
 abbrev pub linkIn : Store → ℤ → Outcome (List ℕ)
 linkIn s z =
-    linkAnswer (s .fs) z (λ k. has (rowAt (s .rows) k .flags) linkHeldBit) (rowsHeld (s .fs) (s .rows) && textHeld (s .fs) (s .text))
+    linkAnswer (s .fs) z (λ k. has (rowAt (s .rows) k .flags) linkHeldBit)
+    (rowsHeld (s .fs) (s .rows) && textHeld (s .fs) (s .text))
     (λ k. textAt (s .text) (rowAt (s .rows) k .link))
 
 pub data Question : Type 0 where
@@ -91,17 +104,19 @@ ends r = r .begin ∷ r .end ∷ []
 abbrev pub request : SignedRequest → List ℤ
 request r = r .piece ∷ r .start ∷ r .length ∷ []
 
--- the table's first records, as many as the answer says: file, offset and size of each
+-- file, offset and size of each record
 abbrev pub sliceNumbers : List FileSlice → List ℤ
 sliceNumbers [] = []
 sliceNumbers (p ∷ ps) = p .«file_index» .0 ∷ p .offset ∷ p .size ∷ sliceNumbers ps
 
+-- the number of slices, and then the numbers of each
 abbrev pub slices : Filled → Outcome (List ℤ)
 slices r = numbers (λ (n : ℕ). pos n ∷ sliceNumbers (take n (r .table))) (r .says)
 
 abbrev pub answer : Store → Question → Outcome (List ℤ)
 answer s (addFile a) = numbers (λ (fs : FileStorage). []) (addStored s a .says)
-answer s (fileOffset z) = numbers one (fileAnswer (s .fs) z (rowsHeld (s .fs) (s .rows)) (λ k. pos (rowAt (s .rows) k .offset)))
+answer s (fileOffset z) =
+    numbers one (fileAnswer (s .fs) z (rowsHeld (s .fs) (s .rows)) (λ k. pos (rowAt (s .rows) k .offset)))
 answer s numPieces = numbers one (numPiecesGiven (s .fs))
 answer s (mapBlock p o n) = slices (blockMapped (s .fs) (s .rows) p o n lentSlices)
 answer s (fileIndexAtOffset o) = numbers one (fileAtOffsetGiven (s .fs) (s .rows) o)

@@ -3,9 +3,7 @@
 --     feed-end                nothing more to feed
 --     crc-parts               the CRC over two parts, one after the other, is that over both
 --     crc-lower               the same of parts in lower case
---     crc-start               from 0, the running CRC is the CRC
 --     crc-none                over no bytes, it stays
---     crc-append              the CRC of both parts from the CRC of the first
 use Prim.Native.Nat.{ℕ, _+_, _<_}
 use mathlib.Core.Path.{_≡_, refl, ap, _∙_}
 use mathlib.Core.List.{List, [], _∷_, _++_, map}
@@ -13,7 +11,7 @@ use native.Mathlib.Numerals.{add-one}
 use lib.Bits.{bitXor, xor-self, xor-zero-r}
 use lib.ListN.{length, getD, drop}
 use lib.Seq.{drop-cons}
-use Rattle.crc32c.specs.Crc.{byteStep, feed, inverted, crcOf, crcFrom, lower}
+use Rattle.crc32c.specs.Crc.{byteStep, feed, inverted, crcFrom, lower}
 use Rattle.crc32c.proofs.Steps.{xor-assoc}
 
 pub feed-more : (x : ℕ) (s : List ℕ) (i : ℕ) → i < length s → feed (byteStep x (getD s i 0)) (drop (i + 1) s) ≡ feed x (drop i s)
@@ -46,12 +44,6 @@ crc-parts c a b = rw (inverted-twice (feed (inverted c) a), feed-append (inverte
 pub crc-lower : (c : ℕ) (a b : List ℕ) → crcFrom (crcFrom c (map lower a)) (map lower b) ≡ crcFrom c (map lower (a ++ b))
 crc-lower c a b = rw (map-append lower a b) (crc-parts c (map lower a) (map lower b))
 
-pub crc-start : (s : List ℕ) → crcFrom 0 s ≡ crcOf s
-crc-start s = refl
-
 pub crc-none : (c : ℕ) → crcFrom c [] ≡ c
 unfolding feed
 crc-none c = inverted-twice c
-
-pub crc-append : (a b : List ℕ) → crcOf (a ++ b) ≡ crcFrom (crcOf a) b
-crc-append a b = rw (← crc-parts 0 a b)

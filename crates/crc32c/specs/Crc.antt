@@ -1,5 +1,5 @@
 -- CRC-32C bit by bit, from RFC 3720: the polynomial 0x1EDC6F41, reflected 0x82F63B78, start and end inverted; and the
--- lower-casing of ASCII that path hashes use.
+-- lower-casing of ASCII that path hashes use. It relies on the kit only.
 use Prim.Native.Nat.{ℕ, zero, suc, _+_, _*_, _/_, _%_}
 use mathlib.Core.Bool.{cond}
 use mathlib.Core.List.{List, [], _∷_}
@@ -19,7 +19,7 @@ bits (suc k) x = bits k (bit x)
 unfoldable pub byteStep : ℕ → ℕ → ℕ
 byteStep x b = bits 8 (bitXor x b)
 
--- the register after some bytes
+-- the register after the bytes of a list
 unfoldable pub feed : ℕ → List ℕ → ℕ
 feed x [] = x
 feed x (b ∷ s) = feed (byteStep x b) s
@@ -32,7 +32,7 @@ inverted x = bitXor x 0xffff_ffff
 abbrev pub crcOf : List ℕ → ℕ
 crcOf s = inverted (feed 0xffff_ffff s)
 
--- the CRC of some bytes more, from the CRC of those before: the running state is the CRC so far, 0 at the start
+-- the CRC of the bytes before and of s, from `crc`, the CRC of the bytes before, which is 0 at the start
 abbrev pub crcFrom : ℕ → List ℕ → ℕ
 crcFrom crc s = inverted (feed (inverted crc) s)
 

@@ -1,3 +1,3 @@
 -- The definitions that the contracts of `crc32c` cite.
 pub mod Crc
-pub mod Table
+pub mod private

@@ -1,5 +1,5 @@
-// The table of CRC-32C for a byte at a time: entry k is the register k after eight bits, as specs/Table.antt says and
-// the proofs of its users check. It relies on nothing else.
+// The table of CRC-32C for a byte at a time: entry k is the register k after eight bits, as
+// specs/private/Table.antt says and the proofs of its users check. It relies on nothing else.
 pub(crate) const TABLE: [u32; 256] = [
     0x00000000,
     0xf26b8303,

@@ -1,6 +1,6 @@
 -- What the walk of `niflathen_map_block_slices` cites of the functions that it calls: `storage_at`, which reads the state's
--- words; `mapping::map_block`, which reads the rows and fills the table; and `count_in`, which takes an answer alone.
---     StorageAt, MapBlock, CountIn      the contracts.        to-storage, to-map, to-count     what their triples bind outside
+-- words; `mapping::map_block`, which reads the rows and fills the table; and `count_returned`, which takes an answer alone.
+--     StorageAt, MapBlock, CountReturned      the contracts.        to-storage, to-map, to-count     what their triples bind outside
 --     storage-goes, map-goes, count-goes      what a call asks: tokens, and what the slices own; the other arguments are what they are
 --     storage-gives, map-gives, count-gives      what it gives: the tokens, what the contract says of the result, and the table's last list
 -- Assumes `Given`.
@@ -48,7 +48,7 @@ use Rattle.mapping.proofs.map_block as map-block
 use Rattle.exports.specs.State.{storageOf}
 use Rattle.exports.specs.Layout.{countReturned}
 use Rattle.exports.proofs.storage_at as storage-at
-use Rattle.exports.proofs.questions.count_in as count-in
+use Rattle.exports.proofs.questions.count_returned as count-returned
 
 module _ {M : Type 1} (𝓤 : URA M) (H : Heap 𝓤) (A : Atoms 𝓤) (mem : Memory → SProp 𝓤) (run : Routine → Fun 𝓤) where
   abbrev pub StorageAt : Contract 𝓤
@@ -57,8 +57,8 @@ module _ {M : Type 1} (𝓤 : URA M) (H : Heap 𝓤) (A : Atoms 𝓤) (mem : Mem
   abbrev pub MapBlock : Contract 𝓤
   MapBlock = tripleOf 𝓤 H A map-block.signature (map-block.spec 𝓤 H A mem run)
 
-  abbrev pub CountIn : Contract 𝓤
-  CountIn = tripleOf 𝓤 H A count-in.signature (count-in.spec 𝓤 H A mem run)
+  abbrev pub CountReturned : Contract 𝓤
+  CountReturned = tripleOf 𝓤 H A count-returned.signature (count-returned.spec 𝓤 H A mem run)
 
 module _ {M : Type 1} (𝓤 : URA M) (H : Heap 𝓤) (A : Atoms 𝓤) (W : Given 𝓤 H A) (mem : Memory → SProp 𝓤) (run : Routine → Fun 𝓤) where
   -- the words x, lent for κ
@@ -140,20 +140,20 @@ module _ {M : Type 1} (𝓤 : URA M) (H : Heap 𝓤) (A : Atoms 𝓤) (W : Given
         drop ! $ split ! $ move ! (1 ∷ []) $ split ! $ keep ! (2 ∷ 0 ∷ 3 ∷ []) $ join ! $ join ! $ done !)))))
 
   module _ (r : UsizeResult) where
-    abbrev pub to-count : CountIn 𝓤 H A mem run .Ghost
+    abbrev pub to-count : CountReturned 𝓤 H A mem run .Ghost
     to-count = ((tt, tt, tt, (r, tt), (UR′.lowered r ∷ [], tt)), tt)
 
-    pub count-goes : Is UR.the-row r (UR′.lowered r ∷ []) → ent 𝓤 (emp 𝓤) (CountIn 𝓤 H A mem run .pre to-count)
+    pub count-goes : Is UR.the-row r (UR′.lowered r ∷ []) → ent 𝓤 (emp 𝓤) (CountReturned 𝓤 H A mem run .pre to-count)
     count-goes g =
         qed W [] ∵ nothing ! $ nothing ! $ nothing ! $ owned ! UR.the-row (Is UR.the-row) (EL.makes UR.the-type UR′.the-plain 𝓤 H A) r _ g $ fjoin ! $ move ! (1 ∷ 0 ∷ []) $ join ! $ join ! $ done !
 
-    count-told : (z : ℤ) → ent 𝓤 (ensured 𝓤 H A count-in.ended (count-in.clauses 𝓤 H A mem run) tt (r, tt) tt z) (fact 𝓤 (z ≡ countReturned (usizeSays r)))
-    count-told z = exE 𝓤 _ (λ ws. snd∗ 𝓤 (sem 𝓤 H A (lasts count-in.ended tt (r, tt) ws)) (fact 𝓤 (z ≡ countReturned (usizeSays r))))
+    count-told : (z : ℤ) → ent 𝓤 (ensured 𝓤 H A count-returned.ended (count-returned.clauses 𝓤 H A mem run) tt (r, tt) tt z) (fact 𝓤 (z ≡ countReturned (usizeSays r)))
+    count-told z = exE 𝓤 _ (λ ws. snd∗ 𝓤 (sem 𝓤 H A (lasts count-returned.ended tt (r, tt) ws)) (fact 𝓤 (z ≡ countReturned (usizeSays r))))
 
-    pub count-gives : (w : Val) → ent 𝓤 (CountIn 𝓤 H A mem run .post to-count w) (H .⇛ (guard 𝓤 (Is i64 (countReturned (usizeSays r)) (w ∷ [])) (emp 𝓤)))
+    pub count-gives : (w : Val) → ent 𝓤 (CountReturned 𝓤 H A mem run .post to-count w) (H .⇛ (guard 𝓤 (Is i64 (countReturned (usizeSays r)) (w ∷ [])) (emp 𝓤)))
     count-gives w =
-        qed W (raw (CountIn 𝓤 H A mem run .post to-count w) ∷ []) ∵ updating ! $
-        use1 W (later (some (λ (z : ℤ). (‵ ftrue ⊛ ‵ (i64 .own z (w ∷ []))) ⊛ raw (ensured 𝓤 H A count-in.ended (count-in.clauses 𝓤 H A mem run) tt (r, tt) tt z)))) (id⊢ 𝓤 _) $ await ! tt $ pick ! (λ z.
+        qed W (raw (CountReturned 𝓤 H A mem run .post to-count w) ∷ []) ∵ updating ! $
+        use1 W (later (some (λ (z : ℤ). (‵ ftrue ⊛ ‵ (i64 .own z (w ∷ []))) ⊛ raw (ensured 𝓤 H A count-returned.ended (count-returned.clauses 𝓤 H A mem run) tt (r, tt) tt z)))) (id⊢ 𝓤 _) $ await ! tt $ pick ! (λ z.
         split ! $ move ! (1 ∷ []) $ use1 W (raw (fact 𝓤 (z ≡ countReturned (usizeSays r)))) (count-told z) $ heard ! (z ≡ countReturned (usizeSays r)) (λ e.
         split ! $ move ! (1 ∷ []) $ peeks ! i64 (Is i64) (shows 𝓤 H A i64) z (w ∷ []) (λ is.
         at-once ! $ check ! (subst (λ (c : ℤ). Is i64 c (w ∷ [])) e is) $ keep ! (1 ∷ []) $ done !)))

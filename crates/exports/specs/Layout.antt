@@ -1,4 +1,5 @@
--- What the layout answers of the interface return: a number below 0 is minus document 01's number of the refusal.
+-- What the layout answers of the interface return: a number below 0 is minus document 01's number of the refusal. It
+-- relies on the answers of `files`, `blocks` and `mapping`.
 use Prim.Native.Nat.{ℕ, _%_, _^_}
 use mathlib.Core.List.{List}
 use lib.IntN.{ℤ, pos, negℤ}
@@ -10,11 +11,12 @@ use Rattle.mapping.specs.Table.{Filled}
 use Rattle.files.specs.List.{AnswersListed}
 use Rattle.exports.specs.declared.questions.FileRequest.{FileRequest}
 
--- a count, which is below 2^63 wherever a table holds so many
+-- a count, which is below 2^63, since a table holds that number of records
 abbrev pub countReturned : Outcome ℕ → ℤ
 countReturned (value n) = pos (n % 2 ^ 63)
 countReturned (refused k) = negℤ (pos k)
 
+-- a file's number
 abbrev pub fileReturned : Outcome ℤ → ℤ
 fileReturned (value z) = z
 fileReturned (refused k) = negℤ (pos k)

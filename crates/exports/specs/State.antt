@@ -1,5 +1,6 @@
 -- A set's record as twelve words, for programs in other languages: piece length, v2 (0 or 1), files, directories, link
--- texts, times, the name's place and length, text held, total, size on disk, trimmed (0 or 1).
+-- texts, times, the name's position and length, text held, total, size on disk, trimmed (0 or 1). It relies on the
+-- record of `tables` and on what a change of `change` leaves.
 use Prim.Native.Nat.{ℕ}
 use mathlib.Core.Bool.{Bool, true, false, cond, not}
 use mathlib.Core.List.{List, [], _∷_}
@@ -15,8 +16,8 @@ use Rattle.tables.specs.Model.{Store, storeOf}
 use Rattle.storage.specs.Opening.{newStorage}
 use Rattle.change.specs.Changes.{Changed}
 
--- the set that the words hold; where they are not all there, one of piece length 0, which every change and every question
--- refuses by 1
+-- the set that the words hold; where there are fewer than twelve, one of piece length 0, which every change and every
+-- question refuses by 1
 abbrev pub storageOf : List ℕ → FileStorage
 storageOf w =
     cond (ltb (length w) 12) (newStorage 0)
@@ -34,6 +35,7 @@ storageOf w =
       trimmed = not (eqb (getD w 11 0) 0);
     })
 
+-- 1 for true, 0 for false
 abbrev pub bit : Bool → ℕ
 bit true = 1
 bit false = 0
@@ -54,7 +56,7 @@ wordsOf fs =
     bit (fs .trimmed) ∷
     []
 
--- the words with a set's record in them; where they are not all there, they stay as they are
+-- the words with a set's record in them; where there are fewer than twelve, they stay as they are
 abbrev pub stateWith : FileStorage → List ℕ → List ℕ
 stateWith fs state = cond (ltb (length state) 12) state (sets state 0 (wordsOf fs))
 
@@ -66,7 +68,7 @@ storeAt state rows roots times dirs text = storeOf (storageOf state) rows roots 
 abbrev pub presenceOf : ℕ → Presence
 presenceOf n = cond (eqb n 0) Absent Present
 
--- the number that is returned, 0 where the call was not refused; the record's words; each table
+-- what a change returns and leaves: the refusal's number, 0 for none; the record's words; each table
 pub record Exported : Type 0 where
   pub number : ℕ
   pub state : List ℕ

@@ -1,13 +1,15 @@
 // The C interface, for benchmarks and other languages: a set's record is twelve lent words. A change returns 0 or
-// document 01's number; questions.rt and slices.rt say what a question returns. Relies on `storage`, `tables`,
-// `layout` and `mapping`.
+// document 01's number; questions.rt and slices.rt say what a question returns. An addition has 15 parameters and
+// can't have fewer in C: each table and each text is a slice of its own. Relies on `storage`, `trim`, `tables`,
+// `layout`, `files`, `blocks` and `mapping`.
 ghost use mathlib.Core.Path.{_≡_};
 ghost use Rattle.tables.specs.Rows.{rootAt};
 ghost use Rattle.change.specs.Changes.{storageSays};
 ghost use Rattle.additions.specs.Addition.{optionalOf};
 ghost use Rattle.plan.specs.Outcomes.{addStored};
 ghost use Rattle.trim.specs.Removal.{trimStored};
-ghost use Rattle.exports.specs.State.{Exported, exported, storageOf, storeAt, stateWith, bit, presenceOf, numberReturned, stateAfter};
+ghost use Rattle.exports.specs.State.{Exported, exported, storageOf, storeAt, stateWith, bit, presenceOf};
+ghost use Rattle.exports.specs.State.{numberReturned, stateAfter};
 
 mod questions;
 mod slices;
@@ -18,7 +20,7 @@ use tables::FileStorage;
 use tables::Presence;
 use tables::Span;
 
-// The record that a set's words hold; where they are not all there, a record of no set.
+// The record that a set's words hold; where there are fewer than twelve, a record of no set.
 pub(crate) fn storage_at(state: &[u64]) -> FileStorage
     ensures { λ r. ⌜ r ≡ storageOf (now (state .entry)) ⌝ }
 {
@@ -62,7 +64,7 @@ fn bit_of(on: bool) -> u64
     if on { 1 } else { 0 }
 }
 
-// Writes a set's record as its words; where there is no room for all of them, none is written.
+// Writes a set's record as its words; where there is room for fewer than twelve, none is written.
 fn put_state(state: &mut [u64], fs: FileStorage)
     ensures { λ _. ⌜ now (state .exit) ≡ stateWith fs (now (state .entry)) ⌝ }
 {

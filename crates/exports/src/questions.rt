@@ -1,5 +1,5 @@
-// The layout answers of the C interface: both mappings, `map_file` for a list, and the file at an offset. Relies
-// on `layout` and on the record that a set's words hold.
+// The layout answers of the C interface: a block as three columns, `map_file` alone and for a list, and the file at an
+// offset. Relies on `layout`, `files`, `blocks` and on the record that a set's words hold.
 ghost use mathlib.Core.Path.{_≡_};
 ghost use lib.IntN.{pos, negℤ};
 ghost use Rattle.types.specs.Refusals.{usizeSays};
@@ -9,7 +9,8 @@ ghost use Rattle.files.specs.Given.{fileMapped};
 ghost use Rattle.files.specs.List.{filesMapped};
 ghost use Rattle.layout.specs.Given.{fileAtOffsetGiven};
 ghost use Rattle.exports.specs.State.{storageOf};
-ghost use Rattle.exports.specs.Layout.{countReturned, fileReturned, BlockReturned, blockReturned, requestReturned, ListReturned, listReturned};
+ghost use Rattle.exports.specs.Layout.{countReturned, fileReturned, requestReturned};
+ghost use Rattle.exports.specs.Layout.{BlockReturned, blockReturned, ListReturned, listReturned};
 use crate::storage_at;
 use rules::FileResult;
 use rules::RequestResult;
@@ -18,7 +19,7 @@ use types::PieceIndex;
 use types::UsizeResult;
 
 // Minus a number.
-fn minus(n: u32) -> i64
+fn negated(n: u32) -> i64
     ensures { λ r. ⌜ r ≡ negℤ (pos n) ⌝ }
 {
     -(n as i64)
@@ -31,27 +32,27 @@ fn wide(x: i32) -> i64
     x as i64
 }
 
-// How many there are, or minus the number of the refusal.
-pub(crate) fn count_in(answer: UsizeResult) -> i64
+// A count, or minus the number of the refusal.
+pub(crate) fn count_returned(answer: UsizeResult) -> i64
     ensures { λ r. ⌜ r ≡ countReturned (usizeSays answer) ⌝ }
 {
     match answer {
         UsizeResult::Ok(n) => types::signed64(n as u64),
-        UsizeResult::Err(e) => minus(types::number(e)),
+        UsizeResult::Err(e) => negated(types::number(e)),
     }
 }
 
 // The number of a file, or minus the number of the refusal.
-fn file_in(answer: FileResult) -> i64
+fn file_returned(answer: FileResult) -> i64
     ensures { λ r. ⌜ r ≡ fileReturned (fileSays answer) ⌝ }
 {
     match answer {
         FileResult::Ok(f) => wide(f.0),
-        FileResult::Err(e) => minus(types::number(e)),
+        FileResult::Err(e) => negated(types::number(e)),
     }
 }
 
-// A request of `map_file` as C has it: the number of the refusal, or 0 and the request.
+// A request of `map_file` as C has it: 0 and the request, or the number of the refusal and zeros.
 #[repr(C)]
 pub struct FileRequest {
     pub refusal: u32,
@@ -60,8 +61,8 @@ pub struct FileRequest {
     pub length: i32,
 }
 
-// A request, or zeros and the number of the refusal.
-fn request_in(answer: RequestResult) -> FileRequest
+// The request of an answer, or the number of its refusal and zeros.
+fn request_returned(answer: RequestResult) -> FileRequest
     ensures { λ r. ⌜ r ≡ requestReturned (requestSays answer) ⌝ }
 {
     match answer {
@@ -103,7 +104,7 @@ pub extern "C" fn niflathen_map_block(
         (mapBlock (storageOf (now (state .entry))) (now (rows .entry)) piece offset size
         (now («out_file» .entry)) (now («out_offset» .entry)) (now («out_size» .entry)))) ⌝ }
 {
-    count_in(blocks::map_block_core(
+    count_returned(blocks::map_block_core(
         storage_at(state),
         rows,
         PieceIndex(piece),
@@ -121,10 +122,10 @@ pub extern "C" fn niflathen_file_index_at_offset(state: &[u64], rows: &[u64], of
     ensures { λ r. ⌜ r ≡
         fileReturned (fileAtOffsetGiven (storageOf (now (state .entry))) (now (rows .entry)) offset) ⌝ }
 {
-    file_in(layout::file_index_at_offset(storage_at(state), rows, offset))
+    file_returned(layout::file_index_at_offset(storage_at(state), rows, offset))
 }
 
-// `files::map_file`. Words and answer have their sizes in their types, so that arguments and answer go in registers.
+// `files::map_file`. Words and answer have their sizes in their types, so arguments and answer go in registers.
 #[no_mangle]
 pub extern "C" fn niflathen_map_file(
     state: &[u64; 12],
@@ -136,7 +137,7 @@ pub extern "C" fn niflathen_map_file(
     ensures { λ r. ⌜ r ≡
         requestReturned (fileMapped (storageOf (now (state .entry))) (now (rows .entry)) index offset size) ⌝ }
 {
-    request_in(files::map_file(storage_at(state), rows, FileIndex(index), offset, size))
+    request_returned(files::map_file(storage_at(state), rows, FileIndex(index), offset, size))
 }
 
 // `files::map_files`: the number of questions, or minus the number of the refusal.
@@ -154,5 +155,5 @@ pub extern "C" fn niflathen_map_files(
         (filesMapped (storageOf (now (state .entry))) (now (rows .entry)) (now (files .entry)) (now (offsets .entry))
         (now (sizes .entry)) (now (answers .entry)))) ⌝ }
 {
-    count_in(files::map_files(storage_at(state), rows, files, offsets, sizes, answers))
+    count_returned(files::map_files(storage_at(state), rows, files, offsets, sizes, answers))
 }

@@ -4,7 +4,7 @@ ghost use mathlib.Core.Path.{_≡_};
 ghost use Rattle.mapping.specs.Table.{blockMapped};
 ghost use Rattle.exports.specs.State.{storageOf};
 ghost use Rattle.exports.specs.Layout.{SlicesReturned, slicesReturned};
-use crate::questions::count_in;
+use crate::questions::count_returned;
 use crate::storage_at;
 use types::FileSlice;
 use types::PieceIndex;
@@ -23,7 +23,7 @@ pub extern "C" fn niflathen_map_block_slices(
         (slicesReturned
         (blockMapped (storageOf (now (state .entry))) (now (rows .entry)) piece offset size (now (out .entry)))) ⌝ }
 {
-    count_in(mapping::map_block(
+    count_returned(mapping::map_block(
         storage_at(state),
         rows,
         PieceIndex(piece),

@@ -8,14 +8,13 @@ use mathlib.Core.List.{List, [], _∷_, _++_}
 use native.Mathlib.Omega.{arith}
 use lib.Dec.{eqb, ltb, leb}
 use lib.ListN.{length, drop, length-append, length-drop}
-use lib.Seq.{sets}
 use borrow.Author.Tests.{ltb-false, eqb-true}
 use Rattle.lists.specs.Lists.{equal, any, ceiling}
 use Rattle.lists.specs.Decimal.{decimal, column}
 use Rattle.lists.proofs.Decimals.{decimal-few, column-length}
 use Rattle.types.specs.Refusals.{Outcome, value, refused}
 use Rattle.path.specs.Split.{isSeparator, isComplete, trimmedFrom, trimmed, beforeLast, afterLast, afterFirst, rsplitBranch, rsplitLeaf, lsplitFirst, lsplitRest, hasParent}
-use Rattle.path.specs.Join.{isEmpty, Joined, joinedIf, fits}
+use Rattle.path.specs.Join.{isEmpty}
 use Rattle.tables.specs.Model.{Optional, absent, present, Directory, single, absolute, stored, File, Model}
 use Rattle.rules.specs.Rules.{firstOf}
 use Rattle.rules.specs.Bounds.{limit, isNegative, badLength}
@@ -24,7 +23,7 @@ use Rattle.storage.specs.Opening.{newModel}
 use Rattle.listing_input.specs.Form.{FileEntry, linesFrom, lines, pieceLengthIn, fileIn}
 use Rattle.listing.specs.Run.{additionOf, goOn, readAs, runFrom, openedAs, runLines, run, places, listing}
 use Rattle.listing_output.specs.Output.{Run, listed, stopped, pieces, internalPath, fileLine, fileLines, totalsLine, printed}
-use Rattle.listing_output.proofs.Printed.{joined-few, four-length, refusal-length, put-yes}
+use Rattle.listing_output.proofs.Printed.{joined-few, four-length, refusal-length}
 use Rattle.listing.proofs.Steps.{path-is}
 
 -- parts of a path are no longer than it
@@ -44,15 +43,15 @@ before-last-few : (p : List ℕ) → length (beforeLast p) ≤ length p
 before-last-few [] = omega arith
 before-last-few (c ∷ t) = cond-few (any isSeparator t) (c ∷ beforeLast t) [] (suc (length t)) (omega (arith, before-last-few t)) (omega arith)
 
-behind-last-few : (p : List ℕ) → length (afterLast p) ≤ length p
-behind-last-few [] = omega arith
-behind-last-few (c ∷ t) =
-    cond-few (any isSeparator t) (afterLast t) (cond (isSeparator c) t (c ∷ t)) (suc (length t)) (omega (arith, behind-last-few t))
+after-last-few : (p : List ℕ) → length (afterLast p) ≤ length p
+after-last-few [] = omega arith
+after-last-few (c ∷ t) =
+    cond-few (any isSeparator t) (afterLast t) (cond (isSeparator c) t (c ∷ t)) (suc (length t)) (omega (arith, after-last-few t))
     (cond-few (isSeparator c) t (c ∷ t) (suc (length t)) (omega arith) (omega arith))
 
-behind-first-few : (p : List ℕ) → length (afterFirst p) ≤ length p
-behind-first-few [] = omega arith
-behind-first-few (c ∷ t) = cond-few (isSeparator c) t (afterFirst t) (suc (length t)) (omega arith) (omega (arith, behind-first-few t))
+after-first-few : (p : List ℕ) → length (afterFirst p) ≤ length p
+after-first-few [] = omega arith
+after-first-few (c ∷ t) = cond-few (isSeparator c) t (afterFirst t) (suc (length t)) (omega arith) (omega (arith, after-first-few t))
 
 unled-few : (p : List ℕ) → length (withoutLeading p) ≤ length p
 unled-few [] = omega arith
@@ -62,10 +61,10 @@ branch-part-few : (p : List ℕ) → length (rsplitBranch p) ≤ length p
 branch-part-few p = omega (arith, before-last-few (trimmed isSeparator p), trimmed-few isSeparator p)
 
 leaf-part-few : (p : List ℕ) → length (rsplitLeaf p) ≤ length p
-leaf-part-few p = omega (arith, behind-last-few (trimmed isSeparator p), trimmed-few isSeparator p)
+leaf-part-few p = omega (arith, after-last-few (trimmed isSeparator p), trimmed-few isSeparator p)
 
 rest-part-few : (p : List ℕ) → length (lsplitRest p) ≤ length p
-rest-part-few p = omega (arith, behind-first-few (drop (cond (isComplete p) 1 0) p), length-drop (cond (isComplete p) 1 0) p)
+rest-part-few p = omega (arith, after-first-few (drop (cond (isComplete p) 1 0) p), length-drop (cond (isComplete p) 1 0) p)
 
 -- the directory and the name of a file that is added
 directoryLength : Directory → ℕ
@@ -344,7 +343,3 @@ printed-few input (listed m) e = read (ltb 65536 (length input)) refl e
 
 pub listing-few : (input : List ℕ) → length (listing input) ≤ 262144
 listing-few input = printed-few input (run places input) refl
-
--- so a buffer of that length is never refused
-pub listed-whole : (input out : List ℕ) → 262144 ≤ length out → _≡_ {A = Joined} (joinedIf (fits (listing input) out) (listing input) out) (record { says = value (length (listing input)); buf = sets out 0 (listing input) })
-listed-whole input out h = sym (put-yes (listing input) out (length (listing input)) (sets out 0 (listing input)) (omega (arith, listing-few input)) refl refl)

@@ -1,3 +1,3 @@
 -- The definitions that the contracts of `listing` cite.
 pub mod Run
-pub mod Steps
+pub mod private

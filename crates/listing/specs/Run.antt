@@ -1,6 +1,6 @@
--- Document 01, 'The listing': what `setlist` prints for an input. Its lines are read as `listing_input` says and obeyed on
--- the model by opening and adding as `storage` says; the set that results, or the refusal and its line, is printed as
--- `listing_output` says.
+-- Document 01, 'The listing': what `setlist` prints for an input. Its lines are read as `listing_input` says and obeyed
+-- on the model, by opening as `storage` and adding as `additions` say; the set that results, or the refusal and its
+-- line, is printed as `listing_output` says.
 use Prim.Native.Nat.{ℕ, _+_, _%_}
 use mathlib.Core.Bool.{cond}
 use mathlib.Core.List.{List, [], _∷_}
@@ -19,10 +19,12 @@ use Rattle.listing_output.specs.Output.{Run, listed, stopped, pieces, printed}
 abbrev pub counted : ℕ → Model → Run
 counted line m = cond (ltb 2147483647 (pieces m)) (stopped 13 line) (listed m)
 
+-- what was read from line `line`, and the run that follows; 17 where the line is out of form
 abbrev pub readAs : {A : Type 0} → Optional A → ℕ → (A → Run) → Run
 readAs absent line next = stopped 17 line
 readAs (present a) line next = next a
 
+-- the set after line `line`, and the run that follows; a refused line ends it
 abbrev pub goOn : Outcome Model → ℕ → (Model → Run) → Run
 goOn (value m) line next = next m
 goOn (refused k) line next = stopped k line
@@ -40,11 +42,13 @@ additionOf e =
       root = presentIf (leb 16 (e .flags)) (replicate 32 1);
     }
 
--- 'The first line that cannot be read ends the run'; lines are obeyed one by one, `line` being the number of the last
+-- 'The first line that cannot be read ends the run'; lines are obeyed one by one, and `line` is the number of the last
+-- one obeyed
 unfoldable pub runFrom : Rooms → ℕ → Model → List (List ℕ) → Run
 runFrom rooms line m [] = counted line m
 runFrom rooms line m (l ∷ ls) =
-    readAs (fileIn l) (line + 1) (λ e. goOn (addedTo rooms m (additionOf e)) (line + 1) (λ next. runFrom rooms (line + 1) next ls))
+    readAs (fileIn l) (line + 1)
+    (λ e. goOn (addedTo rooms m (additionOf e)) (line + 1) (λ next. runFrom rooms (line + 1) next ls))
 
 -- refusal 1 of opening
 abbrev pub openedAs : ℕ → Outcome Model

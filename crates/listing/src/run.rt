@@ -74,7 +74,8 @@ fn add_line(
           text = now (text .exit);
         })
         (obeyed (fileIn (now (line .entry)))
-        (storeOf fs (now (rows .entry)) (now (roots .entry)) (now (times .entry)) (now (dirs .entry)) (now (text .entry)))) ⌝ }
+        (storeOf fs (now (rows .entry)) (now (roots .entry)) (now (times .entry)) (now (dirs .entry))
+        (now (text .entry)))) ⌝ }
 {
     let FileLine::Of(size, flags) = file_in(line) else {
         return StorageResult::Err(Refusal::ParseFailed);
@@ -93,8 +94,8 @@ fn add_line(
     storage::add_file(fs, rows, roots, times, dirs, text, file, none, path, none)
 }
 
-// The run that a refused line ends. Callers come here with a refusal only: `let else` hands on the whole answer,
-// so the other arm stands for what cannot happen.
+// The run that a refused line ends. Its callers hand on refusals only, but `let else` hands on the whole answer: the
+// other arm is never reached.
 fn stopped_by(answer: StorageResult, line: usize) -> RunResult
     ensures { λ r. ⌜ r ≡ stoppedBy answer line ⌝ }
 {
@@ -114,7 +115,7 @@ fn counted_by(fs: FileStorage, line: usize) -> RunResult
     RunResult::Listed(fs)
 }
 
-// Obeys the file lines from place `from` of the input on, the first of them being line 2.
+// Obeys the file lines from position `from` of the input on; the first of them is line 2.
 fn add_lines(
     input: &[u8],
     from: usize,
@@ -131,7 +132,9 @@ fn add_lines(
     ensures { λ r. ⌜
         runSays r (now (rows .exit)) (now (roots .exit)) (now (times .exit)) (now (dirs .exit)) (now (text .exit)) ≡
         runFrom places 1
-        (viewOf (storeOf fs (now (rows .entry)) (now (roots .entry)) (now (times .entry)) (now (dirs .entry)) (now (text .entry))))
+        (viewOf
+        (storeOf fs (now (rows .entry)) (now (roots .entry)) (now (times .entry)) (now (dirs .entry))
+        (now (text .entry))))
         (lines (drop from (now (input .entry)))) ⌝ }
 {
     let mut set = fs;

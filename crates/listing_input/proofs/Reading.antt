@@ -17,7 +17,12 @@ use Rattle.path.specs.Join.{isEmpty}
 use Rattle.tables.specs.Model.{Optional, absent, present, presentIf}
 use Rattle.rules.proofs.Rules.{both-true}
 use Rattle.listing_input.specs.Form.{linesFrom, lines, unblanked, isDigit, areDigits, isNumber, numberIn, onlyIf}
-use Rattle.listing_input.specs.Answers.{firstLine, afterLine}
+use Rattle.listing_input.specs.Answers.{firstLine}
+
+-- what stands after the first line feed
+abbrev pub afterLine : List ℕ → List ℕ
+afterLine [] = []
+afterLine (c ∷ t) = cond (eqb c 10) t (afterLine t)
 
 -- one place of the scan for a line feed
 module _ (l : List ℕ) (i : ℕ) (h : i < length l) where

@@ -1,4 +1,5 @@
--- The first line of an input, and what the answers of the functions that read lines say.
+-- The first line of an input, and what the answers of the functions that read lines say. It relies on Form.antt and on
+-- the enums of src/form.rt.
 use Prim.Native.Nat.{ℕ}
 use mathlib.Core.Bool.{cond}
 use mathlib.Core.List.{List, [], _∷_}
@@ -16,16 +17,11 @@ abbrev pub firstLine : List ℕ → List ℕ
 firstLine [] = []
 firstLine (c ∷ t) = cond (eqb c 10) [] (c ∷ firstLine t)
 
--- what stands after the first line feed
-abbrev pub afterLine : List ℕ → List ℕ
-afterLine [] = []
-afterLine (c ∷ t) = cond (eqb c 10) t (afterLine t)
-
 abbrev pub numberSays : Number → Optional ℕ
 numberSays (number.Of n) = present n
 numberSays number.Nothing = absent
 
--- the path of a file line stands from place 19 on
+-- the path of a file line stands from position 19 on
 abbrev pub fileSays : FileLine → List ℕ → Optional FileEntry
 fileSays (file.Of size flags) line = present (record { size = size; flags = flags; path = drop 19 line })
 fileSays file.Nothing line = absent

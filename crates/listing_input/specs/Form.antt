@@ -1,4 +1,5 @@
--- Document 01, 'The listing': the form of its lines. 10 is a line feed, 32 a blank, 48 to 57 are the digits.
+-- Document 01, 'The listing': the form of its lines. 10 is a line feed, 32 a blank, 48 to 57 are the digits. It relies
+-- on the parts and digits of `lists` and on `Optional` of `tables`.
 use Prim.Native.Nat.{ℕ}
 use mathlib.Core.Bool.{Bool, true, false, cond, _&&_, _||_}
 use mathlib.Core.List.{List, [], _∷_, _++_}
@@ -9,8 +10,8 @@ use Rattle.lists.specs.Decimal.{valueFrom}
 use Rattle.path.specs.Join.{isEmpty}
 use Rattle.tables.specs.Model.{Optional, absent, present, presentIf}
 
--- 'Lines end in a line feed, which the last may lack': the lines of an input, `line` being what stands before it in its
--- first line
+-- 'Lines end in a line feed, which the last may lack': the lines of an input whose first line begins with `line`,
+-- already read
 abbrev pub linesFrom : List ℕ → List ℕ → List (List ℕ)
 linesFrom line [] = cond (isEmpty line) [] (line ∷ [])
 linesFrom line (c ∷ t) = cond (eqb c 10) (line ∷ linesFrom [] t) (linesFrom (line ++ (c ∷ [])) t)
@@ -18,7 +19,7 @@ linesFrom line (c ∷ t) = cond (eqb c 10) (line ∷ linesFrom [] t) (linesFrom 
 abbrev pub lines : List ℕ → List (List ℕ)
 lines input = linesFrom [] input
 
--- without the blanks at its start
+-- a column without the blanks at its start
 abbrev pub unblanked : List ℕ → List ℕ
 unblanked [] = []
 unblanked (c ∷ t) = cond (eqb c 32) (unblanked t) (c ∷ t)
@@ -39,10 +40,12 @@ isNumber (c ∷ t) = areDigits (c ∷ t) && (ltb 48 c || isEmpty t)
 abbrev pub numberIn : List ℕ → Optional ℕ
 numberIn column = presentIf (isNumber (unblanked column)) (valueFrom 0 (unblanked column))
 
+-- a value that passes the test, or nothing
 abbrev pub onlyIf : {A : Type 0} → (A → Bool) → Optional A → Optional A
 onlyIf f absent = absent
 onlyIf f (present a) = presentIf (f a) a
 
+-- a value where the condition holds, or nothing
 abbrev pub provided : {A : Type 0} → Bool → Optional A → Optional A
 provided true a = a
 provided false a = absent

@@ -4,7 +4,8 @@ ghost use mathlib.Core.Path.{_≡_};
 ghost use Prim.Native.Nat.{_-_, _≤_};
 ghost use lib.ListN.{length, drop};
 ghost use Rattle.lists.specs.Decimal.{valueFrom};
-ghost use Rattle.listing_input.specs.Form.{unblanked, isDigit, areDigits, isNumber, numberIn, onlyIf, pieceLengthIn, areFlags, fileIn};
+ghost use Rattle.listing_input.specs.Form.{unblanked, isDigit, areDigits, isNumber, numberIn, onlyIf};
+ghost use Rattle.listing_input.specs.Form.{pieceLengthIn, areFlags, fileIn};
 ghost use Rattle.listing_input.specs.Answers.{firstLine, numberSays, fileSays};
 
 // A number, or nothing where none can be read.
@@ -13,13 +14,13 @@ pub enum Number {
     Nothing,
 }
 
-// The size and the flags of a file line, whose path stands from place 19 on, or nothing.
+// The size and the flags of a file line, whose path stands from position 19 on, or nothing.
 pub enum FileLine {
     Of(u64, u64),
     Nothing,
 }
 
-// The length of the line that begins at place `at`: up to a line feed, or to the input's end.
+// The length of the line that begins at position `at`: up to a line feed, or to the input's end.
 pub fn line_length(input: &[u8], at: usize) -> usize
     ensures { λ r. ⌜ r ≡ length (firstLine (drop at (now (input .entry)))) ⌝ }
 {

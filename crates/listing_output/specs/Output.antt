@@ -1,14 +1,13 @@
--- Document 01, 'The listing': what is printed of a set, or of a refusal and its line. It relies on the columns of `lists`,
--- the joins of `path` and the model of `tables`.
+-- Document 01, 'The listing': what is printed of a set, or of a refusal and its line. It relies on the columns of
+-- `lists` and the model of `tables`.
 use Prim.Native.Nat.{ℕ, _+_, _%_}
 use mathlib.Core.List.{List, [], _∷_, _++_}
 use lib.ListN.{length}
 use Rattle.lists.specs.Lists.{ceiling}
 use Rattle.lists.specs.Decimal.{column}
-use Rattle.path.specs.Join.{appended}
-use Rattle.tables.specs.Model.{Directory, single, absolute, stored, File, Model}
+use Rattle.tables.specs.Model.{File, Model, pathIn}
 
--- how a run ends: with a set, or with a refusal's number and its line
+-- how a run ends: with a set, or with a refusal's number and the line that it carries
 pub data Run : Type 0 where
   listed : Model → Run
   stopped : ℕ → ℕ → Run
@@ -17,12 +16,7 @@ abbrev pub pieces : Model → ℕ
 pieces m = ceiling (m .total) (m .pieceLength)
 
 abbrev pub internalPath : File → List ℕ
-internalPath f = inside (f .directory) (f .name)
-  where
-    inside : Directory → List ℕ → List ℕ
-    inside single name = name
-    inside absolute name = name
-    inside (stored d outside) name = appended d name
+internalPath f = pathIn (f .directory) (f .name)
 
 -- 'per file: number (5), offset (15), size (15), pad 0 or 1 (2), blank, internal path'
 abbrev pub fileLine : ℕ → File → List ℕ
@@ -31,6 +25,7 @@ fileLine i f =
     (column 15 (f .offset) ++
     (column 15 (f .size) ++ (column 2 (f .flags % 2) ++ (32 ∷ (internalPath f ++ (10 ∷ []))))))
 
+-- the lines of files that are numbered from i
 unfoldable pub fileLines : ℕ → List File → List ℕ
 fileLines i [] = []
 fileLines i (f ∷ fs) = fileLine i f ++ fileLines (i + 1) fs

@@ -7,14 +7,15 @@ ghost use lib.Seq.{sets};
 ghost use Rattle.types.specs.Refusals.{usizeSays, numberOf};
 ghost use Rattle.path.specs.Join.{Joined, appended};
 ghost use Rattle.listing_output.specs.Output.{printed, listed, stopped};
-ghost use Rattle.listing_output.specs.private.Lines.{fourColumns, rowDirectory, rowPath, rowLine, linesOf, leftIn};
+ghost use Rattle.listing_output.specs.private.Lines.{fourColumns, rowDirectory, rowPath, rowLine};
+ghost use Rattle.listing_output.specs.private.Lines.{linesOf, leftIn};
 ghost use Rattle.listing_output.specs.Printing.{shown, putText};
 use tables::FileStorage;
 use tables::Row;
 use types::Refusal;
 use types::UsizeResult;
 
-// Writes numbers in columns of 5, 15, 15 and `width` from place `at` on, and a byte after them.
+// Writes numbers in columns of 5, 15, 15 and `width` from position `at` on, and a byte after them.
 fn put_columns(out: &mut [u8], at: usize, a: u64, b: u64, c: u64, width: usize, d: u64, last: u8)
     requires { ⌜ at + (35 + width) < length (now out) ⌝ }
     ensures { λ _. ⌜ now (out .exit) ≡ sets (now (out .entry)) at (fourColumns a b c width d last) ⌝ }
@@ -26,8 +27,8 @@ fn put_columns(out: &mut [u8], at: usize, a: u64, b: u64, c: u64, width: usize, 
     lists::put_byte(out, at + 35 + width, last);
 }
 
-// Writes the path of a directory and a name from place `at` on, and gives the place after it. The rest of `out`
-// is lent to the join, which has room there.
+// Writes the path of a directory and a name from position `at` on, and gives the position after it. The rest of
+// `out` is lent to the join, which has room there.
 fn put_path(out: &mut [u8], at: usize, dir: &[u8], name: &[u8]) -> usize
     requires { ⌜ at + length (appended (now dir) (now name)) ≤ length (now out) ⌝ }
     ensures { λ r. ⌜ r ≡ at + length (appended (now (dir .entry)) (now (name .entry))) ⌝ }
@@ -57,7 +58,7 @@ fn path_length(dirs: &[u64], text: &[u8], row: Row) -> usize
     )
 }
 
-// Writes the line of file i from place `at` on, and gives the place after it.
+// Writes the line of file i from position `at` on, and gives the position after it.
 fn put_row_line(out: &mut [u8], at: usize, i: usize, dirs: &[u64], text: &[u8], row: Row) -> usize
     requires { ⌜ at + (39 + length (rowPath (now dirs) (now text) row)) ≤ length (now out) ⌝ }
     ensures { λ r. ⌜ r ≡ at + (39 + length (rowPath (now (dirs .entry)) (now (text .entry)) row)) ⌝ }
@@ -107,7 +108,7 @@ fn room_left(fs: FileStorage, rows: &[u64], dirs: &[u64], text: &[u8], room: usi
     UsizeResult::Ok(left)
 }
 
-// Writes the lines of a set's files to the start of `out`, and gives the place after them.
+// Writes the lines of a set's files to the start of `out`, and gives the position after them.
 fn put_lines(fs: FileStorage, rows: &[u64], dirs: &[u64], text: &[u8], out: &mut [u8]) -> usize
     requires { ⌜ length (linesOf fs (now rows) (now dirs) (now text)) ≤ length (now out) ⌝ }
     ensures { λ r. ⌜ r ≡ length (linesOf fs (now (rows .entry)) (now (dirs .entry)) (now (text .entry))) ⌝ }

@@ -14,7 +14,7 @@ use Rattle.lists.proofs.Orders.{le-or-lt}
 use Rattle.lists.proofs.Parts.{drop-append, drop-replicate}
 use Rattle.lists.proofs.Runs.{last-first}
 
--- a number below ten, and any other: its last digit behind the digits of a tenth of it
+-- a number below ten, and any other: the digits of a tenth of it, and then its last digit
 pub digits-one : (k n : ℕ) → n < 10 → digitsWithin k n ≡ (48 + n) ∷ []
 unfolding digitsWithin
 digits-one zero n h = rw (mod-eq-of-lt h)
@@ -108,9 +108,6 @@ digits-value (suc k) n h =
 pub decimal-value : (n : ℕ) → n < 10 ^ 20 → valueFrom 0 (decimal n) ≡ n
 decimal-value n h = digits-value 19 n h
 
-pub decimal-inj : (n m : ℕ) → n < 10 ^ 20 → m < 10 ^ 20 → decimal n ≡ decimal m → n ≡ m
-decimal-inj n m h k e = sym (decimal-value n h) ∙ ap (valueFrom 0) e ∙ decimal-value m k
-
 -- no zero in front but that of the number zero
 digits-first : (k n : ℕ) → n < 10 ^ (k + 1) → 0 < n → 49 ≤ getD (digitsWithin k n) 0 0
 digits-first zero n h p = rw (digits-least n) (omega arith)
@@ -124,10 +121,6 @@ digits-first (suc k) n h p =
 
 pub decimal-first : (n : ℕ) → n < 10 ^ 20 → 0 < n → 49 ≤ getD (decimal n) 0 0
 decimal-first n h p = digits-first 19 n h p
-
-pub decimal-zero : (n : ℕ) → n < 10 ^ 20 → getD (decimal n) 0 0 ≡ 48 → n ≡ 0
-decimal-zero n h e =
-    ⊎-elim (λ g. absurd (omega (arith, decimal-first n h g))) (λ g. omega arith) (le-or-lt 1 n)
 
 -- the last k digits of n, with zeros in front where it has fewer
 unfoldable pub lastDigits : ℕ → ℕ → List ℕ

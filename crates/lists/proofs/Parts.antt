@@ -1,4 +1,4 @@
--- Laws of the parts of a list: `partOf xs at n` is the n elements from place `at` on, or as many of them as there are.
+-- Laws of the parts of a list: `partOf xs at n` is the n elements from position `at` on, or as many of them as there are.
 -- They rely on the kit's laws of `take` and `drop`.
 use mathlib.Core.Path.{_≡_, ap, _∙_}
 use mathlib.Core.Logic.{⊎-elim}
@@ -7,8 +7,8 @@ use Prim.Native.Nat.{ℕ, zero, suc, _+_, _-_, _≤_, _<_, min}
 use native.Mathlib.Nat.{zero-min, min-zero, suc-min-suc, sub-zero, zero-sub, suc-sub-suc}
 use native.Mathlib.Numerals.{add-one}
 use native.Mathlib.Omega.{arith}
-use lib.ListN.{length, getD, take, drop, replicate, length-take, length-drop, take-append-drop, drop-of-length-le}
-use lib.Seq.{take-nil, drop-nil, take-all, take-take, take-add, take-suc, drop-cons, drop-drop, getD-take, getD-drop, take-append-le, drop-append-le, drop-append-add}
+use lib.ListN.{length, getD, take, drop, replicate, length-take, length-drop}
+use lib.Seq.{take-nil, drop-nil, take-all, take-take, take-suc, drop-cons, drop-drop, getD-drop, take-append-le, drop-append-le, drop-append-add}
 use Rattle.lists.specs.Lists.{partOf}
 use Rattle.lists.proofs.Orders.{le-or-lt}
 
@@ -64,10 +64,7 @@ module _ {A : Type 0} where
   pub part-length-within : (l : List A) (at n : ℕ) → at + n ≤ length l → length (partOf l at n) ≡ n
   part-length-within l at n h = omega (arith, part-length l at n)
 
-  -- its elements
-  pub part-at : (l : List A) (at n i : ℕ) (d : A) → i < n → getD (partOf l at n) i d ≡ getD l (at + i) d
-  part-at l at n i d h = getD-take n (drop at l) i d h ∙ getD-drop at l i d
-
+  -- its first element, and its last
   pub part-cons : (l : List A) (at n : ℕ) (d : A) → at < length l → partOf l at (n + 1) ≡ getD l at d ∷ partOf l (at + 1) n
   part-cons l at n d h = rw (add-one n, add-one at, drop-cons l at d h)
 
@@ -75,10 +72,7 @@ module _ {A : Type 0} where
   part-snoc l at n d h =
       rw (add-one n, ← getD-drop at l n d) (take-suc (drop at l) n d (omega (arith, length-drop at l)))
 
-  -- a part past the end, the whole, and two parts in a row
-  pub part-past : (l : List A) (at n : ℕ) → length l ≤ at → partOf l at n ≡ []
-  part-past l at n h = rw (drop-of-length-le l {i = at} h, take-nil n)
-
+  -- the whole, and a part of a part
   pub part-whole : (l : List A) (n : ℕ) → length l ≤ n → partOf l 0 n ≡ l
   part-whole l n h = take-all n l h
 
@@ -87,13 +81,6 @@ module _ {A : Type 0} where
 
   pub part-part-within : (l : List A) (at n i m : ℕ) → i + m ≤ n → partOf (partOf l at n) i m ≡ partOf l (at + i) m
   part-part-within l at n i m h = let e : min m (n - i) ≡ m = omega arith in part-part l at n i m ∙ rw e
-
-  pub part-add : (l : List A) (at n m : ℕ) → partOf l at (n + m) ≡ partOf l at n ++ partOf l (at + n) m
-  part-add l at n m = take-add n m (drop at l) ∙ rw (drop-drop n at l)
-
-  -- a list is what stands before a part, the part, and what stands behind it
-  pub part-around : (l : List A) (at n : ℕ) → take at l ++ (partOf l at n ++ drop (at + n) l) ≡ l
-  part-around l at n = rw (← drop-drop n at l, take-append-drop n (drop at l), take-append-drop at l)
 
   -- a part of two lists in a row: of both, of the first, of the second
   pub part-append : (a b : List A) (at n : ℕ) → partOf (a ++ b) at n ≡ partOf a at n ++ partOf b (at - length a) (n - (length a - at))

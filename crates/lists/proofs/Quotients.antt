@@ -2,7 +2,7 @@
 -- has the law of a quotient rounded down by its bounds (`div-eq-of-lt-le`).
 use mathlib.Core.Path.{_≡_, refl}
 use Prim.Native.Nat.{ℕ, zero, suc, _+_, _-_, _*_, _≤_, _<_}
-use native.Mathlib.Nat.{suc-mul, le-of-suc-le-suc, div-lt-iff-lt-mul, le-div-iff-mul-le, div-mul-le-self, lt-div-mul-add, le-antisymm}
+use native.Mathlib.Nat.{suc-mul, le-of-suc-le-suc, div-lt-iff-lt-mul, le-div-iff-mul-le, lt-div-mul-add, le-antisymm}
 use native.Mathlib.Omega.{arith}
 use Rattle.lists.specs.Lists.{ceiling}
 
@@ -18,9 +18,6 @@ module _ (n d : ℕ) (p : 0 < d) where
   pub ceiling-covers : n ≤ ceiling n d * d
   ceiling-covers = omega (arith, lt-div-mul-add {a = n + (d - 1)} {b = d} p)
 
-  pub ceiling-tight : ceiling n d * d < n + d
-  ceiling-tight = omega (arith, div-mul-le-self (n + (d - 1)) d)
-
   pub ceiling-le : (q : ℕ) → n ≤ q * d → ceiling n d ≤ q
   ceiling-le q h = le-of-suc-le-suc (div-lt-iff-lt-mul {y = suc q} p .1 (rw (suc-mul q d) (omega arith)))
 
@@ -30,9 +27,6 @@ module _ (n d : ℕ) (p : 0 < d) where
 
 pub ceiling-mono : (n m d : ℕ) → 0 < d → n ≤ m → ceiling n d ≤ ceiling m d
 ceiling-mono n m d p h = ceiling-le n d p (ceiling m d) (omega (arith, ceiling-covers m d p))
-
-pub ceiling-multiple : (q d : ℕ) → 0 < d → ceiling (q * d) d ≡ q
-ceiling-multiple q d p = ceiling-is (q * d) d p q (omega arith) (omega arith)
 
 pub ceiling-zero : (d : ℕ) → ceiling 0 d ≡ 0
 ceiling-zero zero = refl

@@ -1,4 +1,4 @@
--- Laws of runs of stores: `sets l i t` is l with the elements of t stored from place i on, where what falls past the end
+-- Laws of runs of stores: `sets l i t` is l with the elements of t stored from position i on, where what falls past the end
 -- is dropped. They rely on the kit's laws of `set` and on the laws of proofs/Parts.antt.
 use mathlib.Core.Path.{_≡_, refl, sym, ap, _∙_}
 use mathlib.Core.List.{List, [], _∷_, _++_, append-nil, append-assoc}
@@ -22,7 +22,7 @@ module _ {A : Type 0} where
   sets-none [] l i h = refl
   sets-none (x ∷ t) l i h = sets-past (x ∷ t) l i (omega arith)
 
-  -- two runs, one behind the other
+  -- two runs, one after the other
   pub sets-append : (t u l : List A) (i : ℕ) → sets l i (t ++ u) ≡ sets (sets l i t) (i + length t) u
   sets-append [] u l i = rw (add-zero i)
   sets-append (x ∷ t) u l i =
@@ -35,7 +35,7 @@ module _ {A : Type 0} where
   pub fill-turn : (l : List A) (j n i : ℕ) (a : A) → i < n → sets (set l j a) (j + 1) (replicate (n - (i + 1)) a) ≡ sets l j (replicate (n - i) a)
   fill-turn l j n i a h = let e : n - i ≡ suc (n - (i + 1)) = omega arith in rw (add-one j, e)
 
-  -- a store, and a run of them, behind a first part
+  -- a store, and a run of them, after a first part
   pub set-after : (p l : List A) (i : ℕ) (a : A) → set (p ++ l) (length p + i) a ≡ p ++ set l i a
   set-after [] l i a = rw (zero-add i)
   set-after (x ∷ p) l i a = rw (suc-add (length p) i) (ap (λ (r : List A). x ∷ r) (set-after p l i a))
@@ -98,7 +98,7 @@ module _ {A : Type 0} where
       let e : i + suc k ≡ suc i + k = omega arith in
       rw e (getD-sets t (set l i x) (suc i) k d (omega arith) (omega (arith, length-set l i x)))
 
-  -- what stands before the run, and behind it
+  -- what stands before the run, and after it
   pub take-sets-le : (t l : List A) (i n : ℕ) → n ≤ i → take n (sets l i t) ≡ take n l
   take-sets-le [] l i n h = refl
   take-sets-le (x ∷ t) l i n h = take-sets-le t (set l i x) (suc i) n (omega arith) ∙ take-set-le n l i x h
@@ -107,14 +107,11 @@ module _ {A : Type 0} where
   drop-sets-le [] l i n h = refl
   drop-sets-le (x ∷ t) l i n h = drop-sets-le t (set l i x) (suc i) n (omega arith) ∙ drop-set-lt n l i x (omega arith)
 
-  -- a part before the run, behind it, within it, and the run itself
+  -- a part before the run, within it, and the run itself
   pub part-sets-before : (t l : List A) (i at n : ℕ) → at + n ≤ i → partOf (sets l i t) at n ≡ partOf l at n
   part-sets-before t l i at n h =
       let e : n ≡ at + n - at = omega arith in
       rw e (sym (drop-take at (at + n) (sets l i t)) ∙ ap (drop at) (take-sets-le t l i (at + n) h) ∙ drop-take at (at + n) l)
-
-  pub part-sets-behind : (t l : List A) (i at n : ℕ) → i + length t ≤ at → partOf (sets l i t) at n ≡ partOf l at n
-  part-sets-behind t l i at n h = rw (drop-sets-le t l i at h)
 
   pub part-sets-within : (t l : List A) (i j n : ℕ) → j + n ≤ length t → i + length t ≤ length l → partOf (sets l i t) (i + j) n ≡ partOf t j n
   part-sets-within t l i j n h f =
@@ -128,7 +125,7 @@ module _ {A : Type 0} where
       let p = part-sets-within t l i 0 (length t) (omega arith) f in
       rw (add-zero i) at p ∙ part-whole t (length t) (omega arith)
 
-  -- a store before the run or behind it, and a run behind it, may be made first
+  -- a store before the run or after it, and a run after it, may be made first
   pub sets-set-below : (t l : List A) (i k : ℕ) (a : A) → k < i → sets (set l k a) i t ≡ set (sets l i t) k a
   sets-set-below [] l i k a h = refl
   sets-set-below (x ∷ t) l i k a h =

@@ -1,10 +1,10 @@
 -- Laws of sums of lists of numbers. They rely on the kit's laws of `take` and `drop`.
 use mathlib.Core.Path.{_≡_, refl, sym, _∙_}
 use mathlib.Core.List.{List, [], _∷_, _++_}
-use Prim.Native.Nat.{ℕ, zero, suc, _+_, _≤_, _<_}
+use Prim.Native.Nat.{ℕ, zero, suc, _+_, _≤_}
 use native.Mathlib.Omega.{arith}
 use native.Mathlib.Numerals.{add-one}
-use lib.ListN.{length, getD, set, take, drop, take-append-drop}
+use lib.ListN.{getD, take, drop, take-append-drop}
 use lib.Seq.{take-take}
 use Rattle.lists.specs.Lists.{sum}
 
@@ -25,18 +25,9 @@ sum-take-more xs i = rw (add-one i) (more xs i)
     more (x ∷ xs) zero = omega arith
     more (x ∷ xs) (suc i) = omega (arith, more xs i)
 
--- the first elements, more of them, and one of them
+-- the first elements, and more of them
 pub sum-take-le : (xs : List ℕ) (i : ℕ) → sum (take i xs) ≤ sum xs
 sum-take-le xs i = omega (arith, sum-take-drop xs i)
 
 pub sum-take-mono : (xs : List ℕ) (i j : ℕ) → i ≤ j → sum (take i xs) ≤ sum (take j xs)
 sum-take-mono xs i j h = rw (take-take i j xs h) at (sum-take-le (take j xs) i)
-
-pub sum-getD-le : (xs : List ℕ) (i : ℕ) → getD xs i 0 ≤ sum xs
-sum-getD-le xs i = omega (arith, sum-take-more xs i, sum-take-le xs (i + 1))
-
--- another element at a place
-pub sum-set : (xs : List ℕ) (i v : ℕ) → i < length xs → sum (set xs i v) + getD xs i 0 ≡ sum xs + v
-sum-set [] i v h = absurd (omega arith)
-sum-set (x ∷ xs) zero v h = omega arith
-sum-set (x ∷ xs) (suc i) v h = omega (arith, sum-set xs i v (omega arith))

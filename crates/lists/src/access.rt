@@ -20,7 +20,7 @@ pub fn saturating_sub_usize(a: usize, b: usize) -> usize
     if a < b { 0 } else { a - b }
 }
 
-// The word at place i, or 0 past the end.
+// The word at position i, or 0 past the end.
 pub fn word(words: &[u64], i: usize) -> u64
     ensures { λ r. ⌜ r ≡ getD (now (words .entry)) i 0 ⌝ }
 {
@@ -30,7 +30,7 @@ pub fn word(words: &[u64], i: usize) -> u64
     0
 }
 
-// The byte at place i, or 0 past the end.
+// The byte at position i, or 0 past the end.
 pub fn byte(bytes: &[u8], i: usize) -> u8
     ensures { λ r. ⌜ r ≡ getD (now (bytes .entry)) i 0 ⌝ }
 {
@@ -40,7 +40,7 @@ pub fn byte(bytes: &[u8], i: usize) -> u8
     0
 }
 
-// Stores a word at place i, or nothing past the end.
+// Stores a word at position i, or nothing past the end.
 pub fn put_word(words: &mut [u64], i: usize, value: u64)
     ensures { λ _. ⌜ now (words .exit) ≡ set (now (words .entry)) i value ⌝ }
 {
@@ -49,7 +49,7 @@ pub fn put_word(words: &mut [u64], i: usize, value: u64)
     }
 }
 
-// Stores a byte at place i, or nothing past the end.
+// Stores a byte at position i, or nothing past the end.
 pub fn put_byte(bytes: &mut [u8], i: usize, value: u8)
     ensures { λ _. ⌜ now (bytes .exit) ≡ set (now (bytes .entry)) i value ⌝ }
 {
@@ -69,7 +69,7 @@ pub fn clear(bytes: &mut [u8])
     }
 }
 
-// The n bytes from place `at` on, or as many of them as there are.
+// The n bytes from position `at` on, or as many of them as there are.
 pub fn part(bytes: &[u8], at: usize, n: usize) -> &[u8]
     ensures { λ r. ⌜ now r ≡ partOf (now (bytes .entry)) at n ⌝ }
 {
@@ -108,7 +108,7 @@ pub fn copy_in(target: &mut [u8], source: &[u8])
     }
 }
 
-// Copies `source` behind the first `used` bytes of `target`, as much of it as there is room for: the
+// Copies `source` to `target` after its first `used` bytes, as much of it as there is room for: the
 // rest of the buffer is lent to the copy.
 pub fn copy_after(target: &mut [u8], used: usize, source: &[u8])
     ensures { λ _. ⌜ now (target .exit) ≡ sets (now (target .entry)) used (now (source .entry)) ⌝ }

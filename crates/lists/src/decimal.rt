@@ -9,7 +9,7 @@ use crate::access::min_usize;
 use crate::access::put_byte;
 use crate::access::saturating_sub_usize;
 
-// How many digits a number has.
+// The number of digits of n.
 pub fn digit_count(n: u64) -> usize
     ensures { λ r. ⌜ r ≡ length (decimal n) ⌝ }
 {
@@ -33,10 +33,13 @@ fn glyph(digit: u64) -> u8
     48 + digit as u8
 }
 
-// Writes a number's last `count` digits from place `at` on, the last of them first.
+// Writes the last `count` digits of n from position `at` on, the last of them first.
 fn put_digits(target: &mut [u8], at: usize, count: usize, n: u64)
     requires { ⌜ (at < length (now target)) × (count ≤ length (decimal n)) ⌝ }
-    ensures { λ _. ⌜ now (target .exit) ≡ sets (now (target .entry)) at (drop (length (decimal n) - count) (decimal n)) ⌝ }
+    ensures { λ _. ⌜
+        now (target .exit)
+        ≡ sets (now (target .entry)) at (drop (length (decimal n) - count) (decimal n))
+        ⌝ }
 {
     let mut i = count;
     let mut rest = n;
@@ -47,7 +50,7 @@ fn put_digits(target: &mut [u8], at: usize, count: usize, n: u64)
     }
 }
 
-// Writes a number's digits from place `at` on, and gives how many they are.
+// Writes the digits of n from position `at` on, and gives their number.
 pub fn put_decimal(target: &mut [u8], at: usize, n: u64) -> usize
     ensures { λ r. ⌜ r ≡ length (decimal n) ⌝ }
     ensures { λ _. ⌜ now (target .exit) ≡ sets (now (target .entry)) at (decimal n) ⌝ }
@@ -59,7 +62,7 @@ pub fn put_decimal(target: &mut [u8], at: usize, n: u64) -> usize
     k
 }
 
-// Writes `count` blanks from place `at` on, as many of them as there is room for.
+// Writes `count` blanks from position `at` on, as many of them as there is room for.
 fn put_blanks(target: &mut [u8], at: usize, count: usize)
     ensures { λ _. ⌜ now (target .exit) ≡ sets (now (target .entry)) at (replicate count 32) ⌝ }
 {
@@ -71,7 +74,7 @@ fn put_blanks(target: &mut [u8], at: usize, count: usize)
     }
 }
 
-// Writes a number right-justified in `width` columns from place `at` on.
+// Writes n right-justified in `width` columns from position `at` on.
 pub fn put_column(target: &mut [u8], at: usize, width: usize, n: u64)
     ensures { λ _. ⌜ now (target .exit) ≡ sets (now (target .entry)) at (column width n) ⌝ }
 {

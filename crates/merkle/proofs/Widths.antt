@@ -3,7 +3,6 @@
 --     width-counted    the width by leading zeros is the width by doubling
 --     width-least      the width is the smallest power of two at or above the count
 --     tree-yes, tree-none, tree-many    which counts have a tree
---     first-less       the first node is the width less 1
 --     from-width, from-refusal          the first node's answer from the width's
 use Prim.Native.Nat.{ℕ, zero, suc, _+_, _-_, _*_, _^_, _%_, _<_, _≤_}
 use mathlib.Core.Path.{_≡_, refl, sym, ap}
@@ -96,9 +95,6 @@ tree-none n p = rw (lt-leb 1 n p)
 
 pub tree-many : (n : ℕ) → 1073741823 < n → hasTree n ≡ false
 tree-many n q = let p : leb 1 n ≡ true = le-leb 1 n (omega arith) in rw (p, lt-leb n 1073741823 q)
-
-pub first-less : (n : ℕ) → 1 ≤ n → n ≤ 1073741823 → (numLeafs n ≡ value (widthOf n)) × (firstNode n ≡ value (widthOf n - 1))
-first-less n p q = rw (tree-yes n p q) (refl, refl)
 
 -- a count with a tree is not 0 and at most the limit
 tree-some : (n : ℕ) → hasTree n ≡ true → (1 ≤ n) × (n ≤ 1073741823)

@@ -1,5 +1,5 @@
--- Document 01 and BEP 52: 'The tree width (BEP 52) is the smallest power of two at or above the count of blocks or pieces;
--- the first node of that layer is the width less 1.'
+-- Document 01 and BEP 52: 'The tree width (BEP 52) is the smallest power of two at or above the count of blocks or
+-- pieces; the first node of that layer is the width less 1.' It relies on the outcomes of `types`.
 use Prim.Native.Nat.{ℕ, zero, suc, _-_, _*_}
 use mathlib.Core.Bool.{Bool, false, cond}
 use lib.Dec.{leb}

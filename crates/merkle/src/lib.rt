@@ -16,7 +16,7 @@ fn width(count: usize) -> usize
     1 << (64 - zeros)
 }
 
-// The width of the tree over a count of blocks or pieces, or refusal 16.
+// The width of the tree over `blocks` blocks or pieces, or refusal 16.
 pub fn merkle_num_leafs(blocks: usize) -> UsizeResult
     ensures { λ r. ⌜ usizeSays r ≡ numLeafs blocks ⌝ }
 {
@@ -29,7 +29,7 @@ pub fn merkle_num_leafs(blocks: usize) -> UsizeResult
     UsizeResult::Ok(width(blocks))
 }
 
-// The first node of the layer of a count of blocks or pieces, numbered from the root as 0, or refusal 16.
+// The first node of the layer of `blocks` blocks or pieces, numbered from the root as 0, or refusal 16.
 pub fn merkle_first_node(blocks: usize) -> UsizeResult
     ensures { λ r. ⌜ usizeSays r ≡ firstNode blocks ⌝ }
 {

@@ -1,4 +1,4 @@
--- Laws of a path's two ends: the last byte, which is trimmed where it passes a test, and the place behind the first. They
+-- Laws of a path's two ends: the last byte, which is trimmed where it passes a test, and the position after the first. They
 -- rely on the kit's laws of lists.
 use Prim.Native.Nat.{ℕ, _-_, _≤_}
 use mathlib.Core.Path.{_≡_, refl, sym, ap, _∙_}

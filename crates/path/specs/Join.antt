@@ -56,7 +56,8 @@ fits text buf = leb (length text) (length buf)
 -- the leaf appended to the branch that stands in the first `used` bytes of the buffer
 abbrev pub appendInto : List ℕ → ℕ → List ℕ → Joined
 appendInto buf used leaf =
-    joinedIf (cond (leb used (length buf)) (fits (appended (take used buf) leaf) buf) false) (appended (take used buf) leaf) buf
+    joinedIf (cond (leb used (length buf)) (fits (appended (take used buf) leaf) buf) false)
+    (appended (take used buf) leaf) buf
 
 abbrev pub combineInto : List ℕ → List ℕ → List ℕ → Joined
 combineInto left right buf = joinedIf (fits (combined left right) buf) (combined left right) buf

@@ -28,7 +28,7 @@ abbrev pub beforeLast : List ℕ → List ℕ
 beforeLast [] = []
 beforeLast (c ∷ t) = cond (any isSeparator t) (c ∷ beforeLast t) []
 
--- what stands behind the last separator: all where there is none
+-- what stands after the last separator: all where there is none
 abbrev pub afterLast : List ℕ → List ℕ
 afterLast [] = []
 afterLast (c ∷ t) = cond (any isSeparator t) (afterLast t) (cond (isSeparator c) t (c ∷ t))
@@ -38,7 +38,7 @@ abbrev pub beforeFirst : List ℕ → List ℕ
 beforeFirst [] = []
 beforeFirst (c ∷ t) = cond (isSeparator c) [] (c ∷ beforeFirst t)
 
--- what stands behind the first separator: nothing where there is none
+-- what stands after the first separator: nothing where there is none
 abbrev pub afterFirst : List ℕ → List ℕ
 afterFirst [] = []
 afterFirst (c ∷ t) = cond (isSeparator c) t (afterFirst t)
@@ -55,8 +55,8 @@ abbrev pub isComplete : List ℕ → Bool
 isComplete [] = false
 isComplete (c ∷ t) = isSeparator c
 
--- `lsplit_path` at a place: a leading separator is skipped, the place counted along; then the first separator at or
--- behind the place parts first from rest
+-- `lsplit_path` at a position: a leading separator is skipped and the position lowered with it; then the first
+-- separator at or after the position parts first from rest
 abbrev pub skipped : List ℕ → List ℕ
 skipped p = drop (cond (isComplete p) 1 0) p
 

@@ -23,7 +23,7 @@ pub fn is_alone(path: &[u8]) -> bool
     lists::same(path, b".")
 }
 
-// How long a branch and a leaf are, joined as by `append_path`. Slices of bytes are shorter than 2 ^ 63, so
+// The length of a branch and a leaf joined as by `append_path`. Slices of bytes are shorter than 2 ^ 63, so
 // the sum fits.
 pub fn joined_length(branch: &[u8], leaf: &[u8]) -> usize
     ensures { λ r. ⌜ r ≡ length (appended (now (branch .entry)) (now (leaf .entry))) ⌝ }
@@ -53,12 +53,15 @@ fn has_room(room: usize, used: usize, closed: bool, more: usize) -> bool
     more < room - used
 }
 
-// Writes a leaf behind the `used` bytes of a branch, with a separator where the branch lacks one, and
-// gives the length of the whole.
+// Writes a leaf after the `used` bytes of a branch, with a separator where the branch lacks one, and
+// gives the length of both.
 fn put_after(buf: &mut [u8], used: usize, closed: bool, leaf: &[u8]) -> usize
     requires { ⌜ used + cond closed (length (now leaf)) (length (now leaf) + 1) ≤ length (now buf) ⌝ }
     ensures { λ r. ⌜ r ≡ used + cond closed (length (now (leaf .entry))) (length (now (leaf .entry)) + 1) ⌝ }
-    ensures { λ _. ⌜ now (buf .exit) ≡ sets (now (buf .entry)) used (cond closed (now (leaf .entry)) (47 ∷ now (leaf .entry))) ⌝ }
+    ensures { λ _. ⌜
+        now (buf .exit)
+        ≡ sets (now (buf .entry)) used (cond closed (now (leaf .entry)) (47 ∷ now (leaf .entry)))
+        ⌝ }
 {
     if closed {
         lists::copy_after(buf, used, leaf);
@@ -71,7 +74,10 @@ fn put_after(buf: &mut [u8], used: usize, closed: bool, leaf: &[u8]) -> usize
 
 // Writes a text to the start of `buf`, and gives its length.
 fn put_alone(buf: &mut [u8], text: &[u8]) -> UsizeResult
-    ensures { λ r. ⌜ _≡_ {A = Joined} (record { says = usizeSays r; buf = now (buf .exit) }) (joinedIf (fits (now (text .entry)) (now (buf .entry))) (now (text .entry)) (now (buf .entry))) ⌝ }
+    ensures { λ r. ⌜
+        _≡_ {A = Joined} (record { says = usizeSays r; buf = now (buf .exit) })
+        (joinedIf (fits (now (text .entry)) (now (buf .entry))) (now (text .entry)) (now (buf .entry)))
+        ⌝ }
 {
     if buf.len() < text.len() {
         return UsizeResult::Err(Refusal::NoRoom);
@@ -83,7 +89,10 @@ fn put_alone(buf: &mut [u8], text: &[u8]) -> UsizeResult
 // Appends `leaf` to the branch that stands in the first `used` bytes of `buf`, and gives the length
 // of the joined path.
 pub fn append_path(buf: &mut [u8], used: usize, leaf: &[u8]) -> UsizeResult
-    ensures { λ r. ⌜ _≡_ {A = Joined} (record { says = usizeSays r; buf = now (buf .exit) }) (appendInto (now (buf .entry)) used (now (leaf .entry))) ⌝ }
+    ensures { λ r. ⌜
+        _≡_ {A = Joined} (record { says = usizeSays r; buf = now (buf .exit) })
+        (appendInto (now (buf .entry)) used (now (leaf .entry)))
+        ⌝ }
 {
     if buf.len() < used {
         return UsizeResult::Err(Refusal::NoRoom);
@@ -103,7 +112,10 @@ pub fn append_path(buf: &mut [u8], used: usize, leaf: &[u8]) -> UsizeResult
 
 // Writes the path of `left` and `right` to the start of `buf`, and gives its length.
 pub fn combine_path(left: &[u8], right: &[u8], buf: &mut [u8]) -> UsizeResult
-    ensures { λ r. ⌜ _≡_ {A = Joined} (record { says = usizeSays r; buf = now (buf .exit) }) (combineInto (now (left .entry)) (now (right .entry)) (now (buf .entry))) ⌝ }
+    ensures { λ r. ⌜
+        _≡_ {A = Joined} (record { says = usizeSays r; buf = now (buf .exit) })
+        (combineInto (now (left .entry)) (now (right .entry)) (now (buf .entry)))
+        ⌝ }
 {
     if is_alone(left) {
         return put_alone(buf, right);
@@ -122,7 +134,12 @@ pub fn combine_path(left: &[u8], right: &[u8], buf: &mut [u8]) -> UsizeResult
 // Writes `leaf` appended to `branch` to the start of `buf`, and gives its length: `append_path` where
 // the branch doesn't stand in the buffer yet.
 pub fn join_path(branch: &[u8], leaf: &[u8], buf: &mut [u8]) -> UsizeResult
-    ensures { λ r. ⌜ _≡_ {A = Joined} (record { says = usizeSays r; buf = now (buf .exit) }) (joinedIf (fits (appended (now (branch .entry)) (now (leaf .entry))) (now (buf .entry))) (appended (now (branch .entry)) (now (leaf .entry))) (now (buf .entry))) ⌝ }
+    ensures { λ r. ⌜
+        _≡_ {A = Joined} (record { says = usizeSays r; buf = now (buf .exit) })
+        (joinedIf (fits (appended (now (branch .entry)) (now (leaf .entry))) (now (buf .entry)))
+        (appended (now (branch .entry)) (now (leaf .entry)))
+        (now (buf .entry)))
+        ⌝ }
 {
     if is_alone(branch) {
         return put_alone(buf, leaf);

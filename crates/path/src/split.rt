@@ -7,7 +7,9 @@ ghost use Prim.Native.Nat.{_+_, _-_, _≤_};
 ghost use lib.ListN.{length, take, drop};
 ghost use Rattle.lists.specs.Lists.{any};
 ghost use Rattle.path.specs.Join.{isClosed};
-ghost use Rattle.path.specs.Split.{isSeparator, isEither, trimmed, beforeLast, afterLast, beforeFirst, afterFirst, rsplitBranch, rsplitLeaf, lsplitFirst, lsplitRest, lsplitAtFirst, lsplitAtRest, hasParent, isComplete, skipped, positionIn};
+ghost use Rattle.path.specs.Split.{isSeparator, isEither, isComplete, trimmed, hasParent, skipped, positionIn};
+ghost use Rattle.path.specs.Split.{beforeLast, afterLast, beforeFirst, afterFirst, rsplitBranch, rsplitLeaf};
+ghost use Rattle.path.specs.Split.{lsplitFirst, lsplitRest, lsplitAtFirst, lsplitAtRest};
 
 // Whether a path is absolute.
 pub fn is_complete(path: &[u8]) -> bool
@@ -70,9 +72,12 @@ fn trim_either(path: &[u8]) -> &[u8]
     path
 }
 
-// Where the leaf begins: behind the last separator, or at 0.
+// Where the leaf begins: after the last separator, or at 0.
 fn leaf_start(path: &[u8]) -> usize
-    ensures { λ r. ⌜ (take (r - 1) (now (path .entry)) ≡ beforeLast (now (path .entry))) × (drop r (now (path .entry)) ≡ afterLast (now (path .entry))) ⌝ }
+    ensures { λ r. ⌜
+        (take (r - 1) (now (path .entry)) ≡ beforeLast (now (path .entry)))
+        × (drop r (now (path .entry)) ≡ afterLast (now (path .entry)))
+        ⌝ }
 {
     let mut i = path.len();
     while 0 < i {
@@ -84,10 +89,13 @@ fn leaf_start(path: &[u8]) -> usize
     0
 }
 
-// Where the first separator at or behind a place stands, or the path's length.
+// The position of the first separator at or after `from`, or the path's length.
 fn first_separator(path: &[u8], from: usize) -> usize
     ensures { λ r. ⌜ r ≤ length (now (path .entry)) ⌝ }
-    ensures { λ r. ⌜ take r (now (path .entry)) ≡ take from (now (path .entry)) ++ beforeFirst (drop from (now (path .entry))) ⌝ }
+    ensures { λ r. ⌜
+        take r (now (path .entry))
+        ≡ take from (now (path .entry)) ++ beforeFirst (drop from (now (path .entry)))
+        ⌝ }
     ensures { λ r. ⌜ drop (r + 1) (now (path .entry)) ≡ afterFirst (drop from (now (path .entry))) ⌝ }
 {
     let mut i = lists::min_usize(from, path.len());
@@ -114,7 +122,7 @@ fn has_either(path: &[u8]) -> bool
     false
 }
 
-// How many separators lead a path: 1 or 0.
+// The number of separators that lead a path: 1 or 0.
 fn lead(path: &[u8]) -> usize
     ensures { λ r. ⌜ r ≡ cond (isComplete (now (path .entry))) 1 0 ⌝ }
 {
@@ -128,8 +136,8 @@ fn skip(path: &[u8]) -> &[u8]
     lists::part(path, lead(path), path.len())
 }
 
-// A place in a path, counted from behind its leading separator.
-fn place_in(path: &[u8], pos: usize) -> usize
+// A position in a path, counted from after its leading separator.
+fn position_in(path: &[u8], pos: usize) -> usize
     ensures { λ r. ⌜ r ≡ positionIn (now (path .entry)) pos ⌝ }
 {
     lists::saturating_sub_usize(pos, lead(path))
@@ -144,7 +152,7 @@ pub fn rsplit_path_branch(path: &[u8]) -> &[u8]
     lists::part(whole, 0, lists::saturating_sub_usize(k, 1))
 }
 
-// What stands behind the last separator, one at the end dropped.
+// What stands after the last separator, one at the end dropped.
 pub fn rsplit_path_leaf(path: &[u8]) -> &[u8]
     ensures { λ r. ⌜ now r ≡ rsplitLeaf (now (path .entry)) ⌝ }
 {
@@ -153,21 +161,21 @@ pub fn rsplit_path_leaf(path: &[u8]) -> &[u8]
     lists::part(whole, k, whole.len())
 }
 
-// What stands before the first separator at or behind a place, a leading one skipped.
+// What stands before the first separator at or after `pos`, a leading one skipped.
 pub fn lsplit_path_at_first(path: &[u8], pos: usize) -> &[u8]
     ensures { λ r. ⌜ now r ≡ lsplitAtFirst (now (path .entry)) pos ⌝ }
 {
     let whole = skip(path);
-    let k = first_separator(whole, place_in(path, pos));
+    let k = first_separator(whole, position_in(path, pos));
     lists::part(whole, 0, k)
 }
 
-// What stands behind the first separator at or behind a place, a leading one skipped.
+// What stands after the first separator at or after `pos`, a leading one skipped.
 pub fn lsplit_path_at_rest(path: &[u8], pos: usize) -> &[u8]
     ensures { λ r. ⌜ now r ≡ lsplitAtRest (now (path .entry)) pos ⌝ }
 {
     let whole = skip(path);
-    let k = first_separator(whole, place_in(path, pos));
+    let k = first_separator(whole, position_in(path, pos));
     lists::part(whole, k + 1, whole.len())
 }
 
@@ -178,7 +186,7 @@ pub fn lsplit_path_first(path: &[u8]) -> &[u8]
     lsplit_path_at_first(path, 0)
 }
 
-// What stands behind the first part of a path.
+// What stands after the first part of a path.
 pub fn lsplit_path_rest(path: &[u8]) -> &[u8]
     ensures { λ r. ⌜ now r ≡ lsplitRest (now (path .entry)) ⌝ }
 {

@@ -1,3 +1,3 @@
--- Laws of signed numbers at the boundary, and of refusals and the answers that carry them.
+-- Laws of signed numbers at the boundary, and of the numbers of refusals.
 pub mod Boundary
 pub mod Refusals

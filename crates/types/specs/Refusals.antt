@@ -1,8 +1,14 @@
 -- Document 01, 'Refusals, by place': the number of each refusal, and what an answer says: its value, or the number of
 -- its refusal and no other value. Every promise about an answer that is an enum is stated through such a reading.
+-- It relies on the enums of src/refusal.rt.
 use Prim.Native.Nat.{ℕ}
 use Rattle.types.specs.declared.refusal.Refusal.{Refusal}
-use Rattle.types.specs.declared.refusal.Refusal.the-variants.{InvalidPieceLength, NegativeSize, FileTooLarge, TorrentInvalidLength, FilenameTooLong, InvalidName, MissingParentPath, TorrentMissingPiecesRoot, TorrentInconsistentFiles, NoRoom, NoSuchFile, NoSuchPiece, TooManyPieces, OutOfRange, NotASymlink, NoTree, ParseFailed}
+use Rattle.types.specs.declared.refusal.Refusal.the-variants.{InvalidPieceLength, NegativeSize, FileTooLarge}
+use Rattle.types.specs.declared.refusal.Refusal.the-variants.{TorrentInvalidLength, FilenameTooLong, InvalidName}
+use Rattle.types.specs.declared.refusal.Refusal.the-variants.{MissingParentPath, TorrentMissingPiecesRoot}
+use Rattle.types.specs.declared.refusal.Refusal.the-variants.{TorrentInconsistentFiles, NoRoom, NoSuchFile}
+use Rattle.types.specs.declared.refusal.Refusal.the-variants.{NoSuchPiece, TooManyPieces, OutOfRange}
+use Rattle.types.specs.declared.refusal.Refusal.the-variants.{NotASymlink, NoTree, ParseFailed}
 use Rattle.types.specs.declared.refusal.UsizeResult.{UsizeResult}
 use Rattle.types.specs.declared.refusal.UsizeResult.the-variants.{Ok, Err}
 

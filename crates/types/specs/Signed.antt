@@ -1,4 +1,5 @@
--- Signed numbers at the boundary, as the Rust's signatures have them: `pos n` is n, `negsuc n` is −(n + 1).
+-- Signed numbers at the boundary, as the Rust's signatures have them: `pos n` is n, `negsuc n` is −(n + 1). It
+-- relies on the outcomes of Refusals.antt.
 use Prim.Native.Nat.{ℕ}
 use mathlib.Core.Bool.{Bool, true, false, cond}
 use lib.IntN.{ℤ, pos, negsuc}
@@ -26,7 +27,7 @@ abbrev pub isBelow : ℕ → ℤ → Bool
 isBelow count (pos n) = ltb n count
 isBelow count (negsuc n) = false
 
--- a number from 0 to count − 1, or the refusal of that number
+-- a number from 0 to count − 1, or refusal r
 abbrev pub belowOr : ℕ → ℕ → ℤ → Outcome ℕ
 belowOr r count (pos n) = cond (ltb n count) (value n) (refused r)
 belowOr r count (negsuc n) = refused r

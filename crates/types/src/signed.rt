@@ -1,4 +1,4 @@
-// Signed numbers at the boundary: unsigned inside, signed in the Rust's signatures. They rely on the laws of
+// Signed numbers at the boundary: unsigned inside, signed in the Rust's signatures. It relies on the laws of
 // proofs/Boundary.antt.
 ghost use mathlib.Core.Path.{_≡_};
 ghost use Prim.Native.Nat.{_%_, _^_};
@@ -115,7 +115,7 @@ fn below(n: i32, count: usize, refusal: Refusal) -> UsizeResult
 }
 
 impl PieceIndex {
-    // The piece of that number, where it is below 2^31.
+    // Piece n, where n is below 2^31.
     pub fn new(n: u64) -> PieceIndex
         ensures { λ r. ⌜ r .0 ≡ pos (n % 2 ^ 31) ⌝ }
     {
@@ -138,7 +138,7 @@ impl PieceIndex {
 }
 
 impl FileIndex {
-    // The file of that number, where it is below 2^31.
+    // File n, where n is below 2^31.
     pub fn new(n: u64) -> FileIndex
         ensures { λ r. ⌜ r .0 ≡ pos (n % 2 ^ 31) ⌝ }
     {

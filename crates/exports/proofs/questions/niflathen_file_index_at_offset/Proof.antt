@@ -13,16 +13,16 @@ storage-at-requires c κs = search needs
 file-index-at-offset-requires : tie.Need-file-index-at-offset-requires
 file-index-at-offset-requires c κs = search needs
 
-file-in-requires : tie.Need-file-in-requires
-file-in-requires c κs = search needs
+file-returned-requires : tie.Need-file-returned-requires
+file-returned-requires c κs = search needs
 
 returns : tie.Need-returns
 returns c =
     let a = c .before .before .before .before .before .args in
-    let r : SFits w64 (c .file-in .result) = search needs in
+    let r : SFits w64 (c .file-returned .result) = search needs in
     let o : SFits w64 (a .offset) = search needs in
-    toZ-ofZ r ∙ (rw (c .before .file-index-at-offset .ensures, c .before .before .storage-at .ensures, toZ-ofZ o) at (c .file-in .ensures))
+    toZ-ofZ r ∙ (rw (c .before .file-index-at-offset .ensures, c .before .before .storage-at .ensures, toZ-ofZ o) at (c .file-returned .ensures))
 
 pub niflathen-file-index-at-offset-spec : {M : Type 1} → statement M
 niflathen-file-index-at-offset-spec =
-    tie.close (tie.spec storage-at-requires file-index-at-offset-requires file-in-requires returns)
+    tie.close (tie.spec storage-at-requires file-index-at-offset-requires file-returned-requires returns)

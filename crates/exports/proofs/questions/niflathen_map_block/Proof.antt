@@ -37,8 +37,8 @@ storage-at-requires c κs = search needs
 map-block-core-requires : tie.Need-map-block-core-requires
 map-block-core-requires c κs = search needs
 
-count-in-requires : tie.Need-count-in-requires
-count-in-requires c κs = search needs
+count-returned-requires : tie.Need-count-returned-requires
+count-returned-requires c κs = search needs
 
 same-length : tie.Need-same-length
 same-length c = search needs
@@ -53,11 +53,11 @@ returns : tie.Need-returns
 returns c =
     let s = c .before .before .before .before .before .before .before .before .before .before .before .before .before .before .before .before .before in
     let m = c .before .before .before .before .before .before .before in
-    let r : SFits w64 (c .count-in .result) = search needs in
+    let r : SFits w64 (c .count-returned .result) = search needs in
     let p : SFits w32 (s .args .piece) = search needs in
     let o : SFits w64 (s .args .offset) = search needs in
     let n : SFits w64 (s .args .size) = search needs in
-    said (toZ w64 (ofZ w64 (c .count-in .result))) (left m) (mapped s) (rw (m .before .before .before .before .storage-at .ensures, toZ-ofZ p, toZ-ofZ o, toZ-ofZ n) at (m .map-block-core .ensures)) (toZ-ofZ r ∙ c .count-in .ensures)
+    said (toZ w64 (ofZ w64 (c .count-returned .result))) (left m) (mapped s) (rw (m .before .before .before .before .storage-at .ensures, toZ-ofZ p, toZ-ofZ o, toZ-ofZ n) at (m .map-block-core .ensures)) (toZ-ofZ r ∙ c .count-returned .ensures)
 
 pub niflathen-map-block-spec : {M : Type 1} → statement M
 niflathen-map-block-spec =
@@ -65,7 +65,7 @@ niflathen-map-block-spec =
     (tie.spec
     storage-at-requires
     map-block-core-requires
-    count-in-requires
+    count-returned-requires
     same-length
     same-length-2
     same-length-3

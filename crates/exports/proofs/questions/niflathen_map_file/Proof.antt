@@ -12,8 +12,8 @@ storage-at-requires c κs = search needs
 map-file-requires : tie.Need-map-file-requires
 map-file-requires c κs = search needs
 
-request-in-requires : tie.Need-request-in-requires
-request-in-requires c κs = search needs
+request-returned-requires : tie.Need-request-returned-requires
+request-returned-requires c κs = search needs
 
 returns : tie.Need-returns
 returns c =
@@ -21,8 +21,8 @@ returns c =
     let i : SFits w32 (a .index) = search needs in
     let o : SFits w64 (a .offset) = search needs in
     let s : SFits w32 (a .size) = search needs in
-    rw (c .before .map-file .ensures, c .before .before .storage-at .ensures, toZ-ofZ i, toZ-ofZ o, toZ-ofZ s) at (c .request-in .ensures)
+    rw (c .before .map-file .ensures, c .before .before .storage-at .ensures, toZ-ofZ i, toZ-ofZ o, toZ-ofZ s) at (c .request-returned .ensures)
 
 pub niflathen-map-file-spec : {M : Type 1} → statement M
 niflathen-map-file-spec =
-    tie.close (tie.spec storage-at-requires map-file-requires request-in-requires returns)
+    tie.close (tie.spec storage-at-requires map-file-requires request-returned-requires returns)

@@ -1,7 +1,5 @@
 -- `exports::questions::niflathen_map_files` meets its contract: the list's own, at the record that was read.
 use mathlib.Core.Path.{_≡_, _∙_}
-use mathlib.Core.List.{List}
-use Prim.Native.Nat.{ℕ}
 use lib.IntN.{ℤ}
 use mir.Syntax.{w64}
 use mir.Val.{SFits}
@@ -27,18 +25,18 @@ storage-at-requires c κs = search needs
 map-files-requires : tie.Need-map-files-requires
 map-files-requires c κs = search needs
 
-count-in-requires : tie.Need-count-in-requires
-count-in-requires c κs = search needs
+count-returned-requires : tie.Need-count-returned-requires
+count-returned-requires c κs = search needs
 
 same-length : tie.Need-same-length
 same-length c = search needs
 
 returns : tie.Need-returns
 returns c =
-    let r : SFits w64 (c .count-in .result) = search needs in
-    said _ (left (c .before .before .before)) _ (rw (c .before .before .before .before .before .storage-at .ensures) at (c .before .before .before .map-files .ensures)) (toZ-ofZ r ∙ c .count-in .ensures)
+    let r : SFits w64 (c .count-returned .result) = search needs in
+    said _ (left (c .before .before .before)) _ (rw (c .before .before .before .before .before .storage-at .ensures) at (c .before .before .before .map-files .ensures)) (toZ-ofZ r ∙ c .count-returned .ensures)
 
 pub niflathen-map-files-spec : {M : Type 1} → statement M
 niflathen-map-files-spec =
     tie.close
-    (tie.spec storage-at-requires map-files-requires count-in-requires same-length returns)
+    (tie.spec storage-at-requires map-files-requires count-returned-requires same-length returns)

@@ -59,10 +59,10 @@ use Rattle.exports.specs.Layout.{countReturned, slicesReturned}
 use Rattle.exports.proofs.storage_at.Symbol as storage-at-def
 use Rattle.exports.proofs.storage_at.Symbol.{name as #exports·storage-at}
 use Rattle.exports.proofs.storage_at.Met as storage-at-thm
-use Rattle.exports.proofs.questions.count_in.Symbol as count-in-def
-use Rattle.exports.proofs.questions.count_in.Symbol.{name as #exports·questions·count-in}
-use Rattle.exports.proofs.questions.count_in.Met as count-in-thm
-use Rattle.exports.proofs.Called.{StorageAt, MapBlock, CountIn, to-storage, storage-goes, storage-gives, to-map, map-goes, Mapped, map-gives, to-count, count-goes, count-gives}
+use Rattle.exports.proofs.questions.count_returned.Symbol as count-returned-def
+use Rattle.exports.proofs.questions.count_returned.Symbol.{name as #exports·questions·count-returned}
+use Rattle.exports.proofs.questions.count_returned.Met as count-returned-thm
+use Rattle.exports.proofs.Called.{StorageAt, MapBlock, CountReturned, to-storage, storage-goes, storage-gives, to-map, map-goes, Mapped, map-gives, to-count, count-goes, count-gives}
 use Rattle.exports.proofs.slices.niflathen_map_block_slices.Key.{name as #exports·slices·niflathen-map-block-slices}
 use Rattle.exports.proofs.slices.niflathen_map_block_slices as map-block-slices
 use Rattle.exports.proofs.slices.niflathen_map_block_slices.Statement as stated
@@ -126,7 +126,7 @@ module _ {M : Type 1} (𝓤 : URA M) (H : Heap 𝓤) (A : Atoms 𝓤) (W : Given
       owned ! i32 (Is i32) (sint-makes 𝓤 H A W w32) z _ gz $ fjoin ! $ move ! (1 ∷ 0 ∷ []) $ fjoin ! $ move ! (1 ∷ 0 ∷ []) $ fjoin ! $ frame ! $
       owned ! i64 (Is i64) (sint-makes 𝓤 H A W w64) (countReturned (usizeSays (o .0))) _ is $ done !
 
-  module _ (𝓣 : Tables 𝓤 H) (known-storage : Triple 𝓤 (𝓣 .C #exports·storage-at) (StorageAt 𝓤 H A mem run)) (known-map : Triple 𝓤 (𝓣 .C #mapping·map-block) (MapBlock 𝓤 H A mem run)) (known-count : Triple 𝓤 (𝓣 .C #exports·questions·count-in) (CountIn 𝓤 H A mem run)) where
+  module _ (𝓣 : Tables 𝓤 H) (known-storage : Triple 𝓤 (𝓣 .C #exports·storage-at) (StorageAt 𝓤 H A mem run)) (known-map : Triple 𝓤 (𝓣 .C #mapping·map-block) (MapBlock 𝓤 H A mem run)) (known-count : Triple 𝓤 (𝓣 .C #exports·questions·count-returned) (CountReturned 𝓤 H A mem run)) where
     walk : Room u64 (length (t .now)) → Room u64 (length (x .now)) → Room T.the-row (length (y .now))
         → ent 𝓤 (onEntry 𝓤 H A map-block-slices.signature (κ₀, (κ₁, (κ₂, tt))) (q₀, (q₁, (q₂, tt))) a vals)
         (WpFn 𝓤 H (𝓣 .C) (𝓣 .Λ) code.function (s t ∷ s x ∷ vint w32 (ofZ w32 z) ∷ vint w64 (ofZ w64 offset) ∷ vint w64 (ofZ w64 size) ∷ s y ∷ []) Post)
@@ -161,9 +161,9 @@ module _ {M : Type 1} (𝓤 : URA M) (H : Heap 𝓤) (A : Atoms 𝓤) (W : Given
         -- [the rows' token; out's; out's last list; the rows; the state's token; the state; _11; …]
         land ! (from ! (stop !)) (init ! 14 refl (EL.lawful UR.the-type UR′.the-laws 𝓤 H A W tt .typed (o .0) _ (made .0) .0)) $
         rewrite ! 14 (λ (v : Val). ‵ (fat fullShare UR′.mir l₇ 0 v)) (ap only (UR′.lowers .val-is (o .0) (w₁ ∷ []) (made .0))) refl $
-        -- `count_in`
-        use0 W (raw (CountIn 𝓤 H A mem run .pre (to-count 𝓤 H A W mem run (o .0)))) (count-goes 𝓤 H A W mem run (o .0) (answered (o .0) w₁ (made .0))) $
-        calls-at ! (fmOf 𝓤 H (W .laws) 𝓣) (CountIn 𝓤 H A mem run) known-count (to-count 𝓤 H A W mem run (o .0)) (and-then ! (load ! (from ! (stop !)) (look ! 15 refl)) (no-more !)) (λ w₂.
+        -- `count_returned`
+        use0 W (raw (CountReturned 𝓤 H A mem run .pre (to-count 𝓤 H A W mem run (o .0)))) (count-goes 𝓤 H A W mem run (o .0) (answered (o .0) w₁ (made .0))) $
+        calls-at ! (fmOf 𝓤 H (W .laws) 𝓣) (CountReturned 𝓤 H A mem run) known-count (to-count 𝓤 H A W mem run (o .0)) (and-then ! (load ! (from ! (stop !)) (look ! 15 refl)) (no-more !)) (λ w₂.
         use1 W (later (given (Is i64 (countReturned (usizeSays (o .0))) (w₂ ∷ [])) (‵ ftrue))) (count-gives 𝓤 H A W mem run (o .0) w₂) $ await ! tt $ learn ! (λ is. drop ! $
         land ! (from ! (stop !)) (init ! 28 refl (sint-lawful 𝓤 H A W w64 .typed (countReturned (usizeSays (o .0))) _ is .0)) $
         returns ! (look ! 28 refl) $ forget ! 6 refl $ forget ! 8 refl $ forget ! 10 refl $ forget ! 12 refl $ forget ! 14 refl $ forget ! 16 refl $ forget ! 18 refl $ forget ! 20 refl $ forget ! 22 refl $ forget ! 24 refl $ forget ! 26 refl $ forget ! 28 refl $
@@ -171,7 +171,7 @@ module _ {M : Type 1} (𝓤 : URA M) (H : Heap 𝓤) (A : Atoms 𝓤) (W : Given
         keep ! (2 ∷ 1 ∷ 0 ∷ 4 ∷ 3 ∷ 5 ∷ []) $ by ! (exits o w₁ w₂ made is))))))))))))))))))))
 
 module _ {M : Type 1} (𝓤 : URA M) (H : Heap 𝓤) (A : Atoms 𝓤) (W : Given 𝓤 H A) (mem : Memory → SProp 𝓤) (run : Routine → Fun 𝓤) (𝓣 : Tables 𝓤 H)
-    (known-storage : Triple 𝓤 (𝓣 .C #exports·storage-at) (StorageAt 𝓤 H A mem run)) (known-map : Triple 𝓤 (𝓣 .C #mapping·map-block) (MapBlock 𝓤 H A mem run)) (known-count : Triple 𝓤 (𝓣 .C #exports·questions·count-in) (CountIn 𝓤 H A mem run)) where
+    (known-storage : Triple 𝓤 (𝓣 .C #exports·storage-at) (StorageAt 𝓤 H A mem run)) (known-map : Triple 𝓤 (𝓣 .C #mapping·map-block) (MapBlock 𝓤 H A mem run)) (known-count : Triple 𝓤 (𝓣 .C #exports·questions·count-returned) (CountReturned 𝓤 H A mem run)) where
   map-block-slices-walks : Walks 𝓤 H A map-block-slices.ended stayed (WpFn 𝓤 H (𝓣 .C) (𝓣 .Λ) code.function) (map-block-slices.clauses 𝓤 H A mem run)
   map-block-slices-walks = walked 𝓤 H A map-block-slices.ended stayed (map-block-slices.clauses 𝓤 H A mem run) (WpFn 𝓤 H (𝓣 .C) (𝓣 .Λ) code.function)
       (λ κs. (slice-vals, (slice-vals, (sint-vals w32, (sint-vals w64, (sint-vals w64, (slice-vals, tt)))))))
@@ -194,4 +194,4 @@ niflathen-map-block-slices-spec 𝓤 H 𝓜 𝓖 𝓡 =
     (map-block-slices-meets 𝓤 H (𝓖 .A) (givenOf 𝓤 H 𝓜 𝓖) (𝓜 .mem) (𝓡 .run) (tablesOf 𝓤 H 𝓜 (tables 𝓤 H 𝓜 𝓡 code.env))
     (cited 𝓤 H (StorageAt 𝓤 H (𝓖 .A) (𝓜 .mem) (𝓡 .run)) 𝓜 𝓡 code.env #exports·storage-at storage-at-def.routine code.calls-exports·storage-at (storage-at-thm.met 𝓤 H 𝓜 𝓖 𝓡))
     (cited 𝓤 H (MapBlock 𝓤 H (𝓖 .A) (𝓜 .mem) (𝓡 .run)) 𝓜 𝓡 code.env #mapping·map-block map-block-def.routine code.calls-mapping·map-block (map-block-thm.met 𝓤 H 𝓜 𝓖 𝓡))
-    (cited 𝓤 H (CountIn 𝓤 H (𝓖 .A) (𝓜 .mem) (𝓡 .run)) 𝓜 𝓡 code.env #exports·questions·count-in count-in-def.routine code.calls-exports·questions·count-in (count-in-thm.met 𝓤 H 𝓜 𝓖 𝓡)))
+    (cited 𝓤 H (CountReturned 𝓤 H (𝓖 .A) (𝓜 .mem) (𝓡 .run)) 𝓜 𝓡 code.env #exports·questions·count-returned count-returned-def.routine code.calls-exports·questions·count-returned (count-returned-thm.met 𝓤 H 𝓜 𝓖 𝓡)))

@@ -1,4 +1,4 @@
--- `lists::decimal::put_column` meets its contract: the digits, or the last of them, stand behind the blanks.
+-- `lists::decimal::put_column` meets its contract: the digits, or the last of them, stand after the blanks.
 use native.Mathlib.Omega.{arith}
 use mathlib.Core.Path.{_≡_, refl, sym, _∙_}
 use mathlib.Core.List.{List}
@@ -12,7 +12,7 @@ use borrow.Author.Needs.{needs}
 use Rattle.lists.proofs.decimal.put_column.Statement.{statement}
 use Rattle.lists.proofs.decimal.put_column.Tie as tie
 
--- blanks, and the end of the digits behind them
+-- blanks, and then the end of the digits
 drawn : (l l₁ l₂ : List ℕ) (at w n k blanks count : ℕ) → k ≡ length (decimal n) → blanks ≡ w - k → count ≡ min w k
     → l₁ ≡ sets l at (replicate blanks 32) → l₂ ≡ sets l₁ (at + blanks) (drop (length (decimal n) - count) (decimal n)) → l₂ ≡ sets l at (column w n)
 drawn l l₁ l₂ at w n k blanks count a b d e f =

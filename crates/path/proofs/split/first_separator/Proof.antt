@@ -1,5 +1,5 @@
 -- `path::split::first_separator` meets its contract. The loop's invariant: i is at most the length, and a split at the
--- first separator at or behind i is that at or behind `from`.
+-- first separator at or after i is that at or after `from`.
 use Prim.Native.Nat.{ℕ, _+_, _-_, _≤_, _<_}
 use mathlib.Core.Path.{_≡_, _∙_}
 use mathlib.Core.List.{List, _++_, append-nil}

@@ -7,8 +7,8 @@ use Rattle.path.proofs.split.lsplit_path_at_first.Tie as tie
 skip-requires : tie.Need-skip-requires
 skip-requires c κs = search needs
 
-place-in-requires : tie.Need-place-in-requires
-place-in-requires c κs = search needs
+position-in-requires : tie.Need-position-in-requires
+position-in-requires c κs = search needs
 
 first-separator-requires : tie.Need-first-separator-requires
 first-separator-requires c κs = search needs
@@ -19,9 +19,9 @@ part-requires c κs = search needs
 returns : tie.Need-returns
 returns c =
     let f = c .before in
-    c .part .ensures ∙ f .first-separator .ensures .1 .0 ∙ rw (f .before .place-in .ensures, f .before .before .skip .ensures)
+    c .part .ensures ∙ f .first-separator .ensures .1 .0 ∙ rw (f .before .position-in .ensures, f .before .before .skip .ensures)
 
 pub lsplit-path-at-first-spec : {M : Type 1} → statement M
 lsplit-path-at-first-spec =
     tie.close
-    (tie.spec skip-requires place-in-requires first-separator-requires part-requires returns)
+    (tie.spec skip-requires position-in-requires first-separator-requires part-requires returns)

@@ -9,8 +9,8 @@ use Rattle.path.proofs.split.lsplit_path_at_rest.Tie as tie
 skip-requires : tie.Need-skip-requires
 skip-requires c κs = search needs
 
-place-in-requires : tie.Need-place-in-requires
-place-in-requires c κs = search needs
+position-in-requires : tie.Need-position-in-requires
+position-in-requires c κs = search needs
 
 first-separator-requires : tie.Need-first-separator-requires
 first-separator-requires c κs = search needs
@@ -24,14 +24,14 @@ part-requires c κs = search needs
 returns : tie.Need-returns
 returns c =
     let f = c .before in
-    c .part .ensures ∙ part-rest (f .before .before .skip .result .now) (f .first-separator .result + 1) ∙ f .first-separator .ensures .1 .1 ∙ rw (f .before .place-in .ensures, f .before .before .skip .ensures)
+    c .part .ensures ∙ part-rest (f .before .before .skip .result .now) (f .first-separator .result + 1) ∙ f .first-separator .ensures .1 .1 ∙ rw (f .before .position-in .ensures, f .before .before .skip .ensures)
 
 pub lsplit-path-at-rest-spec : {M : Type 1} → statement M
 lsplit-path-at-rest-spec =
     tie.close
     (tie.spec
     skip-requires
-    place-in-requires
+    position-in-requires
     first-separator-requires
     add-part
     part-requires

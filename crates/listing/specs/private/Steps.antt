@@ -1,5 +1,5 @@
--- What the steps of a run answer: opening by the first line, a file line obeyed, and the run as a whole. Run.antt says the same
--- on the model; here it stands on the lent tables, with the answers of `storage`.
+-- What the steps of a run answer: opening by the first line, a file line obeyed, and the run as a whole. Run.antt says
+-- the same on the model; here it stands on the lent tables, with the answers of `storage`.
 use Prim.Native.Nat.{ℕ}
 use mathlib.Core.Bool.{cond}
 use mathlib.Core.List.{List}
@@ -33,7 +33,7 @@ obeyed absent s =
     record { says = refused 17; rows = s .rows; roots = s .roots; times = s .times; dirs = s .dirs; text = s .text }
 obeyed (present e) s = addStored s (additionOf e)
 
--- the run that an answer ends
+-- the run that a refused line ends
 abbrev pub stoppedBy : StorageResult → ℕ → RunResult
 stoppedBy (Ok fs) line = Stopped ParseFailed line
 stoppedBy (Err e) line = Stopped e line
@@ -48,7 +48,7 @@ abbrev pub runSays : RunResult → List ℕ → List ℕ → List ℤ → List �
 runSays (Listed fs) rows roots times dirs text = listed (viewOf (storeOf fs rows roots times dirs text))
 runSays (Stopped e line) rows roots times dirs text = stopped (numberOf e) line
 
--- tables with as many places as `places` says: no line gives a time
+-- the lengths of tables with the places of `places`: 8 words and 32 bytes a file, 2 words a directory, no times
 pub record Placed (rows roots : List ℕ) (times : List ℤ) (dirs text : List ℕ) : Type 0 where
   pub rows-are : length rows ≡ 3200
   pub roots-are : length roots ≡ 12800

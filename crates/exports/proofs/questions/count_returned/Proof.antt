@@ -1,11 +1,11 @@
--- `exports::questions::count_in` meets its contract.
+-- `exports::questions::count_returned` meets its contract.
 use mathlib.Core.Path.{_∙_}
 use mir.Syntax.{w64}
 use mir.Val.{SFits}
 use mir.Facts.{toZ-ofZ}
 use borrow.Author.Needs.{needs}
-use Rattle.exports.proofs.questions.count_in.Statement.{statement}
-use Rattle.exports.proofs.questions.count_in.Tie as tie
+use Rattle.exports.proofs.questions.count_returned.Statement.{statement}
+use Rattle.exports.proofs.questions.count_returned.Tie as tie
 
 enum-known-answer : tie.Need-enum-known-answer
 enum-known-answer c = search needs
@@ -19,8 +19,8 @@ enum-known-answer-2 c = search needs
 number-requires : tie.Need-number-requires
 number-requires c κs = search needs
 
-minus-requires : tie.Need-minus-requires
-minus-requires c κs = search needs
+negated-requires : tie.Need-negated-requires
+negated-requires c κs = search needs
 
 returns : tie.Need-returns
 returns c =
@@ -29,17 +29,17 @@ returns c =
 
 returns-2 : tie.Need-returns-2
 returns-2 c =
-    let r : SFits w64 (c .minus .result) = search needs in
-    rw (c .before .before .before .answer2 .given .1) (toZ-ofZ r ∙ (rw (c .before .number .ensures) at (c .minus .ensures)))
+    let r : SFits w64 (c .negated .result) = search needs in
+    rw (c .before .before .before .answer2 .given .1) (toZ-ofZ r ∙ (rw (c .before .number .ensures) at (c .negated .ensures)))
 
-pub count-in-spec : {M : Type 1} → statement M
-count-in-spec =
+pub count-returned-spec : {M : Type 1} → statement M
+count-returned-spec =
     tie.close
     (tie.spec
     enum-known-answer
     signed64-requires
     enum-known-answer-2
     number-requires
-    minus-requires
+    negated-requires
     returns
     returns-2)

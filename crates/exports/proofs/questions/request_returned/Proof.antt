@@ -1,10 +1,10 @@
--- `exports::questions::request_in` meets its contract: at each arm the answer is the one that the arm names.
+-- `exports::questions::request_returned` meets its contract: at each arm the answer is the one that the arm names.
 use mir.Syntax.{w32}
 use mir.Val.{SFits}
 use mir.Facts.{toZ-ofZ}
 use borrow.Author.Needs.{needs}
-use Rattle.exports.proofs.questions.request_in.Statement.{statement}
-use Rattle.exports.proofs.questions.request_in.Tie as tie
+use Rattle.exports.proofs.questions.request_returned.Statement.{statement}
+use Rattle.exports.proofs.questions.request_returned.Tie as tie
 
 enum-known-answer : tie.Need-enum-known-answer
 enum-known-answer c = search needs
@@ -26,7 +26,7 @@ returns c =
 returns-2 : tie.Need-returns-2
 returns-2 c = rw (c .before .before .answer2 .given .1, c .number .ensures)
 
-pub request-in-spec : {M : Type 1} → statement M
-request-in-spec =
+pub request-returned-spec : {M : Type 1} → statement M
+request-returned-spec =
     tie.close
     (tie.spec enum-known-answer enum-known-answer-2 number-requires returns returns-2)

@@ -1,4 +1,4 @@
--- `exports::questions::minus` meets its contract: 0 less a number of 32 bits.
+-- `exports::questions::negated` meets its contract: 0 less a number of 32 bits.
 use Prim.Native.Nat.{ℕ, zero, suc, _^_, _<_}
 use mathlib.Core.Path.{_≡_, _∙_}
 use native.Mathlib.Omega.{arith}
@@ -8,8 +8,8 @@ use mir.Syntax.{w64}
 use mir.Val.{SFits, toZ}
 use mir.Facts.{toZ-ofZ, toZ-pos}
 use borrow.Author.Needs.{needs}
-use Rattle.exports.proofs.questions.minus.Statement.{statement}
-use Rattle.exports.proofs.questions.minus.Tie as tie
+use Rattle.exports.proofs.questions.negated.Statement.{statement}
+use Rattle.exports.proofs.questions.negated.Tie as tie
 
 module _ (n : ℕ) (h : n < 2 ^ 32) where
   less : pos 0 -ℤ toZ w64 n ≡ negℤ (pos n)
@@ -33,5 +33,5 @@ returns c =
     let h : c .args .n < 2 ^ 32 = omega arith in
     toZ-ofZ (fits (c .args .n) h) ∙ less (c .args .n) h
 
-pub minus-spec : {M : Type 1} → statement M
-minus-spec = tie.close (tie.spec cast-result sub-result returns)
+pub negated-spec : {M : Type 1} → statement M
+negated-spec = tie.close (tie.spec cast-result sub-result returns)
