@@ -146,8 +146,8 @@ module _ (κs : Lifetimes.Lfts 6) (a : World.ArgsD sanitize_symlinks.signature �
         dirs = now (s .1 .1 .0);
         text = now (s .1 .1 .1 .0);
         marks = now (s .1 .1 .1 .1 .0);
-        stage = now (s .1 .1 .1 .1 .1 .0);
-        path = now (s .1 .1 .1 .1 .1 .1 .0);
+        scratch = now (s .1 .1 .1 .1 .1 .0);
+        walkPath = now (s .1 .1 .1 .1 .1 .1 .0);
       }
 
   pub clean-says : clean-reads.Learnt κs a r s → cleaned ≡ cleanStored (lent (a .0) (now (a .1 .0)) (now (a .1 .1 .0)) (now (a .1 .1 .1 .0))) (now (a .1 .1 .1 .1 .0)) (now (a .1 .1 .1 .1 .1 .0)) (now (a .1 .1 .1 .1 .1 .1 .0))

@@ -62,31 +62,31 @@ marked-verdicts s marks h =
 
 -- ---- once links are judged
 
-module _ (vs : List ℕ) (s : Store) (marks stage : List ℕ) where
+module _ (vs : List ℕ) (s : Store) (marks scratch : List ℕ) where
   -- there is no room
   pub cleaned-short : ltb (length (s .text)) (neededBy vs s) ≡ true → {marks′ : List ℕ} → marks′ ≡ cleared marks
-      → cleanedTo (refused 10) s marks′ stage [] ≡ cleanedBy vs s marks stage
+      → cleanedTo (refused 10) s marks′ scratch [] ≡ cleanedBy vs s marks scratch
   cleaned-short e p = rw (e, p)
 
   -- all is written
-  pub cleaned-done : ltb (length (s .text)) (neededBy vs s) ≡ false → (t : Store) (stage′ : List ℕ) {marks′ stage″ : List ℕ}
-      → t ≡ rewritten (length stage) vs 0 (emptied vs 0 s) → marks′ ≡ cleared marks → stage″ ≡ cleared stage′ → length stage′ ≡ length stage
-      → cleanedTo (value (t .fs)) t marks′ stage″ [] ≡ cleanedBy vs s marks stage
-  cleaned-done e t stage′ {marks′} {stage″} q p r h =
-      ap (λ (x : Store). cleanedTo (value (x .fs)) x marks′ stage″ []) q
-      ∙ ap (λ (x : List ℕ). cleanedTo (value (u .fs)) u x stage″ []) p
+  pub cleaned-done : ltb (length (s .text)) (neededBy vs s) ≡ false → (t : Store) (scratch′ : List ℕ) {marks′ scratch″ : List ℕ}
+      → t ≡ rewritten (length scratch) vs 0 (emptied vs 0 s) → marks′ ≡ cleared marks → scratch″ ≡ cleared scratch′ → length scratch′ ≡ length scratch
+      → cleanedTo (value (t .fs)) t marks′ scratch″ [] ≡ cleanedBy vs s marks scratch
+  cleaned-done e t scratch′ {marks′} {scratch″} q p r h =
+      ap (λ (x : Store). cleanedTo (value (x .fs)) x marks′ scratch″ []) q
+      ∙ ap (λ (x : List ℕ). cleanedTo (value (u .fs)) u x scratch″ []) p
       ∙ ap (λ (x : List ℕ). cleanedTo (value (u .fs)) u (cleared marks) x []) (r ∙ ap (λ (k : ℕ). replicate k 0) h)
       ∙ rw e
     where
       u : Store
-      u = rewritten (length stage) vs 0 (emptied vs 0 s)
+      u = rewritten (length scratch) vs 0 (emptied vs 0 s)
 
 -- ---- the call
 
 -- the same with another path
 abbrev pub withPath : List ℕ → Cleaned → Cleaned
 withPath p c =
-    record { says = c .says; rows = c .rows; dirs = c .dirs; text = c .text; marks = c .marks; stage = c .stage; path = p }
+    record { says = c .says; rows = c .rows; dirs = c .dirs; text = c .text; marks = c .marks; scratch = c .scratch; walkPath = p }
 
 with-path : (p : List ℕ) (b : Bool) (x y : Cleaned) → withPath p (cond b x y) ≡ cond b (withPath p x) (withPath p y)
 with-path p true x y = refl
@@ -94,21 +94,21 @@ with-path p false x y = refl
 
 -- a judgement that says no, and one that says yes
 module _ (b : Bool) (yes no : Judged) (m t p : List ℕ) where
-  said-no : (k n : ℕ) → yes .says ≡ value n → _≡_ {A = Judged} (record { says = refused k; marks = m; stage = t; path = p }) (cond b yes no)
-      → (b ≡ false) × (_≡_ {A = Judged} (record { says = refused k; marks = m; stage = t; path = p }) no)
+  said-no : (k n : ℕ) → yes .says ≡ value n → _≡_ {A = Judged} (record { says = refused k; marks = m; scratch = t; walkPath = p }) (cond b yes no)
+      → (b ≡ false) × (_≡_ {A = Judged} (record { says = refused k; marks = m; scratch = t; walkPath = p }) no)
   said-no k n e q = at b q
     where
-      at : (b : Bool) → _≡_ {A = Judged} (record { says = refused k; marks = m; stage = t; path = p }) (cond b yes no)
-          → (b ≡ false) × (_≡_ {A = Judged} (record { says = refused k; marks = m; stage = t; path = p }) no)
+      at : (b : Bool) → _≡_ {A = Judged} (record { says = refused k; marks = m; scratch = t; walkPath = p }) (cond b yes no)
+          → (b ≡ false) × (_≡_ {A = Judged} (record { says = refused k; marks = m; scratch = t; walkPath = p }) no)
       at true h = absurd (let z = ap (λ (j : Judged). j .says) h ∙ e in let y : _≡_ {A = ℕ} 0 1 = cc in omega arith)
       at false h = (refl, h)
 
-  said-yes : (k n : ℕ) → no .says ≡ refused k → _≡_ {A = Judged} (record { says = value n; marks = m; stage = t; path = p }) (cond b yes no)
-      → (b ≡ true) × (_≡_ {A = Judged} (record { says = value n; marks = m; stage = t; path = p }) yes)
+  said-yes : (k n : ℕ) → no .says ≡ refused k → _≡_ {A = Judged} (record { says = value n; marks = m; scratch = t; walkPath = p }) (cond b yes no)
+      → (b ≡ true) × (_≡_ {A = Judged} (record { says = value n; marks = m; scratch = t; walkPath = p }) yes)
   said-yes k n e q = at b q
     where
-      at : (b : Bool) → _≡_ {A = Judged} (record { says = value n; marks = m; stage = t; path = p }) (cond b yes no)
-          → (b ≡ true) × (_≡_ {A = Judged} (record { says = value n; marks = m; stage = t; path = p }) yes)
+      at : (b : Bool) → _≡_ {A = Judged} (record { says = value n; marks = m; scratch = t; walkPath = p }) (cond b yes no)
+          → (b ≡ true) × (_≡_ {A = Judged} (record { says = value n; marks = m; scratch = t; walkPath = p }) yes)
       at true h = (refl, h)
       at false h = absurd (let z = ap (λ (j : Judged). j .says) h ∙ e in let y : _≡_ {A = ℕ} 0 1 = cc in omega arith)
 
@@ -116,56 +116,56 @@ module _ (b : Bool) (yes no : Judged) (m t p : List ℕ) where
 same-refusal : {k k′ : ℕ} (s : Store) {m m′ t t′ p p′ : List ℕ} → k ≡ k′ → m ≡ m′ → t ≡ t′ → p ≡ p′ → cleanedTo (refused k) s m t p ≡ cleanedTo (refused k′) s m′ t′ p′
 same-refusal s a b c d = rw (a, b, c, d)
 
-module _ (s : Store) (marks stage path : List ℕ) where
+module _ (s : Store) (marks scratch path : List ℕ) where
   abbrev number : ℕ
-  number = judgingNumber s (length marks) (length stage) (length path)
+  number = judgingNumber s (length marks) (length scratch) (length path)
 
   -- where links are judged
   abbrev yes : Judged
-  yes = record { says = value (linkCount (entriesOf s)); marks = sets marks 0 (verdicts s); stage = cleared stage; path = cleared path }
+  yes = record { says = value (linkCount (entriesOf s)); marks = sets marks 0 (verdicts s); scratch = cleared scratch; walkPath = cleared path }
 
   -- where they are not
   abbrev no : Judged
-  no = record { says = refused number; marks = marks; stage = stage; path = path }
+  no = record { says = refused number; marks = marks; scratch = scratch; walkPath = path }
 
   -- all that is said once they are
   abbrev written : Cleaned
   written =
       cond (ltb (length (s .text)) (textNeeded s))
-      (cleanedTo (refused 10) s (cleared marks) (cleared stage) (cleared path))
-      (cleanedTo (value (cleanedStore (length stage) s .fs)) (cleanedStore (length stage) s) (cleared marks) (cleared stage) (cleared path))
+      (cleanedTo (refused 10) s (cleared marks) (cleared scratch) (cleared path))
+      (cleanedTo (value (cleanedStore (length scratch) s .fs)) (cleanedStore (length scratch) s) (cleared marks) (cleared scratch) (cleared path))
 
   pub judging-stops : (e : Refusal) (m t p : List ℕ)
-      → _≡_ {A = Judged} (record { says = refused (numberOf e); marks = m; stage = t; path = p }) (judged s marks stage path)
-      → cleanedTo (refused (numberOf e)) s m t p ≡ cleanStored s marks stage path
+      → _≡_ {A = Judged} (record { says = refused (numberOf e); marks = m; scratch = t; walkPath = p }) (judged s marks scratch path)
+      → cleanedTo (refused (numberOf e)) s m t p ≡ cleanStored s marks scratch path
   judging-stops e m t p q =
       let h = said-no (eqb number 0) yes no m t p (numberOf e) (linkCount (entriesOf s)) refl q in
       let says : refused (numberOf e) ≡ refused number = ap (λ (j : Judged). j .says) (h .1) in
-      same-refusal s (cc) (ap (λ (j : Judged). j .marks) (h .1)) (ap (λ (j : Judged). j .stage) (h .1)) (ap (λ (j : Judged). j .path) (h .1))
-      ∙ cond-no (eqb number 0) written (cleanedTo (refused number) s marks stage path) (h .0)
+      same-refusal s (cc) (ap (λ (j : Judged). j .marks) (h .1)) (ap (λ (j : Judged). j .scratch) (h .1)) (ap (λ (j : Judged). j .walkPath) (h .1))
+      ∙ cond-no (eqb number 0) written (cleanedTo (refused number) s marks scratch path) (h .0)
 
-  -- links are judged: what the marks and the stage then hold gives the outcome
-  module _ (n : ℕ) (m t p : List ℕ) (q : _≡_ {A = Judged} (record { says = value n; marks = m; stage = t; path = p }) (judged s marks stage path)) where
-    went : (eqb number 0 ≡ true) × (_≡_ {A = Judged} (record { says = value n; marks = m; stage = t; path = p }) yes)
+  -- links are judged: what the marks and the scratch space then hold gives the outcome
+  module _ (n : ℕ) (m t p : List ℕ) (q : _≡_ {A = Judged} (record { says = value n; marks = m; scratch = t; walkPath = p }) (judged s marks scratch path)) where
+    went : (eqb number 0 ≡ true) × (_≡_ {A = Judged} (record { says = value n; marks = m; scratch = t; walkPath = p }) yes)
     went = said-yes (eqb number 0) yes no m t p number n refl q
 
     all-verdicts : allVerdicts s m ≡ fileVerdicts s
     all-verdicts =
         let k = eqb-true number 0 (went .0) in
         ap (allVerdicts s) (ap (λ (j : Judged). j .marks) (went .1))
-        ∙ marked-verdicts s marks (roomy s (length marks) (length stage) (length path) k .marked)
+        ∙ marked-verdicts s marks (roomy s (length marks) (length scratch) (length path) k .marked)
 
-    written-is : withPath (cleared path) (cleanedBy (fileVerdicts s) s (sets marks 0 (verdicts s)) (cleared stage)) ≡ written
+    written-is : withPath (cleared path) (cleanedBy (fileVerdicts s) s (sets marks 0 (verdicts s)) (cleared scratch)) ≡ written
     written-is =
-        let short = cleanedTo (refused 10) s (cleared (sets marks 0 (verdicts s))) (cleared stage) [] in
-        let u = rewritten (length (cleared stage)) (fileVerdicts s) 0 (emptied (fileVerdicts s) 0 s) in
-        with-path (cleared path) (ltb (length (s .text)) (textNeeded s)) short (cleanedTo (value (u .fs)) u (cleared (sets marks 0 (verdicts s))) (cleared (cleared stage)) [])
-        ∙ rw (length-replicate {A = ℕ} (length stage) 0, length-sets marks 0 (verdicts s))
+        let short = cleanedTo (refused 10) s (cleared (sets marks 0 (verdicts s))) (cleared scratch) [] in
+        let u = rewritten (length (cleared scratch)) (fileVerdicts s) 0 (emptied (fileVerdicts s) 0 s) in
+        with-path (cleared path) (ltb (length (s .text)) (textNeeded s)) short (cleanedTo (value (u .fs)) u (cleared (sets marks 0 (verdicts s))) (cleared (cleared scratch)) [])
+        ∙ rw (length-replicate {A = ℕ} (length scratch) 0, length-sets marks 0 (verdicts s))
 
-    pub judging-goes : (c : Cleaned) → c ≡ cleanedBy (allVerdicts s m) s m t → withPath p c ≡ cleanStored s marks stage path
+    pub judging-goes : (c : Cleaned) → c ≡ cleanedBy (allVerdicts s m) s m t → withPath p c ≡ cleanStored s marks scratch path
     judging-goes c h =
         ap (withPath p) h
         ∙ ap (λ (vs : List ℕ). withPath p (cleanedBy vs s m t)) all-verdicts
-        ∙ ap (λ (j : Judged). withPath (j .path) (cleanedBy (fileVerdicts s) s (j .marks) (j .stage))) (went .1)
+        ∙ ap (λ (j : Judged). withPath (j .walkPath) (cleanedBy (fileVerdicts s) s (j .marks) (j .scratch))) (went .1)
         ∙ written-is
-        ∙ cond-yes (eqb number 0) written (cleanedTo (refused number) s marks stage path) (went .0)
+        ∙ cond-yes (eqb number 0) written (cleanedTo (refused number) s marks scratch path) (went .0)

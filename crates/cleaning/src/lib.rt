@@ -1,4 +1,4 @@
-// `sanitize_symlinks`, from file_storage.rs: what a cleaning writes, once `links` has judged every link.
+// `sanitize_symlinks`, from file_storage.rs: what a cleaning writes after `links` has judged every link.
 // It relies on `texts` for one link's text, and on the total accessors of `lists` and `tables`.
 mod clean;
 mod rewrite;

@@ -1,11 +1,11 @@
-// The texts of all links, by their verdicts: first every text is removed that gives way to its link's own path, then
-// each new one is written. Relies on `texts` for one link's text, on verdicts.rt and on the laws of proofs/Passes.antt.
+// The texts of all links, by their verdicts: first the old text of each link whose verdict is its own path is removed,
+// then each new text is written. Relies on `texts` for one link's text, on verdicts.rt and on the laws of
+// proofs/Passes.antt.
 ghost use mathlib.Core.Path.{_≡_};
 ghost use lib.ListN.{length};
-ghost use Rattle.tables.specs.Model.{Store};
 ghost use Rattle.lookup.specs.Lookup.{lent};
 ghost use Rattle.cleaning.specs.Cleaning.{rewrittenAt, emptied, rewritten};
-ghost use Rattle.cleaning.specs.private.Writing.{flagsIn, verdictsBy, emptiedAt};
+ghost use Rattle.cleaning.specs.private.Writing.{emptiedAt, verdictsIn};
 use crate::verdicts::mark_after;
 use crate::verdicts::verdict_of;
 use tables::FileStorage;
@@ -16,19 +16,23 @@ fn write_link(
     rows: &mut [u64],
     dirs: &mut [u64],
     text: &mut [u8],
-    stage: &mut [u8],
+    scratch: &mut [u8],
     i: usize,
     verdict: u8,
 ) -> FileStorage
-    ensures { λ r. ⌜ _≡_ {A = Store} (lent r (now (rows .exit)) (now (dirs .exit)) (now (text .exit))) (rewrittenAt (length (now (stage .entry))) verdict (lent fs (now (rows .entry)) (now (dirs .entry)) (now (text .entry))) i) ⌝ }
+    ensures { λ r. ⌜
+        lent r (now (rows .exit)) (now (dirs .exit)) (now (text .exit))
+        ≡ rewrittenAt (length (now (scratch .entry))) verdict
+        (lent fs (now (rows .entry)) (now (dirs .entry)) (now (text .entry))) i
+        ⌝ }
 {
-    if verdict == 0 {
+    if verdict == links::VERDICT_KEEP {
         return fs;
     }
-    if verdict == 1 {
+    if verdict == links::VERDICT_OWN_PATH {
         return texts::write_own(fs, rows, dirs, text, i);
     }
-    texts::write_beside(fs, rows, dirs, text, stage, i)
+    texts::write_beside(fs, rows, dirs, text, scratch, i)
 }
 
 // Removes the old text of file i, where its verdict is the link's own path.
@@ -40,9 +44,12 @@ fn empty_link(
     i: usize,
     verdict: u8,
 ) -> FileStorage
-    ensures { λ r. ⌜ _≡_ {A = Store} (lent r (now (rows .exit)) (now (dirs .exit)) (now (text .exit))) (emptiedAt verdict (lent fs (now (rows .entry)) (now (dirs .entry)) (now (text .entry))) i) ⌝ }
+    ensures { λ r. ⌜
+        lent r (now (rows .exit)) (now (dirs .exit)) (now (text .exit))
+        ≡ emptiedAt verdict (lent fs (now (rows .entry)) (now (dirs .entry)) (now (text .entry))) i
+        ⌝ }
 {
-    if verdict == 1 {
+    if verdict == links::VERDICT_OWN_PATH {
         return texts::empty_text(fs, rows, dirs, text, i);
     }
     fs
@@ -57,7 +64,11 @@ fn empty_links(
     text: &mut [u8],
     marks: &[u8],
 ) -> FileStorage
-    ensures { λ r. ⌜ _≡_ {A = Store} (lent r (now (rows .exit)) (now (dirs .exit)) (now (text .exit))) (emptied (verdictsBy (flagsIn (now (rows .entry))) (now (marks .entry)) n 0 0) 0 (lent fs (now (rows .entry)) (now (dirs .entry)) (now (text .entry)))) ⌝ }
+    ensures { λ r. ⌜
+        lent r (now (rows .exit)) (now (dirs .exit)) (now (text .exit))
+        ≡ emptied (verdictsIn (now (rows .entry)) (now (marks .entry)) n) 0
+        (lent fs (now (rows .entry)) (now (dirs .entry)) (now (text .entry)))
+        ⌝ }
 {
     let mut set = fs;
     let mut i = 0;
@@ -72,7 +83,7 @@ fn empty_links(
     set
 }
 
-// Writes every new text of the first n files.
+// Writes the new texts of the first n files.
 fn write_links(
     fs: FileStorage,
     n: usize,
@@ -80,9 +91,13 @@ fn write_links(
     dirs: &mut [u64],
     text: &mut [u8],
     marks: &[u8],
-    stage: &mut [u8],
+    scratch: &mut [u8],
 ) -> FileStorage
-    ensures { λ r. ⌜ _≡_ {A = Store} (lent r (now (rows .exit)) (now (dirs .exit)) (now (text .exit))) (rewritten (length (now (stage .entry))) (verdictsBy (flagsIn (now (rows .entry))) (now (marks .entry)) n 0 0) 0 (lent fs (now (rows .entry)) (now (dirs .entry)) (now (text .entry)))) ⌝ }
+    ensures { λ r. ⌜
+        lent r (now (rows .exit)) (now (dirs .exit)) (now (text .exit))
+        ≡ rewritten (length (now (scratch .entry))) (verdictsIn (now (rows .entry)) (now (marks .entry)) n) 0
+        (lent fs (now (rows .entry)) (now (dirs .entry)) (now (text .entry)))
+        ⌝ }
 {
     let mut set = fs;
     let mut i = 0;
@@ -90,7 +105,7 @@ fn write_links(
     while i < n {
         let flags = tables::flags_at(rows, i);
         let verdict = verdict_of(flags, marks, k);
-        set = write_link(set, rows, dirs, text, stage, i, verdict);
+        set = write_link(set, rows, dirs, text, scratch, i, verdict);
         k = mark_after(flags, k);
         i += 1;
     }
@@ -105,10 +120,15 @@ pub(crate) fn rewrite_links(
     dirs: &mut [u64],
     text: &mut [u8],
     marks: &[u8],
-    stage: &mut [u8],
+    scratch: &mut [u8],
 ) -> FileStorage
-    ensures { λ r. ⌜ _≡_ {A = Store} (lent r (now (rows .exit)) (now (dirs .exit)) (now (text .exit))) (rewritten (length (now (stage .entry))) (verdictsBy (flagsIn (now (rows .entry))) (now (marks .entry)) n 0 0) 0 (emptied (verdictsBy (flagsIn (now (rows .entry))) (now (marks .entry)) n 0 0) 0 (lent fs (now (rows .entry)) (now (dirs .entry)) (now (text .entry))))) ⌝ }
+    ensures { λ r. ⌜
+        lent r (now (rows .exit)) (now (dirs .exit)) (now (text .exit))
+        ≡ rewritten (length (now (scratch .entry))) (verdictsIn (now (rows .entry)) (now (marks .entry)) n) 0
+        (emptied (verdictsIn (now (rows .entry)) (now (marks .entry)) n) 0
+        (lent fs (now (rows .entry)) (now (dirs .entry)) (now (text .entry))))
+        ⌝ }
 {
     let without = empty_links(fs, n, rows, dirs, text, marks);
-    write_links(without, n, rows, dirs, text, marks, stage)
+    write_links(without, n, rows, dirs, text, marks, scratch)
 }

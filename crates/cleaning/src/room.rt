@@ -8,7 +8,9 @@ ghost use lib.ListN.{length};
 ghost use Rattle.tables.specs.Span.{clip};
 ghost use Rattle.tables.specs.Rows.{rowAt};
 ghost use Rattle.lookup.specs.Lookup.{lent};
-ghost use Rattle.cleaning.specs.private.Writing.{flagsIn, verdictsBy, allVerdicts, leafSpan, goneBytes, newLength, leftBy, sumBy, neededBy};
+ghost use Rattle.links.specs.Judging.{verdictKeep};
+ghost use Rattle.cleaning.specs.private.Writing.{allVerdicts, leafSpan, goneBytes, newLength, leftBy, sumBy};
+ghost use Rattle.cleaning.specs.private.Writing.{neededBy, verdictsIn};
 use crate::verdicts::mark_after;
 use crate::verdicts::verdict_of;
 use lists::saturating_sub_usize;
@@ -16,20 +18,22 @@ use tables::FileStorage;
 use tables::Row;
 use tables::Span;
 
-// What is left of `left` bytes once a link's old text goes, where its verdict changes it.
+// What is left of `left` bytes after a link's old text is removed, where its verdict changes it.
 fn left_after(used: usize, link: Span, verdict: u8, left: usize) -> usize
-    ensures { λ r. ⌜ r ≡ left - cond (eqb verdict 0) 0 (clip used link .len) ⌝ }
+    ensures { λ r. ⌜ r ≡ left - cond (eqb verdict verdictKeep) 0 (clip used link .len) ⌝ }
 {
-    if verdict == 0 {
+    if verdict == links::VERDICT_KEEP {
         return left;
     }
     let gone = tables::clipped(used, link);
     saturating_sub_usize(left, gone.len)
 }
 
-// What is left of the text held once the old texts of the first n files that change are gone.
+// What is left of `used` bytes of text after the old texts that change, of the first n files, are removed.
 fn kept_after(used: usize, n: usize, rows: &[u64], marks: &[u8]) -> usize
-    ensures { λ r. ⌜ r ≡ leftBy (goneBytes (now (rows .entry)) used) (verdictsBy (flagsIn (now (rows .entry))) (now (marks .entry)) n 0 0) 0 used ⌝ }
+    ensures { λ r. ⌜
+        r ≡ leftBy (goneBytes (now (rows .entry)) used) (verdictsIn (now (rows .entry)) (now (marks .entry)) n) 0 used
+        ⌝ }
 {
     let mut left = used;
     let mut i = 0;
@@ -44,21 +48,21 @@ fn kept_after(used: usize, n: usize, rows: &[u64], marks: &[u8]) -> usize
     left
 }
 
-// Where the leaf of a link's new text lies: its name, or its old text.
+// The span of the leaf of a link's new text: its name, or its old text.
 fn leaf_of(row: Row, verdict: u8) -> Span
     ensures { λ r. ⌜ r ≡ leafSpan verdict row ⌝ }
 {
-    if verdict == 1 {
+    if verdict == links::VERDICT_OWN_PATH {
         return row.name;
     }
     texts::link_span(row)
 }
 
-// How long the new text of a file is, by its verdict.
+// The length of a file's new text, by its verdict.
 fn new_length(dirs: &[u64], text: &[u8], row: Row, verdict: u8) -> usize
     ensures { λ r. ⌜ r ≡ newLength (now (dirs .entry)) (now (text .entry)) verdict row ⌝ }
 {
-    if verdict == 0 {
+    if verdict == links::VERDICT_KEEP {
         return 0;
     }
     let branch = tables::text_at(text, tables::directory_span(dirs, row));
@@ -68,7 +72,11 @@ fn new_length(dirs: &[u64], text: &[u8], row: Row, verdict: u8) -> usize
 
 // Whether the new texts of the first n files have more than `room` bytes.
 fn lacks_bytes(n: usize, rows: &[u64], dirs: &[u64], text: &[u8], marks: &[u8], room: usize) -> bool
-    ensures { λ r. ⌜ r ≡ ltb room (sumBy (λ v i. newLength (now (dirs .entry)) (now (text .entry)) v (rowAt (now (rows .entry)) i)) (verdictsBy (flagsIn (now (rows .entry))) (now (marks .entry)) n 0 0) 0) ⌝ }
+    ensures { λ r. ⌜
+        r ≡ ltb room
+        (sumBy (λ v i. newLength (now (dirs .entry)) (now (text .entry)) v (rowAt (now (rows .entry)) i))
+        (verdictsIn (now (rows .entry)) (now (marks .entry)) n) 0)
+        ⌝ }
 {
     let mut left = room;
     let mut i = 0;
@@ -95,7 +103,12 @@ pub(crate) fn lacks_room(
     text: &[u8],
     marks: &[u8],
 ) -> bool
-    ensures { λ r. ⌜ r ≡ ltb (length (now (text .entry))) (neededBy (allVerdicts (lent fs (now (rows .entry)) (now (dirs .entry)) (now (text .entry))) (now (marks .entry))) (lent fs (now (rows .entry)) (now (dirs .entry)) (now (text .entry)))) ⌝ }
+    ensures { λ r. ⌜
+        r ≡ ltb (length (now (text .entry)))
+        (neededBy
+        (allVerdicts (lent fs (now (rows .entry)) (now (dirs .entry)) (now (text .entry))) (now (marks .entry)))
+        (lent fs (now (rows .entry)) (now (dirs .entry)) (now (text .entry))))
+        ⌝ }
 {
     let n = fs.num_files;
     let kept = kept_after(fs.text_len, n, rows, marks);

@@ -11,10 +11,10 @@ pub(crate) fn verdict_of(flags: u64, marks: &[u8], k: usize) -> u8
     if lookup::is_flagged(flags) {
         return lists::byte(marks, k);
     }
-    0
+    links::VERDICT_KEEP
 }
 
-// The place of the next flagged link's mark.
+// The number of the next flagged link's mark.
 pub(crate) fn mark_after(flags: u64, k: usize) -> usize
     requires { ⌜ k + 1 < 2 ^ 64 ⌝ }
     ensures { λ r. ⌜ r ≡ markAfter flags k ⌝ }

@@ -14,7 +14,7 @@ use borrow.Author.Tests.{lt-ltb, le-ltb}
 use Rattle.lists.specs.Lists.{equal}
 use Rattle.lists.proofs.Orders.{le-or-lt}
 use Rattle.path.specs.Join.{isAlone, isEmpty, isClosed, glued, appended}
-use Rattle.compatible.specs.declared.walk.Place.{Place}
+use Rattle.compatible.specs.declared.walk.Position.{Position}
 use Rattle.compatible.specs.declared.walk.Step.{Step}
 use Rattle.compatible.specs.declared.walk.Step.the-variants.{Byte, End}
 use Rattle.compatible.specs.declared.walk.Meeting.{Meeting}
@@ -45,12 +45,12 @@ module _ (l : List ℕ) where
   byte-uncut cut at h e = let q : length (ended l cut) ≡ length l = length-ended cut ∙ rw e in byte-past cut at (omega arith)
 
 -- what a step says is left
-abbrev pub left : (Place → List ℕ) → Step → List ℕ
+abbrev pub left : (Position → List ℕ) → Step → List ℕ
 left rest (Byte x p) = x ∷ rest p
 left rest End = []
 
 -- a step in one list, where what is left behind its byte is `tail`
-in-list : (rest : Place → List ℕ) (l tail : List ℕ) (k at : ℕ) (other : Step) → rest (record { part = k; at = at + 1 }) ≡ drop (at + 1) l ++ tail
+in-list : (rest : Position → List ℕ) (l tail : List ℕ) (k at : ℕ) (other : Step) → rest (record { part = k; at = at + 1 }) ≡ drop (at + 1) l ++ tail
     → left rest other ≡ tail → drop at l ++ tail ≡ left rest (stepIn l k at other)
 in-list rest l tail k at other h e =
     ⊎-elim (λ n. rw (le-ltb at (length l) n, drop-of-length-le l {i = at} n) (sym e))
@@ -68,7 +68,7 @@ module _ (a b c : List ℕ) where
   first-left at = in-list (restFrom a b c) a (b ++ c) 0 at (stepSecond b c 0) refl (sym (second-left 0))
 
   -- what is left from a place on is what a step from there says
-  pub step-left : (p : Place) → restFrom a b c p ≡ left (restFrom a b c) (stepFrom a b c p)
+  pub step-left : (p : Position) → restFrom a b c p ≡ left (restFrom a b c) (stepFrom a b c p)
   step-left p = at (eqb (p .part) 0) (eqb (p .part) 1)
     where
       at : (s t : Bool) → cond s (drop (p .at) a ++ (b ++ c)) (cond t (drop (p .at) b ++ c) (drop (p .at) c))
@@ -78,12 +78,12 @@ module _ (a b c : List ℕ) where
       at false false = last-left (p .at)
 
 -- what a meeting says of two paths
-abbrev pub told : (Place → List ℕ) → (Place → List ℕ) → Meeting → Bool
+abbrev pub told : (Position → List ℕ) → (Position → List ℕ) → Meeting → Bool
 told f g (meeting.Same p q) = equal (f p) (g q)
 told f g meeting.Differ = false
 told f g meeting.Over = true
 
-pub meeting-told : (f g : Place → List ℕ) (x y : Step) → equal (left f x) (left g y) ≡ told f g (meetingOf x y)
+pub meeting-told : (f g : Position → List ℕ) (x y : Step) → equal (left f x) (left g y) ≡ told f g (meetingOf x y)
 meeting-told f g (Byte x p) (Byte y q) = at (eqb x y)
   where
     at : (b : Bool) → cond b (equal (f p) (g q)) false ≡ told f g (cond b (meeting.Same p q) meeting.Differ)
@@ -94,7 +94,7 @@ meeting-told f g End (Byte y q) = refl
 meeting-told f g End End = refl
 
 -- where two steps meet on the same byte, what is left is shorter
-pub meeting-less : (f g : Place → List ℕ) (x y : Step) (p q : Place) → meetingOf x y ≡ meeting.Same p q → length (f p) < length (left f x)
+pub meeting-less : (f g : Position → List ℕ) (x y : Step) (p q : Position) → meetingOf x y ≡ meeting.Same p q → length (f p) < length (left f x)
 meeting-less f g (Byte x p) (Byte y q) r s e = at (eqb x y) e
   where
     at : (b : Bool) → cond b (meeting.Same p q) meeting.Differ ≡ meeting.Same r s → length (f r) < suc (length (f p))
@@ -105,11 +105,11 @@ meeting-less f g End (Byte y q) r s e = absurd (let z : _≡_ {A = ℕ} 0 1 = cc
 meeting-less f g End End r s e = absurd (let z : _≡_ {A = ℕ} 0 1 = cc in omega arith)
 
 -- a turn of the comparison: its meeting says whether what is left is the same, and where it goes on there is less left
-module _ (a b c d e f : List ℕ) (p q : Place) (x y : Step) (m : Meeting) (h : x ≡ stepFrom a b c p) (k : y ≡ stepFrom d e f q) (g : m ≡ meetingOf x y) where
+module _ (a b c d e f : List ℕ) (p q : Position) (x y : Step) (m : Meeting) (h : x ≡ stepFrom a b c p) (k : y ≡ stepFrom d e f q) (g : m ≡ meetingOf x y) where
   pub turn-told : told (restFrom a b c) (restFrom d e f) m ≡ equal (restFrom a b c p) (restFrom d e f q)
   turn-told = rw (g, h, k) (sym (rw (step-left a b c p, step-left d e f q) (meeting-told (restFrom a b c) (restFrom d e f) (stepFrom a b c p) (stepFrom d e f q))))
 
-  pub turn-less : (r s : Place) → m ≡ meeting.Same r s → length (restFrom a b c r) < length (restFrom a b c p)
+  pub turn-less : (r s : Position) → m ≡ meeting.Same r s → length (restFrom a b c r) < length (restFrom a b c p)
   turn-less r s z =
       let t : length (restFrom a b c p) ≡ length (left (restFrom a b c) x) = ap length (step-left a b c p) ∙ rw h in
       rw t (meeting-less (restFrom a b c) (restFrom d e f) x y r s (sym g ∙ z))

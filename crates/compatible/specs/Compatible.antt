@@ -1,6 +1,6 @@
--- Document 01: '`files_compatible` as in the Rust': whether two sets have the same layout and names, pads and empty files
--- aside. It is not symmetric: a link is compared only where the first set flags it as one. It relies on the paths of
--- Paths.antt of `names` and on the rows of `tables`.
+-- Document 01: '`files_compatible` as in the Rust': whether two sets have the same layout and names, pads and empty
+-- files aside. It is not symmetric: a link is compared only where the first set flags it as one. It relies on the paths
+-- of Paths.antt of `names` and on the rows of `tables`.
 use Prim.Native.Nat.{ℕ, zero, suc, _+_}
 use mathlib.Core.Bool.{Bool, true, cond, not, _&&_, _||_}
 use mathlib.Core.List.{List, [], _∷_}
@@ -22,6 +22,9 @@ pub record NamedSet : Type 0 where
   pub dirs : List ℕ
   pub text : List ℕ
 
+abbrev pub namedSetOf : FileStorage → List ℕ → List ℕ → List ℕ → NamedSet
+namedSetOf fs rows dirs text = record { fs = fs; rows = rows; dirs = dirs; text = text }
+
 -- a file that is no pad and not empty
 abbrev pub isRelevant : Row → Bool
 isRelevant r = not (has (r .flags) padBit) && ltb 0 (r .size)
@@ -39,7 +42,7 @@ sameNamed a b r q =
     && (equal (pathOf a r) (pathOf b q)
     && (eqb (r .offset) (q .offset) && cond (has (r .flags) symlinkBit) (equal (linkOf a r) (linkOf b q)) true))
 
--- both files count or neither does, and where they count they are the same
+-- both files are relevant or neither is, and where they are relevant they are the same
 abbrev pub sameFile : NamedSet → NamedSet → Row → Row → Bool
 sameFile a b r q = cond (isRelevant r) (isRelevant q && sameNamed a b r q) (not (isRelevant q))
 

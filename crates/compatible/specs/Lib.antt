@@ -1,3 +1,4 @@
--- The definitions that the contracts of `compatible` cite. They rely on those of `path`, `tables`, `rules`, `answers` and `names`.
+-- The definitions that the contracts of `compatible` cite. They rely on those of `path`, `tables`, `rules`, `answers`
+-- and `names`.
 pub mod Compatible
-pub mod Walk
+pub mod private

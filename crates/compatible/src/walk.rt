@@ -4,25 +4,33 @@ ghost use mathlib.Core.Path.{_≡_};
 ghost use lib.ListN.{length, getD};
 ghost use Rattle.lists.specs.Lists.{equal};
 ghost use Rattle.path.specs.Join.{appended};
-ghost use Rattle.compatible.specs.private.Walk.{ended, cutFirst, cutSecond, walkStart, restFrom, stepLast, stepSecond, stepFrom, meetingOf};
+ghost use Rattle.compatible.specs.private.Walk.{ended, cutFirst, cutSecond, walkStart, compositionOf, wholeOf};
+ghost use Rattle.compatible.specs.private.Walk.{stepLast, stepSecond, stepFrom, meetingOf};
 use path::is_alone;
 use path::is_closed;
 
-// A place in a composed path: one of its parts, 0 to 2, and a place in that.
-pub(crate) struct Place {
+// A position in a composed path: one of its parts, 0 to 2, and a position in that part.
+pub(crate) struct Position {
     pub part: usize,
     pub at: usize,
 }
 
-// A byte and the place behind it, or the end.
+// How three parts compose a path: whether a separator follows the first and the second, and where the path starts.
+pub(crate) struct Composition {
+    pub cut_first: bool,
+    pub cut_second: bool,
+    pub start: Position,
+}
+
+// A byte and the position after it, or the end.
 pub(crate) enum Step {
-    Byte(u8, Place),
+    Byte(u8, Position),
     End,
 }
 
-// What two steps meet on: the same byte, with the places behind it; different ones; or both ends.
+// What two steps meet on: the same byte, with the positions after it; different ones; or both ends.
 pub(crate) enum Meeting {
-    Same(Place, Place),
+    Same(Position, Position),
     Differ,
     Over,
 }
@@ -37,7 +45,7 @@ fn length_of(part: &[u8], cut: bool) -> usize
     part.len()
 }
 
-// The byte at a place of a part and of the separator that may follow it, 0 past the end.
+// The byte at position `at` of a part and of the separator that may follow it, 0 past the end.
 fn byte_of(part: &[u8], cut: bool, at: usize) -> u8
     ensures { λ r. ⌜ r ≡ getD (ended (now (part .entry)) cut) at 0 ⌝ }
 {
@@ -60,7 +68,7 @@ fn step_last(last: &[u8], at: usize) -> Step
     if at < last.len() {
         return Step::Byte(
             last[at],
-            Place {
+            Position {
                 part: 2,
                 at: at + 1,
             },
@@ -76,7 +84,7 @@ fn step_second(second: &[u8], cut: bool, last: &[u8], at: usize) -> Step
     if at < length_of(second, cut) {
         return Step::Byte(
             byte_of(second, cut, at),
-            Place {
+            Position {
                 part: 1,
                 at: at + 1,
             },
@@ -85,16 +93,25 @@ fn step_second(second: &[u8], cut: bool, last: &[u8], at: usize) -> Step
     step_last(last, 0)
 }
 
-// A step from a place in the path.
-fn step_first(first: &[u8], cut1: bool, second: &[u8], cut2: bool, last: &[u8], from: Place) -> Step
-    ensures { λ r. ⌜ r ≡ stepFrom (ended (now (first .entry)) cut1) (ended (now (second .entry)) cut2) (now (last .entry)) from ⌝ }
+// A step from a position in the path.
+fn step_first(
+    first: &[u8],
+    cut1: bool,
+    second: &[u8],
+    cut2: bool,
+    last: &[u8],
+    from: Position,
+) -> Step
+    ensures { λ r. ⌜
+        r ≡ stepFrom (ended (now (first .entry)) cut1) (ended (now (second .entry)) cut2) (now (last .entry)) from
+        ⌝ }
 {
     let at = from.at;
     if from.part == 0 {
         if at < length_of(first, cut1) {
             return Step::Byte(
                 byte_of(first, cut1, at),
-                Place {
+                Position {
                     part: 0,
                     at: at + 1,
                 },
@@ -130,29 +147,28 @@ fn meet(a: Step, b: Step) -> Meeting
     }
 }
 
-// Whether two paths are the same from a place in each on.
+// Whether two composed paths are the same.
 fn same_from(
     first_a: &[u8],
-    cut1_a: bool,
     second_a: &[u8],
-    cut2_a: bool,
     last_a: &[u8],
-    from_a: Place,
+    a: Composition,
     first_b: &[u8],
-    cut1_b: bool,
     second_b: &[u8],
-    cut2_b: bool,
     last_b: &[u8],
-    from_b: Place,
+    b: Composition,
 ) -> bool
-    ensures { λ r. ⌜ r ≡ equal (restFrom (ended (now («first_a» .entry)) «cut1_a») (ended (now («second_a» .entry)) «cut2_a») (now («last_a» .entry)) «from_a») (restFrom (ended (now («first_b» .entry)) «cut1_b») (ended (now («second_b» .entry)) «cut2_b») (now («last_b» .entry)) «from_b») ⌝ }
+    ensures { λ r. ⌜
+        r ≡ equal (wholeOf (now («first_a» .entry)) (now («second_a» .entry)) (now («last_a» .entry)) a)
+        (wholeOf (now («first_b» .entry)) (now («second_b» .entry)) (now («last_b» .entry)) b)
+        ⌝ }
 {
-    let mut here = from_a;
-    let mut there = from_b;
+    let mut here = a.start;
+    let mut there = b.start;
     loop {
-        let a = step_first(first_a, cut1_a, second_a, cut2_a, last_a, here);
-        let b = step_first(first_b, cut1_b, second_b, cut2_b, last_b, there);
-        match meet(a, b) {
+        let step = step_first(first_a, a.cut_first, second_a, a.cut_second, last_a, here);
+        let other = step_first(first_b, b.cut_first, second_b, b.cut_second, last_b, there);
+        match meet(step, other) {
             Meeting::Same(p, q) => {
                 here = p;
                 there = q;
@@ -190,16 +206,27 @@ fn is_cut_second(second: &[u8], last: &[u8]) -> bool
 }
 
 // Where the composed path begins.
-fn start(first: &[u8], second: &[u8]) -> Place
+fn start(first: &[u8], second: &[u8]) -> Position
     ensures { λ r. ⌜ r ≡ walkStart (now (first .entry)) (now (second .entry)) ⌝ }
 {
     if !is_alone(first) {
-        return Place { part: 0, at: 0 };
+        return Position { part: 0, at: 0 };
     }
     if !is_alone(second) {
-        return Place { part: 1, at: 0 };
+        return Position { part: 1, at: 0 };
     }
-    Place { part: 2, at: 0 }
+    Position { part: 2, at: 0 }
+}
+
+// How three parts compose a path.
+fn compose(first: &[u8], second: &[u8], last: &[u8]) -> Composition
+    ensures { λ r. ⌜ r ≡ compositionOf (now (first .entry)) (now (second .entry)) (now (last .entry)) ⌝ }
+{
+    Composition {
+        cut_first: is_cut_first(first, second, last),
+        cut_second: is_cut_second(second, last),
+        start: start(first, second),
+    }
 }
 
 // Whether the paths that two times three parts compose are the same.
@@ -211,20 +238,12 @@ pub(crate) fn same_composed(
     second_b: &[u8],
     last_b: &[u8],
 ) -> bool
-    ensures { λ r. ⌜ r ≡ equal (appended (appended (now («first_a» .entry)) (now («second_a» .entry))) (now («last_a» .entry))) (appended (appended (now («first_b» .entry)) (now («second_b» .entry))) (now («last_b» .entry))) ⌝ }
+    ensures { λ r. ⌜
+        r ≡ equal (appended (appended (now («first_a» .entry)) (now («second_a» .entry))) (now («last_a» .entry)))
+        (appended (appended (now («first_b» .entry)) (now («second_b» .entry))) (now («last_b» .entry)))
+        ⌝ }
 {
-    same_from(
-        first_a,
-        is_cut_first(first_a, second_a, last_a),
-        second_a,
-        is_cut_second(second_a, last_a),
-        last_a,
-        start(first_a, second_a),
-        first_b,
-        is_cut_first(first_b, second_b, last_b),
-        second_b,
-        is_cut_second(second_b, last_b),
-        last_b,
-        start(first_b, second_b),
-    )
+    let a = compose(first_a, second_a, last_a);
+    let b = compose(first_b, second_b, last_b);
+    same_from(first_a, second_a, last_a, a, first_b, second_b, last_b, b)
 }

@@ -1,3 +1,4 @@
--- The definitions that the contracts of `hashes` cite. They rely on those of `path`, `crc32c`, `tables`, `rules` and `names`.
+-- The definitions that the contracts of `hashes` cite. They rely on those of `path`, `crc32c`, `tables`, `rules` and
+-- `names`.
 pub mod Hashes
-pub mod Gathering
+pub mod private

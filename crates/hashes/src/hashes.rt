@@ -1,29 +1,28 @@
 // `all_path_hashes`, from file_storage.rs: the hashes of all directories and of what stands before their
 // separators, in order, each once. There is no work space: a pass over the directories puts the hashes
-// at or above a bound into a table, each in its place. It relies on `crc32c` for the running hash, on
+// at or above a bound into a table, in order. It relies on `crc32c` for the running hash, on
 // `answers` for the refusals, and on the laws of proofs/Inserting.antt and proofs/Hashing.antt.
+ghost use mathlib.Core.Bool.{_&&_};
 ghost use mathlib.Core.Path.{_≡_};
 ghost use mathlib.Core.List.{[], _∷_, map};
-ghost use mathlib.Core.Bool.{not, _&&_};
-ghost use Prim.Native.Nat.{_+_, _-_, _/_, _≤_, _<_};
+ghost use Prim.Native.Nat.{_+_, _-_, _≤_, _<_};
 ghost use lib.Dec.{eqb, ltb, leb};
 ghost use lib.ListN.{length, getD, take, drop};
 ghost use lib.Seq.{sets};
 ghost use Rattle.lists.specs.Lists.{partOf};
 ghost use Rattle.path.specs.Split.{beforeFirst};
 ghost use Rattle.crc32c.specs.Crc.{crcFrom, lower};
-ghost use Rattle.types.specs.Refusals.{usizeSays};
-ghost use Rattle.rules.specs.Rules.{when, firstOf};
 ghost use Rattle.names.specs.Paths.{led, hashOf};
-ghost use Rattle.hashes.specs.Hashes.{inserted, ascending, HashesListed, listed, allPathHashes};
-ghost use Rattle.hashes.specs.private.Gathering.{above, gathered, belowCount, Begun, TableHolds, hashesAfter, hashesWithin};
+ghost use Rattle.hashes.specs.Hashes.{inserted, ascending, listedOf, allPathHashes};
+ghost use Rattle.hashes.specs.private.Gathering.{above, gathered, belowCount, Begun, TableHolds, hashesAfter};
+ghost use Rattle.hashes.specs.private.Gathering.{hashesWithin, ascendingWithin, hashesPut};
 use names::hash_led;
 use rules::SpanResult;
 use tables::FileStorage;
 use types::Refusal;
 use types::UsizeResult;
 
-// How many of the first n places hold less than h, by halving.
+// The number of the first n hashes that are below h, found by halving.
 fn place_of(table: &[u32], n: usize, h: u32) -> usize
     requires { ⌜ Begun n (now table) ⌝ }
     ensures { λ r. ⌜ r ≡ belowCount h (take n (now (table .entry))) ⌝ }
@@ -41,7 +40,7 @@ fn place_of(table: &[u32], n: usize, h: u32) -> usize
     lo
 }
 
-// Whether one of the first n places, that at p, holds h.
+// Whether p is below n and place p of the table holds h.
 fn is_there(table: &[u32], n: usize, p: usize, h: u32) -> bool
     requires { ⌜ n ≤ length (now table) ⌝ }
     ensures { λ r. ⌜ r ≡ (ltb p n && eqb (getD (now (table .entry)) p 0) h) ⌝ }
@@ -52,7 +51,7 @@ fn is_there(table: &[u32], n: usize, p: usize, h: u32) -> bool
     false
 }
 
-// Puts h at place p, and what stands from there on up to n one place on; the last falls off where there is
+// Puts h at place p, and moves what stands from p up to n one place on; the last falls off where there is
 // no room.
 fn push(table: &mut [u32], p: usize, n: usize, h: u32)
     requires { ⌜ n ≤ length (now table) ⌝ }
@@ -71,10 +70,12 @@ fn push(table: &mut [u32], p: usize, n: usize, h: u32)
     }
 }
 
-// Puts h among the first n places, where it isn't there yet.
+// Puts h among the first n hashes unless it is there, and gives the number of hashes after it.
 fn insert(table: &mut [u32], n: usize, h: u32) -> usize
     requires { ⌜ Begun n (now table) ⌝ }
-    ensures { λ r. ⌜ TableHolds (now (table .entry)) (inserted h (take n (now (table .entry)))) (now (table .exit)) r ⌝ }
+    ensures { λ r. ⌜
+        TableHolds (now (table .entry)) (inserted h (take n (now (table .entry)))) (now (table .exit)) r
+        ⌝ }
 {
     let p = place_of(table, n, h);
     if is_there(table, n, p, h) {
@@ -87,10 +88,12 @@ fn insert(table: &mut [u32], n: usize, h: u32) -> usize
     n
 }
 
-// The same of a hash at or above the bound.
+// The same where h is at or above `bound`; else nothing changes.
 fn keep(table: &mut [u32], n: usize, bound: u64, h: u32) -> usize
     requires { ⌜ Begun n (now table) ⌝ }
-    ensures { λ r. ⌜ TableHolds (now (table .entry)) (gathered bound (h ∷ []) (take n (now (table .entry)))) (now (table .exit)) r ⌝ }
+    ensures { λ r. ⌜
+        TableHolds (now (table .entry)) (gathered bound (h ∷ []) (take n (now (table .entry)))) (now (table .exit)) r
+        ⌝ }
 {
     if (h as u64) < bound {
         return n;
@@ -98,7 +101,7 @@ fn keep(table: &mut [u32], n: usize, bound: u64, h: u32) -> usize
     insert(table, n, h)
 }
 
-// Where the first separator at or behind a place stands, or the length.
+// The position of the first separator at or after `from`, or the length.
 fn next_separator(path: &[u8], from: usize) -> usize
     requires { ⌜ from ≤ length (now path) ⌝ }
     ensures { λ r. ⌜ r ≡ from + length (beforeFirst (drop from (now (path .entry)))) ⌝ }
@@ -113,7 +116,7 @@ fn next_separator(path: &[u8], from: usize) -> usize
     i
 }
 
-// How many places of a table hold hashes once a directory is kept, and the hash of the whole directory.
+// The number of hashes that a table holds after a directory is kept, and the hash of the whole directory.
 struct Kept {
     held: usize,
     state: u32,
@@ -123,7 +126,12 @@ struct Kept {
 // each directory starts from it.
 fn keep_dir(table: &mut [u32], n: usize, bound: u64, state: u32, d: &[u8]) -> Kept
     requires { ⌜ Begun n (now table) ⌝ }
-    ensures { λ r. ⌜ TableHolds (now (table .entry)) (gathered bound (hashesAfter state (now (d .entry))) (take n (now (table .entry)))) (now (table .exit)) (r .held) × (r .state ≡ crcFrom state (map lower (now (d .entry)))) ⌝ }
+    ensures { λ r. ⌜
+        TableHolds (now (table .entry))
+        (gathered bound (hashesAfter state (now (d .entry))) (take n (now (table .entry)))) (now (table .exit))
+        (r .held)
+        × (r .state ≡ crcFrom state (map lower (now (d .entry))))
+        ⌝ }
 {
     if d.len() == 0 {
         return Kept { held: n, state };
@@ -140,8 +148,8 @@ fn keep_dir(table: &mut [u32], n: usize, bound: u64, state: u32, d: &[u8]) -> Ke
     Kept { held: m, state: x }
 }
 
-// Puts the least hashes at or above the bound into the table, in order and each once, as many as there is
-// room for, and gives how many: those of the first `count` directories behind `state`.
+// Puts the hashes at or above `bound` of the first `count` directories, after `state`, into the table: the least first,
+// each once, as many as there is room for. Gives their number.
 fn gather(
     table: &mut [u32],
     bound: u64,
@@ -150,7 +158,11 @@ fn gather(
     text: &[u8],
     count: usize,
 ) -> usize
-    ensures { λ r. ⌜ TableHolds (now (table .entry)) (ascending (above bound (hashesWithin state (now (dirs .entry)) (now (text .entry)) count))) (now (table .exit)) r ⌝ }
+    ensures { λ r. ⌜
+        TableHolds (now (table .entry))
+        (ascending (above bound (hashesWithin state (now (dirs .entry)) (now (text .entry)) count)))
+        (now (table .exit)) r
+        ⌝ }
 {
     let mut kept = Kept { held: 0, state };
     let mut i = 0;
@@ -170,8 +182,8 @@ fn lead(name: &[u8]) -> u32
     hash_led(0, name)
 }
 
-// Whether `room` places hold the hashes of the first `count` directories, which are counted a table at a
-// time, the least first.
+// Whether a table of `room` places holds the hashes of the first `count` directories. They are counted by passes, the
+// least first, each of as many as `table` holds.
 fn has_room(
     table: &mut [u32],
     room: usize,
@@ -181,7 +193,7 @@ fn has_room(
     count: usize,
 ) -> bool
     requires { ⌜ 0 < length (now table) ⌝ }
-    ensures { λ r. ⌜ r ≡ leb (length (ascending (hashesWithin state (now (dirs .entry)) (now (text .entry)) count))) room ⌝ }
+    ensures { λ r. ⌜ r ≡ leb (length (ascendingWithin state (now (dirs .entry)) (now (text .entry)) count)) room ⌝ }
 {
     let mut left = room;
     let mut n = gather(table, 0, state, dirs, text, count);
@@ -196,17 +208,19 @@ fn has_room(
     n <= left
 }
 
-// The same, with a table of its own.
+// The same with a table of 1024 places.
 fn fits(room: usize, state: u32, dirs: &[u64], text: &[u8], count: usize) -> bool
-    ensures { λ r. ⌜ r ≡ leb (length (ascending (hashesWithin state (now (dirs .entry)) (now (text .entry)) count))) room ⌝ }
+    ensures { λ r. ⌜ r ≡ leb (length (ascendingWithin state (now (dirs .entry)) (now (text .entry)) count)) room ⌝ }
 {
     let mut table = [0u32; 1024];
     has_room(&mut table, room, state, dirs, text, count)
 }
 
-// Puts the hashes of the first `count` directories into `out`, or refuses it where a table is too short.
+// Puts the hashes of the first `count` directories, after `state`, into `out`, or refuses where a table is too short.
 fn put_hashes(state: u32, dirs: &[u64], text: &[u8], count: usize, out: &mut [u32]) -> UsizeResult
-    ensures { λ r. ⌜ _≡_ {A = HashesListed} (record { says = usizeSays r; table = now (out .exit) }) (listed (firstOf (when (not (leb count (length (now (dirs .entry)) / 2))) 10 ∷ when (not (leb (length (ascending (hashesWithin state (now (dirs .entry)) (now (text .entry)) count))) (length (now (out .entry))))) 10 ∷ [])) (ascending (hashesWithin state (now (dirs .entry)) (now (text .entry)) count)) (now (out .entry))) ⌝ }
+    ensures { λ r. ⌜
+        listedOf r (now (out .exit)) ≡ hashesPut state (now (dirs .entry)) (now (text .entry)) count (now (out .entry))
+        ⌝ }
 {
     if dirs.len() / 2 < count {
         return UsizeResult::Err(Refusal::NoRoom);
@@ -217,10 +231,12 @@ fn put_hashes(state: u32, dirs: &[u64], text: &[u8], count: usize, out: &mut [u3
     UsizeResult::Err(Refusal::NoRoom)
 }
 
-// The hash of each directory and of each part of one that stands before a separator, behind the set's name:
+// The hash of each directory and of each part of one that stands before a separator, after the set's name:
 // in `out`, ascending, each once.
 pub fn all_path_hashes(fs: FileStorage, dirs: &[u64], text: &[u8], out: &mut [u32]) -> UsizeResult
-    ensures { λ r. ⌜ _≡_ {A = HashesListed} (record { says = usizeSays r; table = now (out .exit) }) (allPathHashes fs (now (dirs .entry)) (now (text .entry)) (now (out .entry))) ⌝ }
+    ensures { λ r. ⌜
+        listedOf r (now (out .exit)) ≡ allPathHashes fs (now (dirs .entry)) (now (text .entry)) (now (out .entry))
+        ⌝ }
 {
     match answers::name(fs, text) {
         SpanResult::Ok(place) => {

@@ -86,7 +86,7 @@ module _ (s : Store) (ms path : List ℕ) (at e : ℕ) where
       taken : Here (entryAt s i) (getD ms k 0) partAt (anyAt (entriesFrom s (n - (i + 1)) (i + 1)) (drop (k + 1) ms) partAt) m
       taken = here (entryAt s i) (getD ms k 0) partAt (anyAt (entriesFrom s (n - (i + 1)) (i + 1)) (drop (k + 1) ms) partAt) m (x .is) z
 
-      -- a link that is taken: its lead, and the stage for its text
+      -- a link that is taken: its lead, and the scratch space for its text
       pub mark-low : m ≤ 2
       mark-low = omega (arith, taken .is, mark-small (getD ms k 0) (taken .leads))
 
@@ -127,15 +127,15 @@ module _ (s : Store) (ms path : List ℕ) (at e : ℕ) where
 -- ---- the walk's end
 
 -- what holds where the walk is left, at its end or before it
-pub record Over (ends : List ℕ → Bool) (ms₀ stage₀ path₀ : List ℕ) (answer : Bool) (ms stage path : List ℕ) (at e : ℕ) : Type 0 where
+pub record Over (ends : List ℕ → Bool) (ms₀ scratch₀ path₀ : List ℕ) (answer : Bool) (ms scratch path : List ℕ) (at e : ℕ) : Type 0 where
   pub inside : at ≤ length path
   pub marks-long : length ms ≡ length ms₀
-  pub stage-long : length stage ≡ length stage₀
+  pub scratch-long : length scratch ≡ length scratch₀
   pub path-long : length path ≡ length path₀
   pub marks-fresh : map untraversed (map lead ms) ≡ map untraversed (map lead ms₀)
   pub verdicts-kept : map verdict ms ≡ map verdict ms₀
   pub stopped : e < length path - at → false ≡ answer
   pub ended : length path - at ≤ e → ends (drop at path) ≡ answer
 
-pub over-is : (ends : List ℕ → Bool) (ms₀ stage₀ path₀ : List ℕ) (answer : Bool) (ms stage path ms′ stage′ path′ : List ℕ) (at e at′ e′ : ℕ) → ms′ ≡ ms → stage′ ≡ stage → path′ ≡ path → at′ ≡ at → e′ ≡ e → Over ends ms₀ stage₀ path₀ answer ms stage path at e → Over ends ms₀ stage₀ path₀ answer ms′ stage′ path′ at′ e′
-over-is ends ms₀ stage₀ path₀ answer ms stage path ms′ stage′ path′ at e at′ e′ i j k l m h = rw (i, j, k, l, m) h
+pub over-is : (ends : List ℕ → Bool) (ms₀ scratch₀ path₀ : List ℕ) (answer : Bool) (ms scratch path ms′ scratch′ path′ : List ℕ) (at e at′ e′ : ℕ) → ms′ ≡ ms → scratch′ ≡ scratch → path′ ≡ path → at′ ≡ at → e′ ≡ e → Over ends ms₀ scratch₀ path₀ answer ms scratch path at e → Over ends ms₀ scratch₀ path₀ answer ms′ scratch′ path′ at′ e′
+over-is ends ms₀ scratch₀ path₀ answer ms scratch path ms′ scratch′ path′ at e at′ e′ i j k l m h = rw (i, j, k, l, m) h

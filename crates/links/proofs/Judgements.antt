@@ -53,48 +53,48 @@ module _ (s : Store) where
       let w : sets ms 0 (verdicts s) ≡ verdicts s ++ drop (0 + length (verdicts s)) ms = sets-eq (verdicts s) ms 0 (omega arith) in
       rw q (sym (w ∙ ap (λ (j : ℕ). verdicts s ++ drop j ms) k))
 
-  module _ (marks stage path : ℕ) where
+  module _ (marks scratch path : ℕ) where
     -- the refusals in order
     rules : List Rule
     rules =
         when (badLength (s .fs .«piece_length»)) 1 ∷
         when (not (rowsHeld (s .fs) (s .rows) && (dirsHeld (s .fs) (s .dirs) && textHeld (s .fs) (s .text)))) 10 ∷
-        when (lacksSpace (entriesOf s) marks stage path) 10 ∷
+        when (lacksSpace (entriesOf s) marks scratch path) 10 ∷
         []
 
     -- the work space where none stops
     pub record Roomy : Type 0 where
       pub marked : linkCount (entriesOf s) ≤ marks
-      pub staged : space (entriesOf s) ≤ stage
+      pub staged : space (entriesOf s) ≤ scratch
       pub walked : 2 * space (entriesOf s) ≤ path
 
-    pub roomy : judgingNumber s marks stage path ≡ 0 → Roomy
+    pub roomy : judgingNumber s marks scratch path ≡ 0 → Roomy
     unfolding rules
     roomy e =
         let p = passed rules refl (sym e) in
-        let a = either-false (ltb marks (linkCount (entriesOf s))) (ltb stage (space (entriesOf s)) || ltb path (2 * space (entriesOf s))) (p .1 .1 .0) in
-        let b = either-false (ltb stage (space (entriesOf s))) (ltb path (2 * space (entriesOf s))) (a .1) in
+        let a = either-false (ltb marks (linkCount (entriesOf s))) (ltb scratch (space (entriesOf s)) || ltb path (2 * space (entriesOf s))) (p .1 .1 .0) in
+        let b = either-false (ltb scratch (space (entriesOf s))) (ltb path (2 * space (entriesOf s))) (a .1) in
         record {
           marked = ltb-false marks (linkCount (entriesOf s)) (a .0);
-          staged = ltb-false stage (space (entriesOf s)) (b .0);
+          staged = ltb-false scratch (space (entriesOf s)) (b .0);
           walked = ltb-false path (2 * space (entriesOf s)) (b .1);
         }
 
     -- what the decision says
-    module _ (d : UsizeResult) (h : usizeSays d ≡ outcomeOf (judgingNumber s marks stage path) (linkCount (entriesOf s))) where
-      pub judged-ok : (n : ℕ) → d ≡ usize.Ok n → (judgingNumber s marks stage path ≡ 0) × (n ≡ linkCount (entriesOf s))
-      judged-ok n q = outcome-value (judgingNumber s marks stage path) n (linkCount (entriesOf s)) (ap usizeSays (sym q) ∙ h)
+    module _ (d : UsizeResult) (h : usizeSays d ≡ outcomeOf (judgingNumber s marks scratch path) (linkCount (entriesOf s))) where
+      pub judged-ok : (n : ℕ) → d ≡ usize.Ok n → (judgingNumber s marks scratch path ≡ 0) × (n ≡ linkCount (entriesOf s))
+      judged-ok n q = outcome-value (judgingNumber s marks scratch path) n (linkCount (entriesOf s)) (ap usizeSays (sym q) ∙ h)
 
-      pub judged-err : (e : Refusal) → d ≡ usize.Err e → judgingNumber s marks stage path ≡ numberOf e
-      judged-err e q = outcome-refused (judgingNumber s marks stage path) (numberOf e) (linkCount (entriesOf s)) (ap usizeSays (sym q) ∙ h)
+      pub judged-err : (e : Refusal) → d ≡ usize.Err e → judgingNumber s marks scratch path ≡ numberOf e
+      judged-err e q = outcome-refused (judgingNumber s marks scratch path) (numberOf e) (linkCount (entriesOf s)) (ap usizeSays (sym q) ∙ h)
 
   -- the outcome
-  module _ (marks stage path : List ℕ) where
-    pub judged-yes : (n : ℕ) (x y z : List ℕ) → judgingNumber s (length marks) (length stage) (length path) ≡ 0
-        → n ≡ linkCount (entriesOf s) → x ≡ sets marks 0 (verdicts s) → y ≡ cleared stage → z ≡ cleared path
-        → _≡_ {A = Judged} (record { says = value n; marks = x; stage = y; path = z }) (judged s marks stage path)
+  module _ (marks scratch path : List ℕ) where
+    pub judged-yes : (n : ℕ) (x y z : List ℕ) → judgingNumber s (length marks) (length scratch) (length path) ≡ 0
+        → n ≡ linkCount (entriesOf s) → x ≡ sets marks 0 (verdicts s) → y ≡ cleared scratch → z ≡ cleared path
+        → _≡_ {A = Judged} (record { says = value n; marks = x; scratch = y; walkPath = z }) (judged s marks scratch path)
     judged-yes n x y z e a b c d = rw (e, a, b, c, d)
 
-    pub judged-no : (e : Refusal) → judgingNumber s (length marks) (length stage) (length path) ≡ numberOf e
-        → _≡_ {A = Judged} (record { says = refused (numberOf e); marks = marks; stage = stage; path = path }) (judged s marks stage path)
+    pub judged-no : (e : Refusal) → judgingNumber s (length marks) (length scratch) (length path) ≡ numberOf e
+        → _≡_ {A = Judged} (record { says = refused (numberOf e); marks = marks; scratch = scratch; walkPath = path }) (judged s marks scratch path)
     judged-no e q = rw (q, numbered e)

@@ -11,5 +11,5 @@ pub mod Events
 pub mod Packed
 pub mod Written
 pub mod Walked
-pub mod Leads
+pub mod ResolvesTo
 pub mod Safe

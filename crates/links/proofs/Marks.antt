@@ -145,9 +145,9 @@ module _ (files : List Entry) (dirs : List (List ℕ)) where
       go true r m s h = rw (any-open fs (ownPath f)) (open-one (leadAt (openOf fs (map lead ms)) (ownPath f)) r (lead m) (r .leads) (s .leads) (s .text) ∙ rw h)
       go false r m s h = h
 
-  -- with the first pass's leads, a stage of document 01's sum and a path of twice the sum, every text of a flagged link can be walked
-  pub ready : (ms stage path : List ℕ) (k : ℕ) → ms ≡ firstLeads files → space files ≤ length stage → 2 * space files ≤ length path → k + 2 ≤ space files → Ready files ms stage path (length path - k)
-  ready ms stage path k e s p q =
+  -- with the first pass's leads, a scratch space of document 01's sum and a path of twice the sum, every text of a flagged link can be walked
+  pub ready : (ms scratch path : List ℕ) (k : ℕ) → ms ≡ firstLeads files → space files ≤ length scratch → 2 * space files ≤ length path → k + 2 ≤ space files → Ready files ms scratch path (length path - k)
+  ready ms scratch path k e s p q =
       record {
         inside = omega arith;
         room = omega (arith, links-fit files dirs files, ap weight (ap (openOf files) e ∙ marks-say files));

@@ -1,5 +1,5 @@
 -- Document 02 (xii): after a cleaning no flagged link's text is absolute, unless the link was added by an absolute path; and where a
--- text becomes the link's ownPath path. These laws rely on those of proofs/Room.antt.
+-- text becomes the link's own path. These laws rely on those of proofs/Room.antt.
 use Prim.Native.Nat.{ℕ}
 use mathlib.Core.Path.{_≡_, refl, ap, sym, _∙_}
 use mathlib.Core.Bool.{Bool, true, false, cond, true≢false}
@@ -29,7 +29,7 @@ Placed single n = isComplete n ≡ false
 Placed absolute n = isComplete n ≡ true
 Placed (stored d outside) n = (isComplete d ≡ false) × (isComplete n ≡ false)
 
--- the ownPath path of a link that was not added by an absolute path
+-- the own path of a link that was not added by an absolute path
 own-relative : (f : Entry) → Placed (f .directory) (f .name) → (f .directory ≡ absolute → ⊥) → isComplete (ownPath f) ≡ false
 own-relative f h r = go (f .directory) h r
   where
@@ -76,9 +76,9 @@ module _ (files : List Entry) (dirs : List (List ℕ)) (f : Entry) (h : Placed (
       go true false = own-relative f h r
       go false b = first-relative
 
--- ---- ownPath paths
+-- ---- own paths
 
--- why link f holds its ownPath path after a cleaning: its text was that path, it was absolute, it named the link itself from the link's
+-- why link f holds its own path after a cleaning: its text was that path, it was absolute, it named the link itself from the link's
 -- directory, or it was walked, and the walk stopped or ended at neither a file nor a directory
 pub data Own (files : List Entry) (dirs : List (List ℕ)) (f : Entry) : Type 0 where
   was-own : f .text ≡ ownPath f → Own files dirs f
@@ -124,7 +124,7 @@ module _ (files : List Entry) (dirs : List (List ℕ)) (f : Entry) where
       go true e = λ w q. was-absolute e
       go false e = direct-own (fileAt files (f .text)) (isDirectory dirs (f .text)) (relative files dirs (f .directory) (f .text) other) (near (f .directory) refl)
 
-  -- a text becomes the link's ownPath path only so
+  -- a text becomes the link's own path only so
   pub clean-own : cleanText files dirs f ≡ ownPath f → Own files dirs f
   unfolding Left
   clean-own q = go (firstPass files dirs f .walked) (resolves files dirs (linksOf files dirs files) (firstPass files dirs f .text)) refl refl q

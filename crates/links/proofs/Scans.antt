@@ -69,7 +69,7 @@ leading-yes (suc zero) z h = refl
 leading-yes (suc (suc zero)) z h = refl
 leading-yes (suc (suc (suc m))) z h = absurd (omega arith)
 
--- a link's lead at p: none for a plain file, a link that does not lead on, one before a later one, one elsewhere; else its ownPath
+-- a link's lead at p: none for a plain file, a link that does not lead on, one before a later one, one elsewhere; else its own
 module _ (f : Entry) (m : ℕ) (p : List ℕ) (later : Bool) where
   pub mark-plain : f .flagged ≡ false → 0 ≡ leadMark f m p later
   mark-plain h = sym (cond-no (cond (leading m) (cond (equal (ownPath f) p) (cond later 0 m) 0) 0) 0 (f .flagged) h)

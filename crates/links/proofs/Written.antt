@@ -1,4 +1,4 @@
--- What the writers of the work space are proved by: a text written overwritten a buffer, the text by which a link leads, and a text that
+-- What the writers of the work space are proved by: a text written over a buffer, the text by which a link leads, and a text that
 -- takes the place of a path's first part. These laws rely on those of `lookup` about rows.
 use Prim.Native.Nat.{ℕ, zero, suc, _+_, _-_, _<_, _≤_}
 use mathlib.Core.Path.{_≡_, refl, ap, _∙_}
@@ -16,7 +16,7 @@ use Rattle.lookup.specs.private.Rows.{entryAt, rowText, rowBranch}
 use Rattle.lookup.proofs.Rows.{branchAt, text-at, beside-at, length-at}
 use Rattle.links.specs.private.Walking.{rowLead, leadText, overwritten, StandsIn, JoinedAt}
 
--- ---- a text written overwritten a buffer
+-- ---- a text written over a buffer
 
 length-over : (b : List ℕ) (at : ℕ) (t : List ℕ) → at + length t ≤ length b → length (overwritten b at t) ≡ length b
 length-over b at t h = simp (length-append, length-take, length-drop) (omega arith)

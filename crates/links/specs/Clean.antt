@@ -1,6 +1,6 @@
--- Document 01, 'Links': what `sanitize_symlinks` makes of every link's text, on what a set means: its files' places, names and
--- texts, and its directories. 'Two passes as in the Rust.' It relies on the model of a set in `tables`, on what stands at a path
--- (`lookup`) and on the splits and joins of `path`.
+-- Document 01, 'Links': what `sanitize_symlinks` makes of every link's text, on what a set means: its files'
+-- directories, names and texts, and its directories. 'Two passes as in the Rust.' It relies on the model of a set in
+-- `tables`, on what stands at a path (`lookup`) and on the splits and joins of `path`.
 use Prim.Native.Nat.{ℕ, zero, suc, _+_, _-_}
 use mathlib.Core.Bool.{Bool, true, false, cond}
 use mathlib.Core.List.{List, [], _∷_, map}
@@ -20,8 +20,8 @@ pub record First : Type 0 where
   pub leads : Bool
   pub walked : Bool
 
--- a text taken from the link's directory: one that names a directory or a file of the set is kept; `other` is taken where
--- it names neither. A directory goes before a file of the same path
+-- a text taken from the link's directory: one that names a directory or a file of the set is kept; `other` is taken
+-- where it names neither. A directory goes before a file of the same path
 abbrev pub settled : Bool → Seen → List ℕ → First → First
 settled true s t other = record { text = t; leads = true; walked = false }
 settled false link t other = record { text = t; leads = true; walked = false }
@@ -41,8 +41,8 @@ relative files dirs absolute t other = other
 relative files dirs (stored d outside) t other =
     settled (isDirectory dirs (appended d t)) (fileAt files (appended d t)) (appended d t) other
 
--- an absolute text gives way to the link's ownPath path; one that names something in the set stays, as given or from the link's
--- directory; any other is walked in the second pass
+-- an absolute text is replaced by the link's own path; one that names something in the set stays, as given or from the
+-- link's directory; any other is walked in the second pass
 abbrev pub firstPass : List Entry → List (List ℕ) → Entry → First
 firstPass files dirs f =
     cond (isComplete (f .text))
@@ -88,8 +88,8 @@ withoutLink p (l ∷ ls) = cond (equal (l .path) p) ls (l ∷ withoutLink p ls)
 abbrev pub partEnd : List ℕ → ℕ → ℕ
 partEnd p pos = length (lsplitAtFirst p pos)
 
--- one turn of the walk: it stops, it comes to the path's end, or it goes on with the links not yet traversed, the path and
--- the end of the part looked at
+-- one turn of the walk: it stops, it comes to the path's end, or it goes on with the links not yet traversed, the path
+-- and the end of the part looked at
 pub data Next : Type 0 where
   stop : Next
   done : Next
@@ -137,7 +137,7 @@ goes dir ends ls p e = walk dir ends (suc (left ls p e)) ls p e
 abbrev pub resolves : List Entry → List (List ℕ) → List Link → List ℕ → Bool
 resolves files dirs ls t = goes (isDirectory dirs) (known files dirs) ls t (partEnd t 0)
 
--- a walked link whose walk stops 'then holds its ownPath internal path'
+-- a walked link whose walk stops 'then holds its own internal path'
 abbrev pub secondPass : List Entry → List (List ℕ) → List Link → List ℕ → First → List ℕ
 secondPass files dirs ls p r =
     cond (r .walked) (cond (resolves files dirs ls (r .text)) (r .text) p) (r .text)

@@ -1,16 +1,22 @@
-// The first pass: a mark for each flagged link. It relies on `lookup` for what stands at a path, on text.rt for the text
-// from a link's directory, and on the laws of proofs/Marking.antt.
+// The first pass: a mark for each flagged link. It relies on `lookup` for what stands at a path, on text.rt for the
+// text from a link's directory, and on the laws of proofs/Marking.antt.
 ghost use mathlib.Core.Path.{_≡_};
 ghost use mathlib.Core.Bool.{cond};
 ghost use Prim.Native.Nat.{_+_, _<_, _≤_};
 ghost use lib.ListN.{length, set};
 ghost use lib.Seq.{sets};
 ghost use Rattle.tables.specs.Model.{directoryOf};
-ghost use Rattle.lookup.specs.Lookup.{isDirectory, fileAt, lent, entriesOf, directoriesOf};
+ghost use Rattle.lookup.specs.Lookup.{isDirectory, fileAt, lent, filesIn, dirsIn};
 ghost use Rattle.lookup.specs.Space.{directoryLength, space};
 ghost use Rattle.lookup.specs.private.Rows.{entryAt};
-ghost use Rattle.links.specs.Judging.{settledMark, relativeMark, firstMark};
-ghost use Rattle.links.specs.private.Walking.{firstMarks};
+ghost use Rattle.links.specs.Judging.{walkDecides, settledMark, relativeMark};
+ghost use Rattle.links.specs.private.Walking.{firstMarkIn, firstMarksIn};
+use crate::mark::FROM_DIRECTORY;
+use crate::mark::FROM_DIRECTORY_AND_LEADS;
+use crate::mark::KEEPS_TEXT;
+use crate::mark::KEEPS_TEXT_AND_LEADS;
+use crate::mark::OWN_PATH_TAKEN;
+use crate::mark::WALK_DECIDES;
 use crate::text::append_in;
 use lookup::directory_of;
 use lookup::file_at;
@@ -22,22 +28,27 @@ use tables::Row;
 
 // The mark of a link whose text from its directory is p.
 fn settled_mark(fs: FileStorage, rows: &[u64], dirs: &[u64], text: &[u8], p: &[u8]) -> u8
-    ensures { λ r. ⌜ r ≡ settledMark (isDirectory (directoriesOf (lent fs (now (rows .entry)) (now (dirs .entry)) (now (text .entry)))) (now (p .entry))) (fileAt (entriesOf (lent fs (now (rows .entry)) (now (dirs .entry)) (now (text .entry)))) (now (p .entry))) 25 ⌝ }
+    ensures { λ r. ⌜
+        r ≡ settledMark
+        (isDirectory (dirsIn fs (now (rows .entry)) (now (dirs .entry)) (now (text .entry))) (now (p .entry)))
+        (fileAt (filesIn fs (now (rows .entry)) (now (dirs .entry)) (now (text .entry))) (now (p .entry)))
+        walkDecides
+        ⌝ }
 {
     if is_directory(fs, dirs, text, p) {
-        return 18;
+        return FROM_DIRECTORY_AND_LEADS;
     }
     let seen = file_at(fs, rows, dirs, text, p);
     if seen == 2 {
-        return 18;
+        return FROM_DIRECTORY_AND_LEADS;
     }
     if seen == 1 {
-        return 16;
+        return FROM_DIRECTORY;
     }
-    25
+    WALK_DECIDES
 }
 
-// The mark of a link with the text t that names nothing as it was given.
+// The mark of the link of `row`, whose text t names nothing of the set as given.
 fn relative_mark(
     fs: FileStorage,
     rows: &[u64],
@@ -45,16 +56,24 @@ fn relative_mark(
     text: &[u8],
     row: Row,
     t: &[u8],
-    stage: &mut [u8],
+    scratch: &mut [u8],
 ) -> u8
-    requires { ⌜ directoryLength (directoryOf (lent fs (now rows) (now dirs) (now text)) row) + length (now t) + 1 ≤ length (now stage) ⌝ }
-    ensures { λ r. ⌜ r ≡ relativeMark (entriesOf (lent fs (now (rows .entry)) (now (dirs .entry)) (now (text .entry)))) (directoriesOf (lent fs (now (rows .entry)) (now (dirs .entry)) (now (text .entry)))) (directoryOf (lent fs (now (rows .entry)) (now (dirs .entry)) (now (text .entry))) row) (now (t .entry)) 25 ⌝ }
+    requires { ⌜
+        directoryLength (directoryOf (lent fs (now rows) (now dirs) (now text)) row) + length (now t) + 1
+        ≤ length (now scratch)
+        ⌝ }
+    ensures { λ r. ⌜
+        r ≡ relativeMark (filesIn fs (now (rows .entry)) (now (dirs .entry)) (now (text .entry)))
+        (dirsIn fs (now (rows .entry)) (now (dirs .entry)) (now (text .entry)))
+        (directoryOf (lent fs (now (rows .entry)) (now (dirs .entry)) (now (text .entry))) row) (now (t .entry))
+        walkDecides
+        ⌝ }
 {
     if tables::is_inside(row.path_index) {
-        let n = append_in(stage, directory_of(dirs, text, row), t);
-        return settled_mark(fs, rows, dirs, text, &stage[..n]);
+        let n = append_in(scratch, directory_of(dirs, text, row), t);
+        return settled_mark(fs, rows, dirs, text, &scratch[..n]);
     }
-    25
+    WALK_DECIDES
 }
 
 // The mark of file i.
@@ -64,46 +83,61 @@ fn first_mark(
     dirs: &[u64],
     text: &[u8],
     i: usize,
-    stage: &mut [u8],
+    scratch: &mut [u8],
 ) -> u8
-    requires { ⌜ directoryLength (entryAt (lent fs (now rows) (now dirs) (now text)) i .directory) + length (entryAt (lent fs (now rows) (now dirs) (now text)) i .text) + 1 ≤ length (now stage) ⌝ }
-    ensures { λ r. ⌜ r ≡ firstMark (entriesOf (lent fs (now (rows .entry)) (now (dirs .entry)) (now (text .entry)))) (directoriesOf (lent fs (now (rows .entry)) (now (dirs .entry)) (now (text .entry)))) (entryAt (lent fs (now (rows .entry)) (now (dirs .entry)) (now (text .entry))) i) ⌝ }
+    requires { ⌜
+        directoryLength (entryAt (lent fs (now rows) (now dirs) (now text)) i .directory)
+        + length (entryAt (lent fs (now rows) (now dirs) (now text)) i .text)
+        + 1
+        ≤ length (now scratch)
+        ⌝ }
+    ensures { λ r. ⌜ r ≡ firstMarkIn (lent fs (now (rows .entry)) (now (dirs .entry)) (now (text .entry))) i ⌝ }
 {
     let row = tables::row_at(rows, i);
     let t = link_text(text, row);
     if path::is_complete(t) {
-        return 8;
+        return OWN_PATH_TAKEN;
     }
     let seen = file_at(fs, rows, dirs, text, t);
     if seen == 2 {
-        return 1;
+        return KEEPS_TEXT_AND_LEADS;
     }
     if seen == 1 {
-        return 0;
+        return KEEPS_TEXT;
     }
     if is_directory(fs, dirs, text, t) {
-        return 1;
+        return KEEPS_TEXT_AND_LEADS;
     }
-    relative_mark(fs, rows, dirs, text, row, t, stage)
+    relative_mark(fs, rows, dirs, text, row, t, scratch)
 }
 
-// Sets mark k of file i where that is a flagged link, and gives how many marks it has, 1 or 0.
+// Sets mark k where file i is a flagged link, and gives the number of marks that the file has, 1 or 0.
 fn mark_one(
     fs: FileStorage,
     rows: &[u64],
     dirs: &[u64],
     text: &[u8],
     marks: &mut [u8],
-    stage: &mut [u8],
+    scratch: &mut [u8],
     i: usize,
     k: usize,
 ) -> usize
-    requires { ⌜ (i < fs .«num_files») × (space (entriesOf (lent fs (now rows) (now dirs) (now text))) ≤ length (now stage)) ⌝ }
-    ensures { λ r. ⌜ r ≡ cond (entryAt (lent fs (now (rows .entry)) (now (dirs .entry)) (now (text .entry))) i .flagged) 1 0 ⌝ }
-    ensures { λ _. ⌜ now (marks .exit) ≡ cond (entryAt (lent fs (now (rows .entry)) (now (dirs .entry)) (now (text .entry))) i .flagged) (set (now (marks .entry)) k (firstMark (entriesOf (lent fs (now (rows .entry)) (now (dirs .entry)) (now (text .entry)))) (directoriesOf (lent fs (now (rows .entry)) (now (dirs .entry)) (now (text .entry)))) (entryAt (lent fs (now (rows .entry)) (now (dirs .entry)) (now (text .entry))) i))) (now (marks .entry)) ⌝ }
+    requires { ⌜
+        (i < fs .«num_files») × (space (filesIn fs (now rows) (now dirs) (now text)) ≤ length (now scratch))
+        ⌝ }
+    ensures { λ r. ⌜
+        r ≡ cond (entryAt (lent fs (now (rows .entry)) (now (dirs .entry)) (now (text .entry))) i .flagged) 1 0
+        ⌝ }
+    ensures { λ _. ⌜
+        now (marks .exit)
+        ≡ cond (entryAt (lent fs (now (rows .entry)) (now (dirs .entry)) (now (text .entry))) i .flagged)
+        (set (now (marks .entry)) k
+        (firstMarkIn (lent fs (now (rows .entry)) (now (dirs .entry)) (now (text .entry))) i))
+        (now (marks .entry))
+        ⌝ }
 {
     if is_link(rows, i) {
-        let m = first_mark(fs, rows, dirs, text, i, stage);
+        let m = first_mark(fs, rows, dirs, text, i, scratch);
         lists::put_byte(marks, k, m);
         return 1;
     }
@@ -117,15 +151,19 @@ pub(crate) fn first_marks(
     dirs: &[u64],
     text: &[u8],
     marks: &mut [u8],
-    stage: &mut [u8],
+    scratch: &mut [u8],
 )
-    requires { ⌜ space (entriesOf (lent fs (now rows) (now dirs) (now text))) ≤ length (now stage) ⌝ }
-    ensures { λ _. ⌜ now (marks .exit) ≡ sets (now (marks .entry)) 0 (firstMarks (entriesOf (lent fs (now (rows .entry)) (now (dirs .entry)) (now (text .entry)))) (directoriesOf (lent fs (now (rows .entry)) (now (dirs .entry)) (now (text .entry)))) (entriesOf (lent fs (now (rows .entry)) (now (dirs .entry)) (now (text .entry))))) ⌝ }
+    requires { ⌜ space (filesIn fs (now rows) (now dirs) (now text)) ≤ length (now scratch) ⌝ }
+    ensures { λ _. ⌜
+        now (marks .exit)
+        ≡ sets (now (marks .entry)) 0
+        (firstMarksIn (lent fs (now (rows .entry)) (now (dirs .entry)) (now (text .entry))))
+        ⌝ }
 {
     let mut i = 0;
     let mut k = 0;
     while i < fs.num_files {
-        k += mark_one(fs, rows, dirs, text, marks, stage, i, k);
+        k += mark_one(fs, rows, dirs, text, marks, scratch, i, k);
         i += 1;
     }
 }

@@ -1,10 +1,33 @@
-// The marks of flagged links: how a walk goes through a link (its lead) and what becomes of its text (its verdict), read and
-// written one at a time. They rely on `lists` and the laws of proofs/Packed.antt.
+// The marks of flagged links: what becomes of a link's text (its verdict, m / 8) and how a walk goes through the link
+// (its lead, m % 8), read and written one at a time. They rely on `lists` and the laws of proofs/Packed.antt.
 ghost use mathlib.Core.Path.{_≡_};
 ghost use mathlib.Core.List.{map};
 ghost use Prim.Native.Nat.{_+_, _*_, _<_};
 ghost use lib.ListN.{getD, set};
 ghost use Rattle.links.specs.private.Walking.{lead, verdict, untraversed};
+
+// Verdicts: a link's text stays, becomes the link's own internal path, or becomes the text from the link's directory.
+pub const VERDICT_KEEP: u8 = 0;
+
+pub const VERDICT_OWN_PATH: u8 = 1;
+
+pub const VERDICT_FROM_DIRECTORY: u8 = 2;
+
+// The first pass's verdict where a walk decides.
+pub(crate) const VERDICT_WALK: u8 = 3;
+
+// The marks that the first pass sets: a verdict, and a lead where a walk may go through the link.
+pub(crate) const KEEPS_TEXT: u8 = 0;
+
+pub(crate) const KEEPS_TEXT_AND_LEADS: u8 = 1;
+
+pub(crate) const OWN_PATH_TAKEN: u8 = 8;
+
+pub(crate) const FROM_DIRECTORY: u8 = 16;
+
+pub(crate) const FROM_DIRECTORY_AND_LEADS: u8 = 18;
+
+pub(crate) const WALK_DECIDES: u8 = 25;
 
 // The lead of mark k, 0 where there is none.
 pub(crate) fn lead_at(marks: &[u8], k: usize) -> u8
@@ -20,7 +43,7 @@ pub(crate) fn verdict_at(marks: &[u8], k: usize) -> u8
     lists::byte(marks, k) / 8
 }
 
-// Sets the lead of mark k and keeps its verdict, or does nothing where there is no such mark.
+// Sets the lead of mark k and keeps its verdict; past the end it does nothing.
 pub(crate) fn put_lead(marks: &mut [u8], k: usize, m: u8)
     requires { ⌜ m < 8 ⌝ }
     ensures { λ _. ⌜ map lead (now (marks .exit)) ≡ set (map lead (now (marks .entry))) k m ⌝ }
@@ -29,7 +52,7 @@ pub(crate) fn put_lead(marks: &mut [u8], k: usize, m: u8)
     lists::put_byte(marks, k, lists::byte(marks, k) / 8 * 8 + m);
 }
 
-// Sets the verdict of mark k and keeps its lead, or does nothing where there is no such mark.
+// Sets the verdict of mark k and keeps its lead; past the end it does nothing.
 pub(crate) fn put_verdict(marks: &mut [u8], k: usize, v: u8)
     requires { ⌜ v < 32 ⌝ }
     ensures { λ _. ⌜ now (marks .exit) ≡ set (now (marks .entry)) k (v * 8 + lead (getD (now (marks .entry)) k 0)) ⌝ }
@@ -37,8 +60,8 @@ pub(crate) fn put_verdict(marks: &mut [u8], k: usize, v: u8)
     lists::put_byte(marks, k, v * 8 + lists::byte(marks, k) % 8);
 }
 
-// A lead without its use.
-fn fresh_lead(m: u8) -> u8
+// The lead m, untraversed.
+fn untraversed_lead(m: u8) -> u8
     ensures { λ r. ⌜ r ≡ untraversed m ⌝ }
 {
     if m < 3 {
@@ -47,14 +70,14 @@ fn fresh_lead(m: u8) -> u8
     m - 2
 }
 
-// Takes the use off all leads.
+// Makes all traversed leads untraversed.
 pub(crate) fn reopen(marks: &mut [u8])
     ensures { λ _. ⌜ map lead (now (marks .exit)) ≡ map untraversed (map lead (now (marks .entry))) ⌝ }
     ensures { λ _. ⌜ map verdict (now (marks .exit)) ≡ map verdict (now (marks .entry)) ⌝ }
 {
     let mut k = 0;
     while k < marks.len() {
-        let m = fresh_lead(lead_at(marks, k));
+        let m = untraversed_lead(lead_at(marks, k));
         put_lead(marks, k, m);
         k += 1;
     }

@@ -28,7 +28,14 @@ fn is_link_at(
     k: usize,
     p: &[u8],
 ) -> bool
-    ensures { λ r. ⌜ r ≡ cond (isFlagged (rowAt (now (rows .entry)) i .flags)) (cond (ltb 0 (getD (map lead (now (marks .entry))) k 0)) (equal (internalPath (now (dirs .entry)) (now (text .entry)) (rowAt (now (rows .entry)) i)) (now (p .entry))) false) false ⌝ }
+    ensures { λ r. ⌜
+        r ≡ cond (isFlagged (rowAt (now (rows .entry)) i .flags))
+        (cond (ltb 0 (getD (map lead (now (marks .entry))) k 0))
+        (equal (internalPath (now (dirs .entry)) (now (text .entry)) (rowAt (now (rows .entry)) i))
+        (now (p .entry)))
+        false)
+        false
+        ⌝ }
 {
     if is_link(rows, i) {
         if lead_at(marks, k) == 0 {
@@ -51,7 +58,12 @@ fn has_link(
     p: &[u8],
 ) -> bool
     requires { ⌜ k0 ≤ i0 ⌝ }
-    ensures { λ r. ⌜ r ≡ anyAt (entriesFrom (lent fs (now (rows .entry)) (now (dirs .entry)) (now (text .entry))) (fs .«num_files» - i0) i0) (drop k0 (map lead (now (marks .entry)))) (now (p .entry)) ⌝ }
+    ensures { λ r. ⌜
+        r ≡ anyAt
+        (entriesFrom (lent fs (now (rows .entry)) (now (dirs .entry)) (now (text .entry))) (fs .«num_files» - i0)
+        i0)
+        (drop k0 (map lead (now (marks .entry)))) (now (p .entry))
+        ⌝ }
 {
     let mut i = i0;
     let mut k = k0;
@@ -77,7 +89,14 @@ pub(crate) fn lead_mark(
     p: &[u8],
 ) -> u8
     requires { ⌜ (i < fs .«num_files») × (k ≤ i) ⌝ }
-    ensures { λ r. ⌜ r ≡ leadMark (entryAt (lent fs (now (rows .entry)) (now (dirs .entry)) (now (text .entry))) i) (getD (map lead (now (marks .entry))) k 0) (now (p .entry)) (anyAt (entriesFrom (lent fs (now (rows .entry)) (now (dirs .entry)) (now (text .entry))) (fs .«num_files» - (i + 1)) (i + 1)) (drop (k + 1) (map lead (now (marks .entry)))) (now (p .entry))) ⌝ }
+    ensures { λ r. ⌜
+        r ≡ leadMark (entryAt (lent fs (now (rows .entry)) (now (dirs .entry)) (now (text .entry))) i)
+        (getD (map lead (now (marks .entry))) k 0) (now (p .entry))
+        (anyAt
+        (entriesFrom (lent fs (now (rows .entry)) (now (dirs .entry)) (now (text .entry)))
+        (fs .«num_files» - (i + 1)) (i + 1))
+        (drop (k + 1) (map lead (now (marks .entry)))) (now (p .entry)))
+        ⌝ }
 {
     if !is_link(rows, i) {
         return 0;

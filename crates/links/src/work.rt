@@ -1,5 +1,5 @@
-// The work space of a walk: the text by which a link leads on, and that text in place of a part of the path. They rely on
-// text.rt, `lookup` and the laws of proofs/Written.antt.
+// The work space of a walk: the text by which a link leads on, and a part of the path replaced by that text. They rely
+// on text.rt, `lookup` and the laws of proofs/Written.antt.
 ghost use Prim.Native.Nat.{_+_, _<_, _≤_};
 ghost use lib.ListN.{length};
 ghost use Rattle.lookup.specs.private.Rows.{rowText, rowBranch};
@@ -18,8 +18,13 @@ pub(crate) fn lead_text(
     m: u8,
     buf: &mut [u8],
 ) -> usize
-    requires { ⌜ length (rowBranch (now rows) (now dirs) (now text) i) + length (rowText (now rows) (now text) i) + 1 ≤ length (now buf) ⌝ }
-    ensures { λ r. ⌜ StandsIn (now (buf .exit)) r (rowLead (now (rows .entry)) (now (dirs .entry)) (now (text .entry)) i m) ⌝ }
+    requires { ⌜
+        length (rowBranch (now rows) (now dirs) (now text) i) + length (rowText (now rows) (now text) i) + 1
+        ≤ length (now buf)
+        ⌝ }
+    ensures { λ r. ⌜
+        StandsIn (now (buf .exit)) r (rowLead (now (rows .entry)) (now (dirs .entry)) (now (text .entry)) i m)
+        ⌝ }
 {
     let row = tables::row_at(rows, i);
     let t = link_text(text, row);
@@ -30,29 +35,29 @@ pub(crate) fn lead_text(
     append_in(buf, directory_of(dirs, text, row), t)
 }
 
-// In a path that ends with the buffer and begins at `at`, puts t in the place of the first part, of e bytes: the new
-// beginning. What stands behind the part does not move.
-pub(crate) fn substitute(path: &mut [u8], at: usize, e: usize, t: &[u8]) -> usize
-    requires { ⌜ (at + e < length (now path)) × (length (now t) ≤ at) ⌝ }
-    ensures { λ r. ⌜ JoinedAt (now (path .entry)) at e (now (t .entry)) (now (path .exit)) r ⌝ }
+// In a path that begins at `at` and ends with the buffer, replaces the first part, of e bytes, by t, and gives the new
+// beginning. What stands after the part does not move.
+pub(crate) fn substitute(walk_path: &mut [u8], at: usize, e: usize, t: &[u8]) -> usize
+    requires { ⌜ (at + e < length (now «walk_path»)) × (length (now t) ≤ at) ⌝ }
+    ensures { λ r. ⌜ JoinedAt (now («walk_path» .entry)) at e (now (t .entry)) (now («walk_path» .exit)) r ⌝ }
 {
     let end = at + e;
     let rest = end + 1;
     if path::is_alone(t) {
         return rest;
     }
-    if path::is_alone(&path[rest..]) {
-        let to = path.len() - t.len();
-        put_at(path, to, t);
+    if path::is_alone(&walk_path[rest..]) {
+        let to = walk_path.len() - t.len();
+        put_at(walk_path, to, t);
         return to;
     }
     if path::is_closed(t) {
         let to = rest - t.len();
-        put_at(path, to, t);
+        put_at(walk_path, to, t);
         return to;
     }
-    path[end] = b'/';
+    walk_path[end] = b'/';
     let to = end - t.len();
-    put_at(path, to, t);
+    put_at(walk_path, to, t);
     to
 }

@@ -64,15 +64,15 @@ module _ (s : Store) (n i : ℕ) where
 
 -- ---- the test
 
-module _ (files : List Entry) (marks stage path : ℕ) where
-  pub lacks-marks : marks < linkCount files → true ≡ lacksSpace files marks stage path
+module _ (files : List Entry) (marks scratch path : ℕ) where
+  pub lacks-marks : marks < linkCount files → true ≡ lacksSpace files marks scratch path
   lacks-marks h = rw (lt-ltb marks (linkCount files) h)
 
-  pub lacks-room : linkCount files ≤ marks → (r : ℕ) → r ≡ min stage (path / 2) + 1 - space files → eqb r 0 ≡ lacksSpace files marks stage path
-  lacks-room h r e = rw (le-ltb marks (linkCount files) h) (at (le-or-lt (space files) stage) (le-or-lt (2 * space files) path))
+  pub lacks-room : linkCount files ≤ marks → (r : ℕ) → r ≡ min scratch (path / 2) + 1 - space files → eqb r 0 ≡ lacksSpace files marks scratch path
+  lacks-room h r e = rw (le-ltb marks (linkCount files) h) (at (le-or-lt (space files) scratch) (le-or-lt (2 * space files) path))
     where
-      at : (space files ≤ stage) ⊎ (stage < space files) → (2 * space files ≤ path) ⊎ (path < 2 * space files)
-          → eqb r 0 ≡ (ltb stage (space files) || ltb path (2 * space files))
-      at (inl a) (inl b) = rw (le-ltb stage (space files) a, le-ltb path (2 * space files) b) (ne-eqb r 0 (λ q. omega arith))
-      at (inl a) (inr b) = rw (le-ltb stage (space files) a, lt-ltb path (2 * space files) b) (eq-eqb r 0 (omega arith))
-      at (inr a) b = rw (lt-ltb stage (space files) a) (eq-eqb r 0 (omega arith))
+      at : (space files ≤ scratch) ⊎ (scratch < space files) → (2 * space files ≤ path) ⊎ (path < 2 * space files)
+          → eqb r 0 ≡ (ltb scratch (space files) || ltb path (2 * space files))
+      at (inl a) (inl b) = rw (le-ltb scratch (space files) a, le-ltb path (2 * space files) b) (ne-eqb r 0 (λ q. omega arith))
+      at (inl a) (inr b) = rw (le-ltb scratch (space files) a, lt-ltb path (2 * space files) b) (eq-eqb r 0 (omega arith))
+      at (inr a) b = rw (lt-ltb scratch (space files) a) (eq-eqb r 0 (omega arith))

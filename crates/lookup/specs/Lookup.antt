@@ -1,5 +1,5 @@
--- Document 01, 'Links': what stands at a path in a set: a directory, a file, or a flagged link. It relies on the model of a set in
--- `tables` and on the separator of `path`.
+-- Document 01, 'Links': what stands at a path in a set: a directory, a file, or a flagged link. It relies on the model
+-- of a set in `tables` and on the separator of `path`.
 use Prim.Native.Nat.{ℕ}
 use mathlib.Core.Bool.{Bool, true, false, cond}
 use mathlib.Core.List.{List, [], _∷_}
@@ -101,3 +101,10 @@ entriesOf s = tabled (s .fs .«num_files») (λ i. entryOf (fileOf s i))
 
 abbrev pub directoriesOf : Store → List (List ℕ)
 directoriesOf s = tabled (s .fs .«num_paths») (directoryText s)
+
+-- the files and the directories that the lent tables hold
+abbrev pub filesIn : FileStorage → List ℕ → List ℕ → List ℕ → List Entry
+filesIn fs rows dirs text = entriesOf (lent fs rows dirs text)
+
+abbrev pub dirsIn : FileStorage → List ℕ → List ℕ → List ℕ → List (List ℕ)
+dirsIn fs rows dirs text = directoriesOf (lent fs rows dirs text)

@@ -1,5 +1,5 @@
--- Document 01, 'Links': the work space that the flagged links of a set need, and whether what is lent is too short. It relies on the files of
--- Lookup.antt.
+-- Document 01, 'Links': the work space that the flagged links of a set need, and whether what is lent is too short. It
+-- relies on the files of Lookup.antt.
 use Prim.Native.Nat.{ℕ, _+_, _*_}
 use mathlib.Core.Bool.{Bool, cond, _||_}
 use mathlib.Core.List.{List, [], _∷_}
@@ -23,7 +23,7 @@ abbrev pub linkCount : List Entry → ℕ
 linkCount [] = 0
 linkCount (f ∷ fs) = cond (f .flagged) 1 0 + linkCount fs
 
--- 'Work space: 3 × the sum … and one mark a link': a stage of the sum and a path of twice the sum
+-- 'Work space: 3 × the sum … and one mark a link': a scratch space of the sum and a walk path of twice the sum
 abbrev pub lacksSpace : List Entry → ℕ → ℕ → ℕ → Bool
-lacksSpace files marks stage path =
-    ltb marks (linkCount files) || (ltb stage (space files) || ltb path (2 * space files))
+lacksSpace files marks scratch walkPath =
+    ltb marks (linkCount files) || (ltb scratch (space files) || ltb walkPath (2 * space files))

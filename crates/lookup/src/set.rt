@@ -8,7 +8,8 @@ ghost use Rattle.lists.specs.Lists.{equal};
 ghost use Rattle.tables.specs.Span.{textAt};
 ghost use Rattle.tables.specs.Rows.{rowAt, dirAt, directorySpan, has, linkHeldBit};
 ghost use Rattle.tables.specs.Model.{internalPath};
-ghost use Rattle.lookup.specs.Lookup.{covers, isDirectory, fileAt, isThere, known, isFlagged, lent, entriesOf, directoriesOf, seenCode};
+ghost use Rattle.lookup.specs.Lookup.{covers, isDirectory, fileAt, isThere, known, isFlagged, seenCode};
+ghost use Rattle.lookup.specs.Lookup.{filesIn, dirsIn};
 use crate::parts::is_covered;
 use crate::parts::joins_to;
 use tables::FileStorage;
@@ -58,7 +59,9 @@ pub fn directory_of<'a>(dirs: &[u64], text: &'a [u8], row: Row) -> &'a [u8]
 
 // Whether the internal path of file i is p.
 pub fn own_is(rows: &[u64], dirs: &[u64], text: &[u8], i: usize, p: &[u8]) -> bool
-    ensures { λ r. ⌜ r ≡ equal (internalPath (now (dirs .entry)) (now (text .entry)) (rowAt (now (rows .entry)) i)) (now (p .entry)) ⌝ }
+    ensures { λ r. ⌜
+        r ≡ equal (internalPath (now (dirs .entry)) (now (text .entry)) (rowAt (now (rows .entry)) i)) (now (p .entry))
+        ⌝ }
 {
     let row = tables::row_at(rows, i);
     joins_to(
@@ -70,7 +73,7 @@ pub fn own_is(rows: &[u64], dirs: &[u64], text: &[u8], i: usize, p: &[u8]) -> bo
 
 // Whether p is a stored directory of the set, or the part of one that stands before one of its separators.
 pub fn is_directory(fs: FileStorage, dirs: &[u64], text: &[u8], p: &[u8]) -> bool
-    ensures { λ r. ⌜ r ≡ isDirectory (directoriesOf (lent fs [] (now (dirs .entry)) (now (text .entry)))) (now (p .entry)) ⌝ }
+    ensures { λ r. ⌜ r ≡ isDirectory (dirsIn fs [] (now (dirs .entry)) (now (text .entry))) (now (p .entry)) ⌝ }
 {
     let mut d = 0;
     while d < fs.num_paths {
@@ -84,7 +87,9 @@ pub fn is_directory(fs: FileStorage, dirs: &[u64], text: &[u8], p: &[u8]) -> boo
 
 // Whether directory d covers the e bytes of the path from `at` on.
 pub fn covers_at(dirs: &[u64], text: &[u8], d: usize, path: &[u8], at: usize, e: usize) -> bool
-    ensures { λ r. ⌜ r ≡ covers (textAt (now (text .entry)) (dirAt (now (dirs .entry)) d)) (take e (drop at (now (path .entry)))) ⌝ }
+    ensures { λ r. ⌜
+        r ≡ covers (textAt (now (text .entry)) (dirAt (now (dirs .entry)) d)) (take e (drop at (now (path .entry))))
+        ⌝ }
 {
     is_covered(
         tables::text_at(text, tables::dir_at(dirs, d)),
@@ -95,7 +100,9 @@ pub fn covers_at(dirs: &[u64], text: &[u8], d: usize, path: &[u8], at: usize, e:
 // What stands at p: 0 nothing, 1 a file, 2 a flagged link. Of files with one internal path the last counts, so it
 // goes from the last to the first.
 pub fn file_at(fs: FileStorage, rows: &[u64], dirs: &[u64], text: &[u8], p: &[u8]) -> u8
-    ensures { λ r. ⌜ r ≡ seenCode (fileAt (entriesOf (lent fs (now (rows .entry)) (now (dirs .entry)) (now (text .entry)))) (now (p .entry))) ⌝ }
+    ensures { λ r. ⌜
+        r ≡ seenCode (fileAt (filesIn fs (now (rows .entry)) (now (dirs .entry)) (now (text .entry))) (now (p .entry)))
+        ⌝ }
 {
     let mut k = 0;
     while k < fs.num_files {
@@ -113,14 +120,19 @@ pub fn file_at(fs: FileStorage, rows: &[u64], dirs: &[u64], text: &[u8], p: &[u8
 
 // Whether a file of the set has the internal path p.
 fn has_file(fs: FileStorage, rows: &[u64], dirs: &[u64], text: &[u8], p: &[u8]) -> bool
-    ensures { λ r. ⌜ r ≡ isThere (fileAt (entriesOf (lent fs (now (rows .entry)) (now (dirs .entry)) (now (text .entry)))) (now (p .entry))) ⌝ }
+    ensures { λ r. ⌜
+        r ≡ isThere (fileAt (filesIn fs (now (rows .entry)) (now (dirs .entry)) (now (text .entry))) (now (p .entry)))
+        ⌝ }
 {
     file_at(fs, rows, dirs, text, p) != 0
 }
 
 // Whether a file or a directory of the set stands at p.
 pub fn is_known(fs: FileStorage, rows: &[u64], dirs: &[u64], text: &[u8], p: &[u8]) -> bool
-    ensures { λ r. ⌜ r ≡ known (entriesOf (lent fs (now (rows .entry)) (now (dirs .entry)) (now (text .entry)))) (directoriesOf (lent fs (now (rows .entry)) (now (dirs .entry)) (now (text .entry)))) (now (p .entry)) ⌝ }
+    ensures { λ r. ⌜
+        r ≡ known (filesIn fs (now (rows .entry)) (now (dirs .entry)) (now (text .entry)))
+        (dirsIn fs (now (rows .entry)) (now (dirs .entry)) (now (text .entry))) (now (p .entry))
+        ⌝ }
 {
     if has_file(fs, rows, dirs, text, p) {
         return true;

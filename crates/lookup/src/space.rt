@@ -1,14 +1,11 @@
 // How many marks a set's links need, and whether the work space is long enough. The space that links need is taken
 // off what is there link by link, since a sum could overflow. They rely on set.rt and the laws of proofs/Spaces.antt.
 ghost use mathlib.Core.Path.{_≡_};
-ghost use mathlib.Core.Bool.{cond};
 ghost use mathlib.Core.List.{[]};
-ghost use Prim.Native.Nat.{_+_, _-_};
-ghost use lib.ListN.{length};
-ghost use Rattle.tables.specs.Rows.{rowAt};
+ghost use Prim.Native.Nat.{_-_};
 ghost use Rattle.lookup.specs.Space.{space, linkCount, lacksSpace};
-ghost use Rattle.lookup.specs.Lookup.{isFlagged, lent, entriesOf};
-ghost use Rattle.lookup.specs.private.Rows.{rowText, rowBranch};
+ghost use Rattle.lookup.specs.Lookup.{filesIn};
+ghost use Rattle.lookup.specs.private.Rows.{rowSpace};
 use crate::set::directory_of;
 use crate::set::is_link;
 use crate::set::link_count;
@@ -17,7 +14,7 @@ use tables::FileStorage;
 
 // How many flagged links the set has.
 pub fn count_links(fs: FileStorage, rows: &[u64]) -> usize
-    ensures { λ r. ⌜ r ≡ linkCount (entriesOf (lent fs (now (rows .entry)) [] [])) ⌝ }
+    ensures { λ r. ⌜ r ≡ linkCount (filesIn fs (now (rows .entry)) [] []) ⌝ }
 {
     let mut n = 0;
     let mut i = 0;
@@ -30,8 +27,8 @@ pub fn count_links(fs: FileStorage, rows: &[u64]) -> usize
 
 // What is left of `left` bytes after the space that file i needs: directory length + text length + 2 for a flagged
 // link, else nothing.
-fn left_behind(rows: &[u64], dirs: &[u64], text: &[u8], i: usize, left: usize) -> usize
-    ensures { λ r. ⌜ r ≡ left - cond (isFlagged (rowAt (now (rows .entry)) i .flags)) (length (rowBranch (now (rows .entry)) (now (dirs .entry)) (now (text .entry)) i) + length (rowText (now (rows .entry)) (now (text .entry)) i) + 2) 0 ⌝ }
+fn left_after(rows: &[u64], dirs: &[u64], text: &[u8], i: usize, left: usize) -> usize
+    ensures { λ r. ⌜ r ≡ left - rowSpace (now (rows .entry)) (now (dirs .entry)) (now (text .entry)) i ⌝ }
 {
     if is_link(rows, i) {
         let row = tables::row_at(rows, i);
@@ -45,33 +42,36 @@ fn left_behind(rows: &[u64], dirs: &[u64], text: &[u8], i: usize, left: usize) -
 
 // What is left of `room` bytes after the space that all links need.
 fn space_left(fs: FileStorage, rows: &[u64], dirs: &[u64], text: &[u8], room: usize) -> usize
-    ensures { λ r. ⌜ r ≡ room - space (entriesOf (lent fs (now (rows .entry)) (now (dirs .entry)) (now (text .entry)))) ⌝ }
+    ensures { λ r. ⌜ r ≡ room - space (filesIn fs (now (rows .entry)) (now (dirs .entry)) (now (text .entry))) ⌝ }
 {
     let mut left = room;
     let mut i = 0;
     while i < fs.num_files {
-        left = left_behind(rows, dirs, text, i, left);
+        left = left_after(rows, dirs, text, i, left);
         i += 1;
     }
     left
 }
 
-// Whether the marks are fewer than the links, or the stage or the path is shorter than they need: each is given by its
-// length. One byte is added to the room, so that the room is used up only where it is too short.
+// Whether there are fewer marks than links, or `scratch` or `walk_path` is shorter than the links need; all three are
+// lengths. One byte is added to the room, so that the room is used up only where it is too short.
 pub fn lacks_space(
     fs: FileStorage,
     rows: &[u64],
     dirs: &[u64],
     text: &[u8],
     marks: usize,
-    stage: usize,
-    path: usize,
+    scratch: usize,
+    walk_path: usize,
 ) -> bool
-    ensures { λ r. ⌜ r ≡ lacksSpace (entriesOf (lent fs (now (rows .entry)) (now (dirs .entry)) (now (text .entry)))) marks stage path ⌝ }
+    ensures { λ r. ⌜
+        r ≡ lacksSpace (filesIn fs (now (rows .entry)) (now (dirs .entry)) (now (text .entry))) marks scratch
+        «walk_path»
+        ⌝ }
 {
     if marks < count_links(fs, rows) {
         return true;
     }
-    let room = lists::min_usize(stage, path / 2) + 1;
+    let room = lists::min_usize(scratch, walk_path / 2) + 1;
     space_left(fs, rows, dirs, text, room) == 0
 }

@@ -1,17 +1,16 @@
 // A file's whole path, composed into a lent buffer, and its hash, taken part by part without one. Relies on
 // decide.rt, compose.rt and `crc32c`, and on the laws of proofs/Paths.antt.
 ghost use mathlib.Core.Path.{_≡_};
-ghost use mathlib.Core.Bool.{cond, not, _&&_};
+ghost use mathlib.Core.Bool.{cond};
 ghost use mathlib.Core.List.{[], _∷_, _++_, map};
 ghost use lib.Dec.{eqb};
-ghost use Rattle.types.specs.Refusals.{usizeSays};
-ghost use Rattle.path.specs.Join.{Joined};
 ghost use Rattle.crc32c.specs.Crc.{crcFrom, lower};
-ghost use Rattle.tables.specs.Rows.{has, pathIsAbsolute, isInside, outsideBit};
+ghost use Rattle.tables.specs.Rows.{pathIsAbsolute};
 ghost use Rattle.tables.specs.Span.{textAt};
 ghost use Rattle.rules.specs.Composed.{composedIf};
 ghost use Rattle.rules.specs.Results.{u32Says};
-ghost use Rattle.names.specs.Paths.{filePath, led, hashedPath, hashOf, filePathInto, filePathHash};
+ghost use Rattle.names.specs.Paths.{pathWritten, setLeads, filePath, led, hashedPath, hashOf, filePathInto};
+ghost use Rattle.names.specs.Paths.{filePathHash};
 use crate::compose::compose_path;
 use crate::decide::are_held;
 use crate::decide::file_in;
@@ -34,7 +33,7 @@ fn save_of(save_path: &[u8], path_index: u64) -> &[u8]
     save_path
 }
 
-// Writes the whole path of the file with that row.
+// Writes the whole path of the file of `row`.
 fn put_path(
     fs: FileStorage,
     dirs: &[u64],
@@ -43,7 +42,11 @@ fn put_path(
     save_path: &[u8],
     buf: &mut [u8],
 ) -> UsizeResult
-    ensures { λ r. ⌜ _≡_ {A = Joined} (record { says = usizeSays r; buf = now (buf .exit) }) (composedIf 0 (filePath fs (now (dirs .entry)) (now (text .entry)) (now («save_path» .entry)) row) (now (buf .entry))) ⌝ }
+    ensures { λ r. ⌜
+        pathWritten r (now (buf .exit))
+        ≡ composedIf 0 (filePath fs (now (dirs .entry)) (now (text .entry)) (now («save_path» .entry)) row)
+        (now (buf .entry))
+        ⌝ }
 {
     let save = save_of(save_path, row.path_index);
     let set = tables::text_at(text, set_span(fs, row));
@@ -52,7 +55,7 @@ fn put_path(
     compose_path(save, set, directory, name, buf)
 }
 
-// The hash of the bytes so far, of a part and of a separator.
+// The hash `crc` of the bytes so far, continued with `part` and a separator.
 fn hash_closed(crc: u32, part: &[u8]) -> u32
     ensures { λ r. ⌜ r ≡ crcFrom crc (map lower (now (part .entry) ++ (47 ∷ []))) ⌝ }
 {
@@ -60,7 +63,7 @@ fn hash_closed(crc: u32, part: &[u8]) -> u32
     crc32c::crc32c_append_lowercase(whole, b"/")
 }
 
-// The hash of the bytes so far and, where the part is not empty, of the part and of a separator.
+// The hash `crc` of the bytes so far, continued with `part` and a separator where the part is not empty.
 pub fn hash_led(crc: u32, part: &[u8]) -> u32
     ensures { λ r. ⌜ r ≡ crcFrom crc (map lower (led (now (part .entry)))) ⌝ }
 {
@@ -70,9 +73,11 @@ pub fn hash_led(crc: u32, part: &[u8]) -> u32
     hash_closed(crc, part)
 }
 
-// The hash of the bytes so far and, where it leads the path, of the set's name and of a separator.
+// The hash `crc` of the bytes so far, continued with the set's name and a separator where the name leads the path.
 fn hash_set(crc: u32, fs: FileStorage, text: &[u8], row: Row) -> u32
-    ensures { λ r. ⌜ r ≡ crcFrom crc (map lower (cond (isInside row && not (has (row .flags) outsideBit)) (textAt (now (text .entry)) (fs .name) ++ (47 ∷ [])) [])) ⌝ }
+    ensures { λ r. ⌜
+        r ≡ crcFrom crc (map lower (cond (setLeads row) (textAt (now (text .entry)) (fs .name) ++ (47 ∷ [])) []))
+        ⌝ }
 {
     if is_led(row) {
         return hash_closed(crc, tables::text_at(text, fs.name));
@@ -80,9 +85,11 @@ fn hash_set(crc: u32, fs: FileStorage, text: &[u8], row: Row) -> u32
     crc
 }
 
-// The hash of the whole path of the file with that row.
+// The hash of the whole path of the file of `row`.
 fn hash_path(fs: FileStorage, dirs: &[u64], text: &[u8], row: Row, save_path: &[u8]) -> u32
-    ensures { λ r. ⌜ r ≡ hashOf (hashedPath fs (now (dirs .entry)) (now (text .entry)) (now («save_path» .entry)) row) ⌝ }
+    ensures { λ r. ⌜
+        r ≡ hashOf (hashedPath fs (now (dirs .entry)) (now (text .entry)) (now («save_path» .entry)) row)
+        ⌝ }
 {
     let save = save_of(save_path, row.path_index);
     let directory = tables::text_at(text, directory_span(dirs, row));
@@ -93,7 +100,7 @@ fn hash_path(fs: FileStorage, dirs: &[u64], text: &[u8], row: Row, save_path: &[
     crc32c::crc32c_append_lowercase(crc3, name)
 }
 
-// The whole path of a file, behind a save path, in `buf`.
+// Writes the whole path of a file, after `save_path`, to `buf`.
 pub fn file_path(
     fs: FileStorage,
     rows: &[u64],
@@ -103,7 +110,11 @@ pub fn file_path(
     save_path: &[u8],
     buf: &mut [u8],
 ) -> UsizeResult
-    ensures { λ r. ⌜ _≡_ {A = Joined} (record { says = usizeSays r; buf = now (buf .exit) }) (filePathInto fs (now (rows .entry)) (now (dirs .entry)) (now (text .entry)) (index .0) (now («save_path» .entry)) (now (buf .entry))) ⌝ }
+    ensures { λ r. ⌜
+        pathWritten r (now (buf .exit))
+        ≡ filePathInto fs (now (rows .entry)) (now (dirs .entry)) (now (text .entry)) (index .0)
+        (now («save_path» .entry)) (now (buf .entry))
+        ⌝ }
 {
     let held = are_held(fs, dirs.len(), text.len());
     match file_in(fs, rows, index, held) {
@@ -112,7 +123,7 @@ pub fn file_path(
     }
 }
 
-// The hash of a file's whole path, behind a save path.
+// The hash of a file's whole path, after `save_path`.
 pub fn file_path_hash(
     fs: FileStorage,
     rows: &[u64],
@@ -121,7 +132,10 @@ pub fn file_path_hash(
     index: FileIndex,
     save_path: &[u8],
 ) -> U32Result
-    ensures { λ r. ⌜ u32Says r ≡ filePathHash fs (now (rows .entry)) (now (dirs .entry)) (now (text .entry)) (index .0) (now («save_path» .entry)) ⌝ }
+    ensures { λ r. ⌜
+        u32Says r ≡ filePathHash fs (now (rows .entry)) (now (dirs .entry)) (now (text .entry)) (index .0)
+        (now («save_path» .entry))
+        ⌝ }
 {
     let held = are_held(fs, dirs.len(), text.len());
     match file_in(fs, rows, index, held) {

@@ -1,5 +1,5 @@
--- Document 01, 'Names': what a set's names are through its renames. Refusals 1, 11, 10: 'a question on one past the end is 11,
--- but the export gives it'. It relies on the renames of `renames` and on the questions of `rules`.
+-- Document 01, 'Names': what a set's names are through its renames. Refusals 1, 11, 10: 'a question on one past
+-- the end is 11, but the export gives it'. It relies on the renames of `renames` and on the questions of `rules`.
 use Prim.Native.Nat.{ℕ, _+_, _-_}
 use mathlib.Core.Bool.{Bool, true, false, _&&_}
 use mathlib.Core.List.{List}
@@ -38,23 +38,23 @@ abbrev pub renamedName : Optional Renamed → List ℕ → List ℕ
 renamedName absent own = own
 renamedName (present r) own = rsplitLeaf (r .name)
 
--- where a file's name lies: in the set's text area, or in that of the renames
+-- the span of a file's name: in the set's text area, or in that of the renames
 pub data NameSpan : Type 0 where
   inSet : Span → NameSpan
   inRenames : Span → NameSpan
 
--- the place of a text's leaf, which ends where the text does once a separator at its end is dropped
+-- the span of a text's leaf, which ends where the text does after a separator at its end is dropped
 abbrev pub leafSpan : List ℕ → Span → Span
-leafSpan names s =
+leafSpan renameText s =
     record {
-      at = s .at + (length (trimmed isSeparator (textAt names s)) - length (rsplitLeaf (textAt names s)));
-      len = length (rsplitLeaf (textAt names s));
+      at = s .at + (length (trimmed isSeparator (textAt renameText s)) - length (rsplitLeaf (textAt renameText s)));
+      len = length (rsplitLeaf (textAt renameText s));
     }
 
--- `file_name` as a place: that of the leaf of the rename, or the set's own
+-- `file_name` as a span: that of the leaf of the rename, or the set's own
 abbrev pub nameSpan : List ℕ → Span → Optional Rename → NameSpan
-nameSpan names own absent = inSet own
-nameSpan names own (present r) = inRenames (leafSpan names (r .name))
+nameSpan renameText own absent = inSet own
+nameSpan renameText own (present r) = inRenames (leafSpan renameText (r .name))
 
 -- `file_absolute_path`
 abbrev pub isByItself : RenameMode → Bool
@@ -66,18 +66,23 @@ abbrev pub renamedAbsolute : Optional Renamed → Bool → Bool
 renamedAbsolute absent own = own
 renamedAbsolute (present r) own = isByItself (r .mode)
 
-abbrev pub pathInto : FileStorage → List ℕ → List ℕ → List ℕ → RenamedFiles → List ℕ → List ℕ → ℤ → List ℕ → List ℕ → Joined
-pathInto fs rows dirs text rf entries names z save buf =
-    composedFile fs z (namesHeld fs rows dirs text && inOrder rf entries names)
-    (λ k. renamedPath (renameFor k (renamesOf rf entries names)) (filePath fs dirs text save (rowAt rows k)) save (textAt text (fs .name)))
+-- the path of a file in a lent buffer, refusals 1, 11, 10
+abbrev pub pathInto : FileStorage → List ℕ → List ℕ → List ℕ → RenamedFiles → List ℕ → List ℕ → ℤ → List ℕ → List ℕ
+    → Joined
+pathInto fs rows dirs text rf entries renameText z save buf =
+    composedFile fs z (namesHeld fs rows dirs text && inOrder rf entries renameText)
+    (λ k. renamedPath (renameFor k (renamesOf rf entries renameText)) (filePath fs dirs text save (rowAt rows k)) save
+    (textAt text (fs .name)))
     buf
 
+-- `file_name`, refusals 1, 11, 10
 abbrev pub nameGiven : FileStorage → List ℕ → List ℕ → RenamedFiles → List ℕ → List ℕ → ℤ → Outcome NameSpan
-nameGiven fs rows text rf entries names z =
-    fileAnswer fs z ((rowsHeld fs rows && textHeld fs text) && inOrder rf entries names)
-    (λ k. nameSpan names (rowAt rows k .name) (renameFound rf entries k))
+nameGiven fs rows text rf entries renameText z =
+    fileAnswer fs z ((rowsHeld fs rows && textHeld fs text) && inOrder rf entries renameText)
+    (λ k. nameSpan renameText (rowAt rows k .name) (renameFound rf entries k))
 
+-- `file_absolute_path`, refusals 1, 11, 10
 abbrev pub absoluteGiven : FileStorage → List ℕ → RenamedFiles → List ℕ → List ℕ → ℤ → Outcome Bool
-absoluteGiven fs rows rf entries names z =
-    fileAnswer fs z (rowsHeld fs rows && inOrder rf entries names)
-    (λ k. renamedAbsolute (renameFor k (renamesOf rf entries names)) (isAbsolute (rowAt rows k)))
+absoluteGiven fs rows rf entries renameText z =
+    fileAnswer fs z (rowsHeld fs rows && inOrder rf entries renameText)
+    (λ k. renamedAbsolute (renameFor k (renamesOf rf entries renameText)) (isAbsolute (rowAt rows k)))

@@ -2,11 +2,9 @@
 // `names` and `path` for joins and on the laws of proofs/Paths.antt.
 ghost use mathlib.Core.Bool.{_&&_};
 ghost use mathlib.Core.Path.{_≡_};
-ghost use Rattle.types.specs.Refusals.{usizeSays};
-ghost use Rattle.path.specs.Join.{Joined};
 ghost use Rattle.rules.specs.Questions.{fileAnswer};
 ghost use Rattle.rules.specs.Composed.{composedIf};
-ghost use Rattle.names.specs.Paths.{namesHeld};
+ghost use Rattle.names.specs.Paths.{pathWritten, namesHeld};
 ghost use Rattle.renames.specs.Renames.{inOrder};
 ghost use Rattle.renames.specs.Results.{findSays};
 ghost use Rattle.renames.specs.Finding.{renameFound};
@@ -27,24 +25,25 @@ fn find_through(
     dirs: &[u64],
     text: &[u8],
     renames: RenamedFiles,
-    entries: &[u64],
-    names: &[u8],
+    rename_entries: &[u64],
+    rename_text: &[u8],
     index: FileIndex,
 ) -> FindResult
-    ensures { λ r. ⌜ findSays r ≡
-        fileAnswer fs (index .0)
+    ensures { λ r. ⌜
+        findSays r ≡ fileAnswer fs (index .0)
         (namesHeld fs (now (rows .entry)) (now (dirs .entry)) (now (text .entry))
-        && inOrder renames (now (entries .entry)) (now (names .entry)))
-        (renameFound renames (now (entries .entry))) ⌝ }
+        && inOrder renames (now («rename_entries» .entry)) (now («rename_text» .entry)))
+        (renameFound renames (now («rename_entries» .entry)))
+        ⌝ }
 {
     let held = are_held(fs, dirs.len(), text.len());
     match names::file_in(fs, rows, index, held) {
-        UsizeResult::Ok(k) => find_rename(renames, entries, names.len(), k as u64),
+        UsizeResult::Ok(k) => find_rename(renames, rename_entries, rename_text.len(), k as u64),
         UsizeResult::Err(e) => FindResult::Err(e),
     }
 }
 
-// Writes the path that a rename's text is read as.
+// Writes the path that a rename's text `name` is read as by its mode; `set` is the set's name.
 fn put_renamed(
     mode: RenameMode,
     save_path: &[u8],
@@ -52,7 +51,11 @@ fn put_renamed(
     name: &[u8],
     buf: &mut [u8],
 ) -> UsizeResult
-    ensures { λ r. ⌜ _≡_ {A = Joined} (record { says = usizeSays r; buf = now (buf .exit) }) (composedIf 0 (pathBy mode (now («save_path» .entry)) (now (set .entry)) (now (name .entry))) (now (buf .entry))) ⌝ }
+    ensures { λ r. ⌜
+        pathWritten r (now (buf .exit))
+        ≡ composedIf 0 (pathBy mode (now («save_path» .entry)) (now (set .entry)) (now (name .entry)))
+        (now (buf .entry))
+        ⌝ }
 {
     match mode {
         RenameMode::FullPath => names::compose_path(save_path, set, b"", name, buf),
@@ -61,27 +64,41 @@ fn put_renamed(
     }
 }
 
-// The whole path of a file through its rename, behind a save path, in `buf`.
+// Writes the whole path of a file through its rename, after `save_path`, to `buf`.
 pub fn file_path(
     fs: FileStorage,
     rows: &[u64],
     dirs: &[u64],
     text: &[u8],
     renames: RenamedFiles,
-    entries: &[u64],
-    names: &[u8],
+    rename_entries: &[u64],
+    rename_text: &[u8],
     index: FileIndex,
     save_path: &[u8],
     buf: &mut [u8],
 ) -> UsizeResult
-    ensures { λ r. ⌜ _≡_ {A = Joined} (record { says = usizeSays r; buf = now (buf .exit) }) (pathInto fs (now (rows .entry)) (now (dirs .entry)) (now (text .entry)) renames (now (entries .entry)) (now (names .entry)) (index .0) (now («save_path» .entry)) (now (buf .entry))) ⌝ }
+    ensures { λ r. ⌜
+        pathWritten r (now (buf .exit))
+        ≡ pathInto fs (now (rows .entry)) (now (dirs .entry)) (now (text .entry)) renames
+        (now («rename_entries» .entry)) (now («rename_text» .entry)) (index .0) (now («save_path» .entry))
+        (now (buf .entry))
+        ⌝ }
 {
-    let found = find_through(fs, rows, dirs, text, renames, entries, names, index);
+    let found = find_through(
+        fs,
+        rows,
+        dirs,
+        text,
+        renames,
+        rename_entries,
+        rename_text,
+        index,
+    );
     match found {
         FindResult::Renamed(rename) => {
             let mode = rename.mode;
             let set = tables::text_at(text, fs.name);
-            let name = tables::text_at(names, rename.name);
+            let name = tables::text_at(rename_text, rename.name);
             put_renamed(mode, save_path, set, name, buf)
         }
         FindResult::Own => names::file_path(fs, rows, dirs, text, index, save_path, buf),

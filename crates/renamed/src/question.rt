@@ -1,8 +1,6 @@
 // A file's name through its rename, and whether its path is absolute. Relies on `renames` for the rename, on
 // `answers` for the set's own answers and on the laws of proofs/Questions.antt.
 ghost use mathlib.Core.Path.{_≡_};
-ghost use lib.ListN.{length, take};
-ghost use Prim.Native.Nat.{_≤_};
 ghost use Rattle.rules.specs.Results.{boolSays};
 ghost use Rattle.renamed.specs.Results.{nameSays};
 ghost use Rattle.renamed.specs.Questions.{leafSpan, isByItself, nameGiven, absoluteGiven};
@@ -17,14 +15,14 @@ use tables::FileStorage;
 use tables::Span;
 use types::FileIndex;
 
-// The place of a name's leaf.
-fn leaf_of(names: &[u8], place: Span) -> Span
-    ensures { λ r. ⌜ r ≡ leafSpan (now (names .entry)) place ⌝ }
+// The span of the leaf of the name at `span`.
+fn leaf_of(rename_text: &[u8], span: Span) -> Span
+    ensures { λ r. ⌜ r ≡ leafSpan (now («rename_text» .entry)) span ⌝ }
 {
-    let name = tables::text_at(names, place);
+    let name = tables::text_at(rename_text, span);
     let leaf = path::filename(name).len();
     Span {
-        at: place.at + lists::saturating_sub_usize(path::trimmed_length(name), leaf),
+        at: span.at + lists::saturating_sub_usize(path::trimmed_length(name), leaf),
         len: leaf,
     }
 }
@@ -46,18 +44,26 @@ pub fn file_name(
     rows: &[u64],
     text: &[u8],
     renames: RenamedFiles,
-    entries: &[u64],
-    names: &[u8],
+    rename_entries: &[u64],
+    rename_text: &[u8],
     index: FileIndex,
 ) -> FileNameResult
-    ensures { λ r. ⌜ nameSays r ≡ nameGiven fs (now (rows .entry)) (now (text .entry)) renames (now (entries .entry)) (now (names .entry)) (index .0) ⌝ }
+    ensures { λ r. ⌜
+        nameSays r ≡ nameGiven fs (now (rows .entry)) (now (text .entry)) renames (now («rename_entries» .entry))
+        (now («rename_text» .entry)) (index .0)
+        ⌝ }
 {
     match answers::file_name(fs, rows, text, index) {
         SpanResult::Ok(own) => {
-            let found = find_rename(renames, entries, names.len(), index.get() as u64);
+            let found = find_rename(
+                renames,
+                rename_entries,
+                rename_text.len(),
+                index.get() as u64,
+            );
             match found {
                 FindResult::Renamed(rename) => FileNameResult::InRenames(leaf_of(
-                    names,
+                    rename_text,
                     rename.name,
                 )),
                 FindResult::Own => FileNameResult::InSet(own),
@@ -73,15 +79,23 @@ pub fn file_absolute_path(
     fs: FileStorage,
     rows: &[u64],
     renames: RenamedFiles,
-    entries: &[u64],
-    names: &[u8],
+    rename_entries: &[u64],
+    rename_text: &[u8],
     index: FileIndex,
 ) -> BoolResult
-    ensures { λ r. ⌜ boolSays r ≡ absoluteGiven fs (now (rows .entry)) renames (now (entries .entry)) (now (names .entry)) (index .0) ⌝ }
+    ensures { λ r. ⌜
+        boolSays r ≡ absoluteGiven fs (now (rows .entry)) renames (now («rename_entries» .entry))
+        (now («rename_text» .entry)) (index .0)
+        ⌝ }
 {
     match answers::file_absolute_path(fs, rows, index) {
         BoolResult::Ok(own) => {
-            let found = find_rename(renames, entries, names.len(), index.get() as u64);
+            let found = find_rename(
+                renames,
+                rename_entries,
+                rename_text.len(),
+                index.get() as u64,
+            );
             match found {
                 FindResult::Renamed(rename) => {
                     let mode = rename.mode;

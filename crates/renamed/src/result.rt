@@ -2,7 +2,7 @@
 use tables::Span;
 use types::Refusal;
 
-// The place of a file's name in the set's text area, or in that of the renames, or why there is none.
+// The span of a file's name in the set's text area, or in that of the renames, or why there is none.
 pub enum FileNameResult {
     InSet(Span),
     InRenames(Span),

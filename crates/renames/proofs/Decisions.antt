@@ -21,7 +21,7 @@ use Rattle.rules.specs.Questions.{fileAnswer}
 use Rattle.rules.proofs.Deciding.{allowed, denied}
 use Rattle.renames.proofs.Deciding.{passes, asked-good, asked-there, asked-own}
 use Rattle.renames.specs.declared.rename.RenamedFiles.{RenamedFiles}
-use Rattle.renames.specs.declared.place.Place.{Place}
+use Rattle.renames.specs.declared.slot.Slot.{Slot}
 use Rattle.renames.specs.Renames.{Renamed, RenamesChanged, orderedFrom, renamesOf, renamedTo, lacksRoom, inOrder, stateOf, wordsOf, textsOf, renameFile}
 use Rattle.renames.specs.private.Slots.{slotOf}
 use Rattle.renames.specs.Renames.{inOrderIn}
@@ -36,24 +36,24 @@ stops false true m i r x e = cc
 stops false false m i r x e = absurd (let z : _≡_ {A = ℕ} 0 1 = cc in omega arith)
 
 module _ (fs : FileStorage) (rf : RenamedFiles) (e : List ℕ) (room : ℕ) (z : ℤ) (len : ℕ) where
-  abbrev own : Place
+  abbrev own : Slot
   own = slotOf (rf .«num_renames») (clampedOf z) e
 
   abbrev tests : Bool → Bool → ℕ
   tests o s = cond (not o) 10 (cond s 10 0)
 
-  pub place-number : (k : ℕ) → value k ≡ fileAnswer fs z true (λ k. k) → k ≡ clampedOf z
-  place-number k h = asked-own fs z true (λ k. k) k h
+  pub slot-number : (k : ℕ) → value k ≡ fileAnswer fs z true (λ k. k) → k ≡ clampedOf z
+  slot-number k h = asked-own fs z true (λ k. k) k h
 
-  pub place-goes : (k : ℕ) → value k ≡ fileAnswer fs z true (λ k. k) → (o s : Bool) → inOrderIn rf e room ≡ o → isShort rf own (length e) room len ≡ s
+  pub slot-goes : (k : ℕ) → value k ≡ fileAnswer fs z true (λ k. k) → (o s : Bool) → inOrderIn rf e room ≡ o → isShort rf own (length e) room len ≡ s
       → outcomeOf (tests o s) own ≡ slotGiven fs rf e room z len
-  place-goes k h o s p q = rw (asked-good fs z true (λ k. k) k h, asked-there fs z true (λ k. k) k h, p, q)
+  slot-goes k h o s p q = rw (asked-good fs z true (λ k. k) k h, asked-there fs z true (λ k. k) k h, p, q)
 
-  pub place-disorder : (k : ℕ) → value k ≡ fileAnswer fs z true (λ k. k) → inOrderIn rf e room ≡ false → refused 10 ≡ slotGiven fs rf e room z len
-  place-disorder k h p = place-goes k h false (isShort rf own (length e) room len) p refl
+  pub slot-disorder : (k : ℕ) → value k ≡ fileAnswer fs z true (λ k. k) → inOrderIn rf e room ≡ false → refused 10 ≡ slotGiven fs rf e room z len
+  slot-disorder k h p = slot-goes k h false (isShort rf own (length e) room len) p refl
 
-  pub place-stops : (m : ℕ) → refused m ≡ fileAnswer fs z true (λ k. k) → refused m ≡ slotGiven fs rf e room z len
-  place-stops m h =
+  pub slot-stops : (m : ℕ) → refused m ≡ fileAnswer fs z true (λ k. k) → refused m ≡ slotGiven fs rf e room z len
+  slot-stops m h =
       stops (badLength (fs .«piece_length»)) (not (isBelow (fs .«num_files») z)) m (clampedOf z) (tests (inOrderIn rf e room) (isShort rf own (length e) room len)) own h
 
 -- what tables in order hold
@@ -93,7 +93,7 @@ module _ (fs : FileStorage) (rf : RenamedFiles) (e t : List ℕ) (z : ℤ) (name
   abbrev after : List Renamed
   after = renamedTo z name (renamesOf rf e t)
 
-  abbrev there : Place
+  abbrev there : Slot
   there = slotOf (rf .«num_renames») (clampedOf z) e
 
   room-is : inOrderIn rf e (length t) ≡ true → lacksRoom after e t ≡ isShort rf there (length e) (length t) (length name)
@@ -114,27 +114,27 @@ module _ (fs : FileStorage) (rf : RenamedFiles) (e t : List ℕ) (z : ℤ) (name
   number-is =
       rw (same-test (inOrderIn rf e (length t)) (lacksRoom after e t) (isShort rf there (length e) (length t) (length name)) room-is)
 
-  module _ (p : Place) (h : value p ≡ slotGiven fs rf e (length t) z (length name)) where
+  module _ (p : Slot) (h : value p ≡ slotGiven fs rf e (length t) z (length name)) where
     abbrev known : (eqb (slotNumber fs rf e (length t) z (length name)) 0 ≡ true) × (inOrderIn rf e (length t) ≡ true) × (isShort rf there (length e) (length t) (length name) ≡ false) × (p ≡ there)
     known =
         four-passed (badLength (fs .«piece_length»)) (not (isBelow (fs .«num_files») z)) (inOrderIn rf e (length t)) (isShort rf there (length e) (length t) (length name)) p there h
 
-    pub place-known : (orderedFrom (rf .«num_renames») 0 0 (rf .«text_len») e ≡ true) × (p ≡ there)
+    pub slot-known : (orderedFrom (rf .«num_renames») 0 0 (rf .«text_len») e ≡ true) × (p ≡ there)
         × (rf .«num_renames» ≤ length e / 3) × (rf .«text_len» ≤ length t)
         × (rf .«num_renames» + 1 - p .same ≤ length e / 3) × (rf .«text_len» - p .old + length name ≤ length t)
-    place-known =
+    slot-known =
         let o = order-in rf e (length t) (known .1) in
         let s = either-false (ltb (length e / 3) (rf .«num_renames» + 1 - there .same)) (ltb (length t) (rf .«text_len» - there .old + length name)) (known .2) in
         (o .2, known .3, o .0, o .1, rw (known .3) (ltb-false _ _ (s .0)), rw (known .3) (ltb-false _ _ (s .1)))
 
-    pub place-changed : (rf′ : RenamedFiles) (e′ t′ : List ℕ) → rf′ ≡ stateOf after → e′ ≡ sets e 0 (wordsOf after) → t′ ≡ sets t 0 (textsOf after)
+    pub slot-changed : (rf′ : RenamedFiles) (e′ t′ : List ℕ) → rf′ ≡ stateOf after → e′ ≡ sets e 0 (wordsOf after) → t′ ≡ sets t 0 (textsOf after)
         → _≡_ {A = RenamesChanged} (record { says = value rf′; entries = e′; text = t′ }) (renameFile fs rf e t z name)
-    place-changed rf′ e′ t′ a b d = rw (number-is, known .0, a, b, d)
+    slot-changed rf′ e′ t′ a b d = rw (number-is, known .0, a, b, d)
 
   -- one stops it
-  pub place-refused : (m : ℕ) → refused m ≡ slotGiven fs rf e (length t) z (length name)
+  pub slot-refused : (m : ℕ) → refused m ≡ slotGiven fs rf e (length t) z (length name)
       → _≡_ {A = RenamesChanged} (record { says = refused m; entries = e; text = t }) (renameFile fs rf e t z name)
-  place-refused m h =
+  slot-refused m h =
       let n = slotNumber fs rf e (length t) z (length name) in
       let r = denied n there (eqb n 0) m h in
       rw (number-is, r .0, r .1)

@@ -22,7 +22,7 @@ use Rattle.renames.specs.declared.rename.RenameMode.{RenameMode}
 use Rattle.renames.specs.declared.rename.RenameMode.the-variants.{FullPath}
 use Rattle.renames.specs.declared.rename.Rename.{Rename}
 use Rattle.renames.specs.declared.rename.RenamedFiles.{RenamedFiles}
-use Rattle.renames.specs.declared.place.Place.{Place}
+use Rattle.renames.specs.declared.slot.Slot.{Slot}
 use Rattle.renames.specs.Renames.{Renamed, modeOf, renamesFrom, renamesOf, orderedFrom, inOrder}
 use Rattle.renames.specs.Finding.{renameIn, renameFor, renameFound, exported}
 use Rattle.renames.specs.Finding.{belowFrom, bytesFrom, isNamed}
@@ -117,7 +117,7 @@ rename-is n u i e ordered b r f m a l =
     let d : getD e (i * 3) 0 % 2 ^ 31 ≡ getD e (i * 3) 0 = mod-eq-of-lt (omega (arith, o .0)) in
     same-rename r (pos (getD e (i * 3) 0)) (modeOf (getD e (i * 3 + 1) 0)) (bytesFrom i 0 e) (getD e (i * 3 + 2) 0) (f ∙ ap pos d) m a l
 
--- ---- a file's rename by its place
+-- ---- a file's rename by its slot
 
 there : (b : Bool) → _≡_ {A = ℕ} (cond b 1 0) 0 → b ≡ false
 there true h = absurd (omega arith)
@@ -132,32 +132,32 @@ among true c h = refl
 among false c h = absurd (false≢true h)
 
 module _ (rf : RenamedFiles) (k : ℕ) (e : List ℕ) (ordered : orderedFrom (rf .«num_renames») 0 0 (rf .«text_len») e ≡ true)
-    (p : Place) (is : p ≡ slotOf (rf .«num_renames») k e) where
+    (p : Slot) (is : p ≡ slotOf (rf .«num_renames») k e) where
   abbrev n : ℕ
   n = rf .«num_renames»
 
   abbrev j : ℕ
   j = belowFrom n 0 k e
 
-  pub place-own : p .same ≡ 0 → absent ≡ renameFound rf e k
-  place-own h = let b = there (isNamed n k j e) (sym (ap (λ (x : Place). x .same) is) ∙ h) in rw b
+  pub slot-own : p .same ≡ 0 → absent ≡ renameFound rf e k
+  slot-own h = let b = there (isNamed n k j e) (sym (ap (λ (x : Slot). x .same) is) ∙ h) in rw b
 
   named : (p .same ≡ 0 → ⊥) → isNamed n k j e ≡ true
-  named h = gone (isNamed n k j e) (λ q. h (ap (λ (x : Place). x .same) is ∙ q))
+  named h = gone (isNamed n k j e) (λ q. h (ap (λ (x : Slot). x .same) is ∙ q))
 
   below : (p .same ≡ 0 → ⊥) → j < n
   below h = ltb-true j n (among (ltb j n) (eqb (getD e (j * 3) 0) k) (named h))
 
-  pub place-below : (p .same ≡ 0 → ⊥) → p .entry < n
-  place-below h = rw is (below h)
+  pub slot-below : (p .same ≡ 0 → ⊥) → p .entry < n
+  slot-below h = rw is (below h)
 
-  pub place-renamed : (p .same ≡ 0 → ⊥) → (r : Rename) → r .«file_index» .0 ≡ pos (getD e (p .entry * 3) 0 % 2 ^ 31)
+  pub slot-renamed : (p .same ≡ 0 → ⊥) → (r : Rename) → r .«file_index» .0 ≡ pos (getD e (p .entry * 3) 0 % 2 ^ 31)
       → r .mode ≡ modeOf (getD e (p .entry * 3 + 1) 0) → r .name .at ≡ p .at → r .name .len ≡ getD e (p .entry * 3 + 2) 0 → present r ≡ renameFound rf e k
-  place-renamed h r f m a l =
+  slot-renamed h r f m a l =
       let b = named h in
-      let x : p .entry ≡ j = ap (λ (y : Place). y .entry) is in
+      let x : p .entry ≡ j = ap (λ (y : Slot). y .entry) is in
       let w = rename-is n (rf .«text_len») j e ordered (below h) r (f ∙ ap (λ (i : ℕ). pos (getD e (i * 3) 0 % 2 ^ 31)) x)
-      (m ∙ ap (λ (i : ℕ). modeOf (getD e (i * 3 + 1) 0)) x) (a ∙ ap (λ (y : Place). y .at) is) (l ∙ ap (λ (i : ℕ). getD e (i * 3 + 2) 0) x) in
+      (m ∙ ap (λ (i : ℕ). modeOf (getD e (i * 3 + 1) 0)) x) (a ∙ ap (λ (y : Slot). y .at) is) (l ∙ ap (λ (i : ℕ). getD e (i * 3 + 2) 0) x) in
       rw b (ap present w)
 
 -- ---- what an answer reads as

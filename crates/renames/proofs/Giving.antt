@@ -17,7 +17,7 @@ use Rattle.lists.proofs.Runs.{sets-over}
 use Rattle.rules.specs.Bounds.{clampedOf, isBelow}
 use Rattle.renames.specs.declared.rename.RenamedFiles.{RenamedFiles}
 use Rattle.renames.specs.declared.rename.RenameMode.the-variants.{FullPath}
-use Rattle.renames.specs.declared.place.Place.{Place}
+use Rattle.renames.specs.declared.slot.Slot.{Slot}
 use Rattle.renames.specs.Renames.{Renamed, renamesOf, orderedFrom, inOrder, withRename, stateOf, wordsOf, textsOf}
 use Rattle.renames.specs.private.Slots.{slotOf}
 use Rattle.renames.specs.Imports.{fullPath}
@@ -34,7 +34,7 @@ use Rattle.renames.proofs.Imported.{fresh-rest, fresh-with, with-given}
 -- ---- the names, taken from the lent slices
 
 module _ (files : ℕ) (zs : List ℤ) (lengths t : List ℕ) where
-  -- the names from number i on, whose texts begin at place `at`
+  -- the names from number i on, whose texts begin at `at`
   abbrev pub givenFrom : ℕ → ℕ → List Renamed
   givenFrom i at = renamesGiven files (drop i zs) (drop i lengths) (drop at t)
 
@@ -150,7 +150,7 @@ module _ (rf : RenamedFiles) (e t : List ℕ) (ordered : inOrder rf e t ≡ true
 
   -- one rename more: there is room for it, and they are in order again
   module _ (r : Renamed) (held : length (withRename r rs) ≤ length e / 3) (room : length (textsOf (withRename r rs)) ≤ length t) where
-    pub one-room : (x : Place) → x ≡ slotOf n (r .file) e
+    pub one-room : (x : Slot) → x ≡ slotOf n (r .file) e
         → (orderedFrom n 0 0 u e ≡ true) × (x ≡ slotOf n (r .file) e) × (n ≤ length e / 3) × (u ≤ length t)
         × (n + 1 - x .same ≤ length e / 3) × (u - x .old + length (r .name) ≤ length t)
     one-room x h =
@@ -179,7 +179,7 @@ module _ (rf : RenamedFiles) (e t : List ℕ) (ordered : inOrder rf e t ≡ true
 -- the whole, of which no cell behind its end is touched
 pub record Giving (files : ℕ) (zs : List ℤ) (lengths names : List ℕ) (final : List Renamed) (e₀ t₀ : List ℕ) (rf : RenamedFiles) (e t : List ℕ) (i at : ℕ) : Type 0 where
   pub bound : i ≤ length zs
-  pub place : at ≤ length names
+  pub within : at ≤ length names
   pub words : length e ≡ length e₀
   pub bytes : length t ≡ length t₀
   pub ordered : inOrder rf e t ≡ true
@@ -198,7 +198,7 @@ module _ (files : ℕ) (zs : List ℤ) (lengths names : List ℕ) (e₀ t₀ : L
   giving-start rf o f h r =
       record {
         bound = omega arith;
-        place = omega arith;
+        within = omega arith;
         words = refl;
         bytes = refl;
         ordered = o;
@@ -249,7 +249,7 @@ module _ (files : ℕ) (zs : List ℤ) (lengths names : List ℕ) (e₀ t₀ : L
       giving-turn rf′ e′ t′ o l x y =
           record {
             bound = omega (arith, b);
-            place = rw q (name-in files zs lengths names i at (g .place));
+            within = rw q (name-in files zs lengths names i at (g .within));
             words = rw x (length-sets e 0 (wordsOf nextOf) ∙ g .words);
             bytes = rw y (length-sets t 0 (textsOf nextOf) ∙ g .bytes);
             ordered = o;

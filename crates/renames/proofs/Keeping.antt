@@ -1,5 +1,5 @@
 -- The renames that stay when a list is imported: how they are counted and moved together, entry by entry, and that the tables then
--- hold the list of them. These laws rely on those of proofs/Readings.antt and proofs/Places.antt.
+-- hold the list of them. These laws rely on those of proofs/Readings.antt and proofs/Slots.antt.
 use Prim.Native.Nat.{ℕ, zero, suc, _+_, _-_, _*_, _≤_, _<_}
 use mathlib.Core.Path.{_≡_, refl, sym, ap, _∙_}
 use mathlib.Core.Bool.{Bool, true, false, cond, not}

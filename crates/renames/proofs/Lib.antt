@@ -1,7 +1,7 @@
 -- Laws of renames: tables in order, places, changes, imports, and renames read back. They rely on the laws of `lists` and
 -- `rules`.
 pub mod Ordered
-pub mod Places
+pub mod Slots
 pub mod Splices
 pub mod Readings
 pub mod Changes

@@ -1,5 +1,5 @@
 -- Laws of tables in order: one entry of the check, and what is known of every entry where the check holds. They rely on the
--- definitions of specs/Renames.antt and specs/Places.antt.
+-- definitions of specs/Renames.antt and specs/Finding.antt.
 use Prim.Native.Nat.{ℕ, zero, suc, _+_, _-_, _*_, _≤_, _<_}
 use mathlib.Core.Path.{_≡_, refl, sym, _∙_}
 use mathlib.Core.Bool.{Bool, true, false, false≢true, _&&_}

@@ -1,5 +1,5 @@
 -- Laws of the list that the lent tables read: on tables in order it reads back as their words and texts, and with a rename more
--- both tables are spliced. They rely on the laws of proofs/Ordered.antt and proofs/Places.antt.
+-- both tables are spliced. They rely on the laws of proofs/Ordered.antt and proofs/Slots.antt.
 use Prim.Native.Nat.{ℕ, zero, suc, _+_, _-_, _*_, _≤_, _<_}
 use mathlib.Core.Path.{_≡_, refl, sym, ap, _∙_}
 use mathlib.Core.Bool.{Bool, false, cond}
@@ -65,7 +65,7 @@ texts-append (r ∷ a) b = rw (texts-append a b) (sym (append-assoc (r .name) (t
 
 -- ---- a rename more
 
--- the list with a rename: those before its place, itself, and those behind what it had already
+-- the list with a rename: those before its slot, itself, and those after what it had already
 abbrev renamesWith : Renamed → ℕ → ℕ → ℕ → ℕ → ℕ → List ℕ → List ℕ → List Renamed
 renamesWith r n i k s old e t =
     renamesFrom k i e t ++ (r ∷ renamesFrom (n - (k + s)) (i + (k + s)) e (drop (bytesFrom k i e + old) t))
@@ -74,7 +74,7 @@ renamesWith r n i k s old e t =
 abbrev pub isNamedFrom : ℕ → ℕ → ℕ → ℕ → List ℕ → Bool
 isNamedFrom n file i k e = cond (ltb k n) (eqb (getD e ((i + k) * 3) 0) file) false
 
--- one rename that stands before the place
+-- one rename that stands before the slot
 module _ (r : Renamed) (n i k s old : ℕ) (e t : List ℕ) where
   abbrev first : Renamed
   first =
@@ -101,7 +101,7 @@ ltb-both a b = at (le-or-lt b a)
     at (inl h) = rw (le-ltb (a + 1) (suc b) (omega arith), le-ltb a b h)
     at (inr h) = rw (lt-ltb (a + 1) (suc b) (omega arith), lt-ltb a b h)
 
--- where the place is, and what it has already
+-- where the slot is, and what it has already
 module _ (r : Renamed) (n i : ℕ) (e t : List ℕ) where
   abbrev Placed : ℕ → Type 0
   Placed k =

@@ -41,7 +41,7 @@ pub rises-weaker : (rs : List Renamed) (least m : ℕ) → m ≤ least → Rises
 rises-weaker [] least m h a = tt
 rises-weaker (r ∷ rs) least m h a = (omega (arith, a .0), a .1)
 
--- a rename stands before the first that is above it, in place of the one with its number, or behind the one below it
+-- a rename stands before the first that is above it, in place of the one with its number, or after the one below it
 pub with-before : (r x : Renamed) (xs : List Renamed) → r .file < x .file → withRename r (x ∷ xs) ≡ r ∷ x ∷ xs
 with-before r x xs h = rw (lt-ltb (r .file) (x .file) h)
 

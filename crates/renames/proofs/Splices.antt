@@ -40,14 +40,14 @@ module _ (u from d : ℕ) (l₀ : List ℕ) where
       let below : take j l ≡ take j l₀ = sym (take-take j i l (omega arith)) ∙ ap (take j) e ∙ take-take j i l₀ (omega arith) in
       let read : getD l j 0 ≡ getD l₀ j 0 = sym (getD-take i l j 0 (omega arith)) ∙ ap (λ (x : List ℕ). getD x j 0) e ∙ getD-take i l₀ j 0 (omega arith) in
       let t = drop from (take j l₀) in
-      let place : j + d ≡ from + d + length t = omega (arith, length-drop from (take j l₀), length-take j l₀) in
+      let slot : j + d ≡ from + d + length t = omega (arith, length-drop from (take j l₀), length-take j l₀) in
       let whole : sets l (from + d) (drop from (take (suc j) l₀)) ≡ sets l₀ (from + d) (drop from (take u l₀)) = rw q at s in (
         omega arith,
         omega arith,
         k,
         length-set l (j + d) (getD l j 0) ∙ n,
         take-set-le j l (j + d) (getD l j 0) (omega arith) ∙ below,
-        rw (read, place) (last-first t l (from + d) (getD l₀ j 0) ∙ (rw (last j (omega arith) (omega arith)) at whole)),
+        rw (read, slot) (last-first t l (from + d) (getD l₀ j 0) ∙ (rw (last j (omega arith) (omega arith)) at whole)),
       )
 
   pub moving-end : (l : List ℕ) (i : ℕ) → Moving u from d l₀ l i → i ≤ from → l ≡ sets l₀ (from + d) (drop from (take u l₀))

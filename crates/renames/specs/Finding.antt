@@ -1,9 +1,9 @@
 -- A rename read back: of a file, in the list of renames and in the entries, and rename i. It relies on the renames of
--- Renames.antt and on the places of Places.antt.
-use Prim.Native.Nat.{ℕ, _+_, _*_}
-use mathlib.Core.Bool.{cond, not}
+-- Renames.antt and on the entries' three words as it reads them.
+use Prim.Native.Nat.{ℕ, zero, suc, _+_, _*_}
+use mathlib.Core.Bool.{Bool, cond, not, _&&_}
 use mathlib.Core.List.{List, [], _∷_}
-use lib.Dec.{eqb, leb}
+use lib.Dec.{eqb, ltb, leb}
 use lib.IntN.{pos}
 use lib.ListN.{getD}
 use Rattle.types.specs.Refusals.{Outcome}
@@ -12,11 +12,25 @@ use Rattle.rules.specs.Rules.{when, firstOf, outcomeOf}
 use Rattle.rules.specs.Questions.{short}
 use Rattle.renames.specs.declared.rename.Rename.{Rename}
 use Rattle.renames.specs.declared.rename.RenamedFiles.{RenamedFiles}
-use Rattle.renames.specs.Renames.{Renamed, modeOf, inOrder}
-use Rattle.renames.specs.Finding.{belowFrom, bytesFrom, isNamed}
-use Rattle.renames.specs.Renames.{inOrderIn}
+use Rattle.renames.specs.Renames.{Renamed, modeOf, inOrder, inOrderIn}
 
--- entry i as a rename: its text stands behind those of the entries before it
+-- ---- the entries
+
+-- how many of the n entries from entry i on stand before the first whose number is k or above
+unfoldable pub belowFrom : ℕ → ℕ → ℕ → List ℕ → ℕ
+belowFrom zero i k entries = 0
+belowFrom (suc n) i k entries = cond (ltb (getD entries (i * 3) 0) k) (belowFrom n (i + 1) k entries + 1) 0
+
+-- the bytes that the texts of the n entries from entry i on have together
+unfoldable pub bytesFrom : ℕ → ℕ → List ℕ → ℕ
+bytesFrom zero i entries = 0
+bytesFrom (suc n) i entries = getD entries (i * 3 + 2) 0 + bytesFrom n (i + 1) entries
+
+-- whether entry i is one of n, and has the number k
+abbrev pub isNamed : ℕ → ℕ → ℕ → List ℕ → Bool
+isNamed n k i entries = ltb i n && eqb (getD entries (i * 3) 0) k
+
+-- entry i as a rename: its text stands after those of the entries before it
 abbrev pub renameIn : List ℕ → ℕ → Rename
 renameIn entries i =
     record {
@@ -44,4 +58,5 @@ findGiven rf entries room k = outcomeOf (firstOf (short (inOrderIn rf entries ro
 -- `export_filenames`, one rename at a time, ascending: rename i, 11 where there is none
 abbrev pub exported : RenamedFiles → List ℕ → List ℕ → ℕ → Outcome Rename
 exported rf entries names i =
-    outcomeOf (firstOf (when (leb (rf .«num_renames») i) 11 ∷ when (not (inOrder rf entries names)) 10 ∷ [])) (renameIn entries i)
+    outcomeOf (firstOf (when (leb (rf .«num_renames») i) 11 ∷ when (not (inOrder rf entries names)) 10 ∷ []))
+    (renameIn entries i)

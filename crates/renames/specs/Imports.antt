@@ -10,14 +10,15 @@ use Rattle.rules.specs.Rules.{when, firstOf}
 use Rattle.rules.specs.Bounds.{badLength, isNegative, clampedOf, isBelow}
 use Rattle.renames.specs.declared.rename.RenameMode.the-variants.{FullPath}
 use Rattle.renames.specs.declared.rename.RenamedFiles.{RenamedFiles}
-use Rattle.renames.specs.Renames.{Renamed, renamesOf, inOrder, withRename, lacksRoom, RenamesChanged, renamesChangedIf}
+use Rattle.renames.specs.Renames.{Renamed, renamesOf, inOrder, withRename, lacksRoom, RenamesChanged}
+use Rattle.renames.specs.Renames.{renamesChangedIf}
 
 -- a file's number and its new name
 pub record Naming : Type 0 where
   pub file : ℤ
   pub name : List ℕ
 
--- the list as it is lent: the numbers, the lengths of the names, and the names one behind the other
+-- the list as it is lent: the numbers, the lengths of the names, and the names one after the other
 abbrev pub namings : List ℤ → List ℕ → List ℕ → List Naming
 namings [] lengths t = []
 namings (z ∷ zs) lengths t =

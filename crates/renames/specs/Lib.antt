@@ -1,8 +1,6 @@
 -- The definitions that the contracts of `renames` cite. They rely on those of `path`, `tables` and `rules`.
 pub mod Renames
-pub mod Places
-pub mod Changing
 pub mod Results
 pub mod Finding
 pub mod Imports
-pub mod Importing
+pub mod private

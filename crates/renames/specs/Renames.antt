@@ -1,6 +1,7 @@
--- Document 01, 'Names': 'a rename entry holds its file number and one of three modes'. A set's renames are a list, ascending
--- by file number, each number once. In the lent tables an entry is three words: number, mode, length of the text; the texts stand in the
--- entries' order in the text area, one behind the other. It relies on the rules in order of `rules`.
+-- Document 01, 'Names': 'a rename entry holds its file number and one of three modes'. A set's renames are a list,
+-- ascending by file number, each number once. In the lent tables an entry is three words: number, mode, length of the
+-- text; the texts stand in the entries' order in the text area, one after the other. It relies on the rules in order of
+-- `rules`.
 use Prim.Native.Nat.{ℕ, zero, suc, _+_, _-_, _*_, _/_}
 use mathlib.Core.Bool.{Bool, cond, not, _&&_, _||_}
 use mathlib.Core.List.{List, [], _∷_, _++_}
@@ -33,7 +34,7 @@ modeWord AbsolutePath = 2
 abbrev pub modeOf : ℕ → RenameMode
 modeOf n = cond (eqb n 0) FullPath (cond (eqb n 1) NoRootPath AbsolutePath)
 
--- the n renames from entry i on, whose texts stand in t
+-- the n renames from entry i on, whose texts stand one after the other in t
 unfoldable pub renamesFrom : ℕ → ℕ → List ℕ → List ℕ → List Renamed
 renamesFrom zero i entries t = []
 renamesFrom (suc n) i entries t =
@@ -59,8 +60,8 @@ textsOf (r ∷ rs) = r .name ++ textsOf rs
 abbrev pub stateOf : List Renamed → RenamedFiles
 stateOf rs = record { «num_renames» = length rs; «text_len» = length (textsOf rs) }
 
--- the n entries from entry i on are in order: each number is one of 31 bits and at least `least`, each later one above it,
--- each mode is one of three, and their texts have `left` bytes together
+-- the n entries from entry i on are in order: each number is one of 31 bits and at least `least`, each later one above
+-- it, each mode is one of three, and their texts have `left` bytes together
 unfoldable pub orderedFrom : ℕ → ℕ → ℕ → ℕ → List ℕ → Bool
 orderedFrom zero i least left entries = eqb left 0
 orderedFrom (suc n) i least left entries =
@@ -69,11 +70,14 @@ orderedFrom (suc n) i least left entries =
     && (leb (getD entries (i * 3 + 2) 0) left
     && orderedFrom n (i + 1) (getD entries (i * 3) 0 + 1) (left - getD entries (i * 3 + 2) 0) entries))
 
--- the lent tables hold what the record counts, in order
-abbrev pub inOrder : RenamedFiles → List ℕ → List ℕ → Bool
-inOrder rf entries text =
+-- the lent tables hold what the record counts, in order; the text area has `room` bytes
+abbrev pub inOrderIn : RenamedFiles → List ℕ → ℕ → Bool
+inOrderIn rf entries room =
     leb (rf .«num_renames») (length entries / 3)
-    && (leb (rf .«text_len») (length text) && orderedFrom (rf .«num_renames») 0 0 (rf .«text_len») entries)
+    && (leb (rf .«text_len») room && orderedFrom (rf .«num_renames») 0 0 (rf .«text_len») entries)
+
+abbrev pub inOrder : RenamedFiles → List ℕ → List ℕ → Bool
+inOrder rf entries text = inOrderIn rf entries (length text)
 
 -- ---- changes
 
@@ -83,28 +87,32 @@ withRename r [] = r ∷ []
 withRename r (x ∷ xs) =
     cond (ltb (r .file) (x .file)) (r ∷ x ∷ xs) (cond (eqb (r .file) (x .file)) (r ∷ xs) (x ∷ withRename r xs))
 
--- an absolute name is read alone, any other behind the save path and the set's name
+-- an absolute name is read alone, any other after the save path and the set's name
 abbrev pub modeFor : List ℕ → RenameMode
 modeFor name = cond (isComplete name) AbsolutePath FullPath
 
 abbrev pub renamedTo : ℤ → List ℕ → List Renamed → List Renamed
 renamedTo z name rs = withRename (record { file = clampedOf z; mode = modeFor name; name = name }) rs
 
--- refusal 10: an entry or a text more than the tables have places for
+-- refusal 10: more entries or more bytes of text than the tables have room for
 abbrev pub lacksRoom : List Renamed → List ℕ → List ℕ → Bool
 lacksRoom rs entries text = ltb (length entries / 3) (length rs) || ltb (length text) (length (textsOf rs))
 
--- the answer, and each table
+-- the answer, and each table after it
 pub record RenamesChanged : Type 0 where
   pub says : Outcome RenamedFiles
   pub entries : List ℕ
   pub text : List ℕ
 
+abbrev pub renamesChangedOf : Outcome RenamedFiles → List ℕ → List ℕ → RenamesChanged
+renamesChangedOf says entries text = record { says = says; entries = entries; text = text }
+
+-- the renames rs in both tables, or refusal k, which leaves them as they were
 abbrev pub renamesChangedIf : ℕ → List Renamed → List ℕ → List ℕ → RenamesChanged
 renamesChangedIf k rs entries text =
     cond (eqb k 0)
-    (record { says = value (stateOf rs); entries = sets entries 0 (wordsOf rs); text = sets text 0 (textsOf rs) })
-    (record { says = refused k; entries = entries; text = text })
+    (renamesChangedOf (value (stateOf rs)) (sets entries 0 (wordsOf rs)) (sets text 0 (textsOf rs)))
+    (renamesChangedOf (refused k) entries text)
 
 -- `rename_file`: refusals 1, 11, 10
 abbrev pub renameFile : FileStorage → RenamedFiles → List ℕ → List ℕ → ℤ → List ℕ → RenamesChanged

@@ -9,8 +9,8 @@ ghost use Rattle.renames.specs.Renames.{inOrderIn};
 ghost use Rattle.renames.specs.Renames.{orderedFrom};
 use crate::rename::RenamedFiles;
 
-// Whether an entry is in order: its number at least `least` and of 31 bits, its mode one of three, its text
-// within the `left` bytes.
+// Whether an entry is in order: its number is at least `least` and has 31 bits, its mode is one of three, and its text
+// has at most `left` bytes.
 fn is_entry_in_order(file: u64, mode: u64, len: u64, least: u64, left: usize) -> bool
     ensures { λ r. ⌜ r ≡ ((leb least file && leb file 2147483647) && (leb mode 2 && leb len left)) ⌝ }
 {
@@ -47,7 +47,7 @@ fn are_in_order(entries: &[u64], n: usize, len: usize) -> bool
     left == 0
 }
 
-// Whether the lent tables, the text area being of `room` bytes, hold what the record counts, in order.
+// Whether the lent tables hold what the record counts, in order; `room` is the length of the text area.
 pub(crate) fn is_in_order(renames: RenamedFiles, entries: &[u64], room: usize) -> bool
     ensures { λ r. ⌜ r ≡ inOrderIn renames (now (entries .entry)) room ⌝ }
 {

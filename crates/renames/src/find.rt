@@ -1,4 +1,4 @@
-// A rename read back from the lent tables: that of a file, or rename i. Relies on check.rt and place.rt and on
+// A rename read back from the lent tables: that of a file, or rename i. Relies on check.rt and slot.rt and on
 // the laws of proofs/Finding.antt.
 ghost use mathlib.Core.Path.{_≡_};
 ghost use Prim.Native.Nat.{_+_, _*_, _≤_, _%_, _^_};
@@ -8,13 +8,13 @@ ghost use Rattle.renames.specs.Renames.{modeOf};
 ghost use Rattle.renames.specs.Results.{renameSays, findSays};
 ghost use Rattle.renames.specs.Finding.{findGiven, exported};
 use crate::check::is_in_order;
-use crate::place::bytes_of;
-use crate::place::place_of;
 use crate::rename::FindResult;
 use crate::rename::Rename;
 use crate::rename::RenameMode;
 use crate::rename::RenameResult;
 use crate::rename::RenamedFiles;
+use crate::slot::bytes_of;
+use crate::slot::slot_of;
 use tables::Span;
 use types::FileIndex;
 use types::Refusal;
@@ -40,10 +40,15 @@ fn mode_at(entries: &[u64], i: usize) -> RenameMode
     mode_of(lists::word(entries, i * 3 + 1))
 }
 
-// Rename i, which is one of those in order, its text being at that place.
+// Rename i, which is one of those held; its text begins at `at`.
 fn rename_at(entries: &[u64], i: usize, at: usize) -> Rename
     requires { ⌜ i * 3 + 3 ≤ length (now entries) ⌝ }
-    ensures { λ r. ⌜ (r .«file_index» .0 ≡ pos (getD (now (entries .entry)) (i * 3) 0 % 2 ^ 31)) × (r .mode ≡ modeOf (getD (now (entries .entry)) (i * 3 + 1) 0)) × (r .name .at ≡ at) × (r .name .len ≡ getD (now (entries .entry)) (i * 3 + 2) 0) ⌝ }
+    ensures { λ r. ⌜
+        (r .«file_index» .0 ≡ pos (getD (now (entries .entry)) (i * 3) 0 % 2 ^ 31))
+        × (r .mode ≡ modeOf (getD (now (entries .entry)) (i * 3 + 1) 0))
+        × (r .name .at ≡ at)
+        × (r .name .len ≡ getD (now (entries .entry)) (i * 3 + 2) 0)
+        ⌝ }
 {
     Rename {
         file_index: FileIndex::new(lists::word(entries, i * 3)),
@@ -55,34 +60,39 @@ fn rename_at(entries: &[u64], i: usize, at: usize) -> Rename
     }
 }
 
-// The rename of a file, if it has one, where the lent tables are in order, the text area being of `room` bytes.
-pub fn find_rename(renames: RenamedFiles, entries: &[u64], room: usize, file: u64) -> FindResult
-    ensures { λ r. ⌜ findSays r ≡ findGiven renames (now (entries .entry)) room file ⌝ }
+// The rename of a file, if it has one; `room` is the length of the text area.
+pub fn find_rename(
+    renames: RenamedFiles,
+    rename_entries: &[u64],
+    room: usize,
+    file: u64,
+) -> FindResult
+    ensures { λ r. ⌜ findSays r ≡ findGiven renames (now («rename_entries» .entry)) room file ⌝ }
 {
-    if !is_in_order(renames, entries, room) {
+    if !is_in_order(renames, rename_entries, room) {
         return FindResult::Err(Refusal::NoRoom);
     }
-    let p = place_of(entries, renames.num_renames, file);
+    let p = slot_of(rename_entries, renames.num_renames, file);
     if p.same == 0 {
         return FindResult::Own;
     }
-    FindResult::Renamed(rename_at(entries, p.entry, p.at))
+    FindResult::Renamed(rename_at(rename_entries, p.entry, p.at))
 }
 
 // Rename i, ascending by file.
 pub fn export_filename(
     renames: RenamedFiles,
-    entries: &[u64],
-    names: &[u8],
+    rename_entries: &[u64],
+    rename_text: &[u8],
     i: usize,
 ) -> RenameResult
-    ensures { λ r. ⌜ renameSays r ≡ exported renames (now (entries .entry)) (now (names .entry)) i ⌝ }
+    ensures { λ r. ⌜ renameSays r ≡ exported renames (now («rename_entries» .entry)) (now («rename_text» .entry)) i ⌝ }
 {
     if renames.num_renames <= i {
         return RenameResult::Err(Refusal::NoSuchFile);
     }
-    if !is_in_order(renames, entries, names.len()) {
+    if !is_in_order(renames, rename_entries, rename_text.len()) {
         return RenameResult::Err(Refusal::NoRoom);
     }
-    RenameResult::Ok(rename_at(entries, i, bytes_of(entries, i)))
+    RenameResult::Ok(rename_at(rename_entries, i, bytes_of(rename_entries, i)))
 }

@@ -1,19 +1,18 @@
-// The names that a list gives: counting them, and putting them one after the other to renames that it does not
-// name. Relies on listed.rt, place.rt and change.rt and on the laws of proofs/Giving.antt.
+// The names that a list gives: counting them, and putting them one after the other to renames of files that the list
+// does not name. Relies on listed.rt, slot.rt and change.rt and on the laws of proofs/Giving.antt.
 ghost use mathlib.Core.Path.{_≡_};
 ghost use mathlib.Core.Bool.{true};
-ghost use Prim.Native.Nat.{_+_, _/_, _≤_, _<_};
-ghost use lib.IntN.{pos};
-ghost use lib.ListN.{length, getD, drop};
+ghost use Prim.Native.Nat.{_/_, _≤_, _<_};
+ghost use lib.ListN.{length};
 ghost use lib.Seq.{sets};
 ghost use Rattle.renames.specs.Renames.{renamesOf, inOrder, stateOf, wordsOf, textsOf};
-ghost use Rattle.renames.specs.private.Importing.{renamesGiven, withAll, withOne, Fresh};
+ghost use Rattle.renames.specs.private.Importing.{renamesGiven, withNumber, withGiven, Fresh};
 use crate::change::put_rename;
 use crate::listed::does_count;
 use crate::listed::file_at;
-use crate::place::place_of;
 use crate::rename::RenameMode;
 use crate::rename::RenamedFiles;
+use crate::slot::slot_of;
 
 // The record of the names that a list gives.
 pub(crate) fn count_given(
@@ -22,7 +21,9 @@ pub(crate) fn count_given(
     names: &[u8],
     files: usize,
 ) -> RenamedFiles
-    ensures { λ r. ⌜ r ≡ stateOf (renamesGiven files (now (numbers .entry)) (now (lengths .entry)) (now (names .entry))) ⌝ }
+    ensures { λ r. ⌜
+        r ≡ stateOf (renamesGiven files (now (numbers .entry)) (now (lengths .entry)) (now (names .entry)))
+        ⌝ }
 {
     let mut i = 0;
     let mut at = 0;
@@ -44,7 +45,7 @@ pub(crate) fn count_given(
     }
 }
 
-// Puts the name of number i, if the number counts; there is room for it.
+// Puts the name of number i to the renames, if the number counts; there is room for it.
 fn give_one(
     renames: RenamedFiles,
     entries: &mut [u64],
@@ -54,21 +55,44 @@ fn give_one(
     files: usize,
     name: &[u8],
 ) -> RenamedFiles
-    requires { ⌜ (i < length (now numbers)) × (inOrder renames (now entries) (now text) ≡ true) × (length (withOne files (getD (now numbers) i (pos 0)) (drop (i + 1) (now numbers)) (now name) (renamesOf renames (now entries) (now text))) ≤ length (now entries) / 3) × (length (textsOf (withOne files (getD (now numbers) i (pos 0)) (drop (i + 1) (now numbers)) (now name) (renamesOf renames (now entries) (now text)))) ≤ length (now text)) ⌝ }
+    requires { ⌜
+        (i < length (now numbers))
+        × (inOrder renames (now entries) (now text) ≡ true)
+        × (length (withNumber files (now numbers) i (now name) (renamesOf renames (now entries) (now text)))
+        ≤ length (now entries) / 3)
+        × (length (textsOf (withNumber files (now numbers) i (now name) (renamesOf renames (now entries) (now text))))
+        ≤ length (now text))
+        ⌝ }
     ensures { λ r. ⌜ inOrder r (now (entries .exit)) (now (text .exit)) ≡ true ⌝ }
-    ensures { λ r. ⌜ renamesOf r (now (entries .exit)) (now (text .exit)) ≡ withOne files (getD (now (numbers .entry)) i (pos 0)) (drop (i + 1) (now (numbers .entry))) (now (name .entry)) (renamesOf renames (now (entries .entry)) (now (text .entry))) ⌝ }
-    ensures { λ _. ⌜ now (entries .exit) ≡ sets (now (entries .entry)) 0 (wordsOf (withOne files (getD (now (numbers .entry)) i (pos 0)) (drop (i + 1) (now (numbers .entry))) (now (name .entry)) (renamesOf renames (now (entries .entry)) (now (text .entry))))) ⌝ }
-    ensures { λ _. ⌜ now (text .exit) ≡ sets (now (text .entry)) 0 (textsOf (withOne files (getD (now (numbers .entry)) i (pos 0)) (drop (i + 1) (now (numbers .entry))) (now (name .entry)) (renamesOf renames (now (entries .entry)) (now (text .entry))))) ⌝ }
+    ensures { λ r. ⌜
+        renamesOf r (now (entries .exit)) (now (text .exit))
+        ≡ withNumber files (now (numbers .entry)) i (now (name .entry))
+        (renamesOf renames (now (entries .entry)) (now (text .entry)))
+        ⌝ }
+    ensures { λ _. ⌜
+        now (entries .exit)
+        ≡ sets (now (entries .entry)) 0
+        (wordsOf
+        (withNumber files (now (numbers .entry)) i (now (name .entry))
+        (renamesOf renames (now (entries .entry)) (now (text .entry)))))
+        ⌝ }
+    ensures { λ _. ⌜
+        now (text .exit)
+        ≡ sets (now (text .entry)) 0
+        (textsOf
+        (withNumber files (now (numbers .entry)) i (now (name .entry))
+        (renamesOf renames (now (entries .entry)) (now (text .entry)))))
+        ⌝ }
 {
     if !does_count(numbers, i, files) {
         return renames;
     }
     let file = file_at(numbers, i);
-    let p = place_of(entries, renames.num_renames, file);
+    let p = slot_of(entries, renames.num_renames, file);
     put_rename(renames, entries, text, file, p, RenameMode::FullPath, name)
 }
 
-// Puts the names that a list gives to renames that it does not name; there is room for all of them.
+// Puts the names that a list gives to renames of files that it does not name; there is room for all of them.
 pub(crate) fn give(
     renames: RenamedFiles,
     entries: &mut [u64],
@@ -78,10 +102,35 @@ pub(crate) fn give(
     names: &[u8],
     files: usize,
 ) -> RenamedFiles
-    requires { ⌜ (inOrder renames (now entries) (now text) ≡ true) × Fresh files (now numbers) (renamesOf renames (now entries) (now text)) × (length (withAll (renamesGiven files (now numbers) (now lengths) (now names)) (renamesOf renames (now entries) (now text))) ≤ length (now entries) / 3) × (length (textsOf (withAll (renamesGiven files (now numbers) (now lengths) (now names)) (renamesOf renames (now entries) (now text)))) ≤ length (now text)) ⌝ }
-    ensures { λ r. ⌜ r ≡ stateOf (withAll (renamesGiven files (now (numbers .entry)) (now (lengths .entry)) (now (names .entry))) (renamesOf renames (now (entries .entry)) (now (text .entry)))) ⌝ }
-    ensures { λ _. ⌜ now (entries .exit) ≡ sets (now (entries .entry)) 0 (wordsOf (withAll (renamesGiven files (now (numbers .entry)) (now (lengths .entry)) (now (names .entry))) (renamesOf renames (now (entries .entry)) (now (text .entry))))) ⌝ }
-    ensures { λ _. ⌜ now (text .exit) ≡ sets (now (text .entry)) 0 (textsOf (withAll (renamesGiven files (now (numbers .entry)) (now (lengths .entry)) (now (names .entry))) (renamesOf renames (now (entries .entry)) (now (text .entry))))) ⌝ }
+    requires { ⌜
+        (inOrder renames (now entries) (now text) ≡ true)
+        × Fresh files (now numbers) (renamesOf renames (now entries) (now text))
+        × (length (withGiven files (now numbers) (now lengths) (now names) (renamesOf renames (now entries) (now text)))
+        ≤ length (now entries) / 3)
+        × (length
+        (textsOf
+        (withGiven files (now numbers) (now lengths) (now names) (renamesOf renames (now entries) (now text))))
+        ≤ length (now text))
+        ⌝ }
+    ensures { λ r. ⌜
+        r ≡ stateOf
+        (withGiven files (now (numbers .entry)) (now (lengths .entry)) (now (names .entry))
+        (renamesOf renames (now (entries .entry)) (now (text .entry))))
+        ⌝ }
+    ensures { λ _. ⌜
+        now (entries .exit)
+        ≡ sets (now (entries .entry)) 0
+        (wordsOf
+        (withGiven files (now (numbers .entry)) (now (lengths .entry)) (now (names .entry))
+        (renamesOf renames (now (entries .entry)) (now (text .entry)))))
+        ⌝ }
+    ensures { λ _. ⌜
+        now (text .exit)
+        ≡ sets (now (text .entry)) 0
+        (textsOf
+        (withGiven files (now (numbers .entry)) (now (lengths .entry)) (now (names .entry))
+        (renamesOf renames (now (entries .entry)) (now (text .entry)))))
+        ⌝ }
 {
     let mut rf = renames;
     let mut i = 0;

@@ -1,9 +1,9 @@
 // `import_filenames`: names for many files at once, decided first and written after. Relies on check.rt for the
-// order of the tables, on keep.rt and give.rt for what stays and what comes, and on the laws of
+// order of the tables, on keep.rt and give.rt for what is kept and what is given, and on the laws of
 // proofs/Importing.antt.
 ghost use mathlib.Core.Path.{_≡_};
 ghost use Prim.Native.Nat.{_/_, _≤_};
-ghost use Rattle.renames.specs.Renames.{RenamesChanged, stateOf};
+ghost use Rattle.renames.specs.Renames.{renamesChangedOf, stateOf};
 ghost use Rattle.renames.specs.Results.{renamesSays};
 ghost use Rattle.renames.specs.Imports.{namings, importFilenames};
 ghost use Rattle.renames.specs.private.Importing.{renamesGiven, isFull, importAsked};
@@ -20,7 +20,7 @@ use rules::is_bad_length;
 use tables::FileStorage;
 use types::Refusal;
 
-// Whether tables of so many words and bytes are too short for what stays and what comes.
+// Whether tables of `words` words and `room` bytes are too short for the renames that `stay` and `come` count.
 fn is_full(words: usize, room: usize, stay: RenamedFiles, come: RenamedFiles) -> bool
     requires { ⌜ (stay .«num_renames» ≤ words / 3) × (stay .«text_len» ≤ room) ⌝ }
     ensures { λ r. ⌜ r ≡ isFull words room stay come ⌝ }
@@ -31,7 +31,7 @@ fn is_full(words: usize, room: usize, stay: RenamedFiles, come: RenamedFiles) ->
     room - stay.text_len < come.text_len
 }
 
-// The record of the renames that stay, or why the list is refused.
+// The record of the renames that are kept, or why the list is refused; `room` is the length of the text area.
 fn decide(
     fs: FileStorage,
     renames: RenamedFiles,
@@ -41,7 +41,11 @@ fn decide(
     lengths: &[u64],
     names: &[u8],
 ) -> RenamesResult
-    ensures { λ r. ⌜ renamesSays r ≡ importAsked fs renames (now (entries .entry)) room (now (numbers .entry)) (stateOf (renamesGiven (fs .«num_files») (now (numbers .entry)) (now (lengths .entry)) (now (names .entry)))) ⌝ }
+    ensures { λ r. ⌜
+        renamesSays r ≡ importAsked fs renames (now (entries .entry)) room (now (numbers .entry))
+        (stateOf
+        (renamesGiven (fs .«num_files») (now (numbers .entry)) (now (lengths .entry)) (now (names .entry))))
+        ⌝ }
 {
     if is_bad_length(fs.piece_length) {
         return RenamesResult::Err(Refusal::InvalidPieceLength);
@@ -60,26 +64,52 @@ fn decide(
     RenamesResult::Ok(stay)
 }
 
-// Records other paths for many files, or why not: number i and the name of `lengths[i]` bytes, the names one
-// behind the other. Numbers past the end are skipped, and of repeats the last counts.
+// Records other paths for many files, or why not: file `numbers[i]` gets the name of `lengths[i]` bytes, the names
+// stand one after the other. Numbers past the end are skipped, and of repeats the last counts.
 pub fn import_filenames(
     fs: FileStorage,
     renames: RenamedFiles,
-    entries: &mut [u64],
-    text: &mut [u8],
+    rename_entries: &mut [u64],
+    rename_text: &mut [u8],
     numbers: &[i32],
     lengths: &[u64],
     names: &[u8],
 ) -> RenamesResult
-    ensures { λ r. ⌜ _≡_ {A = RenamesChanged} (record { says = renamesSays r; entries = now (entries .exit); text = now (text .exit) }) (importFilenames fs renames (now (entries .entry)) (now (text .entry)) (namings (now (numbers .entry)) (now (lengths .entry)) (now (names .entry)))) ⌝ }
+    ensures { λ r. ⌜
+        renamesChangedOf (renamesSays r) (now («rename_entries» .exit)) (now («rename_text» .exit))
+        ≡ importFilenames fs renames (now («rename_entries» .entry)) (now («rename_text» .entry))
+        (namings (now (numbers .entry)) (now (lengths .entry)) (now (names .entry)))
+        ⌝ }
 {
-    let decision = decide(fs, renames, entries, text.len(), numbers, lengths, names);
+    let decision = decide(
+        fs,
+        renames,
+        rename_entries,
+        rename_text.len(),
+        numbers,
+        lengths,
+        names,
+    );
     match decision {
         RenamesResult::Ok(stay) => {
             let files = fs.num_files;
-            keep_texts(text, entries, renames.num_renames, numbers, files);
-            keep_entries(entries, renames.num_renames, numbers, files);
-            RenamesResult::Ok(give(stay, entries, text, numbers, lengths, names, files))
+            keep_texts(
+                rename_text,
+                rename_entries,
+                renames.num_renames,
+                numbers,
+                files,
+            );
+            keep_entries(rename_entries, renames.num_renames, numbers, files);
+            RenamesResult::Ok(give(
+                stay,
+                rename_entries,
+                rename_text,
+                numbers,
+                lengths,
+                names,
+                files,
+            ))
         }
         RenamesResult::Err(e) => RenamesResult::Err(e),
     }

@@ -1,4 +1,4 @@
-// The renames that stay when a list of names is imported: counting them, and moving them together in both
+// The renames that are kept when a list of names is imported: counting them, and moving them together in both
 // tables. Relies on listed.rt and splice.rt and on the laws of proofs/Keeping.antt.
 ghost use mathlib.Core.Path.{_≡_};
 ghost use mathlib.Core.Bool.{cond};
@@ -15,14 +15,17 @@ use crate::rename::RenamedFiles;
 use crate::splice::put_three;
 use tables::Span;
 
-// The record of the renames that stay.
+// The record of the renames that are kept.
 pub(crate) fn count_kept(
     renames: RenamedFiles,
     entries: &[u64],
     numbers: &[i32],
     files: usize,
 ) -> RenamedFiles
-    requires { ⌜ (renames .«num_renames» * 3 ≤ length (now entries)) × (bytesFrom (renames .«num_renames») 0 (now entries) < 2 ^ 64) ⌝ }
+    requires { ⌜
+        (renames .«num_renames» * 3 ≤ length (now entries))
+        × (bytesFrom (renames .«num_renames») 0 (now entries) < 2 ^ 64)
+        ⌝ }
     ensures { λ r. ⌜ r ≡ keptState files (now (numbers .entry)) renames (now (entries .entry)) ⌝ }
 {
     let n = renames.num_renames;
@@ -44,11 +47,20 @@ pub(crate) fn count_kept(
     }
 }
 
-// Moves entry i down to place `to` if it stays, and gives the place behind what stays.
+// Moves entry i down to entry `to` if it stays, and gives the number of the next free entry.
 fn keep_entry(entries: &mut [u64], i: usize, to: usize, stays: bool) -> usize
     requires { ⌜ (to ≤ i) × (i * 3 + 3 ≤ length (now entries)) ⌝ }
     ensures { λ r. ⌜ r ≡ cond stays (to + 1) to ⌝ }
-    ensures { λ _. ⌜ now (entries .exit) ≡ sets (now (entries .entry)) (to * 3) (cond stays (getD (now (entries .entry)) (i * 3) 0 ∷ getD (now (entries .entry)) (i * 3 + 1) 0 ∷ getD (now (entries .entry)) (i * 3 + 2) 0 ∷ []) []) ⌝ }
+    ensures { λ _. ⌜
+        now (entries .exit)
+        ≡ sets (now (entries .entry)) (to * 3)
+        (cond stays
+        (getD (now (entries .entry)) (i * 3) 0
+        ∷ getD (now (entries .entry)) (i * 3 + 1) 0
+        ∷ getD (now (entries .entry)) (i * 3 + 2) 0
+        ∷ [])
+        [])
+        ⌝ }
 {
     if stays {
         let file = lists::word(entries, i * 3);
@@ -60,10 +72,13 @@ fn keep_entry(entries: &mut [u64], i: usize, to: usize, stays: bool) -> usize
     to
 }
 
-// Moves those of n entries together that stay.
+// Moves the kept ones of the first n entries together.
 pub(crate) fn keep_entries(entries: &mut [u64], n: usize, numbers: &[i32], files: usize)
     requires { ⌜ n * 3 ≤ length (now entries) ⌝ }
-    ensures { λ _. ⌜ now (entries .exit) ≡ sets (now (entries .entry)) 0 (keptWords files (now (numbers .entry)) n 0 (now (entries .entry))) ⌝ }
+    ensures { λ _. ⌜
+        now (entries .exit)
+        ≡ sets (now (entries .entry)) 0 (keptWords files (now (numbers .entry)) n 0 (now (entries .entry)))
+        ⌝ }
 {
     let mut i = 0;
     let mut to = 0;
@@ -74,12 +89,14 @@ pub(crate) fn keep_entries(entries: &mut [u64], n: usize, numbers: &[i32], files
     }
 }
 
-// Moves a text of `len` bytes from place `from` down to place `to` if it stays, and gives the place behind
-// what stays.
+// Moves a text of `len` bytes from position `from` down to position `to` if it stays, and gives the position of
+// the next free byte.
 fn keep_text(text: &mut [u8], from: usize, len: usize, to: usize, stays: bool) -> usize
     requires { ⌜ (to ≤ from) × (from + len ≤ length (now text)) ⌝ }
     ensures { λ r. ⌜ r ≡ cond stays (to + len) to ⌝ }
-    ensures { λ _. ⌜ now (text .exit) ≡ sets (now (text .entry)) to (cond stays (partOf (now (text .entry)) from len) []) ⌝ }
+    ensures { λ _. ⌜
+        now (text .exit) ≡ sets (now (text .entry)) to (cond stays (partOf (now (text .entry)) from len) [])
+        ⌝ }
 {
     if stays {
         tables::remove_text(
@@ -95,10 +112,15 @@ fn keep_text(text: &mut [u8], from: usize, len: usize, to: usize, stays: bool) -
     to
 }
 
-// Moves the texts of those of n entries together that stay.
+// Moves the texts of the kept ones of the first n entries together.
 pub(crate) fn keep_texts(text: &mut [u8], entries: &[u64], n: usize, numbers: &[i32], files: usize)
     requires { ⌜ (n * 3 ≤ length (now entries)) × (bytesFrom n 0 (now entries) ≤ length (now text)) ⌝ }
-    ensures { λ _. ⌜ now (text .exit) ≡ sets (now (text .entry)) 0 (textsOf (renamesKept files (now (numbers .entry)) (renamesFrom n 0 (now (entries .entry)) (now (text .entry))))) ⌝ }
+    ensures { λ _. ⌜
+        now (text .exit)
+        ≡ sets (now (text .entry)) 0
+        (textsOf
+        (renamesKept files (now (numbers .entry)) (renamesFrom n 0 (now (entries .entry)) (now (text .entry)))))
+        ⌝ }
 {
     let mut i = 0;
     let mut from = 0;

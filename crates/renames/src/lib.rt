@@ -7,8 +7,8 @@ mod give;
 mod import;
 mod keep;
 mod listed;
-mod place;
 mod rename;
+mod slot;
 mod splice;
 
 pub use change::rename_file;

@@ -52,7 +52,7 @@ fn index_at(numbers: &[i32], i: usize) -> FileIndex
     FileIndex(number_at(numbers, i))
 }
 
-// Whether number i is that of a file, one of so many.
+// Whether number i is that of `file`, one of `files` files.
 fn is_of(numbers: &[i32], i: usize, files: usize, file: u64) -> bool
     ensures { λ r. ⌜ r ≡ isOf files file (getD (now (numbers .entry)) i (pos 0)) ⌝ }
 {
@@ -62,7 +62,7 @@ fn is_of(numbers: &[i32], i: usize, files: usize, file: u64) -> bool
     }
 }
 
-// Whether one of the numbers from place `from` on is that of a file, one of so many.
+// Whether one of the numbers from `from` on is that of `file`, one of `files` files.
 pub(crate) fn is_listed(numbers: &[i32], from: usize, files: usize, file: u64) -> bool
     ensures { λ r. ⌜ r ≡ isListed files (drop from (now (numbers .entry))) file ⌝ }
 {
@@ -83,7 +83,7 @@ pub(crate) fn file_at(numbers: &[i32], i: usize) -> u64
     index_at(numbers, i).get() as u64
 }
 
-// Whether number i counts: it is one of so many files', and no later number repeats it.
+// Whether number i counts: it is that of one of `files` files, and no later number repeats it.
 pub(crate) fn does_count(numbers: &[i32], i: usize, files: usize) -> bool
     requires { ⌜ i < length (now numbers) ⌝ }
     ensures { λ r. ⌜ r ≡ counts files (getD (now (numbers .entry)) i (pos 0)) (drop (i + 1) (now (numbers .entry))) ⌝ }

@@ -3,21 +3,21 @@ use tables::Span;
 use types::FileIndex;
 use types::Refusal;
 
-// How a rename's text is to be read: behind the save path and the set's name, behind the save path, or alone.
+// How a rename's text is to be read: after the save path and the set's name, after the save path, or alone.
 pub enum RenameMode {
     FullPath,
     NoRootPath,
     AbsolutePath,
 }
 
-// A rename: its file, its mode, and its text's place in the renames' text area.
+// A rename: its file, its mode, and the span of its text in the renames' text area.
 pub struct Rename {
     pub file_index: FileIndex,
     pub mode: RenameMode,
     pub name: Span,
 }
 
-// How many renames there are, and how many bytes of text they have. The entries, three words each (file, mode,
+// The number of renames and the bytes of their texts. The entries, three words each (file, mode,
 // length of the text), and the text area are slices that the caller lends.
 pub struct RenamedFiles {
     pub num_renames: usize,

@@ -1,4 +1,4 @@
-// Replacing a part of a table: what stands behind the part is moved, then the new cells are written. Relies on
+// Replacing a part of a table: what stands after the part is moved, then the new cells are written. Relies on
 // `tables` for moves down and on the laws of proofs/Splices.antt.
 ghost use mathlib.Core.Path.{_≡_};
 ghost use mathlib.Core.List.{[], _∷_};
@@ -8,10 +8,12 @@ ghost use lib.Seq.{sets};
 ghost use Rattle.renames.specs.private.Slots.{spliced};
 use tables::Span;
 
-// Moves the bytes from `from` up to `used` up by so many places, the last first.
+// Moves the bytes from `from` up to `used` up by `by` places, the last first.
 fn move_up(text: &mut [u8], used: usize, from: usize, by: usize)
     requires { ⌜ (from ≤ used) × (used + by ≤ length (now text)) ⌝ }
-    ensures { λ _. ⌜ now (text .exit) ≡ sets (now (text .entry)) (from + by) (drop from (take used (now (text .entry)))) ⌝ }
+    ensures { λ _. ⌜
+        now (text .exit) ≡ sets (now (text .entry)) (from + by) (drop from (take used (now (text .entry))))
+        ⌝ }
 {
     let mut i = used;
     while from < i {
@@ -20,10 +22,12 @@ fn move_up(text: &mut [u8], used: usize, from: usize, by: usize)
     }
 }
 
-// Moves the bytes behind a part of `old` bytes to where they stand behind one of `new` bytes.
+// Moves the bytes after a part of `old` bytes to where they stand after one of `new` bytes.
 fn shift(text: &mut [u8], used: usize, at: usize, old: usize, new: usize)
     requires { ⌜ (at + old ≤ used) × (used ≤ length (now text)) × (used - old + new ≤ length (now text)) ⌝ }
-    ensures { λ _. ⌜ now (text .exit) ≡ sets (now (text .entry)) (at + new) (drop (at + old) (take used (now (text .entry)))) ⌝ }
+    ensures { λ _. ⌜
+        now (text .exit) ≡ sets (now (text .entry)) (at + new) (drop (at + old) (take used (now (text .entry))))
+        ⌝ }
 {
     if old < new {
         move_up(text, used, at + old, new - old);
@@ -39,9 +43,11 @@ fn shift(text: &mut [u8], used: usize, at: usize, old: usize, new: usize)
     );
 }
 
-// Replaces `old` bytes of the first `used` by a new text.
+// Replaces the `old` bytes at `at`, within the first `used`, by a new text.
 pub(crate) fn replace_text(text: &mut [u8], used: usize, at: usize, old: usize, new: &[u8])
-    requires { ⌜ (at + old ≤ used) × (used ≤ length (now text)) × (used - old + length (now new) ≤ length (now text)) ⌝ }
+    requires { ⌜
+        (at + old ≤ used) × (used ≤ length (now text)) × (used - old + length (now new) ≤ length (now text))
+        ⌝ }
     ensures { λ _. ⌜ now (text .exit) ≡ spliced (now (text .entry)) used at old (now (new .entry)) ⌝ }
 {
     shift(text, used, at, old, new.len());
@@ -51,7 +57,9 @@ pub(crate) fn replace_text(text: &mut [u8], used: usize, at: usize, old: usize, 
 // Moves the words from `from` up to `used` up by three places, the last first.
 fn move_words(words: &mut [u64], used: usize, from: usize)
     requires { ⌜ (from ≤ used) × (used + 3 ≤ length (now words)) ⌝ }
-    ensures { λ _. ⌜ now (words .exit) ≡ sets (now (words .entry)) (from + 3) (drop from (take used (now (words .entry)))) ⌝ }
+    ensures { λ _. ⌜
+        now (words .exit) ≡ sets (now (words .entry)) (from + 3) (drop from (take used (now (words .entry))))
+        ⌝ }
 {
     let mut i = used;
     while from < i {
@@ -73,7 +81,9 @@ pub(crate) fn put_three(words: &mut [u64], at: usize, first: u64, second: u64, t
 // Makes room for an entry at place `at` of the first `used` words, unless it stands there already.
 fn make_room(words: &mut [u64], used: usize, at: usize, same: usize)
     requires { ⌜ (at + same * 3 ≤ used) × (used - same * 3 + 3 ≤ length (now words)) × (same ≤ 1) ⌝ }
-    ensures { λ _. ⌜ now (words .exit) ≡ sets (now (words .entry)) (at + 3) (drop (at + same * 3) (take used (now (words .entry)))) ⌝ }
+    ensures { λ _. ⌜
+        now (words .exit) ≡ sets (now (words .entry)) (at + 3) (drop (at + same * 3) (take used (now (words .entry))))
+        ⌝ }
 {
     if same == 0 {
         move_words(words, used, at);

@@ -94,32 +94,32 @@ module _ (s : Store) (i n : ℕ) (r : Row) (row : r ≡ rowAt (s .rows) i) where
       ∙ cond-yes (leb (length besideOf) n && leb (length besideOf) roomBeside) (relinked s i besideOf) s (rw e (le-leb (length besideOf) roomBeside h))
       ∙ beside-step
 
-  -- what the stage then holds
-  pub beside-staged : (stage buf : List ℕ) → buf ≡ joinedIf (fits besideOf stage) besideOf stage .buf → buf ≡ stagedBeside s i stage
-  beside-staged stage buf e =
+  -- what the scratch space then holds
+  pub beside-staged : (scratch buf : List ℕ) → buf ≡ joinedIf (fits besideOf scratch) besideOf scratch .buf → buf ≡ stagedBeside s i scratch
+  beside-staged scratch buf e =
       e
-      ∙ ap (λ (x : Row). joinedIf (fits (appended (textAt (s .text) (directorySpan (s .dirs) x)) (textAt (s .text) (linkSpan x))) stage) (appended (textAt (s .text) (directorySpan (s .dirs) x)) (textAt (s .text) (linkSpan x))) stage .buf) row
-      ∙ ap (λ (t : List ℕ). joinedIf (fits t stage) t stage .buf) (sym (beside-parts s i))
+      ∙ ap (λ (x : Row). joinedIf (fits (appended (textAt (s .text) (directorySpan (s .dirs) x)) (textAt (s .text) (linkSpan x))) scratch) (appended (textAt (s .text) (directorySpan (s .dirs) x)) (textAt (s .text) (linkSpan x))) scratch .buf) row
+      ∙ ap (λ (t : List ℕ). joinedIf (fits t scratch) t scratch .buf) (sym (beside-parts s i))
 
--- what a join in the stage says
-module _ (fit : Bool) (t stage buf : List ℕ) where
-  pub stage-short : (k : ℕ) → _≡_ {A = Joined} (record { says = refused k; buf = buf }) (joinedIf fit t stage) → fit ≡ false
-  stage-short k e = at fit e
+-- what a join in the scratch space says
+module _ (fit : Bool) (t scratch buf : List ℕ) where
+  pub scratch-short : (k : ℕ) → _≡_ {A = Joined} (record { says = refused k; buf = buf }) (joinedIf fit t scratch) → fit ≡ false
+  scratch-short k e = at fit e
     where
-      at : (fit : Bool) → _≡_ {A = Joined} (record { says = refused k; buf = buf }) (joinedIf fit t stage) → fit ≡ false
+      at : (fit : Bool) → _≡_ {A = Joined} (record { says = refused k; buf = buf }) (joinedIf fit t scratch) → fit ≡ false
       at true q = absurd (let p = ap (λ (j : Joined). j .says) q in let z : _≡_ {A = ℕ} 0 1 = cc in omega arith)
       at false q = refl
 
-  pub staged : (n : ℕ) → _≡_ {A = Joined} (record { says = value n; buf = buf }) (joinedIf fit t stage) → (fit ≡ true) × (n ≡ length t) × (buf ≡ sets stage 0 t)
+  pub staged : (n : ℕ) → _≡_ {A = Joined} (record { says = value n; buf = buf }) (joinedIf fit t scratch) → (fit ≡ true) × (n ≡ length t) × (buf ≡ sets scratch 0 t)
   staged n e = at fit e
     where
-      at : (fit : Bool) → _≡_ {A = Joined} (record { says = value n; buf = buf }) (joinedIf fit t stage) → (fit ≡ true) × (n ≡ length t) × (buf ≡ sets stage 0 t)
+      at : (fit : Bool) → _≡_ {A = Joined} (record { says = value n; buf = buf }) (joinedIf fit t scratch) → (fit ≡ true) × (n ≡ length t) × (buf ≡ sets scratch 0 t)
       at true q = let p = ap (λ (j : Joined). j .says) q in (refl, cc, ap (λ (j : Joined). j .buf) q)
       at false q = absurd (let p = ap (λ (j : Joined). j .says) q in let z : _≡_ {A = ℕ} 0 1 = cc in omega arith)
 
--- the text, read from the stage
-pub staged-part : (t stage : List ℕ) {n : ℕ} {buf : List ℕ} → leb (length t) (length stage) ≡ true → n ≡ length t → buf ≡ sets stage 0 t → partOf buf 0 n ≡ t
-staged-part t stage {n} {buf} e h q =
+-- the text, read from the scratch space
+pub staged-part : (t scratch : List ℕ) {n : ℕ} {buf : List ℕ} → leb (length t) (length scratch) ≡ true → n ≡ length t → buf ≡ sets scratch 0 t → partOf buf 0 n ≡ t
+staged-part t scratch {n} {buf} e h q =
     ap (λ (x : ℕ). partOf buf 0 x) h
     ∙ ap (λ (x : List ℕ). partOf x 0 (length t)) q
-    ∙ part-sets t stage 0 (omega (arith, leb-true (length t) (length stage) e))
+    ∙ part-sets t scratch 0 (omega (arith, leb-true (length t) (length scratch) e))

@@ -1,4 +1,4 @@
--- The definitions that the contracts of `texts` cite: one link's text removed and written (Texts), and what its private parts give
--- (Parts).
+-- The definitions that the contracts of `texts` cite: one link's text removed and written (Texts); private: joins
+-- by their parts (Parts).
 pub mod Texts
-pub mod Parts
+pub mod private

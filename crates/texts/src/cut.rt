@@ -2,7 +2,6 @@
 // `tables` and the laws of proofs/Stores.antt.
 ghost use mathlib.Core.Path.{_≡_};
 ghost use Rattle.tables.specs.Rows.{rowAt, putRow};
-ghost use Rattle.tables.specs.Model.{Store};
 ghost use Rattle.lookup.specs.Lookup.{lent};
 ghost use Rattle.texts.specs.Texts.{storageWith, rowWith, rowLowered, rowsLowered, cutOut};
 use lists::min_usize;
@@ -11,7 +10,7 @@ use tables::FileStorage;
 use tables::Row;
 use tables::Span;
 
-// A set's record with its name elsewhere and `used` bytes of text.
+// A set's record with its name at another span and `used` bytes of text.
 pub(crate) fn storage_with(fs: FileStorage, name: Span, used: usize) -> FileStorage
     ensures { λ r. ⌜ r ≡ storageWith fs name used ⌝ }
 {
@@ -30,7 +29,7 @@ pub(crate) fn storage_with(fs: FileStorage, name: Span, used: usize) -> FileStor
     }
 }
 
-// A row with its name and its link text elsewhere.
+// A row with its name and its link text at other spans.
 pub(crate) fn row_with(row: Row, name: Span, link: Span) -> Row
     ensures { λ r. ⌜ r ≡ rowWith row name link ⌝ }
 {
@@ -44,7 +43,7 @@ pub(crate) fn row_with(row: Row, name: Span, link: Span) -> Row
     }
 }
 
-// Lowers the spans of row i once the bytes of the span `c` are removed.
+// Lowers the spans of row i as the removal of span `c` asks.
 fn lower_row(rows: &mut [u64], i: usize, c: Span)
     ensures { λ _. ⌜ now (rows .exit) ≡ putRow (now (rows .entry)) i (rowLowered c (rowAt (now (rows .entry)) i)) ⌝ }
 {
@@ -54,8 +53,7 @@ fn lower_row(rows: &mut [u64], i: usize, c: Span)
     tables::put_row(rows, i, row_with(row, name, link));
 }
 
-// Lowers the spans of the first n rows, or of as many as there are, once the bytes of the span `c` are
-// removed.
+// Lowers the spans of the first n rows, or of as many as there are, as the removal of span `c` asks.
 fn lower_rows(rows: &mut [u64], n: usize, c: Span)
     ensures { λ _. ⌜ now (rows .exit) ≡ rowsLowered (now (rows .entry)) n c ⌝ }
 {
@@ -67,7 +65,7 @@ fn lower_rows(rows: &mut [u64], n: usize, c: Span)
     }
 }
 
-// Removes the bytes of the span `c` from the text area, and gives the set's record after it.
+// Removes the bytes of span `c` from the text area, and gives the set's record after it.
 pub(crate) fn cut_out(
     fs: FileStorage,
     rows: &mut [u64],
@@ -75,7 +73,10 @@ pub(crate) fn cut_out(
     text: &mut [u8],
     c: Span,
 ) -> FileStorage
-    ensures { λ r. ⌜ _≡_ {A = Store} (lent r (now (rows .exit)) (now (dirs .exit)) (now (text .exit))) (cutOut (lent fs (now (rows .entry)) (now (dirs .entry)) (now (text .entry))) c) ⌝ }
+    ensures { λ r. ⌜
+        lent r (now (rows .exit)) (now (dirs .exit)) (now (text .exit))
+        ≡ cutOut (lent fs (now (rows .entry)) (now (dirs .entry)) (now (text .entry))) c
+        ⌝ }
 {
     lower_rows(rows, fs.num_files, c);
     tables::lower_dirs(dirs, fs.num_paths, c);

@@ -1,4 +1,4 @@
-// The parts of a link's text: what stands between them, where the text lies, and whether a part lies in the used
+// The parts of a link's text: the separator between them, the text's span, and whether a part lies in the used
 // text. Relies on `path` and the accessors of `tables`.
 ghost use mathlib.Core.Path.{_≡_};
 ghost use Rattle.texts.specs.Texts.{isWithin, linkSpan};
@@ -16,7 +16,7 @@ pub(crate) fn is_parted(branch: &[u8], n: usize) -> bool
     !path::is_closed(branch)
 }
 
-// Where a link's text lies: a span of no bytes where it holds none.
+// The span of a link's text: one of no bytes where it holds none.
 pub fn link_span(row: Row) -> Span
     ensures { λ r. ⌜ r ≡ linkSpan row ⌝ }
 {

@@ -1,5 +1,5 @@
 // A link's text is removed, or a new one is put after the used part of the text area: copied from its parts there, or
-// from the stage. Relies on cut.rt, parts.rt, the joins of `path` and the laws of proofs/Placed.antt.
+// from the scratch space. Relies on cut.rt, parts.rt, the joins of `path` and the laws of proofs/Placed.antt.
 ghost use mathlib.Core.Bool.{_&&_};
 ghost use mathlib.Core.Path.{_≡_};
 ghost use mathlib.Core.List.{[]};
@@ -8,14 +8,13 @@ ghost use lib.Dec.{leb};
 ghost use lib.ListN.{length};
 ghost use lib.Seq.{sets};
 ghost use Rattle.lists.specs.Lists.{partOf};
-ghost use Rattle.types.specs.Refusals.{usizeSays};
-ghost use Rattle.path.specs.Join.{appended, Joined, joinedIf, fits};
+ghost use Rattle.path.specs.Join.{appended};
 ghost use Rattle.tables.specs.Span.{endOf, textAt};
 ghost use Rattle.tables.specs.Rows.{rowAt, putRow, directorySpan};
-ghost use Rattle.tables.specs.Model.{Store};
 ghost use Rattle.lookup.specs.Lookup.{lent};
-ghost use Rattle.texts.specs.Texts.{storageWith, rowWith, goneAt, relinked, isWithin, withOwn, withBeside, stagedBeside, linkSpan};
-ghost use Rattle.texts.specs.private.Parts.{prefixOf};
+ghost use Rattle.texts.specs.Texts.{storageWith, rowWith, goneAt, relinked, isWithin, withOwn, withBeside};
+ghost use Rattle.texts.specs.Texts.{stagedBeside, linkSpan};
+ghost use Rattle.texts.specs.private.Parts.{prefixOf, scratchJoined, joinedInto};
 use crate::cut::cut_out;
 use crate::cut::row_with;
 use crate::cut::storage_with;
@@ -28,7 +27,7 @@ use tables::Row;
 use tables::Span;
 use types::UsizeResult;
 
-// Copies n bytes to a place after them.
+// Copies the n bytes at `from` to `to`, which is after them.
 fn copy_within(text: &mut [u8], from: usize, n: usize, to: usize)
     requires { ⌜ (from + n ≤ to) × (n ≤ length (now text) - to) ⌝ }
     ensures { λ _. ⌜ now (text .exit) ≡ sets (now (text .entry)) to (partOf (now (text .entry)) from n) ⌝ }
@@ -40,7 +39,7 @@ fn copy_within(text: &mut [u8], from: usize, n: usize, to: usize)
     }
 }
 
-// Copies the text of a span to a place after it, and gives its length.
+// Copies the text of a span to `to`, which is after it, and gives its length.
 fn copy_span(text: &mut [u8], s: Span, to: usize) -> usize
     requires { ⌜ (endOf s ≤ to) × (length (textAt (now text) s) ≤ length (now text) - to) ⌝ }
     ensures { λ r. ⌜ r ≡ length (textAt (now (text .entry)) s) ⌝ }
@@ -52,7 +51,7 @@ fn copy_span(text: &mut [u8], s: Span, to: usize) -> usize
     n
 }
 
-// Puts what a join has before its leaf of n bytes to a place after the branch, and gives its length.
+// Puts what a join has before its leaf of n bytes to `to`, which is after the branch, and gives its length.
 fn put_prefix(text: &mut [u8], branch: Span, n: usize, to: usize) -> usize
     requires { ⌜ (endOf branch ≤ to) × (length (prefixOf (textAt (now text) branch) n) ≤ length (now text) - to) ⌝ }
     ensures { λ r. ⌜ r ≡ length (prefixOf (textAt (now (text .entry)) branch) n) ⌝ }
@@ -71,12 +70,19 @@ fn put_prefix(text: &mut [u8], branch: Span, n: usize, to: usize) -> usize
     k
 }
 
-// Puts a branch and a leaf, joined, to a place after both, and gives the length.
+// Puts a branch and a leaf, joined, to `to`, which is after both, and gives the length.
 fn put_joined(text: &mut [u8], branch: Span, leaf: Span, to: usize) -> usize
-    requires { ⌜ (endOf branch ≤ to) × (endOf leaf ≤ to) × (length (appended (textAt (now text) branch) (textAt (now text) leaf)) ≤ length (now text) - to) ⌝ }
+    requires { ⌜
+        (endOf branch ≤ to)
+        × (endOf leaf ≤ to)
+        × (length (appended (textAt (now text) branch) (textAt (now text) leaf)) ≤ length (now text) - to)
+        ⌝ }
     ensures { λ r. ⌜ r ≡ length (appended (textAt (now (text .entry)) branch) (textAt (now (text .entry)) leaf)) ⌝ }
     ensures { λ r. ⌜ to + r < 2 ^ 64 ⌝ }
-    ensures { λ _. ⌜ now (text .exit) ≡ sets (now (text .entry)) to (appended (textAt (now (text .entry)) branch) (textAt (now (text .entry)) leaf)) ⌝ }
+    ensures { λ _. ⌜
+        now (text .exit)
+        ≡ sets (now (text .entry)) to (appended (textAt (now (text .entry)) branch) (textAt (now (text .entry)) leaf))
+        ⌝ }
 {
     let part = tables::text_at(text, leaf);
     let n = part.len();
@@ -84,11 +90,16 @@ fn put_joined(text: &mut [u8], branch: Span, leaf: Span, to: usize) -> usize
     k + copy_span(text, leaf, to + k)
 }
 
-// Lets the link text of file i be the n bytes after the used part, and gives the set's record with them.
+// Makes the n bytes after the used part the link text of file i, and gives the set's record with them.
 fn put_link(fs: FileStorage, rows: &mut [u64], i: usize, n: usize) -> FileStorage
     requires { ⌜ fs .«text_len» + n < 2 ^ 64 ⌝ }
     ensures { λ r. ⌜ r ≡ storageWith fs (fs .name) (fs .«text_len» + n) ⌝ }
-    ensures { λ _. ⌜ now (rows .exit) ≡ putRow (now (rows .entry)) i (rowWith (rowAt (now (rows .entry)) i) (rowAt (now (rows .entry)) i .name) (record { at = fs .«text_len»; len = n })) ⌝ }
+    ensures { λ _. ⌜
+        now (rows .exit)
+        ≡ putRow (now (rows .entry)) i
+        (rowWith (rowAt (now (rows .entry)) i) (rowAt (now (rows .entry)) i .name)
+        (record { at = fs .«text_len»; len = n }))
+        ⌝ }
 {
     let row = tables::row_at(rows, i);
     let name = row.name;
@@ -110,8 +121,13 @@ fn relink(
     i: usize,
     new: &[u8],
 ) -> FileStorage
-    requires { ⌜ fs .«text_len» - goneAt (lent fs (now rows) (now dirs) (now text)) i .len + length (now new) < 2 ^ 64 ⌝ }
-    ensures { λ r. ⌜ _≡_ {A = Store} (lent r (now (rows .exit)) (now (dirs .exit)) (now (text .exit))) (relinked (lent fs (now (rows .entry)) (now (dirs .entry)) (now (text .entry))) i (now (new .entry))) ⌝ }
+    requires { ⌜
+        fs .«text_len» - goneAt (lent fs (now rows) (now dirs) (now text)) i .len + length (now new) < 2 ^ 64
+        ⌝ }
+    ensures { λ r. ⌜
+        lent r (now (rows .exit)) (now (dirs .exit)) (now (text .exit))
+        ≡ relinked (lent fs (now (rows .entry)) (now (dirs .entry)) (now (text .entry))) i (now (new .entry))
+        ⌝ }
 {
     let row = tables::row_at(rows, i);
     let gone = tables::clipped(fs.text_len, row.link);
@@ -122,7 +138,12 @@ fn relink(
 
 // Whether the parts of a link's own path lie in the used part, and the path fits after it.
 fn own_fits(text: &[u8], used: usize, branch: Span, name: Span) -> bool
-    ensures { λ r. ⌜ r ≡ (isWithin used branch && (isWithin used name && leb (length (appended (textAt (now (text .entry)) branch) (textAt (now (text .entry)) name))) (length (now (text .entry)) - used))) ⌝ }
+    ensures { λ r. ⌜
+        r ≡ (isWithin used branch
+        && (isWithin used name
+        && leb (length (appended (textAt (now (text .entry)) branch) (textAt (now (text .entry)) name)))
+        (length (now (text .entry)) - used)))
+        ⌝ }
 {
     if !is_within(used, branch) {
         return false;
@@ -135,7 +156,7 @@ fn own_fits(text: &[u8], used: usize, branch: Span, name: Span) -> bool
     path::joined_length(directory, leaf) <= saturating_sub_usize(text.len(), used)
 }
 
-// Lets the text of link i, which is gone, be the link's own path, where that has its place.
+// Writes the own path of link i, whose text was removed, as its text, where it fits.
 pub fn write_own(
     fs: FileStorage,
     rows: &mut [u64],
@@ -143,7 +164,10 @@ pub fn write_own(
     text: &mut [u8],
     i: usize,
 ) -> FileStorage
-    ensures { λ r. ⌜ _≡_ {A = Store} (lent r (now (rows .exit)) (now (dirs .entry)) (now (text .exit))) (withOwn (lent fs (now (rows .entry)) (now (dirs .entry)) (now (text .entry))) i) ⌝ }
+    ensures { λ r. ⌜
+        lent r (now (rows .exit)) (now (dirs .entry)) (now (text .exit))
+        ≡ withOwn (lent fs (now (rows .entry)) (now (dirs .entry)) (now (text .entry))) i
+        ⌝ }
 {
     let row = tables::row_at(rows, i);
     let branch = tables::directory_span(dirs, row);
@@ -155,43 +179,52 @@ pub fn write_own(
     put_link(fs, rows, i, n)
 }
 
-// Puts the text of a link from its directory into the stage, and gives its length.
-fn stage_text(dirs: &[u64], text: &[u8], row: Row, stage: &mut [u8]) -> UsizeResult
-    ensures { λ r. ⌜ _≡_ {A = Joined} (record { says = usizeSays r; buf = now (stage .exit) }) (joinedIf (fits (appended (textAt (now (text .entry)) (directorySpan (now (dirs .entry)) row)) (textAt (now (text .entry)) (linkSpan row))) (now (stage .entry))) (appended (textAt (now (text .entry)) (directorySpan (now (dirs .entry)) row)) (textAt (now (text .entry)) (linkSpan row))) (now (stage .entry))) ⌝ }
+// Puts the text of the link of `row` from its directory into the scratch space, and gives its length.
+fn stage_text(dirs: &[u64], text: &[u8], row: Row, scratch: &mut [u8]) -> UsizeResult
+    ensures { λ r. ⌜
+        scratchJoined r (now (scratch .exit))
+        ≡ joinedInto (textAt (now (text .entry)) (directorySpan (now (dirs .entry)) row))
+        (textAt (now (text .entry)) (linkSpan row)) (now (scratch .entry))
+        ⌝ }
 {
     let directory = tables::text_at(text, tables::directory_span(dirs, row));
     let leaf = tables::text_at(text, link_span(row));
-    path::join_path(directory, leaf, stage)
+    path::join_path(directory, leaf, scratch)
 }
 
-// Lets the text of link i be that from the link's directory, where that has its place. The stage then begins with it, where it
-// fits.
+// Replaces the text of link i by that from the link's directory, where it fits. The scratch space then begins with it,
+// where it fits there.
 pub fn write_beside(
     fs: FileStorage,
     rows: &mut [u64],
     dirs: &mut [u64],
     text: &mut [u8],
-    stage: &mut [u8],
+    scratch: &mut [u8],
     i: usize,
 ) -> FileStorage
-    ensures { λ r. ⌜ _≡_ {A = Store} (lent r (now (rows .exit)) (now (dirs .exit)) (now (text .exit)))
-        (withBeside (length (now (stage .entry))) (lent fs (now (rows .entry)) (now (dirs .entry)) (now (text .entry))) i) ⌝ }
-    ensures { λ _. ⌜ now (stage .exit)
-        ≡ stagedBeside (lent fs (now (rows .entry)) (now (dirs .entry)) (now (text .entry))) i (now (stage .entry)) ⌝ }
+    ensures { λ r. ⌜
+        lent r (now (rows .exit)) (now (dirs .exit)) (now (text .exit))
+        ≡ withBeside (length (now (scratch .entry)))
+        (lent fs (now (rows .entry)) (now (dirs .entry)) (now (text .entry))) i
+        ⌝ }
+    ensures { λ _. ⌜
+        now (scratch .exit)
+        ≡ stagedBeside (lent fs (now (rows .entry)) (now (dirs .entry)) (now (text .entry))) i (now (scratch .entry))
+        ⌝ }
 {
     let row = tables::row_at(rows, i);
     let gone = tables::clipped(fs.text_len, row.link);
     let room = saturating_sub_usize(text.len(), saturating_sub_usize(fs.text_len, gone.len));
-    let UsizeResult::Ok(n) = stage_text(dirs, text, row, stage) else {
+    let UsizeResult::Ok(n) = stage_text(dirs, text, row, scratch) else {
         return fs;
     };
     if room < n {
         return fs;
     }
-    relink(fs, rows, dirs, text, i, lists::part(stage, 0, n))
+    relink(fs, rows, dirs, text, i, lists::part(scratch, 0, n))
 }
 
-// Removes the text of link i: its bytes go, and the text that is left has none.
+// Removes the text of link i: the link then has a text of no bytes.
 pub fn empty_text(
     fs: FileStorage,
     rows: &mut [u64],
@@ -199,8 +232,10 @@ pub fn empty_text(
     text: &mut [u8],
     i: usize,
 ) -> FileStorage
-    ensures { λ r. ⌜ _≡_ {A = Store} (lent r (now (rows .exit)) (now (dirs .exit)) (now (text .exit)))
-        (relinked (lent fs (now (rows .entry)) (now (dirs .entry)) (now (text .entry))) i []) ⌝ }
+    ensures { λ r. ⌜
+        lent r (now (rows .exit)) (now (dirs .exit)) (now (text .exit))
+        ≡ relinked (lent fs (now (rows .entry)) (now (dirs .entry)) (now (text .entry))) i []
+        ⌝ }
 {
     relink(fs, rows, dirs, text, i, b"")
 }

@@ -98,7 +98,7 @@ module _ (files : List Entry) (dirs : List (List ℕ)) (f : File) where
 -- ---- sums over files
 
 -- the bytes of old texts that change, and of new texts; and by how much texts are longer, where those that give way to the
--- link's ownPath path are gone already
+-- link's own path are gone already
 abbrev pub replaced : ℕ → Entry → ℕ
 replaced v f = cond (eqb v 0) 0 (length (f .text))
 

@@ -34,7 +34,7 @@ returns : tie.Need-returns
 returns c =
     let a = c .before .before .before .before .before .before .before .before .before .before .before .before .before .before .before .args in
     let s = given (c .before .before .before .before .before .before .before .before .before .before .before .before .before .before .before) in
-    cleaned-short (allVerdicts s (a .marks .now)) s (a .marks .now) (a .stage .now) (sym (c .before .before .before .before .before .lacks-room .ensures) ∙ c .before .before .before .before .if1 .taken) (c .before .before .clear .ensures)
+    cleaned-short (allVerdicts s (a .marks .now)) s (a .marks .now) (a .scratch .now) (sym (c .before .before .before .before .before .lacks-room .ensures) ∙ c .before .before .before .before .if1 .taken) (c .before .before .clear .ensures)
 
 rewrite-links-requires : tie.Need-rewrite-links-requires
 rewrite-links-requires c κs = search needs
@@ -66,7 +66,7 @@ returns-2 c =
     let s = given (c .before .before .before .before .before .before .before .before .before .before .before .before .before .before .before .before .before .before .before .before .before .before .before .before .before .before .before .before .before .before .before .before .before) in
     let w = c .before .before .before .before .before .before .before .before .before .before .before .before .before .before .before .before .rewrite-links in
     let t = lent (w .result) (w .last .1 .1 .0) (w .last .1 .1 .1 .0) (w .last .1 .1 .1 .1 .0) in
-    cleaned-done (allVerdicts s (a .marks .now)) s (a .marks .now) (a .stage .now) (sym (c .before .before .before .before .before .before .before .before .before .before .before .before .before .before .before .before .before .before .before .before .before .before .before .lacks-room .ensures) ∙ c .before .before .before .before .before .before .before .before .before .before .before .before .before .before .before .before .before .before .before .before .before .before .if1 .left) t (w .last .1 .1 .1 .1 .1 .1 .0) (w .ensures) (c .before .before .before .before .before .before .clear2 .ensures) (c .before .before .clear3 .ensures) (w .kept .1 .1 .1 .1 .1 .1 .0)
+    cleaned-done (allVerdicts s (a .marks .now)) s (a .marks .now) (a .scratch .now) (sym (c .before .before .before .before .before .before .before .before .before .before .before .before .before .before .before .before .before .before .before .before .before .before .before .lacks-room .ensures) ∙ c .before .before .before .before .before .before .before .before .before .before .before .before .before .before .before .before .before .before .before .before .before .before .if1 .left) t (w .last .1 .1 .1 .1 .1 .1 .0) (w .ensures) (c .before .before .before .before .before .before .clear2 .ensures) (c .before .before .clear3 .ensures) (w .kept .1 .1 .1 .1 .1 .1 .0)
 
 pub clean-judged-spec : {M : Type 1} → statement M
 clean-judged-spec =

@@ -23,8 +23,8 @@ saying c x =
     record {
       says = usizeSays x;
       marks = c .judge-links .last .1 .1 .1 .1 .0;
-      stage = c .judge-links .last .1 .1 .1 .1 .1 .0;
-      path = c .judge-links .last .1 .1 .1 .1 .1 .1 .0;
+      scratch = c .judge-links .last .1 .1 .1 .1 .1 .0;
+      walkPath = c .judge-links .last .1 .1 .1 .1 .1 .1 .0;
     }
 
 judge-links-requires : tie.Need-judge-links-requires
@@ -69,10 +69,10 @@ returns c =
       dirs = w .last .1 .1 .0;
       text = w .last .1 .1 .1 .0;
       marks = w .last .1 .1 .1 .1 .0;
-      stage = w .last .1 .1 .1 .1 .1 .0;
-      path = [];
+      scratch = w .last .1 .1 .1 .1 .1 .0;
+      walkPath = [];
     } in
-    judging-goes (given (c .before .before .before .before .before .before .before .before .before .before .before .before .before .before .before .before .before .before .before .before .before .before .before .before .before .before .before .before .before .before .before .before .before .before .before .before .before)) (a .marks .now) (a .stage .now) (a .path .now) _ (c .before .before .before .before .before .before .before .before .before .before .before .before .before .before .before .before .before .before .before .before .before .before .before .before .judge-links .last .1 .1 .1 .1 .0) (c .before .before .before .before .before .before .before .before .before .before .before .before .before .before .before .before .before .before .before .before .before .before .before .before .judge-links .last .1 .1 .1 .1 .1 .0) (c .before .before .before .before .before .before .before .before .before .before .before .before .before .before .before .before .before .before .before .before .before .before .before .before .judge-links .last .1 .1 .1 .1 .1 .1 .0) told done (w .ensures)
+    judging-goes (given (c .before .before .before .before .before .before .before .before .before .before .before .before .before .before .before .before .before .before .before .before .before .before .before .before .before .before .before .before .before .before .before .before .before .before .before .before .before)) (a .marks .now) (a .scratch .now) (a .walk-path .now) _ (c .before .before .before .before .before .before .before .before .before .before .before .before .before .before .before .before .before .before .before .before .before .before .before .before .judge-links .last .1 .1 .1 .1 .0) (c .before .before .before .before .before .before .before .before .before .before .before .before .before .before .before .before .before .before .before .before .before .before .before .before .judge-links .last .1 .1 .1 .1 .1 .0) (c .before .before .before .before .before .before .before .before .before .before .before .before .before .before .before .before .before .before .before .before .before .before .before .before .judge-links .last .1 .1 .1 .1 .1 .1 .0) told done (w .ensures)
 
 same-length-7 : tie.Need-same-length-7
 same-length-7 c = search needs
@@ -96,7 +96,7 @@ returns-2 : tie.Need-returns-2
 returns-2 c =
     let a = c .before .before .before .before .before .before .before .before .before .before .before .before .before .before .before .before .before .before .before .before .before .before .args in
     let told = sym (ap (saying (c .before .before .before .before .before .before .before .before .before)) (c .before .e .given .1)) ∙ c .before .before .before .before .before .before .before .before .before .judge-links .ensures in
-    judging-stops (given (c .before .before .before .before .before .before .before .before .before .before .before .before .before .before .before .before .before .before .before .before .before .before)) (a .marks .now) (a .stage .now) (a .path .now) (c .before .e .given .0 .0) (c .before .before .before .before .before .before .before .before .before .judge-links .last .1 .1 .1 .1 .0) (c .before .before .before .before .before .before .before .before .before .judge-links .last .1 .1 .1 .1 .1 .0) (c .before .before .before .before .before .before .before .before .before .judge-links .last .1 .1 .1 .1 .1 .1 .0) told
+    judging-stops (given (c .before .before .before .before .before .before .before .before .before .before .before .before .before .before .before .before .before .before .before .before .before .before)) (a .marks .now) (a .scratch .now) (a .walk-path .now) (c .before .e .given .0 .0) (c .before .before .before .before .before .before .before .before .before .judge-links .last .1 .1 .1 .1 .0) (c .before .before .before .before .before .before .before .before .before .judge-links .last .1 .1 .1 .1 .1 .0) (c .before .before .before .before .before .before .before .before .before .judge-links .last .1 .1 .1 .1 .1 .1 .0) told
 
 pub sanitize-symlinks-spec : {M : Type 1} → statement M
 sanitize-symlinks-spec =

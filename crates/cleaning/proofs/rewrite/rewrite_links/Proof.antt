@@ -31,7 +31,7 @@ returns c =
     let first = c .before .before .before .before .before .before .before .before .before .before .before .before .before .before .before .before .before .before .before .empty-links in
     let s = lent (a .fs) (a .rows .now) (a .dirs .now) (a .text .now) in
     let t = lent (first .result) (first .last .1 .1 .0) (first .last .1 .1 .1 .0) (first .last .1 .1 .1 .1 .0) in
-    c .before .before .before .before .before .before .before .before .write-links .ensures ∙ both-passes (length (a .stage .now)) (a .n) (a .marks .now) s t (first .ensures)
+    c .before .before .before .before .before .before .before .before .write-links .ensures ∙ both-passes (length (a .scratch .now)) (a .n) (a .marks .now) s t (first .ensures)
 
 pub rewrite-links-spec : {M : Type 1} → statement M
 rewrite-links-spec =

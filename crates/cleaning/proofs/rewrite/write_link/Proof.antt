@@ -44,7 +44,7 @@ same-length-7 c = search needs
 returns-3 : tie.Need-returns-3
 returns-3 c =
     let a = c .before .before .before .before .before .before .before .before .before .before .before .before .before .before .before .before .before .before .before .args in
-    c .before .before .before .before .before .before .before .before .write-beside .ensures .0 ∙ other-verdict (length (a .stage .now)) (a .verdict) (lent (a .fs) (a .rows .now) (a .dirs .now) (a .text .now)) (a .i) (c .before .before .before .before .before .before .before .before .before .before .before .before .before .before .if1 .left) (c .before .before .before .before .before .before .before .before .before .before .before .before .before .if2 .left)
+    c .before .before .before .before .before .before .before .before .write-beside .ensures .0 ∙ other-verdict (length (a .scratch .now)) (a .verdict) (lent (a .fs) (a .rows .now) (a .dirs .now) (a .text .now)) (a .i) (c .before .before .before .before .before .before .before .before .before .before .before .before .before .before .if1 .left) (c .before .before .before .before .before .before .before .before .before .before .before .before .before .if2 .left)
 
 pub write-link-spec : {M : Type 1} → statement M
 write-link-spec =

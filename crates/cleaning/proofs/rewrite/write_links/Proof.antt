@@ -1,4 +1,4 @@
--- `cleaning::rewrite::write_links` meets its contract. The loop's invariant: the pass is going on at file i, and the stage is as
+-- `cleaning::rewrite::write_links` meets its contract. The loop's invariant: the pass is going on at file i, and the scratch space is as
 -- long as it was.
 use borrow.Author.Needs.{needs}
 use Prim.Native.Nat.{ℕ, _-_}
@@ -13,15 +13,15 @@ use Rattle.cleaning.proofs.rewrite.write_links.Statement.{statement}
 use Rattle.cleaning.proofs.rewrite.write_links.Tie as tie
 
 abbrev Inv-loop : tie.InvT-loop
-Inv-loop n rows₀ dirs₀ text₀ marks stage₀ set₀ i₀ k₀ rows dirs text stage set i k = (length stage ≡ length stage₀) × Going (rewrittenAt (length stage₀)) marks n (lent set₀ rows₀ dirs₀ text₀) (lent set rows dirs text) i k
+Inv-loop n rows₀ dirs₀ text₀ marks scratch₀ set₀ i₀ k₀ rows dirs text scratch set i k = (length scratch ≡ length scratch₀) × Going (rewrittenAt (length scratch₀)) marks n (lent set₀ rows₀ dirs₀ text₀) (lent set rows dirs text) i k
 
 abbrev μ-loop : tie.MeasureT-loop
-μ-loop n rows₀ dirs₀ text₀ marks stage₀ set₀ i₀ k₀ rows dirs text stage set i k = n - i
+μ-loop n rows₀ dirs₀ text₀ marks scratch₀ set₀ i₀ k₀ rows dirs text scratch set i k = n - i
 
 loop-holds : tie.Need-loop-holds Inv-loop μ-loop
 loop-holds c =
     let a = c .before .before .before .before .before .args in
-    (refl, going-start (rewrittenAt (length (a .stage .now))) (a .marks .now) (a .n) (lent (a .fs) (a .rows .now) (a .dirs .now) (a .text .now)))
+    (refl, going-start (rewrittenAt (length (a .scratch .now))) (a .marks .now) (a .n) (lent (a .fs) (a .rows .now) (a .dirs .now) (a .text .now)))
 
 flags-at-requires : tie.Need-flags-at-requires Inv-loop μ-loop
 flags-at-requires c κs = search needs
@@ -45,7 +45,7 @@ loop-again : tie.Need-loop-again Inv-loop μ-loop
 loop-again c =
     let a = c .before .before .before .before .before .before .before .before .before .before .before .before .before .before .before .before .before .before .before .before .before .before .before .before .args in
     let l = c .before .before .before .before .before .before .before .before .before .before .before .before .before .before .before .before .before .before .loop in
-    let n = length (a .stage .now) in
+    let n = length (a .scratch .now) in
     let s = lent (l .set) (l .rows) (l .dirs) (l .text) in
     let flags = c .before .before .before .before .before .before .before .before .before .before .before .before .before .before .before .flags-at .ensures in
     let verdict = c .before .before .before .before .before .before .before .before .before .before .before .before .before .before .verdict-of .ensures ∙ ap (λ (x : ℕ). verdictBy x (a .marks .now) (l .k)) flags in
@@ -70,7 +70,7 @@ returns : tie.Need-returns Inv-loop μ-loop
 returns c =
     let a = c .before .before .before .before .before .before .before .args in
     let l = c .before .loop in
-    let n = length (a .stage .now) in
+    let n = length (a .scratch .now) in
     let s = lent (a .fs) (a .rows .now) (a .dirs .now) (a .text .now) in
     going-end (rewrittenAt n) (a .marks .now) (a .n) s (lent (l .set) (l .rows) (l .dirs) (l .text)) (l .i) (l .k) (l .inv .1) (c .loop-test .left)
     ∙ rewritten-pass n (verdictsBy (flagsIn (a .rows .now)) (a .marks .now) (a .n) 0 0) 0 s

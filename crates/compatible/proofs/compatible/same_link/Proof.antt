@@ -41,11 +41,11 @@ same-composed-requires c κs = search needs
 
 returns : tie.Need-returns
 returns c =
-    let a = c .before .before .before .before .before .before .before .before .before .before .before .before .before .args in
+    let a = c .before .before .before .before .before .before .before .before .before .before .before .before .before .before .before .before .before .args in
     compared (c .same-composed .result) [] (c .before .before .before .before .before .before .before .before .before .text-at .result .now) (c .before .before .before .before .before .before .before .text-at2 .result .now) [] (c .before .before .before .before .before .text-at3 .result .now) (c .before .before .before .text-at4 .result .now)
-    (symlinkPath (a .a) (a .text-a .now) (a .row-a)) (symlinkPath (a .b) (a .text-b .now) (a .row-b)) (c .same-composed .ensures)
-    (rw (c .before .before .before .before .before .before .before .before .before .text-at .ensures, c .before .before .before .before .before .before .before .before .before .before .link-span .ensures, c .before .before .before .before .before .before .before .text-at2 .ensures, c .before .before .before .before .before .before .before .before .link-span2 .ensures) (link-is (a .a) (a .text-a .now) (a .row-a)))
-    (rw (c .before .before .before .before .before .text-at3 .ensures, c .before .before .before .before .before .before .link-span3 .ensures, c .before .before .before .text-at4 .ensures, c .before .before .before .before .link-span4 .ensures) (link-is (a .b) (a .text-b .now) (a .row-b)))
+    (symlinkPath (a .a .fs) (a .text-a .now) (a .a .row)) (symlinkPath (a .b .fs) (a .text-b .now) (a .b .row)) (c .same-composed .ensures)
+    (rw (c .before .before .before .before .before .before .before .before .before .text-at .ensures, c .before .before .before .before .before .before .before .before .before .before .link-span .ensures, c .before .before .before .before .before .before .before .text-at2 .ensures, c .before .before .before .before .before .before .before .before .link-span2 .ensures) (link-is (a .a .fs) (a .text-a .now) (a .a .row)))
+    (rw (c .before .before .before .before .before .text-at3 .ensures, c .before .before .before .before .before .before .link-span3 .ensures, c .before .before .before .text-at4 .ensures, c .before .before .before .before .link-span4 .ensures) (link-is (a .b .fs) (a .text-b .now) (a .b .row)))
 
 pub same-link-spec : {M : Type 1} → statement M
 same-link-spec =

@@ -42,11 +42,11 @@ same-composed-requires c κs = search needs
 
 returns : tie.Need-returns
 returns c =
-    let a = c .before .before .before .before .before .before .before .before .before .before .before .before .before .before .before .args in
+    let a = c .before .before .before .before .before .before .before .before .before .before .before .before .before .before .before .before .before .before .before .args in
     compared (c .same-composed .result) (c .before .before .before .before .before .before .before .before .before .text-at .result .now) (c .before .before .before .before .before .before .before .text-at2 .result .now) (c .before .before .before .before .before .before .text-at3 .result .now) (c .before .before .before .before .text-at4 .result .now) (c .before .before .text-at5 .result .now) (c .before .text-at6 .result .now)
-    (filePath (a .a) (a .dirs-a .now) (a .text-a .now) [] (a .row-a)) (filePath (a .b) (a .dirs-b .now) (a .text-b .now) [] (a .row-b)) (c .same-composed .ensures)
-    (unsaved-from (a .a) (a .dirs-a .now) (a .text-a .now) (a .row-a) (c .before .before .before .before .before .before .before .before .before .text-at .ensures) (c .before .before .before .before .before .before .before .before .before .before .set-span .ensures) (c .before .before .before .before .before .before .before .text-at2 .ensures) (c .before .before .before .before .before .before .before .before .directory-span .ensures) (c .before .before .before .before .before .before .text-at3 .ensures))
-    (unsaved-from (a .b) (a .dirs-b .now) (a .text-b .now) (a .row-b) (c .before .before .before .before .text-at4 .ensures) (c .before .before .before .before .before .set-span2 .ensures) (c .before .before .text-at5 .ensures) (c .before .before .before .directory-span2 .ensures) (c .before .text-at6 .ensures))
+    (filePath (a .a .fs) (a .dirs-a .now) (a .text-a .now) [] (a .a .row)) (filePath (a .b .fs) (a .dirs-b .now) (a .text-b .now) [] (a .b .row)) (c .same-composed .ensures)
+    (unsaved-from (a .a .fs) (a .dirs-a .now) (a .text-a .now) (a .a .row) (c .before .before .before .before .before .before .before .before .before .text-at .ensures) (c .before .before .before .before .before .before .before .before .before .before .set-span .ensures) (c .before .before .before .before .before .before .before .text-at2 .ensures) (c .before .before .before .before .before .before .before .before .directory-span .ensures) (c .before .before .before .before .before .before .text-at3 .ensures))
+    (unsaved-from (a .b .fs) (a .dirs-b .now) (a .text-b .now) (a .b .row) (c .before .before .before .before .text-at4 .ensures) (c .before .before .before .before .before .set-span2 .ensures) (c .before .before .text-at5 .ensures) (c .before .before .before .directory-span2 .ensures) (c .before .text-at6 .ensures))
 
 pub same-path-spec : {M : Type 1} → statement M
 same-path-spec =

@@ -6,35 +6,35 @@ use mathlib.Core.List.{List}
 use lib.ListN.{length}
 use borrow.Author.Needs.{needs}
 use Rattle.lists.specs.Lists.{equal}
-use Rattle.compatible.specs.declared.walk.Place.{Place}
+use Rattle.compatible.specs.declared.walk.Position.{Position}
 use Rattle.compatible.specs.private.Walk.{ended, restFrom}
 use Rattle.compatible.proofs.Walks.{told, turn-told, turn-less}
 use Rattle.compatible.proofs.walk.same_from.Statement.{statement}
 use Rattle.compatible.proofs.walk.same_from.Tie as tie
 
 abbrev Inv-loop : tie.InvT-loop
-Inv-loop first-a cut1-a second-a cut2-a last-a first-b cut1-b second-b cut2-b last-b here₀ there₀ here there =
-    equal (restFrom (ended first-a cut1-a) (ended second-a cut2-a) last-a here) (restFrom (ended first-b cut1-b) (ended second-b cut2-b) last-b there)
-    ≡ equal (restFrom (ended first-a cut1-a) (ended second-a cut2-a) last-a here₀) (restFrom (ended first-b cut1-b) (ended second-b cut2-b) last-b there₀)
+Inv-loop first-a second-a last-a a first-b second-b last-b b here₀ there₀ here there =
+    equal (restFrom (ended first-a (a .«cut_first»)) (ended second-a (a .«cut_second»)) last-a here) (restFrom (ended first-b (b .«cut_first»)) (ended second-b (b .«cut_second»)) last-b there)
+    ≡ equal (restFrom (ended first-a (a .«cut_first»)) (ended second-a (a .«cut_second»)) last-a here₀) (restFrom (ended first-b (b .«cut_first»)) (ended second-b (b .«cut_second»)) last-b there₀)
 
 abbrev μ-loop : tie.MeasureT-loop
-μ-loop first-a cut1-a second-a cut2-a last-a first-b cut1-b second-b cut2-b last-b here₀ there₀ here there =
-    length (restFrom (ended first-a cut1-a) (ended second-a cut2-a) last-a here)
+μ-loop first-a second-a last-a a first-b second-b last-b b here₀ there₀ here there =
+    length (restFrom (ended first-a (a .«cut_first»)) (ended second-a (a .«cut_second»)) last-a here)
 
 -- the two paths from a place on
-abbrev leftA : (k : tie.After-meet Inv-loop μ-loop) → Place → List ℕ
-leftA k = let a = k .before .before .before .before .before .before .before .before .before .before .args in restFrom (ended (a .first-a .now) (a .cut1-a)) (ended (a .second-a .now) (a .cut2-a)) (a .last-a .now)
+abbrev leftA : (k : tie.After-meet Inv-loop μ-loop) → Position → List ℕ
+leftA k = let a = k .before .before .before .before .before .before .before .before .before .before .before .before .args in restFrom (ended (a .first-a .now) (a .a .«cut_first»)) (ended (a .second-a .now) (a .a .«cut_second»)) (a .last-a .now)
 
-abbrev leftB : (k : tie.After-meet Inv-loop μ-loop) → Place → List ℕ
-leftB k = let a = k .before .before .before .before .before .before .before .before .before .before .args in restFrom (ended (a .first-b .now) (a .cut1-b)) (ended (a .second-b .now) (a .cut2-b)) (a .last-b .now)
+abbrev leftB : (k : tie.After-meet Inv-loop μ-loop) → Position → List ℕ
+leftB k = let a = k .before .before .before .before .before .before .before .before .before .before .before .before .args in restFrom (ended (a .first-b .now) (a .b .«cut_first»)) (ended (a .second-b .now) (a .b .«cut_second»)) (a .last-b .now)
 
 -- what the meeting of a turn says
-turn-is : (k : tie.After-meet Inv-loop μ-loop) → told (leftA k) (leftB k) (k .meet .result) ≡ equal (leftA k (k .before .before .before .before .before .before .before .before .before .before .args .from-a)) (leftB k (k .before .before .before .before .before .before .before .before .before .before .args .from-b))
+turn-is : (k : tie.After-meet Inv-loop μ-loop) → told (leftA k) (leftB k) (k .meet .result) ≡ equal (leftA k (k .before .before .before .before .before .before .before .before .before .before .before .before .args .a .start)) (leftB k (k .before .before .before .before .before .before .before .before .before .before .before .before .args .b .start))
 turn-is k =
-    let a = k .before .before .before .before .before .before .before .before .before .before .args in
+    let a = k .before .before .before .before .before .before .before .before .before .before .before .before .args in
     let l = k .before .before .before .loop in
-    turn-told (ended (a .first-a .now) (a .cut1-a)) (ended (a .second-a .now) (a .cut2-a)) (a .last-a .now)
-    (ended (a .first-b .now) (a .cut1-b)) (ended (a .second-b .now) (a .cut2-b)) (a .last-b .now) (l .here) (l .there)
+    turn-told (ended (a .first-a .now) (a .a .«cut_first»)) (ended (a .second-a .now) (a .a .«cut_second»)) (a .last-a .now)
+    (ended (a .first-b .now) (a .b .«cut_first»)) (ended (a .second-b .now) (a .b .«cut_second»)) (a .last-b .now) (l .here) (l .there)
     (k .before .before .step-first .result) (k .before .step-first2 .result) (k .meet .result) (k .before .before .step-first .ensures) (k .before .step-first2 .ensures) (k .meet .ensures)
     ∙ l .inv
 
@@ -56,10 +56,10 @@ enum-known-p c = search needs
 loop-less : tie.Need-loop-less Inv-loop μ-loop
 loop-less c =
     let k = c .before .before .before in
-    let a = c .before .before .before .before .before .before .before .before .before .before .before .before .before .args in
+    let a = c .before .before .before .before .before .before .before .before .before .before .before .before .before .before .before .args in
     let l = c .before .before .before .before .before .before .loop in
-    turn-less (ended (a .first-a .now) (a .cut1-a)) (ended (a .second-a .now) (a .cut2-a)) (a .last-a .now)
-    (ended (a .first-b .now) (a .cut1-b)) (ended (a .second-b .now) (a .cut2-b)) (a .last-b .now) (l .here) (l .there)
+    turn-less (ended (a .first-a .now) (a .a .«cut_first»)) (ended (a .second-a .now) (a .a .«cut_second»)) (a .last-a .now)
+    (ended (a .first-b .now) (a .b .«cut_first»)) (ended (a .second-b .now) (a .b .«cut_second»)) (a .last-b .now) (l .here) (l .there)
     (k .before .before .step-first .result) (k .before .step-first2 .result) (k .meet .result) (k .before .before .step-first .ensures) (k .before .step-first2 .ensures) (k .meet .ensures)
     (c .before .p .given .0 .0) (c .before .p .given .0 .1 .0) (c .before .p .given .1)
 

@@ -16,13 +16,13 @@ use Rattle.links.proofs.first.first_marks.Tie as tie
 
 -- the loop keeps: the k marks of the files before i are set, and setting those of the rest gives the whole
 abbrev Inv-loop : tie.InvT-loop
-Inv-loop fs rows dirs text marks₀ stage₀ i₀ k₀ marks stage i k =
-    (i ≤ fs .«num_files») × (k ≤ i) × (length marks ≡ length marks₀) × (length stage ≡ length stage₀)
+Inv-loop fs rows dirs text marks₀ scratch₀ i₀ k₀ marks scratch i k =
+    (i ≤ fs .«num_files») × (k ≤ i) × (length marks ≡ length marks₀) × (length scratch ≡ length scratch₀)
     × (sets marks k (firstMarks (entriesOf (lent fs rows dirs text)) (directoriesOf (lent fs rows dirs text)) (entriesFrom (lent fs rows dirs text) (fs .«num_files» - i) i))
     ≡ sets marks₀ 0 (firstMarks (entriesOf (lent fs rows dirs text)) (directoriesOf (lent fs rows dirs text)) (entriesOf (lent fs rows dirs text))))
 
 abbrev μ-loop : tie.MeasureT-loop
-μ-loop fs rows dirs text marks₀ stage₀ i₀ k₀ marks stage i k = fs .«num_files» - i
+μ-loop fs rows dirs text marks₀ scratch₀ i₀ k₀ marks scratch i k = fs .«num_files» - i
 
 abbrev theSet : tie.Start Inv-loop μ-loop → Store
 theSet c = lent (c .args .fs) (c .args .rows .now) (c .args .dirs .now) (c .args .text .now)

@@ -17,7 +17,7 @@ use Rattle.links.proofs.first.relative_mark.Tie as tie
 abbrev theSet : tie.Start → Store
 theSet c = lent (c .args .fs) (c .args .rows .now) (c .args .dirs .now) (c .args .text .now)
 
--- the stage holds the text from the link's directory
+-- the scratch space holds the text from the link's directory
 staged : (c : tie.After-append-in) → take (c .append-in .result) (c .append-in .last .0) ≡ appended (branchIn (theSet (c .before .before .before .before .before .before .before .before .before .before) .dirs) (theSet (c .before .before .before .before .before .before .before .before .before .before) .text) (c .before .before .before .before .before .before .before .before .before .before .args .row)) (c .before .before .before .before .before .before .before .before .before .before .args .t .now)
 staged c = c .append-in .ensures .is ∙ ap (λ (x : List ℕ). appended x (c .before .before .before .before .before .before .before .before .before .before .args .t .now)) (c .before .directory-of .ensures)
 

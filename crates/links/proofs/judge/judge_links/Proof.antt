@@ -17,13 +17,13 @@ abbrev theSet : tie.Start → Store
 theSet c = lent (c .args .fs) (c .args .rows .now) (c .args .dirs .now) (c .args .text .now)
 
 -- none of the refusals stops the call, and n is the count of links
-goes : (c : tie.After-known-told) → (judgingNumber (theSet (c .before .before .before .before .before .before .before .before .before .before)) (length (c .before .before .before .before .before .before .before .before .before .before .args .marks .now)) (length (c .before .before .before .before .before .before .before .before .before .before .args .stage .now)) (length (c .before .before .before .before .before .before .before .before .before .before .args .path .now)) ≡ 0) × (c .before .n .given .0 .0 ≡ linkCount (entriesOf (theSet (c .before .before .before .before .before .before .before .before .before .before))))
+goes : (c : tie.After-known-told) → (judgingNumber (theSet (c .before .before .before .before .before .before .before .before .before .before)) (length (c .before .before .before .before .before .before .before .before .before .before .args .marks .now)) (length (c .before .before .before .before .before .before .before .before .before .before .args .scratch .now)) (length (c .before .before .before .before .before .before .before .before .before .before .args .walk-path .now)) ≡ 0) × (c .before .n .given .0 .0 ≡ linkCount (entriesOf (theSet (c .before .before .before .before .before .before .before .before .before .before))))
 goes c =
     let a = c .before .before .before .before .before .before .before .before .before .before .args in
-    judged-ok (theSet (c .before .before .before .before .before .before .before .before .before .before)) (length (a .marks .now)) (length (a .stage .now)) (length (a .path .now)) (c .before .before .before .links-in .result) (c .before .before .before .links-in .ensures) (c .before .n .given .0 .0) (c .before .n .given .1)
+    judged-ok (theSet (c .before .before .before .before .before .before .before .before .before .before)) (length (a .marks .now)) (length (a .scratch .now)) (length (a .walk-path .now)) (c .before .before .before .links-in .result) (c .before .before .before .links-in .ensures) (c .before .n .given .0 .0) (c .before .n .given .1)
 
-room : (c : tie.After-known-told) → Roomy (theSet (c .before .before .before .before .before .before .before .before .before .before)) (length (c .before .before .before .before .before .before .before .before .before .before .args .marks .now)) (length (c .before .before .before .before .before .before .before .before .before .before .args .stage .now)) (length (c .before .before .before .before .before .before .before .before .before .before .args .path .now))
-room c = roomy (theSet (c .before .before .before .before .before .before .before .before .before .before)) (length (c .before .before .before .before .before .before .before .before .before .before .args .marks .now)) (length (c .before .before .before .before .before .before .before .before .before .before .args .stage .now)) (length (c .before .before .before .before .before .before .before .before .before .before .args .path .now)) (goes c .0)
+room : (c : tie.After-known-told) → Roomy (theSet (c .before .before .before .before .before .before .before .before .before .before)) (length (c .before .before .before .before .before .before .before .before .before .before .args .marks .now)) (length (c .before .before .before .before .before .before .before .before .before .before .args .scratch .now)) (length (c .before .before .before .before .before .before .before .before .before .before .args .walk-path .now))
+room c = roomy (theSet (c .before .before .before .before .before .before .before .before .before .before)) (length (c .before .before .before .before .before .before .before .before .before .before .args .marks .now)) (length (c .before .before .before .before .before .before .before .before .before .before .args .scratch .now)) (length (c .before .before .before .before .before .before .before .before .before .before .args .walk-path .now)) (goes c .0)
 
 fits : (c : tie.After-known-told) → c .before .n .given .0 .0 ≤ length (c .before .before .before .before .before .before .before .before .before .before .args .marks .now)
 fits c = omega (arith, goes c .1, room c .marked)
@@ -62,13 +62,13 @@ returns c =
     let k = c .before .before .before .before .before .before .before .before .before .before in
     let n = c .before .before .before .before .before .before .before .before .before .before .before .n .given .0 .0 in
     let j = c .before .before .before .before .before .before .judge in
-    judged-yes s (a .marks .now) (a .stage .now) (a .path .now) n _ _ _ (goes k .0) (goes k .1) (verdicts-set s (a .marks .now) (j .last .1 .1 .1 .1 .0) n (goes k .1) (fits k) (j .ensures .0)) (j .ensures .1 .0) (j .ensures .1 .1)
+    judged-yes s (a .marks .now) (a .scratch .now) (a .walk-path .now) n _ _ _ (goes k .0) (goes k .1) (verdicts-set s (a .marks .now) (j .last .1 .1 .1 .1 .0) n (goes k .1) (fits k) (j .ensures .0)) (j .ensures .1 .0) (j .ensures .1 .1)
 
 returns-2 : tie.Need-returns-2
 returns-2 c =
     let a = c .before .before .before .before .before .before .before .before .before .before .args in
     let s = theSet (c .before .before .before .before .before .before .before .before .before .before) in
-    judged-no s (a .marks .now) (a .stage .now) (a .path .now) (c .before .e .given .0 .0) (judged-err s (length (a .marks .now)) (length (a .stage .now)) (length (a .path .now)) (c .before .before .before .links-in .result) (c .before .before .before .links-in .ensures) (c .before .e .given .0 .0) (c .before .e .given .1))
+    judged-no s (a .marks .now) (a .scratch .now) (a .walk-path .now) (c .before .e .given .0 .0) (judged-err s (length (a .marks .now)) (length (a .scratch .now)) (length (a .walk-path .now)) (c .before .before .before .links-in .result) (c .before .before .before .links-in .ensures) (c .before .e .given .0 .0) (c .before .e .given .1))
 
 pub judge-links-spec : {M : Type 1} → statement M
 judge-links-spec =

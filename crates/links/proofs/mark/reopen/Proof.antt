@@ -1,4 +1,4 @@
--- The proof of `reopen`. Its loop keeps: of the leads, the first k are untraversed and the others are those at the start; the verdicts stay.
+-- The proof of `reopen`. Its loop keeps: of the leads, the first k are fresh and the others are those at the start; the verdicts stay.
 use Prim.Native.Nat.{ℕ, _+_, _-_, _<_}
 use mathlib.Core.Path.{_≡_, ap, _∙_}
 use mathlib.Core.List.{List, _++_, map}
@@ -16,7 +16,7 @@ Inv-loop marks₀ k₀ marks k = (length marks ≡ length marks₀) × (map lead
 abbrev μ-loop : tie.MeasureT-loop
 μ-loop marks₀ k₀ marks k = length marks₀ - k
 
--- a turn: lead k becomes untraversed
+-- a turn: lead k becomes fresh
 turn : (ms₀ ms ms′ : List ℕ) (k m : ℕ) → k < length ms₀ → ms ≡ map untraversed (take k ms₀) ++ drop k ms₀ → m ≡ untraversed (getD ms k 0) → ms′ ≡ set ms k m → ms′ ≡ map untraversed (take (k + 1) ms₀) ++ drop (k + 1) ms₀
 turn ms₀ ms ms′ k m h i j e =
     let q : getD ms k 0 ≡ getD ms₀ k 0 = rw i (map-read untraversed ms₀ k h) in
@@ -28,11 +28,11 @@ loop-holds c = search needs
 lead-at-requires : tie.Need-lead-at-requires Inv-loop μ-loop
 lead-at-requires c κs = search needs
 
-fresh-lead-requires : tie.Need-fresh-lead-requires Inv-loop μ-loop
-fresh-lead-requires c κs = search needs
+untraversed-lead-requires : tie.Need-untraversed-lead-requires Inv-loop μ-loop
+untraversed-lead-requires c κs = search needs
 
 put-lead-requires : tie.Need-put-lead-requires Inv-loop μ-loop
-put-lead-requires c κs = omega (arith, c .before .fresh-lead .ensures, fresh-small (c .before .before .lead-at .result), c .before .before .lead-at .ensures, lead-below (c .before .before .before .before .before .loop .marks) (c .before .before .before .before .before .loop .k))
+put-lead-requires c κs = omega (arith, c .before .untraversed-lead .ensures, fresh-small (c .before .before .lead-at .result), c .before .before .lead-at .ensures, lead-below (c .before .before .before .before .before .loop .marks) (c .before .before .before .before .before .loop .k))
 
 add-k : tie.Need-add-k Inv-loop μ-loop
 add-k c = search needs
@@ -43,7 +43,7 @@ loop-less c = search needs
 loop-again : tie.Need-loop-again Inv-loop μ-loop
 loop-again c =
     let l = c .before .before .before .before .before .before .before .before .loop in let m₀ = c .before .before .before .before .before .before .before .before .before .before .args .marks .now in
-    (search needs, turn (map lead m₀) (map lead (l .marks)) (map lead (c .before .before .put-lead .last .0)) (l .k) (c .before .before .before .before .fresh-lead .result) (omega (arith, length-map m₀ lead, c .before .before .before .before .before .before .before .loop-test .taken, l .inv .0)) (l .inv .1) (c .before .before .before .before .fresh-lead .ensures ∙ ap untraversed (c .before .before .before .before .before .lead-at .ensures)) (c .before .before .put-lead .ensures .0), c .before .before .put-lead .ensures .1 ∙ l .inv .2)
+    (search needs, turn (map lead m₀) (map lead (l .marks)) (map lead (c .before .before .put-lead .last .0)) (l .k) (c .before .before .before .before .untraversed-lead .result) (omega (arith, length-map m₀ lead, c .before .before .before .before .before .before .before .loop-test .taken, l .inv .0)) (l .inv .1) (c .before .before .before .before .untraversed-lead .ensures ∙ ap untraversed (c .before .before .before .before .before .lead-at .ensures)) (c .before .before .put-lead .ensures .0), c .before .before .put-lead .ensures .1 ∙ l .inv .2)
 
 same-length : tie.Need-same-length Inv-loop μ-loop
 same-length c = search needs
@@ -61,7 +61,7 @@ reopen-spec =
     μ-loop
     loop-holds
     lead-at-requires
-    fresh-lead-requires
+    untraversed-lead-requires
     put-lead-requires
     add-k
     loop-less

@@ -20,7 +20,7 @@ returns : tie.Need-returns
 returns c =
     let a = c .before .before .before .args in
     ap length (c .lsplit-path-at-first .ensures)
-    ∙ ap (λ (l : List ℕ). length (lsplitAtFirst l (a .pos))) (c .before .part .ensures ∙ take-all (length (a .path .now)) (drop (a .at) (a .path .now)) (omega (arith, length-drop (a .at) (a .path .now))))
+    ∙ ap (λ (l : List ℕ). length (lsplitAtFirst l (a .pos))) (c .before .part .ensures ∙ take-all (length (a .walk-path .now)) (drop (a .at) (a .walk-path .now)) (omega (arith, length-drop (a .at) (a .walk-path .now))))
 
 pub cut-at-spec : {M : Type 1} → statement M
 cut-at-spec = tie.close (tie.spec part-requires lsplit-path-at-first-requires returns)

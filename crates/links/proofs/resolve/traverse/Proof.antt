@@ -1,4 +1,4 @@
--- `links::resolve::traverse` meets its contract: what stands in the stage is the link's text.
+-- `links::resolve::traverse` meets its contract: what stands in the scratch space is the link's text.
 use mathlib.Core.Path.{sym, ap}
 use native.Mathlib.Omega.{arith}
 use lib.ListN.{length}
@@ -8,7 +8,7 @@ use borrow.Author.Needs.{needs}
 use Rattle.links.proofs.resolve.traverse.Statement.{statement}
 use Rattle.links.proofs.resolve.traverse.Tie as tie
 
--- the text in the stage
+-- the text in the scratch space
 staged : (c : tie.After-lead-text) → StandsIn (c .lead-text .last .1 .1 .1 .1 .1 .0) (c .lead-text .result) (rowLead (c .before .before .before .before .before .before .before .before .args .rows .now) (c .before .before .before .before .before .before .before .before .args .dirs .now) (c .before .before .before .before .before .before .before .before .args .text .now) (c .before .before .before .before .before .before .before .before .args .i) (c .before .before .before .before .before .before .before .before .args .m))
 staged c = c .lead-text .ensures
 

@@ -58,7 +58,7 @@ resolve-requires : tie.Need-resolve-requires
 resolve-requires c κs =
     let s = theSet (c .before .before .before .before .before .before .before .before .before .before .before .before .before .before .before) in
     let p = c .before .before .before .before .before .before .before .before .before .before .before .before .before .before .before .pre in
-    rw (c .before .before .before .before .before .put-at .kept .0) at (ready (entriesOf s) (directoriesOf s) (map lead (c .before .before .before .before .before .before .before .before .before .before .before .before .before .before .before .args .marks .now)) (c .before .before .before .before .before .before .before .before .before .before .before .before .before .before .before .args .stage .now) (c .before .before .before .before .before .put-at .last .0) (length (c .before .before .before .before .before .before .before .link-text .result .now)) (p .marked) (p .staged) (omega (arith, c .before .before .before .before .before .put-at .kept .0, p .room)) (short (c .before .before .before .before .before .before .before)))
+    rw (c .before .before .before .before .before .put-at .kept .0) at (ready (entriesOf s) (directoriesOf s) (map lead (c .before .before .before .before .before .before .before .before .before .before .before .before .before .before .before .args .marks .now)) (c .before .before .before .before .before .before .before .before .before .before .before .before .before .before .before .args .scratch .now) (c .before .before .before .before .before .put-at .last .0) (length (c .before .before .before .before .before .before .before .link-text .result .now)) (p .marked) (p .staged) (omega (arith, c .before .before .before .before .before .put-at .kept .0, p .room)) (short (c .before .before .before .before .before .before .before)))
 
 reopen-requires : tie.Need-reopen-requires
 reopen-requires c κs = search needs
@@ -76,7 +76,7 @@ returns : tie.Need-returns
 returns c =
     let s = c .before .before .before .before .before .before .before .before .before .before .before .before .before .before .before .before .before .before .before .before .before .before .before .before .before .before in
     let t = c .before .before .before .before .before .before .before .before .before .before .before .before .before .before .before .before .before .before .link-text .result .now in
-    let path = s .args .path .now in
+    let path = s .args .walk-path .now in
     let tail : drop (length path - length t) (c .before .before .before .before .before .before .before .before .before .before .before .before .before .before .before .before .put-at .last .0) ≡ entryAt (theSet (c .before .before .before .before .before .before .before .before .before .before .before .before .before .before .before .before .before .before .before .before .before .before .before .before .before .before)) (c .before .before .before .before .before .before .before .before .before .before .before .before .before .before .before .before .before .before .before .before .before .before .before .before .before .before .args .i) .text = tail-is path t (c .before .before .before .before .before .before .before .before .before .before .before .before .before .before .before .before .put-at .last .0) (length path - length t) (omega (arith, short (c .before .before .before .before .before .before .before .before .before .before .before .before .before .before .before .before .before .before), s .pre .room)) refl (c .before .before .before .before .before .before .before .before .before .before .before .before .before .before .before .before .put-at .ensures) ∙ text-is (c .before .before .before .before .before .before .before .before .before .before .before .before .before .before .before .before .before .before) in
     (c .before .before .before .before .before .before .before .before .before .before .resolve .ensures .0 ∙ rw (tail, links (c .before .before .before .before .before .before .before .before .before .before .before .before .before .before .before .before .before .before .before .before .before .before .before .before .before .before)), marks-from (c .before .before .reopen .last .0) (s .args .marks .now) (c .before .before .reopen .ensures .0 ∙ leads-back (entriesOf (theSet s)) (directoriesOf (theSet s)) (map lead (s .args .marks .now)) (map lead (c .before .before .before .before .before .before .before .before .before .before .resolve .last .1 .1 .1 .1 .0)) (s .pre .marked) (c .before .before .before .before .before .before .before .before .before .before .resolve .ensures .1 .0)) (c .before .before .reopen .ensures .1 ∙ c .before .before .before .before .before .before .before .before .before .before .resolve .ensures .1 .1))
 

@@ -14,10 +14,10 @@ use Rattle.links.proofs.second.walk_links.Statement.{statement}
 use Rattle.links.proofs.second.walk_links.Tie as tie
 
 abbrev Inv-loop : tie.InvT-loop
-Inv-loop fs rows dirs text marks₀ stage₀ path₀ i₀ k₀ marks stage path i k = (k ≤ i) × (length marks ≡ length marks₀) × (length stage ≡ length stage₀) × (length path ≡ length path₀) × Judging (entriesOf (lent fs rows dirs text)) (directoriesOf (lent fs rows dirs text)) (entriesFrom (lent fs rows dirs text) (fs .«num_files» - i) i) marks k
+Inv-loop fs rows dirs text marks₀ scratch₀ path₀ i₀ k₀ marks scratch path i k = (k ≤ i) × (length marks ≡ length marks₀) × (length scratch ≡ length scratch₀) × (length path ≡ length path₀) × Judging (entriesOf (lent fs rows dirs text)) (directoriesOf (lent fs rows dirs text)) (entriesFrom (lent fs rows dirs text) (fs .«num_files» - i) i) marks k
 
 abbrev μ-loop : tie.MeasureT-loop
-μ-loop fs rows dirs text marks₀ stage₀ path₀ i₀ k₀ marks stage path i k = fs .«num_files» - i
+μ-loop fs rows dirs text marks₀ scratch₀ path₀ i₀ k₀ marks scratch path i k = fs .«num_files» - i
 
 abbrev theSet : tie.Start Inv-loop μ-loop → Store
 theSet c = lent (c .args .fs) (c .args .rows .now) (c .args .dirs .now) (c .args .text .now)

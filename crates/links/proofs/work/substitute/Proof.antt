@@ -11,10 +11,10 @@ use Rattle.links.proofs.work.substitute.Statement.{statement}
 use Rattle.links.proofs.work.substitute.Tie as tie
 
 -- whether the rest is empty or `.`
-rest-alone : (c : tie.After-is-alone2) → c .is-alone2 .result ≡ isAlone (drop (c .before .before .before .before .before .before .before .args .at + c .before .before .before .before .before .before .before .args .e + 1) (c .before .before .before .before .before .before .before .args .path .now))
+rest-alone : (c : tie.After-is-alone2) → c .is-alone2 .result ≡ isAlone (drop (c .before .before .before .before .before .before .before .args .at + c .before .before .before .before .before .before .before .args .e + 1) (c .before .before .before .before .before .before .before .args .walk-path .now))
 rest-alone c =
     let a = c .before .before .before .before .before .before .before .args in
-    c .is-alone2 .ensures ∙ ap isAlone (take-all (length (a .path .now) - (a .at + a .e + 1)) (drop (a .at + a .e + 1) (a .path .now)) (omega (arith, length-drop (a .at + a .e + 1) (a .path .now))))
+    c .is-alone2 .ensures ∙ ap isAlone (take-all (length (a .walk-path .now) - (a .at + a .e + 1)) (drop (a .at + a .e + 1) (a .walk-path .now)) (omega (arith, length-drop (a .at + a .e + 1) (a .walk-path .now))))
 
 add-end : tie.Need-add-end
 add-end c = search needs
@@ -28,7 +28,7 @@ is-alone-requires c κs = search needs
 returns : tie.Need-returns
 returns c =
     let a = c .before .before .before .before .args in
-    joined-first (a .path .now) (a .at) (a .e) (a .t .now) (a .path .now) (a .at + a .e + 1) (c .before .before .before .before .pre .0) (c .before .before .before .before .pre .1) (sym (c .before .is-alone .ensures) ∙ c .if1 .taken) refl refl
+    joined-first (a .walk-path .now) (a .at) (a .e) (a .t .now) (a .walk-path .now) (a .at + a .e + 1) (c .before .before .before .before .pre .0) (c .before .before .before .before .pre .1) (sym (c .before .is-alone .ensures) ∙ c .if1 .taken) refl refl
 
 sub-is-alone : tie.Need-sub-is-alone
 sub-is-alone c = search needs
@@ -54,7 +54,7 @@ same-length c = search needs
 returns-2 : tie.Need-returns-2
 returns-2 c =
     let a = c .before .before .before .before .before .before .before .before .before .before .before .before .args in
-    joined-last (a .path .now) (a .at) (a .e) (a .t .now) (c .before .before .put-at .last .0) (length (a .path .now) - length (a .t .now)) (c .before .before .before .before .before .before .before .before .before .before .before .before .pre .0) (c .before .before .before .before .before .before .before .before .before .before .before .before .pre .1) (sym (c .before .before .before .before .before .before .before .before .before .is-alone .ensures) ∙ c .before .before .before .before .before .before .before .before .if1 .left) (sym (rest-alone (c .before .before .before .before .before)) ∙ c .before .before .before .before .if2 .taken) (c .before .before .put-at .ensures) refl
+    joined-last (a .walk-path .now) (a .at) (a .e) (a .t .now) (c .before .before .put-at .last .0) (length (a .walk-path .now) - length (a .t .now)) (c .before .before .before .before .before .before .before .before .before .before .before .before .pre .0) (c .before .before .before .before .before .before .before .before .before .before .before .before .pre .1) (sym (c .before .before .before .before .before .before .before .before .before .is-alone .ensures) ∙ c .before .before .before .before .before .before .before .before .if1 .left) (sym (rest-alone (c .before .before .before .before .before)) ∙ c .before .before .before .before .if2 .taken) (c .before .before .put-at .ensures) refl
 
 is-closed-requires : tie.Need-is-closed-requires
 is-closed-requires c κs = search needs
@@ -71,10 +71,10 @@ same-length-2 c = search needs
 returns-3 : tie.Need-returns-3
 returns-3 c =
     let a = c .before .before .before .before .before .before .before .before .before .before .before .before .before .before .args in
-    joined-closed (a .path .now) (a .at) (a .e) (a .t .now) (c .before .before .put-at2 .last .0) (a .at + a .e + 1 - length (a .t .now)) (c .before .before .before .before .before .before .before .before .before .before .before .before .before .before .pre .0) (c .before .before .before .before .before .before .before .before .before .before .before .before .before .before .pre .1) (sym (c .before .before .before .before .before .before .before .before .before .before .before .is-alone .ensures) ∙ c .before .before .before .before .before .before .before .before .before .before .if1 .left) (sym (rest-alone (c .before .before .before .before .before .before .before)) ∙ c .before .before .before .before .before .before .if2 .left) (sym (c .before .before .before .before .before .is-closed .ensures) ∙ c .before .before .before .before .if3 .taken) (c .before .before .put-at2 .ensures) refl
+    joined-closed (a .walk-path .now) (a .at) (a .e) (a .t .now) (c .before .before .put-at2 .last .0) (a .at + a .e + 1 - length (a .t .now)) (c .before .before .before .before .before .before .before .before .before .before .before .before .before .before .pre .0) (c .before .before .before .before .before .before .before .before .before .before .before .before .before .before .pre .1) (sym (c .before .before .before .before .before .before .before .before .before .before .before .is-alone .ensures) ∙ c .before .before .before .before .before .before .before .before .before .before .if1 .left) (sym (rest-alone (c .before .before .before .before .before .before .before)) ∙ c .before .before .before .before .before .before .if2 .left) (sym (c .before .before .before .before .before .is-closed .ensures) ∙ c .before .before .before .before .if3 .taken) (c .before .before .put-at2 .ensures) refl
 
-slice-write-path : tie.Need-slice-write-path
-slice-write-path c = search needs
+slice-write-walk-path : tie.Need-slice-write-walk-path
+slice-write-walk-path c = search needs
 
 sub-to-3 : tie.Need-sub-to-3
 sub-to-3 c = search needs
@@ -83,12 +83,12 @@ put-at-requires-3 : tie.Need-put-at-requires-3
 put-at-requires-3 c κs = simp length-set (omega arith)
 
 same-length-3 : tie.Need-same-length-3
-same-length-3 c = let a = c .before .before .before .before .before .before .before .before .before .before .before .before .before .before .args in c .before .before .put-at3 .kept .0 ∙ length-set (a .path .now) (a .at + a .e) 47
+same-length-3 c = let a = c .before .before .before .before .before .before .before .before .before .before .before .before .before .before .args in c .before .before .put-at3 .kept .0 ∙ length-set (a .walk-path .now) (a .at + a .e) 47
 
 returns-4 : tie.Need-returns-4
 returns-4 c =
     let a = c .before .before .before .before .before .before .before .before .before .before .before .before .before .before .args in
-    joined-open (a .path .now) (a .at) (a .e) (a .t .now) (c .before .before .put-at3 .last .0) (a .at + a .e - length (a .t .now)) (c .before .before .before .before .before .before .before .before .before .before .before .before .before .before .pre .0) (c .before .before .before .before .before .before .before .before .before .before .before .before .before .before .pre .1) (sym (c .before .before .before .before .before .before .before .before .before .before .before .is-alone .ensures) ∙ c .before .before .before .before .before .before .before .before .before .before .if1 .left) (sym (rest-alone (c .before .before .before .before .before .before .before)) ∙ c .before .before .before .before .before .before .if2 .left) (sym (c .before .before .before .before .before .is-closed .ensures) ∙ c .before .before .before .before .if3 .left) (c .before .before .put-at3 .ensures) refl
+    joined-open (a .walk-path .now) (a .at) (a .e) (a .t .now) (c .before .before .put-at3 .last .0) (a .at + a .e - length (a .t .now)) (c .before .before .before .before .before .before .before .before .before .before .before .before .before .before .pre .0) (c .before .before .before .before .before .before .before .before .before .before .before .before .before .before .pre .1) (sym (c .before .before .before .before .before .before .before .before .before .before .before .is-alone .ensures) ∙ c .before .before .before .before .before .before .before .before .before .before .if1 .left) (sym (rest-alone (c .before .before .before .before .before .before .before)) ∙ c .before .before .before .before .before .before .if2 .left) (sym (c .before .before .before .before .before .is-closed .ensures) ∙ c .before .before .before .before .if3 .left) (c .before .before .put-at3 .ensures) refl
 
 pub substitute-spec : {M : Type 1} → statement M
 substitute-spec =
@@ -111,7 +111,7 @@ substitute-spec =
     put-at-requires-2
     same-length-2
     returns-3
-    slice-write-path
+    slice-write-walk-path
     sub-to-3
     put-at-requires-3
     same-length-3

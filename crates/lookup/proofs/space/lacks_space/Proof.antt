@@ -23,7 +23,7 @@ count-links-requires c κs = search needs
 returns : tie.Need-returns
 returns c =
     let a = c .before .before .before .before .before .args in
-    lacks-marks (entriesOf (theSet (c .before .before .before .before .before))) (a .marks) (a .stage) (a .path) (omega (arith, counted (c .before), c .if1 .taken))
+    lacks-marks (entriesOf (theSet (c .before .before .before .before .before))) (a .marks) (a .scratch) (a .walk-path) (omega (arith, counted (c .before), c .if1 .taken))
 
 min-usize-requires : tie.Need-min-usize-requires
 min-usize-requires c κs = search needs
@@ -37,7 +37,7 @@ space-left-requires c κs = search needs
 returns-2 : tie.Need-returns-2
 returns-2 c =
     let a = c .before .before .before .before .before .before .before .args in
-    lacks-room (entriesOf (theSet (c .before .before .before .before .before .before .before))) (a .marks) (a .stage) (a .path) (omega (arith, counted (c .before .before .before), c .before .before .if1 .left)) (c .space-left .result) (c .space-left .ensures ∙ ap (λ (k : ℕ). k + 1 - space (entriesOf (theSet (c .before .before .before .before .before .before .before)))) (c .before .min-usize .ensures))
+    lacks-room (entriesOf (theSet (c .before .before .before .before .before .before .before))) (a .marks) (a .scratch) (a .walk-path) (omega (arith, counted (c .before .before .before), c .before .before .if1 .left)) (c .space-left .result) (c .space-left .ensures ∙ ap (λ (k : ℕ). k + 1 - space (entriesOf (theSet (c .before .before .before .before .before .before .before)))) (c .before .min-usize .ensures))
 
 pub lacks-space-spec : {M : Type 1} → statement M
 lacks-space-spec =

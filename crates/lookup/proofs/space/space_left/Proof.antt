@@ -26,8 +26,8 @@ theSet c = lent (c .args .fs) (c .args .rows .now) (c .args .dirs .now) (c .args
 loop-holds : tie.Need-loop-holds Inv-loop μ-loop
 loop-holds c = (omega arith, ap (λ (l : List Entry). c .before .before .before .args .room - space l) (entries-start (theSet (c .before .before .before)) (c .before .before .before .args .fs .«num_files») refl))
 
-left-behind-requires : tie.Need-left-behind-requires Inv-loop μ-loop
-left-behind-requires c κs = search needs
+left-after-requires : tie.Need-left-after-requires Inv-loop μ-loop
+left-after-requires c κs = search needs
 
 add-i : tie.Need-add-i Inv-loop μ-loop
 add-i c = omega (arith, c .before .if1 .taken)
@@ -39,7 +39,7 @@ loop-again : tie.Need-loop-again Inv-loop μ-loop
 loop-again c =
     let s = theSet (c .before .before .before .before .before .before .before) in
     let l = c .before .before .before .loop in
-    (omega (arith, c .before .if1 .taken), space-turn s (c .before .before .before .before .before .before .before .args .fs .«num_files») (l .i) (l .left) (c .left-behind .result) (c .before .if1 .taken) (c .left-behind .ensures ∙ ap (λ (k : ℕ). l .left - k) (need-row s (l .i))) ∙ l .inv .1)
+    (omega (arith, c .before .if1 .taken), space-turn s (c .before .before .before .before .before .before .before .args .fs .«num_files») (l .i) (l .left) (c .left-after .result) (c .before .if1 .taken) (c .left-after .ensures ∙ ap (λ (k : ℕ). l .left - k) (need-row s (l .i))) ∙ l .inv .1)
 
 returns : tie.Need-returns Inv-loop μ-loop
 returns c =
@@ -49,4 +49,4 @@ returns c =
 pub space-left-spec : {M : Type 1} → statement M
 space-left-spec =
     tie.close
-    (tie.spec Inv-loop μ-loop loop-holds left-behind-requires add-i loop-less loop-again returns)
+    (tie.spec Inv-loop μ-loop loop-holds left-after-requires add-i loop-less loop-again returns)

@@ -26,10 +26,10 @@ abbrev held : tie.Start → Bool
 held s = namesHeld (s .args .fs) (s .args .rows .now) (s .args .dirs .now) (s .args .text .now)
 
 abbrev order : tie.Start → Bool
-order s = inOrder (s .args .renames) (s .args .entries .now) (s .args .names .now)
+order s = inOrder (s .args .renames) (s .args .rename-entries .now) (s .args .rename-text .now)
 
 abbrev found : tie.Start → ℕ → Optional Rename
-found s = renameFound (s .args .renames) (s .args .entries .now)
+found s = renameFound (s .args .renames) (s .args .rename-entries .now)
 
 -- the set's own path, and that through the renames
 abbrev ownPath : tie.Start → ℕ → List ℕ
@@ -37,7 +37,7 @@ ownPath s k = filePath (s .args .fs) (s .args .dirs .now) (s .args .text .now) (
 
 abbrev newPath : tie.Start → ℕ → List ℕ
 newPath s k =
-    renamedPath (renameFor k (renamesOf (s .args .renames) (s .args .entries .now) (s .args .names .now))) (ownPath s k) (s .args .save-path .now) (textAt (s .args .text .now) (s .args .fs .name))
+    renamedPath (renameFor k (renamesOf (s .args .renames) (s .args .rename-entries .now) (s .args .rename-text .now))) (ownPath s k) (s .args .save-path .now) (textAt (s .args .text .now) (s .args .fs .name))
 
 -- the file has a rename, or none
 renamed-is : (c : tie.After-found) → let s = c .before .before .before .before .before .before .before .before .before .before in value (present (c .found .given .0 .0)) ≡ fileAnswer (s .args .fs) (s .args .index .0) (held s && order s) (found s)
@@ -79,7 +79,7 @@ returns c =
     let a = s .args in
     let r = c .before .before .before .before .before .before .before .found .given .0 .0 in
     let k = path-asked (a .fs) (a .index .0) (held s) (order s) (found s) (newPath s) (a .buf .now) _ (renamed-is (c .before .before .before .before .before .before .before)) in
-    let one = listed-renamed (a .renames) (a .entries .now) (a .names .now) (clampedOf (a .index .0)) (k .0) r (sym (k .1)) in
+    let one = listed-renamed (a .renames) (a .rename-entries .now) (a .rename-text .now) (clampedOf (a .index .0)) (k .0) r (sym (k .1)) in
     path-text (a .fs) (a .index .0) (held s) (order s) (found s) (newPath s) (a .buf .now) _ (renamed-is (c .before .before .before .before .before .before .before)) _ (pathBy (r .mode) (a .save-path .now) (c .before .before .before .before .before .text-at .result .now) (c .before .before .before .before .text-at2 .result .now)) (c .before .before .put-renamed .ensures)
     (rw (one, c .before .before .before .before .before .text-at .ensures, c .before .before .before .before .text-at2 .ensures))
 
@@ -91,7 +91,7 @@ returns-2 c =
     let s = c .before .before .before .before .before .before .before .before .before .before .before .before .before .before in
     let a = s .args in
     let k = path-asked (a .fs) (a .index .0) (held s) (order s) (found s) (newPath s) (a .buf .now) _ (own-is (c .before .before .before .before)) in
-    let none = listed-own (a .renames) (a .entries .now) (a .names .now) (clampedOf (a .index .0)) (k .0) (sym (k .1)) in
+    let none = listed-own (a .renames) (a .rename-entries .now) (a .rename-text .now) (clampedOf (a .index .0)) (k .0) (sym (k .1)) in
     path-own (a .fs) (a .index .0) (held s) (order s) (found s) (newPath s) (a .buf .now) _ (own-is (c .before .before .before .before)) (ownPath s) _ (c .before .before .file-path .ensures) (rw none)
 
 returns-3 : tie.Need-returns-3

@@ -17,7 +17,7 @@ abbrev held : tie.Start → Bool
 held s = namesHeld (s .args .fs) (s .args .rows .now) (s .args .dirs .now) (s .args .text .now)
 
 abbrev order : tie.Start → Bool
-order s = inOrder (s .args .renames) (s .args .entries .now) (s .args .names .now)
+order s = inOrder (s .args .renames) (s .args .rename-entries .now) (s .args .rename-text .now)
 
 file-is : (c : tie.After-file-in) → let s = c .before .before .before .before .before .before .before in usizeSays (c .file-in .result) ≡ fileAnswer (s .args .fs) (s .args .index .0) (held s) (λ k. k)
 file-is c =
@@ -43,13 +43,13 @@ returns : tie.Need-returns
 returns c =
     let s = c .before .before .before .before .before .before .before .before .before .before .before in
     let a = s .args in
-    asked-then (a .fs) (a .index .0) (held s) (order s) (renameFound (a .renames) (a .entries .now)) _ (ap usizeSays (sym (c .before .before .k .given .1)) ∙ file-is (c .before .before .before .before)) _ (c .find-rename .ensures)
+    asked-then (a .fs) (a .index .0) (held s) (order s) (renameFound (a .renames) (a .rename-entries .now)) _ (ap usizeSays (sym (c .before .before .k .given .1)) ∙ file-is (c .before .before .before .before)) _ (c .find-rename .ensures)
 
 returns-2 : tie.Need-returns-2
 returns-2 c =
     let s = c .before .before .before .before .before .before .before .before .before .before in
     let a = s .args in
-    asked-refused (a .fs) (a .index .0) (held s) (order s) (λ k. k) (renameFound (a .renames) (a .entries .now)) (numberOf (c .before .e .given .0 .0)) (ap usizeSays (sym (c .before .e .given .1)) ∙ file-is (c .before .before .before))
+    asked-refused (a .fs) (a .index .0) (held s) (order s) (λ k. k) (renameFound (a .renames) (a .rename-entries .now)) (numberOf (c .before .e .given .0 .0)) (ap usizeSays (sym (c .before .e .given .1)) ∙ file-is (c .before .before .before))
 
 pub find-through-spec : {M : Type 1} → statement M
 find-through-spec =

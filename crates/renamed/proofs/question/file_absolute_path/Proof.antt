@@ -27,19 +27,19 @@ abbrev held : tie.Start → Bool
 held s = rowsHeld (s .args .fs) (s .args .rows .now)
 
 abbrev order : tie.Start → Bool
-order s = inOrder (s .args .renames) (s .args .entries .now) (s .args .names .now)
+order s = inOrder (s .args .renames) (s .args .rename-entries .now) (s .args .rename-text .now)
 
 -- what it is through the renames
 abbrev newAnswer : tie.Start → ℕ → Bool
-newAnswer s k = renamedAbsolute (renameFor k (renamesOf (s .args .renames) (s .args .entries .now) (s .args .names .now))) (ownAnswer s k)
+newAnswer s k = renamedAbsolute (renameFor k (renamesOf (s .args .renames) (s .args .rename-entries .now) (s .args .rename-text .now))) (ownAnswer s k)
 
 own-is : (c : tie.After-own) → let s = c .before .before .before .before .before .before in value (c .own .given .0 .0) ≡ fileAnswer (s .args .fs) (s .args .index .0) (held s) (ownAnswer s)
 own-is c = ap boolSays (sym (c .own .given .1)) ∙ c .before .before .file-absolute-path .ensures
 
-find-is : (c : tie.After-find-rename) → let a = c .before .before .before .before .before .before .before .before .before .args in findSays (c .find-rename .result) ≡ findGiven (a .renames) (a .entries .now) (length (a .names .now)) (clampedOf (a .index .0))
+find-is : (c : tie.After-find-rename) → let a = c .before .before .before .before .before .before .before .before .before .args in findSays (c .find-rename .result) ≡ findGiven (a .renames) (a .rename-entries .now) (length (a .rename-text .now)) (clampedOf (a .index .0))
 find-is c =
     let a = c .before .before .before .before .before .before .before .before .before .args in
-    c .find-rename .ensures ∙ ap (findGiven (a .renames) (a .entries .now) (length (a .names .now))) (c .before .get .ensures)
+    c .find-rename .ensures ∙ ap (findGiven (a .renames) (a .rename-entries .now) (length (a .rename-text .now))) (c .before .get .ensures)
 
 file-absolute-path-requires : tie.Need-file-absolute-path-requires
 file-absolute-path-requires c κs = search needs
@@ -73,22 +73,22 @@ returns c =
     let s = c .before .before .before .before .before .before .before .before .before .before .before .before .before in
     let a = s .args in
     let r = c .before .before .found .given .0 .0 in
-    let w = found-renamed (a .renames) (a .entries .now) (a .names .now) (clampedOf (a .index .0)) (c .before .before .before .before .find-rename .result) (find-is (c .before .before .before .before)) r (c .before .before .found .given .1) in
-    asked-value (a .fs) (a .index .0) (held s) (order s) (ownAnswer s) (newAnswer s) _ (own-is (c .before .before .before .before .before .before .before)) (w .0) _ (rw (listed-renamed (a .renames) (a .entries .now) (a .names .now) (clampedOf (a .index .0)) (w .0) r (w .1)) (c .is-by-itself .ensures))
+    let w = found-renamed (a .renames) (a .rename-entries .now) (a .rename-text .now) (clampedOf (a .index .0)) (c .before .before .before .before .find-rename .result) (find-is (c .before .before .before .before)) r (c .before .before .found .given .1) in
+    asked-value (a .fs) (a .index .0) (held s) (order s) (ownAnswer s) (newAnswer s) _ (own-is (c .before .before .before .before .before .before .before)) (w .0) _ (rw (listed-renamed (a .renames) (a .rename-entries .now) (a .rename-text .now) (clampedOf (a .index .0)) (w .0) r (w .1)) (c .is-by-itself .ensures))
 
 returns-2 : tie.Need-returns-2
 returns-2 c =
     let s = c .before .before .before .before .before .before .before .before .before .before .before in
     let a = s .args in
     let own = own-is (c .before .before .before .before .before) in
-    let w = found-own (a .renames) (a .entries .now) (a .names .now) (clampedOf (a .index .0)) (c .before .before .find-rename .result) (find-is (c .before .before)) (c .enum-told .given .1) in
-    asked-value (a .fs) (a .index .0) (held s) (order s) (ownAnswer s) (newAnswer s) _ own (w .0) _ (rw (listed-own (a .renames) (a .entries .now) (a .names .now) (clampedOf (a .index .0)) (w .0) (w .1)) (asked-own (a .fs) (a .index .0) (held s) (ownAnswer s) _ own))
+    let w = found-own (a .renames) (a .rename-entries .now) (a .rename-text .now) (clampedOf (a .index .0)) (c .before .before .find-rename .result) (find-is (c .before .before)) (c .enum-told .given .1) in
+    asked-value (a .fs) (a .index .0) (held s) (order s) (ownAnswer s) (newAnswer s) _ own (w .0) _ (rw (listed-own (a .renames) (a .rename-entries .now) (a .rename-text .now) (clampedOf (a .index .0)) (w .0) (w .1)) (asked-own (a .fs) (a .index .0) (held s) (ownAnswer s) _ own))
 
 returns-3 : tie.Need-returns-3
 returns-3 c =
     let s = c .before .before .before .before .before .before .before .before .before .before .before .before in
     let a = s .args in
-    let w = found-refused (a .renames) (a .entries .now) (a .names .now) (clampedOf (a .index .0)) (c .before .before .before .find-rename .result) (find-is (c .before .before .before)) (c .before .found2 .given .0 .0) (c .before .found2 .given .1) in
+    let w = found-refused (a .renames) (a .rename-entries .now) (a .rename-text .now) (clampedOf (a .index .0)) (c .before .before .before .find-rename .result) (find-is (c .before .before .before)) (c .before .found2 .given .0 .0) (c .before .found2 .given .1) in
     ap refused (w .1) ∙ asked-disorder (a .fs) (a .index .0) (held s) (order s) (ownAnswer s) (newAnswer s) _ (own-is (c .before .before .before .before .before .before)) (w .0)
 
 returns-4 : tie.Need-returns-4

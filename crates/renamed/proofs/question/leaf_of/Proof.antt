@@ -23,12 +23,12 @@ saturating-sub-usize-requires c κs = search needs
 add-t8 : tie.Need-add-t8
 add-t8 c =
     let a = c .before .before .before .before .before .before .args in
-    record { fits = omega (arith, c .before .saturating-sub-usize .ensures, c .before .before .trimmed-length .ensures .0, ap length (c .before .before .before .before .text-at .ensures), part-length (a .names .now) (a .place .at) (a .place .len)) }
+    record { fits = omega (arith, c .before .saturating-sub-usize .ensures, c .before .before .trimmed-length .ensures .0, ap length (c .before .before .before .before .text-at .ensures), part-length (a .rename-text .now) (a .span .at) (a .span .len)) }
 
 returns : tie.Need-returns
 returns c =
     let a = c .before .before .before .before .before .before .args in
-    leaf-is (a .names .now) (a .place) (c .before .before .trimmed-length .result) (c .before .saturating-sub-usize .result) (c .before .before .before .before .text-at .result .now) (c .before .before .before .filename .result .now) (c .before .before .before .before .text-at .ensures) (c .before .before .before .filename .ensures) (c .before .before .trimmed-length .ensures) (c .before .saturating-sub-usize .ensures)
+    leaf-is (a .rename-text .now) (a .span) (c .before .before .trimmed-length .result) (c .before .saturating-sub-usize .result) (c .before .before .before .before .text-at .result .now) (c .before .before .before .filename .result .now) (c .before .before .before .before .text-at .ensures) (c .before .before .before .filename .ensures) (c .before .before .trimmed-length .ensures) (c .before .saturating-sub-usize .ensures)
 
 pub leaf-of-spec : {M : Type 1} → statement M
 leaf-of-spec =

@@ -6,7 +6,7 @@ use native.Mathlib.Omega.{arith}
 use lib.ListN.{length}
 use Rattle.renames.specs.Renames.{Renamed}
 use Rattle.renames.specs.private.Slots.{spliced}
-use Rattle.renames.proofs.Changes.{place-in, put-state, put-entries, put-text}
+use Rattle.renames.proofs.Changes.{slot-in, put-state, put-entries, put-text}
 use borrow.Author.Needs.{needs}
 use Rattle.renames.proofs.change.put_rename.Statement.{statement}
 use Rattle.renames.proofs.change.put_rename.Tie as tie
@@ -14,7 +14,7 @@ use Rattle.renames.proofs.change.put_rename.Tie as tie
 -- where the place lies
 lies : (s : tie.Start) → let p = s .args .p in (p .entry + p .same ≤ s .args .renames .«num_renames») × (p .same ≤ 1) × (p .at + p .old ≤ s .args .renames .«text_len»)
 lies s =
-    place-in (s .args .renames .«num_renames») (s .args .renames .«text_len») (s .args .file) (s .args .entries .now) (s .pre .0) (s .args .p) (s .pre .1)
+    slot-in (s .args .renames .«num_renames») (s .args .renames .«text_len») (s .args .file) (s .args .entries .now) (s .pre .0) (s .args .p) (s .pre .1)
 
 replace-text-requires : tie.Need-replace-text-requires
 replace-text-requires c κs = (lies (c .before .before .before .before) .2, c .before .before .before .before .pre .3, c .before .before .before .before .pre .5)

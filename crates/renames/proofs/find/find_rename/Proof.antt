@@ -7,13 +7,13 @@ use Rattle.types.specs.Refusals.{value}
 use Rattle.renames.specs.Renames.{inOrderIn}
 use Rattle.renames.proofs.Ordered.{order-bytes}
 use Rattle.renames.proofs.Decisions.{order-in}
-use Rattle.renames.proofs.Finding.{place-own, place-below, place-renamed}
+use Rattle.renames.proofs.Finding.{slot-own, slot-below, slot-renamed}
 use borrow.Author.Needs.{needs}
 use Rattle.renames.proofs.find.find_rename.Statement.{statement}
 use Rattle.renames.proofs.find.find_rename.Tie as tie
 
 -- the tables are in order
-ordered : (c : tie.Else1) → let a = c .before .before .before .args in inOrderIn (a .renames) (a .entries .now) (a .room) ≡ true
+ordered : (c : tie.Else1) → let a = c .before .before .before .args in inOrderIn (a .renames) (a .rename-entries .now) (a .room) ≡ true
 ordered c = sym (c .before .is-in-order .ensures) ∙ not-false _ (c .if1 .left)
 
 is-in-order-requires : tie.Need-is-in-order-requires
@@ -22,37 +22,37 @@ is-in-order-requires c κs = search needs
 returns : tie.Need-returns
 returns c =
     let a = c .before .before .before .args in
-    let o : inOrderIn (a .renames) (a .entries .now) (a .room) ≡ false = sym (c .before .is-in-order .ensures) ∙ not-true _ (c .if1 .taken) in
+    let o : inOrderIn (a .renames) (a .rename-entries .now) (a .room) ≡ false = sym (c .before .is-in-order .ensures) ∙ not-true _ (c .if1 .taken) in
     rw o
 
-place-of-requires : tie.Need-place-of-requires
-place-of-requires c κs =
+slot-of-requires : tie.Need-slot-of-requires
+slot-of-requires c κs =
     let a = c .before .before .before .args in
-    let o = order-in (a .renames) (a .entries .now) (a .room) (ordered c) in
-    (omega arith, omega (arith, order-bytes (a .renames .«num_renames») 0 0 (a .renames .«text_len») (a .entries .now) (o .2)))
+    let o = order-in (a .renames) (a .rename-entries .now) (a .room) (ordered c) in
+    (omega arith, omega (arith, order-bytes (a .renames .«num_renames») 0 0 (a .renames .«text_len») (a .rename-entries .now) (o .2)))
 
 returns-2 : tie.Need-returns-2
 returns-2 c =
     let a = c .before .before .before .before .before .before .args in
-    let o = order-in (a .renames) (a .entries .now) (a .room) (ordered (c .before .before .before)) in
-    let p = c .before .before .place-of in
-    rw (ordered (c .before .before .before)) (ap value (place-own (a .renames) (a .file) (a .entries .now) (o .2) (p .result) (p .ensures) (c .if2 .taken)))
+    let o = order-in (a .renames) (a .rename-entries .now) (a .room) (ordered (c .before .before .before)) in
+    let p = c .before .before .slot-of in
+    rw (ordered (c .before .before .before)) (ap value (slot-own (a .renames) (a .file) (a .rename-entries .now) (o .2) (p .result) (p .ensures) (c .if2 .taken)))
 
 rename-at-requires : tie.Need-rename-at-requires
 rename-at-requires c κs =
     let a = c .before .before .before .before .before .before .args in
-    let o = order-in (a .renames) (a .entries .now) (a .room) (ordered (c .before .before .before)) in
-    let p = c .before .before .place-of in
-    let b = place-below (a .renames) (a .file) (a .entries .now) (o .2) (p .result) (p .ensures) (c .if2 .left) in
+    let o = order-in (a .renames) (a .rename-entries .now) (a .room) (ordered (c .before .before .before)) in
+    let p = c .before .before .slot-of in
+    let b = slot-below (a .renames) (a .file) (a .rename-entries .now) (o .2) (p .result) (p .ensures) (c .if2 .left) in
     omega (arith, o .0)
 
 returns-3 : tie.Need-returns-3
 returns-3 c =
     let a = c .before .before .before .before .before .before .before .args in
-    let o = order-in (a .renames) (a .entries .now) (a .room) (ordered (c .before .before .before .before)) in
-    let p = c .before .before .before .place-of in
+    let o = order-in (a .renames) (a .rename-entries .now) (a .room) (ordered (c .before .before .before .before)) in
+    let p = c .before .before .before .slot-of in
     let w = c .rename-at .ensures in
-    rw (ordered (c .before .before .before .before)) (ap value (place-renamed (a .renames) (a .file) (a .entries .now) (o .2) (p .result) (p .ensures) (c .before .if2 .left) (c .rename-at .result) (w .0) (w .1) (w .2) (w .3)))
+    rw (ordered (c .before .before .before .before)) (ap value (slot-renamed (a .renames) (a .file) (a .rename-entries .now) (o .2) (p .result) (p .ensures) (c .before .if2 .left) (c .rename-at .result) (w .0) (w .1) (w .2) (w .3)))
 
 pub find-rename-spec : {M : Type 1} → statement M
 find-rename-spec =
@@ -60,7 +60,7 @@ find-rename-spec =
     (tie.spec
     is-in-order-requires
     returns
-    place-of-requires
+    slot-of-requires
     returns-2
     rename-at-requires
     returns-3)

@@ -45,7 +45,7 @@ add-at : tie.Need-add-at Inv-loop μ-loop
 add-at c =
     let a = c .before .before .before .before .before .before .before .before .before .before .before .before .before .before .before .args in
     let l = c .before .before .before .before .before .before .before .before .before .before .loop in
-    record { fits = omega (arith, c .before .before .before .before .before .before .before .before .before .before .before .before .before .before .before .good, ap length (name-is (c .before .before .before .before .before .before .before)), name-in (a .files) (a .numbers .now) (a .lengths .now) (a .names .now) (l .i) (l .at) (l .inv .place)) }
+    record { fits = omega (arith, c .before .before .before .before .before .before .before .before .before .before .before .before .before .before .before .good, ap length (name-is (c .before .before .before .before .before .before .before)), name-in (a .files) (a .numbers .now) (a .lengths .now) (a .names .now) (l .i) (l .at) (l .inv .within)) }
 
 add-i : tie.Need-add-i Inv-loop μ-loop
 add-i c = search needs

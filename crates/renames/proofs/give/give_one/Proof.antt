@@ -38,8 +38,8 @@ returns c =
 file-at-requires : tie.Need-file-at-requires
 file-at-requires c κs = search needs
 
-place-of-requires : tie.Need-place-of-requires
-place-of-requires c κs =
+slot-of-requires : tie.Need-slot-of-requires
+slot-of-requires c κs =
     let s = c .before .before .before .before .before .before .before in
     let a = s .args in
     let o = order-in (a .renames) (a .entries .now) (length (a .text .now)) (s .pre .1) in
@@ -51,7 +51,7 @@ put-rename-requires c κs =
     let a = s .args in
     let h = s .pre .2 in
     let r = s .pre .3 in
-    one-room (a .renames) (a .entries .now) (a .text .now) (s .pre .1) (made (c .before .before .before .before)) (rw (comes (c .before .before .before .before)) at h) (rw (comes (c .before .before .before .before)) at r) (c .before .before .place-of .result) (c .before .before .place-of .ensures)
+    one-room (a .renames) (a .entries .now) (a .text .now) (s .pre .1) (made (c .before .before .before .before)) (rw (comes (c .before .before .before .before)) at h) (rw (comes (c .before .before .before .before)) at r) (c .before .before .slot-of .result) (c .before .before .slot-of .ensures)
 
 same-length : tie.Need-same-length
 same-length c = search needs
@@ -76,7 +76,7 @@ give-one-spec =
     does-count-requires
     returns
     file-at-requires
-    place-of-requires
+    slot-of-requires
     put-rename-requires
     same-length
     same-length-2

@@ -11,7 +11,7 @@ use Rattle.renames.proofs.import.import_filenames.Statement.{statement}
 use Rattle.renames.proofs.import.import_filenames.Tie as tie
 
 -- the list passed, and this is the record of what stays
-decided : (c : tie.After-decision) → let a = c .before .before .before .before .before .before .before .before .args in value (c .decision .given .0 .0) ≡ importAsked (a .fs) (a .renames) (a .entries .now) (length (a .text .now)) (a .numbers .now) (stateOf (renamesGiven (a .fs .«num_files») (a .numbers .now) (a .lengths .now) (a .names .now)))
+decided : (c : tie.After-decision) → let a = c .before .before .before .before .before .before .before .before .args in value (c .decision .given .0 .0) ≡ importAsked (a .fs) (a .renames) (a .rename-entries .now) (length (a .rename-text .now)) (a .numbers .now) (stateOf (renamesGiven (a .fs .«num_files») (a .numbers .now) (a .lengths .now) (a .names .now)))
 decided c = ap renamesSays (sym (c .decision .given .1)) ∙ c .before .before .decide .ensures
 
 decide-requires : tie.Need-decide-requires
@@ -23,18 +23,18 @@ enum-known-decision c = search needs
 keep-texts-requires : tie.Need-keep-texts-requires
 keep-texts-requires c κs =
     let a = c .before .before .before .before .before .before .before .before .before .before .before .args in
-    let k = import-in (a .fs) (a .renames) (a .entries .now) (a .text .now) (a .numbers .now) (a .lengths .now) (a .names .now) _ (decided (c .before .before .before)) in
+    let k = import-in (a .fs) (a .renames) (a .rename-entries .now) (a .rename-text .now) (a .numbers .now) (a .lengths .now) (a .names .now) _ (decided (c .before .before .before)) in
     (k .0, k .1)
 
 keep-entries-requires : tie.Need-keep-entries-requires
 keep-entries-requires c κs =
     let a = c .before .before .before .before .before .before .before .before .before .before .before .before .before .before .before .args in
-    import-in (a .fs) (a .renames) (a .entries .now) (a .text .now) (a .numbers .now) (a .lengths .now) (a .names .now) _ (decided (c .before .before .before .before .before .before .before)) .0
+    import-in (a .fs) (a .renames) (a .rename-entries .now) (a .rename-text .now) (a .numbers .now) (a .lengths .now) (a .names .now) _ (decided (c .before .before .before .before .before .before .before)) .0
 
 give-requires : tie.Need-give-requires
 give-requires c κs =
     let a = c .before .before .before .before .before .before .before .before .before .before .before .before .before .before .before .before .before .before .before .before .args in
-    let k = import-gives (a .fs) (a .renames) (a .entries .now) (a .text .now) (a .numbers .now) (a .lengths .now) (a .names .now) _ (decided (c .before .before .before .before .before .before .before .before .before .before .before .before)) _ _ (c .before .before .before .before .keep-entries .ensures) (c .before .before .before .before .before .before .before .before .keep-texts .ensures) in
+    let k = import-gives (a .fs) (a .renames) (a .rename-entries .now) (a .rename-text .now) (a .numbers .now) (a .lengths .now) (a .names .now) _ (decided (c .before .before .before .before .before .before .before .before .before .before .before .before)) _ _ (c .before .before .before .before .keep-entries .ensures) (c .before .before .before .before .before .before .before .before .keep-texts .ensures) in
     (k .0, k .1, k .2, k .3)
 
 enum-known-decision-2 : tie.Need-enum-known-decision-2
@@ -50,7 +50,7 @@ returns : tie.Need-returns
 returns c =
     let a = c .before .before .before .before .before .before .before .before .before .before .before .before .before .before .before .before .before .before .before .before .before .before .before .before .before .args in
     let w = c .before .before .before .before .give .ensures in
-    import-changed (a .fs) (a .renames) (a .entries .now) (a .text .now) (a .numbers .now) (a .lengths .now) (a .names .now) _ (decided (c .before .before .before .before .before .before .before .before .before .before .before .before .before .before .before .before .before)) _ _ (c .before .before .before .before .before .before .before .before .before .keep-entries .ensures) (c .before .before .before .before .before .before .before .before .before .before .before .before .before .keep-texts .ensures) _ _ _ (w .0) (w .1 .0) (w .1 .1)
+    import-changed (a .fs) (a .renames) (a .rename-entries .now) (a .rename-text .now) (a .numbers .now) (a .lengths .now) (a .names .now) _ (decided (c .before .before .before .before .before .before .before .before .before .before .before .before .before .before .before .before .before)) _ _ (c .before .before .before .before .before .before .before .before .before .keep-entries .ensures) (c .before .before .before .before .before .before .before .before .before .before .before .before .before .keep-texts .ensures) _ _ _ (w .0) (w .1 .0) (w .1 .1)
 
 same-length-3 : tie.Need-same-length-3
 same-length-3 c = search needs
@@ -58,7 +58,7 @@ same-length-3 c = search needs
 returns-2 : tie.Need-returns-2
 returns-2 c =
     let a = c .before .before .before .before .before .before .before .before .before .args in
-    import-refused (a .fs) (a .renames) (a .entries .now) (a .text .now) (a .numbers .now) (a .lengths .now) (a .names .now) (numberOf (c .before .decision2 .given .0 .0)) (ap renamesSays (sym (c .before .decision2 .given .1)) ∙ c .before .before .before .decide .ensures)
+    import-refused (a .fs) (a .renames) (a .rename-entries .now) (a .rename-text .now) (a .numbers .now) (a .lengths .now) (a .names .now) (numberOf (c .before .decision2 .given .0 .0)) (ap renamesSays (sym (c .before .decision2 .given .1)) ∙ c .before .before .before .decide .ensures)
 
 pub import-filenames-spec : {M : Type 1} → statement M
 import-filenames-spec =

@@ -19,7 +19,7 @@ use Rattle.tables.specs.Span.{clip}
 use Rattle.tables.specs.Model.{Store}
 use Rattle.lookup.specs.Lookup.{lent}
 use Rattle.texts.specs.Texts.{goneAt, relinked, stagedBeside}
-use Rattle.texts.proofs.OneLink.{besideOf, roomBeside, beside-long, beside-roomless, beside-written, beside-staged, stage-short, staged, staged-part}
+use Rattle.texts.proofs.OneLink.{besideOf, roomBeside, beside-long, beside-roomless, beside-written, beside-staged, scratch-short, staged, staged-part}
 use Rattle.texts.proofs.put.write_beside.Statement.{statement}
 use Rattle.texts.proofs.put.write_beside.Tie as tie
 
@@ -28,7 +28,7 @@ abbrev given : tie.Start → Store
 given c = lent (c .args .fs) (c .args .rows .now) (c .args .dirs .now) (c .args .text .now)
 
 abbrev new : tie.After-row-at → List ℕ
-new c = besideOf (given (c .before .before .before .before .before .before)) (c .before .before .before .before .before .before .args .i) (length (c .before .before .before .before .before .before .args .stage .now)) (c .row-at .result) (c .row-at .ensures)
+new c = besideOf (given (c .before .before .before .before .before .before)) (c .before .before .before .before .before .before .args .i) (length (c .before .before .before .before .before .before .args .scratch .now)) (c .row-at .result) (c .row-at .ensures)
 
 gone-is : (c : tie.After-clipped) → c .clipped .result ≡ goneAt (given (c .before .before .before .before .before .before .before)) (c .before .before .before .before .before .before .before .args .i)
 gone-is c = c .clipped .ensures ∙ ap (λ (r : Row). clip (c .before .before .before .before .before .before .before .args .fs .«text_len») (r .link)) (c .before .row-at .ensures)
@@ -37,33 +37,33 @@ gone-is c = c .clipped .ensures ∙ ap (λ (r : Row). clip (c .before .before .b
 fits-behind : (u l n : ℕ) → n ≤ l - u → l < 2 ^ 64 → u < 2 ^ 64 → u + n < 2 ^ 64
 fits-behind u l n h p q = omega arith
 
-room-is : (c : tie.After-saturating-sub-usize2) → c .saturating-sub-usize2 .result ≡ roomBeside (given (c .before .before .before .before .before .before .before .before .before)) (c .before .before .before .before .before .before .before .before .before .args .i) (length (c .before .before .before .before .before .before .before .before .before .args .stage .now)) (c .before .before .before .row-at .result) (c .before .before .before .row-at .ensures)
+room-is : (c : tie.After-saturating-sub-usize2) → c .saturating-sub-usize2 .result ≡ roomBeside (given (c .before .before .before .before .before .before .before .before .before)) (c .before .before .before .before .before .before .before .before .before .args .i) (length (c .before .before .before .before .before .before .before .before .before .args .scratch .now)) (c .before .before .before .row-at .result) (c .before .before .before .row-at .ensures)
 room-is c =
     let a = c .before .before .before .before .before .before .before .before .before .args in
     c .saturating-sub-usize2 .ensures
     ∙ ap (λ (x : ℕ). length (a .text .now) - x) (c .before .saturating-sub-usize .ensures)
     ∙ ap (λ (x : Span). length (a .text .now) - (a .fs .«text_len» - x .len)) (gone-is (c .before .before))
 
--- what the stage then holds
+-- what the scratch space then holds
 abbrev saying : tie.After-stage-text → UsizeResult → Joined
 saying c x = record { says = usizeSays x; buf = c .stage-text .last .1 .1 .1 .0 }
 
-told : (c : tie.After-known-told) → saying (c .before .before .before .before .before) (Ok (c .before .n .given .0 .0)) ≡ joinedIf (fits (new (c .before .before .before .before .before .before .before .before .before .before .before .before)) (c .before .before .before .before .before .before .before .before .before .before .before .before .before .before .before .before .before .before .args .stage .now)) (new (c .before .before .before .before .before .before .before .before .before .before .before .before)) (c .before .before .before .before .before .before .before .before .before .before .before .before .before .before .before .before .before .before .args .stage .now)
+told : (c : tie.After-known-told) → saying (c .before .before .before .before .before) (Ok (c .before .n .given .0 .0)) ≡ joinedIf (fits (new (c .before .before .before .before .before .before .before .before .before .before .before .before)) (c .before .before .before .before .before .before .before .before .before .before .before .before .before .before .before .before .before .before .args .scratch .now)) (new (c .before .before .before .before .before .before .before .before .before .before .before .before)) (c .before .before .before .before .before .before .before .before .before .before .before .before .before .before .before .before .before .before .args .scratch .now)
 told c = sym (ap (saying (c .before .before .before .before .before)) (c .before .n .given .1)) ∙ c .before .before .before .before .before .stage-text .ensures
 
-said : (c : tie.After-known-told) → (leb (length (new (c .before .before .before .before .before .before .before .before .before .before .before .before))) (length (c .before .before .before .before .before .before .before .before .before .before .before .before .before .before .before .before .before .before .args .stage .now)) ≡ true) × (c .before .n .given .0 .0 ≡ length (new (c .before .before .before .before .before .before .before .before .before .before .before .before))) × (c .before .before .before .before .before .stage-text .last .1 .1 .1 .0 ≡ sets (c .before .before .before .before .before .before .before .before .before .before .before .before .before .before .before .before .before .before .args .stage .now) 0 (new (c .before .before .before .before .before .before .before .before .before .before .before .before)))
-said c = staged (fits (new (c .before .before .before .before .before .before .before .before .before .before .before .before)) (c .before .before .before .before .before .before .before .before .before .before .before .before .before .before .before .before .before .before .args .stage .now)) (new (c .before .before .before .before .before .before .before .before .before .before .before .before)) (c .before .before .before .before .before .before .before .before .before .before .before .before .before .before .before .before .before .before .args .stage .now) _ _ (told c)
+said : (c : tie.After-known-told) → (leb (length (new (c .before .before .before .before .before .before .before .before .before .before .before .before))) (length (c .before .before .before .before .before .before .before .before .before .before .before .before .before .before .before .before .before .before .args .scratch .now)) ≡ true) × (c .before .n .given .0 .0 ≡ length (new (c .before .before .before .before .before .before .before .before .before .before .before .before))) × (c .before .before .before .before .before .stage-text .last .1 .1 .1 .0 ≡ sets (c .before .before .before .before .before .before .before .before .before .before .before .before .before .before .before .before .before .before .args .scratch .now) 0 (new (c .before .before .before .before .before .before .before .before .before .before .before .before)))
+said c = staged (fits (new (c .before .before .before .before .before .before .before .before .before .before .before .before)) (c .before .before .before .before .before .before .before .before .before .before .before .before .before .before .before .before .before .before .args .scratch .now)) (new (c .before .before .before .before .before .before .before .before .before .before .before .before)) (c .before .before .before .before .before .before .before .before .before .before .before .before .before .before .before .before .before .before .args .scratch .now) _ _ (told c)
 
--- what the stage holds at the end
-stage-is : (c : tie.After-stage-text) → c .stage-text .last .1 .1 .1 .0 ≡ stagedBeside (given (c .before .before .before .before .before .before .before .before .before .before .before .before .before)) (c .before .before .before .before .before .before .before .before .before .before .before .before .before .args .i) (c .before .before .before .before .before .before .before .before .before .before .before .before .before .args .stage .now)
-stage-is c =
+-- what the scratch space holds at the end
+scratch-is : (c : tie.After-stage-text) → c .stage-text .last .1 .1 .1 .0 ≡ stagedBeside (given (c .before .before .before .before .before .before .before .before .before .before .before .before .before)) (c .before .before .before .before .before .before .before .before .before .before .before .before .before .args .i) (c .before .before .before .before .before .before .before .before .before .before .before .before .before .args .scratch .now)
+scratch-is c =
     let a = c .before .before .before .before .before .before .before .before .before .before .before .before .before .args in
     let r = c .before .before .before .before .before .before .before .row-at in
-    beside-staged (given (c .before .before .before .before .before .before .before .before .before .before .before .before .before)) (a .i) (length (a .stage .now)) (r .result) (r .ensures) (a .stage .now) _ (ap (λ (j : Joined). j .buf) (c .stage-text .ensures))
+    beside-staged (given (c .before .before .before .before .before .before .before .before .before .before .before .before .before)) (a .i) (length (a .scratch .now)) (r .result) (r .ensures) (a .scratch .now) _ (ap (λ (j : Joined). j .buf) (c .stage-text .ensures))
 
 -- what is read from it
 part-is : (c : tie.After-part) → now (c .part .result) ≡ new (c .before .before .before .before .before .before .before .before .before .before .before .before .before .before .before .before .before .before)
-part-is c = c .part .ensures ∙ staged-part (new (c .before .before .before .before .before .before .before .before .before .before .before .before .before .before .before .before .before .before)) (c .before .before .before .before .before .before .before .before .before .before .before .before .before .before .before .before .before .before .before .before .before .before .before .before .args .stage .now) (said (c .before .before .before .before .before .before) .0) (said (c .before .before .before .before .before .before) .1) (said (c .before .before .before .before .before .before) .2)
+part-is c = c .part .ensures ∙ staged-part (new (c .before .before .before .before .before .before .before .before .before .before .before .before .before .before .before .before .before .before)) (c .before .before .before .before .before .before .before .before .before .before .before .before .before .before .before .before .before .before .before .before .before .before .before .before .args .scratch .now) (said (c .before .before .before .before .before .before) .0) (said (c .before .before .before .before .before .before) .1) (said (c .before .before .before .before .before .before) .2)
 
 row-at-requires : tie.Need-row-at-requires
 row-at-requires c κs = search needs
@@ -103,8 +103,8 @@ returns c =
     let a = c .before .before .before .before .before .before .before .before .before .before .before .before .before .before .before .before .before .args in
     let told = sym (ap (saying (c .before .before .before .before)) (c .enum-told .given .1)) ∙ c .before .before .before .before .stage-text .ensures in
     let r = c .before .before .before .before .before .before .before .before .before .before .before .row-at in (
-      beside-long (given (c .before .before .before .before .before .before .before .before .before .before .before .before .before .before .before .before .before)) (a .i) (length (a .stage .now)) (r .result) (r .ensures) (stage-short (fits (new (c .before .before .before .before .before .before .before .before .before .before .before)) (a .stage .now)) (new (c .before .before .before .before .before .before .before .before .before .before .before)) (a .stage .now) _ _ told),
-      stage-is (c .before .before .before .before),
+      beside-long (given (c .before .before .before .before .before .before .before .before .before .before .before .before .before .before .before .before .before)) (a .i) (length (a .scratch .now)) (r .result) (r .ensures) (scratch-short (fits (new (c .before .before .before .before .before .before .before .before .before .before .before)) (a .scratch .now)) (new (c .before .before .before .before .before .before .before .before .before .before .before)) (a .scratch .now) _ _ told),
+      scratch-is (c .before .before .before .before),
     )
 
 same-length-5 : tie.Need-same-length-5
@@ -123,8 +123,8 @@ returns-2 : tie.Need-returns-2
 returns-2 c =
     let a = c .before .before .before .before .before .before .before .before .before .before .before .before .before .before .before .before .before .before .before .args in
     let r = c .before .before .before .before .before .before .before .before .before .before .before .before .before .row-at in (
-      beside-roomless (given (c .before .before .before .before .before .before .before .before .before .before .before .before .before .before .before .before .before .before .before)) (a .i) (length (a .stage .now)) (r .result) (r .ensures) (omega (arith, said (c .before) .1, room-is (c .before .before .before .before .before .before .before .before .before .before), c .if1 .taken)),
-      stage-is (c .before .before .before .before .before .before),
+      beside-roomless (given (c .before .before .before .before .before .before .before .before .before .before .before .before .before .before .before .before .before .before .before)) (a .i) (length (a .scratch .now)) (r .result) (r .ensures) (omega (arith, said (c .before) .1, room-is (c .before .before .before .before .before .before .before .before .before .before), c .if1 .taken)),
+      scratch-is (c .before .before .before .before .before .before),
     )
 
 part-requires : tie.Need-part-requires
@@ -154,8 +154,8 @@ returns-3 : tie.Need-returns-3
 returns-3 c =
     let a = c .before .before .before .before .before .before .before .before .before .before .before .before .before .before .before .before .before .before .before .before .before .before .before .before .before .before .before .before .before .before .before .args in
     let r = c .before .before .before .before .before .before .before .before .before .before .before .before .before .before .before .before .before .before .before .before .before .before .before .before .before .row-at in (
-      beside-written (given (c .before .before .before .before .before .before .before .before .before .before .before .before .before .before .before .before .before .before .before .before .before .before .before .before .before .before .before .before .before .before .before)) (a .i) (length (a .stage .now)) (r .result) (r .ensures) (said (c .before .before .before .before .before .before .before .before .before .before .before .before .before) .0) (omega (arith, said (c .before .before .before .before .before .before .before .before .before .before .before .before .before) .1, room-is (c .before .before .before .before .before .before .before .before .before .before .before .before .before .before .before .before .before .before .before .before .before .before), c .before .before .before .before .before .before .before .before .before .before .before .before .if1 .left)) _ (c .before .before .before .before .before .before .relink .ensures ∙ ap (relinked (given (c .before .before .before .before .before .before .before .before .before .before .before .before .before .before .before .before .before .before .before .before .before .before .before .before .before .before .before .before .before .before .before)) (a .i)) (part-is (c .before .before .before .before .before .before .before))),
-      stage-is (c .before .before .before .before .before .before .before .before .before .before .before .before .before .before .before .before .before .before),
+      beside-written (given (c .before .before .before .before .before .before .before .before .before .before .before .before .before .before .before .before .before .before .before .before .before .before .before .before .before .before .before .before .before .before .before)) (a .i) (length (a .scratch .now)) (r .result) (r .ensures) (said (c .before .before .before .before .before .before .before .before .before .before .before .before .before) .0) (omega (arith, said (c .before .before .before .before .before .before .before .before .before .before .before .before .before) .1, room-is (c .before .before .before .before .before .before .before .before .before .before .before .before .before .before .before .before .before .before .before .before .before .before), c .before .before .before .before .before .before .before .before .before .before .before .before .if1 .left)) _ (c .before .before .before .before .before .before .relink .ensures ∙ ap (relinked (given (c .before .before .before .before .before .before .before .before .before .before .before .before .before .before .before .before .before .before .before .before .before .before .before .before .before .before .before .before .before .before .before)) (a .i)) (part-is (c .before .before .before .before .before .before .before))),
+      scratch-is (c .before .before .before .before .before .before .before .before .before .before .before .before .before .before .before .before .before .before),
     )
 
 pub write-beside-spec : {M : Type 1} → statement M

@@ -1,0 +1,4 @@
+-- Definitions that only private functions cite.
+pub mod Slots
+pub mod Changing
+pub mod Importing
