@@ -3,7 +3,7 @@
 -- answer is a place, the set's text stands there. These laws rely on those of `tables` about places.
 use Prim.Native.Nat.{ℕ, _%_, _/_, _<_}
 use mathlib.Core.Path.{_≡_, refl, ap}
-use mathlib.Core.Bool.{Bool, true, false, cond, not}
+use mathlib.Core.Bool.{Bool, true, false, cond}
 use mathlib.Core.List.{List, [], _∷_}
 use native.Mathlib.Omega.{arith}
 use lib.Dec.{eqb}

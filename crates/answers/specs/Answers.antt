@@ -1,6 +1,6 @@
--- Document 01, 'The set': what each plain answer is; its refusals are the rules of `rules`. It relies on what the tables hold (tables,
--- specs/Rows.antt and Model.antt, from which `isAbsolute`, `isInside` and `internalPath`, the answer of `internal_file_path`, are
--- passed on).
+-- Document 01, 'The set': values of plain answers about a file. It relies on what the tables hold (tables,
+-- specs/Rows.antt and Model.antt, from which `isAbsolute`, `isInside` and `internalPath`, the answer of
+-- `internal_file_path`, are passed on).
 use Prim.Native.Nat.{ℕ}
 use mathlib.Core.Bool.{cond}
 use mathlib.Core.List.{List, []}
@@ -14,7 +14,7 @@ pub use Rattle.tables.specs.Model.{internalPath}
 use Rattle.tables.specs.Rows.{rowAt, rootAt, has, linkHeldBit, rootBit}
 use Rattle.path.specs.Join.{appended}
 
--- a modified time: 0 behind those held
+-- a modified time, 0 past those held
 abbrev pub timeOf : FileStorage → List ℤ → ℕ → ℤ
 timeOf fs times k = getD (take (fs .«num_mtimes») times) k (pos 0)
 

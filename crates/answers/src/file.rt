@@ -1,13 +1,10 @@
-// Answers about one file that are numbers, truth values or a root. They rely on the refusals of `rules` and on the total
-// accessors of `tables`.
-ghost use mathlib.Core.Bool.{_&&_};
+// Answers about one file that are numbers, truth values or a root. They rely on the refusals of `rules` and on the
+// total accessors of `tables`.
 ghost use mathlib.Core.Path.{_≡_};
-ghost use Prim.Native.Nat.{_%_};
-ghost use lib.IntN.{pos};
-ghost use Rattle.tables.specs.Rows.{rowAt, has};
 ghost use Rattle.rules.specs.Results.{i64Says, boolSays, u8Says, rootSays, rootBeside};
-ghost use Rattle.rules.specs.Questions.{fileAnswer, rowsHeld, rootsHeld, timesHeld};
-ghost use Rattle.answers.specs.Answers.{timeOf, rootOf, isAbsolute};
+ghost use Rattle.answers.specs.Answers.{timeOf, rootOf};
+ghost use Rattle.answers.specs.Given.{fileSizeGiven, fileOffsetGiven, padFileAtGiven, fileFlagsGiven};
+ghost use Rattle.answers.specs.Given.{fileAbsolutePathGiven, mtimeGiven, rootGiven};
 use rules::BoolResult;
 use rules::I64Result;
 use rules::RootResult;
@@ -22,7 +19,7 @@ use tables::Sha256Hash;
 use types::FileIndex;
 use types::UsizeResult;
 
-// The time of file k: 0 behind those held.
+// The time of file k, 0 past those held.
 fn time_of(fs: FileStorage, times: &[i64], k: usize) -> i64
     ensures { λ r. ⌜ r ≡ timeOf fs (now (times .entry)) k ⌝ }
 {
@@ -47,7 +44,7 @@ pub fn root_of(rows: &[u64], roots: &[u8], k: usize) -> Sha256Hash
 
 // The size of a file.
 pub fn file_size(fs: FileStorage, rows: &[u64], index: FileIndex) -> I64Result
-    ensures { λ r. ⌜ i64Says r ≡ fileAnswer fs (index .0) (rowsHeld fs (now (rows .entry))) (λ k. pos (rowAt (now (rows .entry)) k .size)) ⌝ }
+    ensures { λ r. ⌜ i64Says r ≡ fileSizeGiven fs (now (rows .entry)) (index .0) ⌝ }
 {
     match file_in(fs, index, is_held(fs.num_files, rows.len() / 8)) {
         UsizeResult::Ok(k) => I64Result::Ok(types::signed64(tables::row_at(rows, k).size)),
@@ -57,7 +54,7 @@ pub fn file_size(fs: FileStorage, rows: &[u64], index: FileIndex) -> I64Result
 
 // The offset of a file.
 pub fn file_offset(fs: FileStorage, rows: &[u64], index: FileIndex) -> I64Result
-    ensures { λ r. ⌜ i64Says r ≡ fileAnswer fs (index .0) (rowsHeld fs (now (rows .entry))) (λ k. pos (rowAt (now (rows .entry)) k .offset)) ⌝ }
+    ensures { λ r. ⌜ i64Says r ≡ fileOffsetGiven fs (now (rows .entry)) (index .0) ⌝ }
 {
     match file_in(fs, index, is_held(fs.num_files, rows.len() / 8)) {
         UsizeResult::Ok(k) => I64Result::Ok(types::signed64(tables::row_at(rows, k).offset)),
@@ -67,7 +64,7 @@ pub fn file_offset(fs: FileStorage, rows: &[u64], index: FileIndex) -> I64Result
 
 // Whether a file is a pad.
 pub fn pad_file_at(fs: FileStorage, rows: &[u64], index: FileIndex) -> BoolResult
-    ensures { λ r. ⌜ boolSays r ≡ fileAnswer fs (index .0) (rowsHeld fs (now (rows .entry))) (λ k. has (rowAt (now (rows .entry)) k .flags) 1) ⌝ }
+    ensures { λ r. ⌜ boolSays r ≡ padFileAtGiven fs (now (rows .entry)) (index .0) ⌝ }
 {
     match file_in(fs, index, is_held(fs.num_files, rows.len() / 8)) {
         UsizeResult::Ok(k) => BoolResult::Ok(tables::is_pad(tables::flags_at(rows, k))),
@@ -77,7 +74,7 @@ pub fn pad_file_at(fs: FileStorage, rows: &[u64], index: FileIndex) -> BoolResul
 
 // The flags of a file: pad 1, hidden 2, executable 4, symlink 8.
 pub fn file_flags(fs: FileStorage, rows: &[u64], index: FileIndex) -> U8Result
-    ensures { λ r. ⌜ u8Says r ≡ fileAnswer fs (index .0) (rowsHeld fs (now (rows .entry))) (λ k. rowAt (now (rows .entry)) k .flags % 16) ⌝ }
+    ensures { λ r. ⌜ u8Says r ≡ fileFlagsGiven fs (now (rows .entry)) (index .0) ⌝ }
 {
     match file_in(fs, index, is_held(fs.num_files, rows.len() / 8)) {
         UsizeResult::Ok(k) => U8Result::Ok((tables::flags_at(rows, k) % 16) as u8),
@@ -87,7 +84,7 @@ pub fn file_flags(fs: FileStorage, rows: &[u64], index: FileIndex) -> U8Result
 
 // Whether a file was added by an absolute path.
 pub fn file_absolute_path(fs: FileStorage, rows: &[u64], index: FileIndex) -> BoolResult
-    ensures { λ r. ⌜ boolSays r ≡ fileAnswer fs (index .0) (rowsHeld fs (now (rows .entry))) (λ k. isAbsolute (rowAt (now (rows .entry)) k)) ⌝ }
+    ensures { λ r. ⌜ boolSays r ≡ fileAbsolutePathGiven fs (now (rows .entry)) (index .0) ⌝ }
 {
     match file_in(fs, index, is_held(fs.num_files, rows.len() / 8)) {
         UsizeResult::Ok(k) => BoolResult::Ok(
@@ -99,7 +96,7 @@ pub fn file_absolute_path(fs: FileStorage, rows: &[u64], index: FileIndex) -> Bo
 
 // The modified time of a file, 0 where none is held.
 pub fn mtime(fs: FileStorage, times: &[i64], index: FileIndex) -> I64Result
-    ensures { λ r. ⌜ i64Says r ≡ fileAnswer fs (index .0) (timesHeld fs (now (times .entry))) (timeOf fs (now (times .entry))) ⌝ }
+    ensures { λ r. ⌜ i64Says r ≡ mtimeGiven fs (now (times .entry)) (index .0) ⌝ }
 {
     match file_in(fs, index, is_held(fs.num_mtimes, times.len())) {
         UsizeResult::Ok(k) => I64Result::Ok(time_of(fs, times, k)),
@@ -109,7 +106,7 @@ pub fn mtime(fs: FileStorage, times: &[i64], index: FileIndex) -> I64Result
 
 // The root of a file, zeros where it has none.
 pub fn root(fs: FileStorage, rows: &[u64], roots: &[u8], index: FileIndex) -> RootResult
-    ensures { λ r. ⌜ rootSays r ≡ fileAnswer fs (index .0) (rowsHeld fs (now (rows .entry)) && rootsHeld fs (now (roots .entry))) (rootOf (now (rows .entry)) (now (roots .entry))) ⌝ }
+    ensures { λ r. ⌜ rootSays r ≡ rootGiven fs (now (rows .entry)) (now (roots .entry)) (index .0) ⌝ }
     ensures { λ r. ⌜ r .root ≡ rootBeside (rootSays r) ⌝ }
 {
     let held = are_both(

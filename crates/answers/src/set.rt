@@ -1,11 +1,8 @@
 // Answers about the set as a whole. They rely on the refusals of `rules`, and on `types` for signed numbers.
-ghost use mathlib.Core.Bool.{_&&_};
 ghost use mathlib.Core.Path.{_≡_};
-ghost use Prim.Native.Nat.{_%_, _^_};
-ghost use lib.IntN.{pos};
-ghost use Rattle.tables.specs.Rows.{dirAt};
 ghost use Rattle.rules.specs.Results.{i32Says, i64Says, boolSays, spanSays};
-ghost use Rattle.rules.specs.Questions.{setAnswer, heldAnswer, directoryAnswer, dirsHeld, textHeld};
+ghost use Rattle.answers.specs.Given.{numFilesGiven, totalSizeGiven, sizeOnDiskGiven, pieceLengthGiven, v2Given};
+ghost use Rattle.answers.specs.Given.{setNameGiven, numPathsGiven, pathAtGiven};
 use rules::BoolResult;
 use rules::Check;
 use rules::I32Result;
@@ -19,7 +16,7 @@ use tables::FileStorage;
 
 // How many files the set has.
 pub fn num_files(fs: FileStorage) -> I32Result
-    ensures { λ r. ⌜ i32Says r ≡ setAnswer fs (pos (fs .«num_files» % 2 ^ 31)) ⌝ }
+    ensures { λ r. ⌜ i32Says r ≡ numFilesGiven fs ⌝ }
 {
     match ask_set(fs, false, true) {
         Check::Go => I32Result::Ok(types::signed32(fs.num_files as u64)),
@@ -29,7 +26,7 @@ pub fn num_files(fs: FileStorage) -> I32Result
 
 // The sum of the sizes, pads included.
 pub fn total_size(fs: FileStorage) -> I64Result
-    ensures { λ r. ⌜ i64Says r ≡ setAnswer fs (pos (fs .«total_size» % 2 ^ 63)) ⌝ }
+    ensures { λ r. ⌜ i64Says r ≡ totalSizeGiven fs ⌝ }
 {
     match ask_set(fs, false, true) {
         Check::Go => I64Result::Ok(types::signed64(fs.total_size)),
@@ -39,7 +36,7 @@ pub fn total_size(fs: FileStorage) -> I64Result
 
 // The sum of the sizes without the pads.
 pub fn size_on_disk(fs: FileStorage) -> I64Result
-    ensures { λ r. ⌜ i64Says r ≡ setAnswer fs (pos (fs .«size_on_disk» % 2 ^ 63)) ⌝ }
+    ensures { λ r. ⌜ i64Says r ≡ sizeOnDiskGiven fs ⌝ }
 {
     match ask_set(fs, false, true) {
         Check::Go => I64Result::Ok(types::signed64(fs.size_on_disk)),
@@ -49,7 +46,7 @@ pub fn size_on_disk(fs: FileStorage) -> I64Result
 
 // The piece length.
 pub fn piece_length(fs: FileStorage) -> I32Result
-    ensures { λ r. ⌜ i32Says r ≡ setAnswer fs (pos (fs .«piece_length» % 2 ^ 31)) ⌝ }
+    ensures { λ r. ⌜ i32Says r ≡ pieceLengthGiven fs ⌝ }
 {
     match ask_set(fs, false, true) {
         Check::Go => I32Result::Ok(types::signed32(fs.piece_length)),
@@ -59,7 +56,7 @@ pub fn piece_length(fs: FileStorage) -> I32Result
 
 // Whether the set is v2.
 pub fn v2(fs: FileStorage) -> BoolResult
-    ensures { λ r. ⌜ boolSays r ≡ setAnswer fs (fs .v2) ⌝ }
+    ensures { λ r. ⌜ boolSays r ≡ v2Given fs ⌝ }
 {
     match ask_set(fs, false, true) {
         Check::Go => BoolResult::Ok(fs.v2),
@@ -67,9 +64,9 @@ pub fn v2(fs: FileStorage) -> BoolResult
     }
 }
 
-// Where the set's name lies in the text area.
+// Where the set's name stands in the text area.
 pub fn name(fs: FileStorage, text: &[u8]) -> SpanResult
-    ensures { λ r. ⌜ spanSays r ≡ heldAnswer fs (textHeld fs (now (text .entry))) (fs .name) ⌝ }
+    ensures { λ r. ⌜ spanSays r ≡ setNameGiven fs (now (text .entry)) ⌝ }
 {
     let place = fs.name;
     match ask_set(fs, false, is_held(fs.text_len, text.len())) {
@@ -80,7 +77,7 @@ pub fn name(fs: FileStorage, text: &[u8]) -> SpanResult
 
 // How many directories the set has.
 pub fn num_paths(fs: FileStorage) -> I32Result
-    ensures { λ r. ⌜ i32Says r ≡ setAnswer fs (pos (fs .«num_paths» % 2 ^ 31)) ⌝ }
+    ensures { λ r. ⌜ i32Says r ≡ numPathsGiven fs ⌝ }
 {
     match ask_set(fs, false, true) {
         Check::Go => I32Result::Ok(types::signed32(fs.num_paths as u64)),
@@ -88,9 +85,9 @@ pub fn num_paths(fs: FileStorage) -> I32Result
     }
 }
 
-// Where the text of directory i lies in the text area.
+// Where the text of directory i stands in the text area.
 pub fn path_at(fs: FileStorage, dirs: &[u64], text: &[u8], i: usize) -> SpanResult
-    ensures { λ r. ⌜ spanSays r ≡ directoryAnswer fs i (dirsHeld fs (now (dirs .entry)) && textHeld fs (now (text .entry))) (dirAt (now (dirs .entry)) i) ⌝ }
+    ensures { λ r. ⌜ spanSays r ≡ pathAtGiven fs (now (dirs .entry)) (now (text .entry)) i ⌝ }
 {
     let held = are_both(
         is_held(fs.num_paths, dirs.len() / 2),

@@ -1,4 +1,4 @@
-// Answers about one file that are texts: a place in the text area, or a path composed into a lent buffer.
+// Answers about one file that are texts: a span of the text area, or a path composed into a lent buffer.
 // They rely on the refusals of `rules`, on the total accessors of `tables` and on the joins of `path`.
 ghost use mathlib.Core.Bool.{_&&_};
 ghost use mathlib.Core.Path.{_≡_};
@@ -6,11 +6,11 @@ ghost use Prim.Native.Nat.{_/_};
 ghost use lib.Dec.{leb};
 ghost use Rattle.types.specs.Refusals.{usizeSays};
 ghost use Rattle.tables.specs.Rows.{rowAt, has};
-ghost use Rattle.path.specs.Join.{Joined};
 ghost use Rattle.rules.specs.Results.{spanSays};
-ghost use Rattle.rules.specs.Questions.{fileAnswer, linkAnswer, rowsHeld, dirsHeld, textHeld};
-ghost use Rattle.rules.specs.Composed.{composedIf, composedFile};
+ghost use Rattle.rules.specs.Questions.{linkAnswer};
+ghost use Rattle.rules.specs.Composed.{composedSays, composedIf};
 ghost use Rattle.answers.specs.Answers.{internalPath, symlinkPath};
+ghost use Rattle.answers.specs.Given.{fileNameGiven, internalSymlinkGiven, symlinkGiven, internalFilePathGiven};
 use rules::SpanResult;
 use rules::are_both;
 use rules::file_in;
@@ -21,7 +21,7 @@ use types::FileIndex;
 use types::Refusal;
 use types::UsizeResult;
 
-// Whether so many words of rows and so many bytes of text hold the set's files and texts.
+// Whether a table of rows with `words` words and a text area of `bytes` bytes are long enough for the set.
 fn are_held(fs: FileStorage, words: usize, bytes: usize) -> bool
     ensures { λ r. ⌜ r ≡ (leb (fs .«num_files») (words / 8) && leb (fs .«text_len») bytes) ⌝ }
 {
@@ -31,9 +31,13 @@ fn are_held(fs: FileStorage, words: usize, bytes: usize) -> bool
     )
 }
 
-// The number of a file whose link text a question is about, or why the question isn't answered.
+// The number of the file whose link text a question is about, or its refusal; `held` says whether the lent tables are
+// long enough.
 fn link_in(fs: FileStorage, rows: &[u64], index: FileIndex, held: bool) -> UsizeResult
-    ensures { λ r. ⌜ usizeSays r ≡ linkAnswer fs (index .0) (λ k. has (rowAt (now (rows .entry)) k .flags) 16) held (λ k. k) ⌝ }
+    ensures { λ r. ⌜
+        usizeSays r
+        ≡ linkAnswer fs (index .0) (λ k. has (rowAt (now (rows .entry)) k .flags) 16) held (λ k. k)
+        ⌝ }
 {
     match file_in(fs, index, true) {
         UsizeResult::Ok(k) => {
@@ -50,18 +54,24 @@ fn link_in(fs: FileStorage, rows: &[u64], index: FileIndex, held: bool) -> Usize
     }
 }
 
-// Writes the path within the set of the file with that row.
+// Writes the path within the set of the file in `row`.
 fn put_internal(dirs: &[u64], text: &[u8], row: Row, buf: &mut [u8]) -> UsizeResult
-    ensures { λ r. ⌜ _≡_ {A = Joined} (record { says = usizeSays r; buf = now (buf .exit) }) (composedIf 0 (internalPath (now (dirs .entry)) (now (text .entry)) row) (now (buf .entry))) ⌝ }
+    ensures { λ r. ⌜
+        composedSays r (now (buf .exit))
+        ≡ composedIf 0 (internalPath (now (dirs .entry)) (now (text .entry)) row) (now (buf .entry))
+        ⌝ }
 {
     let branch = tables::text_at(text, tables::directory_span(dirs, row));
     let leaf = tables::text_at(text, row.name);
     path::join_path(branch, leaf, buf)
 }
 
-// Writes the path that the link of the file with that row leads to, nothing where no link text is held.
+// Writes the path that the link of the file in `row` leads to; nothing where it holds no link text.
 fn put_link(fs: FileStorage, text: &[u8], row: Row, buf: &mut [u8]) -> UsizeResult
-    ensures { λ r. ⌜ _≡_ {A = Joined} (record { says = usizeSays r; buf = now (buf .exit) }) (composedIf 0 (symlinkPath fs (now (text .entry)) row) (now (buf .entry))) ⌝ }
+    ensures { λ r. ⌜
+        composedSays r (now (buf .exit))
+        ≡ composedIf 0 (symlinkPath fs (now (text .entry)) row) (now (buf .entry))
+        ⌝ }
 {
     if !tables::holds_link(row.flags) {
         return UsizeResult::Ok(0);
@@ -71,9 +81,9 @@ fn put_link(fs: FileStorage, text: &[u8], row: Row, buf: &mut [u8]) -> UsizeResu
     path::join_path(branch, leaf, buf)
 }
 
-// Where a file's name lies in the text area.
+// Where a file's name stands in the text area.
 pub fn file_name(fs: FileStorage, rows: &[u64], text: &[u8], index: FileIndex) -> SpanResult
-    ensures { λ r. ⌜ spanSays r ≡ fileAnswer fs (index .0) (rowsHeld fs (now (rows .entry)) && textHeld fs (now (text .entry))) (λ k. rowAt (now (rows .entry)) k .name) ⌝ }
+    ensures { λ r. ⌜ spanSays r ≡ fileNameGiven fs (now (rows .entry)) (now (text .entry)) (index .0) ⌝ }
 {
     let held = are_held(fs, rows.len(), text.len());
     match file_in(fs, index, held) {
@@ -86,9 +96,9 @@ pub fn file_name(fs: FileStorage, rows: &[u64], text: &[u8], index: FileIndex) -
     }
 }
 
-// Where a file's link text lies in the text area; 15 where it holds none.
+// Where a file's link text stands in the text area.
 pub fn internal_symlink(fs: FileStorage, rows: &[u64], text: &[u8], index: FileIndex) -> SpanResult
-    ensures { λ r. ⌜ spanSays r ≡ linkAnswer fs (index .0) (λ k. has (rowAt (now (rows .entry)) k .flags) 16) (rowsHeld fs (now (rows .entry)) && textHeld fs (now (text .entry))) (λ k. rowAt (now (rows .entry)) k .link) ⌝ }
+    ensures { λ r. ⌜ spanSays r ≡ internalSymlinkGiven fs (now (rows .entry)) (now (text .entry)) (index .0) ⌝ }
 {
     let held = are_held(fs, rows.len(), text.len());
     match link_in(fs, rows, index, held) {
@@ -101,7 +111,7 @@ pub fn internal_symlink(fs: FileStorage, rows: &[u64], text: &[u8], index: FileI
     }
 }
 
-// The path that a link leads to, with the set's name, in `buf`; nothing where no link text is held.
+// Writes the path that a link leads to, with the set's name, into `buf`; nothing where the file holds no link text.
 pub fn symlink(
     fs: FileStorage,
     rows: &[u64],
@@ -109,7 +119,10 @@ pub fn symlink(
     index: FileIndex,
     buf: &mut [u8],
 ) -> UsizeResult
-    ensures { λ r. ⌜ _≡_ {A = Joined} (record { says = usizeSays r; buf = now (buf .exit) }) (composedFile fs (index .0) (rowsHeld fs (now (rows .entry)) && textHeld fs (now (text .entry))) (λ k. symlinkPath fs (now (text .entry)) (rowAt (now (rows .entry)) k)) (now (buf .entry))) ⌝ }
+    ensures { λ r. ⌜
+        composedSays r (now (buf .exit))
+        ≡ symlinkGiven fs (now (rows .entry)) (now (text .entry)) (index .0) (now (buf .entry))
+        ⌝ }
 {
     let held = are_held(fs, rows.len(), text.len());
     match file_in(fs, index, held) {
@@ -118,7 +131,7 @@ pub fn symlink(
     }
 }
 
-// The path of a file within the set, in `buf`.
+// Writes the path of a file within the set into `buf`.
 pub fn internal_file_path(
     fs: FileStorage,
     rows: &[u64],
@@ -127,7 +140,11 @@ pub fn internal_file_path(
     index: FileIndex,
     buf: &mut [u8],
 ) -> UsizeResult
-    ensures { λ r. ⌜ _≡_ {A = Joined} (record { says = usizeSays r; buf = now (buf .exit) }) (composedFile fs (index .0) (rowsHeld fs (now (rows .entry)) && (dirsHeld fs (now (dirs .entry)) && textHeld fs (now (text .entry)))) (λ k. internalPath (now (dirs .entry)) (now (text .entry)) (rowAt (now (rows .entry)) k)) (now (buf .entry))) ⌝ }
+    ensures { λ r. ⌜
+        composedSays r (now (buf .exit))
+        ≡ internalFilePathGiven fs (now (rows .entry)) (now (dirs .entry)) (now (text .entry)) (index .0)
+        (now (buf .entry))
+        ⌝ }
 {
     let places = are_both(
         is_held(fs.num_paths, dirs.len() / 2),

@@ -112,28 +112,20 @@ module _ {n : ℕ} {xs : List ℕ} {fs : FileStorage} {rows : List ℕ} (h : Hol
         ap (λ (k : ℕ). record { says = value k; table = sets out 0 (map recordOf (walk 0 xs (p * n + o) m)) }) d
 
     -- a request for a byte of the set that lies in a file that is there
-    low-bits : (a : ℕ) → a ≤ 2147483647 → a % 2 ^ 31 ≡ a
-    low-bits a l = omega arith
-
-    piece-low : (t : ℕ) → t < sum xs → t / n ≤ 2147483647
-    piece-low t l = omega (arith, ceiling-above (sum xs) n (h .some) (t / n) (omega (arith, div-mul-le-self t n)))
-
     back-answered : (t : ℕ) (p : Slice) → Lies xs t p → (m : ℕ)
         → fileMapped fs rows (pos (p .file)) (pos (p .offset)) (pos m)
-        ≡ value (record { piece = pos (t / n); start = pos (t % n); length = pos (min m (sum xs - t) % 2 ^ 31) })
+        ≡ value (record { piece = pos (t / n); start = pos (t % n); length = pos (min m (sum xs - t)) })
     back-answered t p w m =
         let e : rowAt rows (p .file) .offset + p .offset ≡ t = ap (λ (k : ℕ). k + p .offset) (h .offsets (p .file) (w .known)) ∙ w .first in
         let a = sum-take-more xs (p .file) in
         let b = sum-take-le xs (p .file + 1) in
         let l : t < sum xs = omega (arith, w .first, w .within, w .nonempty) in
         let c = lt-leb (sum xs) t l in
-        let q = low-bits (t / n) (piece-low t l) in
-        let r = low-bits (t % n) (omega (arith, mod-lt t (h .some), h .signed)) in
         let none =
         first-none
         (badPieceLength fs ∷ noFile fs (pos (p .file)) ∷ manyPieces fs ∷ badRange (pos (p .offset)) (pos m) ∷ short (rowsHeld fs rows) ∷ [])
         (is-open, (file-there (p .file) (w .known), (not-many, (low-place (p .offset) (omega (arith, h .limited, w .within)) m, (all-held, tt))))) in
-        rw (none, e, h .total, h .long, c, q, r)
+        rw (none, e, h .total, h .long, c)
 
 -- ---- the blocks of a set
 
@@ -171,7 +163,7 @@ module _ {n : ℕ} {xs : List ℕ} (s : Store) (h : Holds n xs (s .fs) (s .rows)
       record {
         piece = t / n;
         start = t % n;
-        length = min m (sum xs - t) % 2 ^ 31;
+        length = min m (sum xs - t);
         answer = e ∙ back-answered h few t p w m;
         holds = div-add-mod' t n;
         inside = mod-lt t (h .some);

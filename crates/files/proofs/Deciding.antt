@@ -2,19 +2,17 @@
 -- order of `rules`.
 --     file-known, file-counted            the file is one of the set's, and the set's pieces can be counted
 --     past-held, past-index, bytes-past   a negative number's file is past the end of every set that a table holds
---     asked-apart                         a question about bytes of a file is answered where the set and the question pass
-use Prim.Native.Nat.{ℕ, suc, _+_, _-_, _*_, _%_, _^_, _≤_, _<_}
+--     rules-apart                         a question about bytes of a file is answered where the set and the question pass
+use Prim.Native.Nat.{ℕ, suc, _-_, _%_, _^_, _≤_, _<_}
 use mathlib.Core.Path.{_≡_, refl, sym, ap, _∙_}
-use mathlib.Core.Bool.{Bool, true, false, cond, not, true≢false, _&&_}
-use mathlib.Core.List.{List, [], _∷_, _++_}
-use native.Mathlib.Nat.{mul-le-mul, suc-mul}
-use native.Mathlib.Numerals.{add-one}
+use mathlib.Core.Bool.{Bool, true, false, true≢false, _&&_}
+use mathlib.Core.List.{[], _∷_}
 use native.Mathlib.Omega.{arith}
 use lib.Dec.{eqb, ltb, leb}
 use lib.IntN.{ℤ, pos, negsuc}
 use mir.Syntax.{w32, w64}
 use mir.Val.{SFits, ofZ}
-use borrow.Author.Tests.{lt-ltb, le-ltb, ltb-true, ltb-false, leb-true, eqb-true, ne-eqb, not-false}
+use borrow.Author.Tests.{le-ltb, leb-true, not-false}
 use Rattle.tables.specs.declared.storage.FileStorage.{FileStorage}
 use Rattle.rules.specs.Rules.{when, firstOf}
 use Rattle.rules.specs.Bounds.{badLength, clampedOf, isBelow}
@@ -24,7 +22,7 @@ use Rattle.rules.specs.Results.{checkNumber}
 use Rattle.layout.specs.Deciding.{Counted}
 use Rattle.files.specs.private.Deciding.{setRules, positionRules, bytesRules}
 use Rattle.rules.specs.Questions.{numPieces, badPieceLength, noFile, manyPieces, badRange, short}
-use Rattle.rules.proofs.Deciding.{gone, below-is}
+use Rattle.rules.proofs.Deciding.{gone, below-is, low-i32}
 use Rattle.layout.proofs.Deciding.{counted}
 
 pub record FilePassed (fs : FileStorage) (z : ℤ) (many bad tree : Bool) : Type 0 where
@@ -54,19 +52,23 @@ file-counted fs z many bad tree h k = counted fs (k .length) (sym h ∙ k .not-m
 pub low-as : {z : ℤ} {n m : ℕ} → z ≡ pos (n % 2 ^ 31) → n ≡ m → z ≡ pos (m % 2 ^ 31)
 low-as h e = h ∙ ap (λ (k : ℕ). pos (k % 2 ^ 31)) e
 
+-- the number itself, where it is below 2 ^ 31
+pub low-whole : {z : ℤ} {n m : ℕ} → z ≡ pos (n % 2 ^ 31) → n ≡ m → m ≤ 2147483647 → z ≡ pos m
+low-whole {m = m} h e l = low-as h e ∙ low-i32 m l
+
 -- the tests of the set and those of the question, apart and in their order
-asked-apart : (a b c d e : Bool)
+rules-apart : (a b c d e : Bool)
     → eqb (firstOf (when a 1 ∷ when b 11 ∷ when c 13 ∷ when d 14 ∷ when e 10 ∷ [])) 0
     ≡ (eqb (firstOf (when a 1 ∷ when c 13 ∷ when e 10 ∷ [])) 0 && eqb (firstOf (when b 11 ∷ when d 14 ∷ [])) 0)
-asked-apart true b c d e = refl
-asked-apart false true true d e = refl
-asked-apart false true false d true = refl
-asked-apart false true false d false = refl
-asked-apart false false true d e = refl
-asked-apart false false false true true = refl
-asked-apart false false false true false = refl
-asked-apart false false false false true = refl
-asked-apart false false false false false = refl
+rules-apart true b c d e = refl
+rules-apart false true true d e = refl
+rules-apart false true false d true = refl
+rules-apart false true false d false = refl
+rules-apart false false true d e = refl
+rules-apart false false false true true = refl
+rules-apart false false false true false = refl
+rules-apart false false false false true = refl
+rules-apart false false false false false = refl
 
 -- a negative number's file is past the end of every set that a table holds
 past-held : (z : ℤ) (n : ℕ) → SFits w32 z → n < 2 ^ 63 → ltb (ofZ w64 z) n ≡ isBelow n z
@@ -85,7 +87,7 @@ pub bytes-past : (fs : FileStorage) (z offset size : ℤ) (room : ℕ) → SFits
 bytes-past fs z offset size room f h = by (leb (fs .«num_files») room) refl
   where
     apart : (eqb (firstOf (setRules fs room)) 0 && eqb (firstOf (positionRules fs z offset size)) 0) ≡ eqb (firstOf (bytesRules fs z offset size room)) 0
-    apart = sym (asked-apart (badPieceLength fs .test) (noFile fs z .test) (manyPieces fs .test) (badRange offset size .test) (short (leb (fs .«num_files») room) .test))
+    apart = sym (rules-apart (badPieceLength fs .test) (noFile fs z .test) (manyPieces fs .test) (badRange offset size .test) (short (leb (fs .«num_files») room) .test))
 
     unfit : (a b : Bool) → eqb (firstOf (when a 1 ∷ when b 13 ∷ when true 10 ∷ [])) 0 ≡ false
     unfit true b = refl

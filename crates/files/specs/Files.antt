@@ -1,4 +1,5 @@
--- Document 01, 'Layout answers': answers about files' pieces, blocks and trees.
+-- Document 01, 'Layout answers': values of answers about files' pieces, blocks and trees. It relies on the requests of
+-- Request.antt, on the rows of `tables`, on the roots of `answers` and on the number of pieces (`rules`).
 use Prim.Native.Nat.{ℕ, zero, suc, _+_, _-_, _*_, _/_, _%_, _^_}
 use mathlib.Core.Bool.{cond, _||_}
 use mathlib.Core.List.{List}
@@ -10,7 +11,8 @@ use Rattle.tables.specs.Rows.{rowAt}
 use Rattle.answers.specs.Answers.{rootOf}
 use Rattle.rules.specs.Questions.{numPieces}
 use Rattle.layout.specs.Pieces.{blocksIn}
-use Rattle.files.specs.Request.{Request}
+use Rattle.rules.specs.Results.{Range}
+use Rattle.files.specs.Request.{Request, fileStart}
 
 -- 'Quotients here go toward zero': (n − 1) / d, where n may be 0: then 0, or −1 at d 1
 abbrev pub lastQuotient : ℕ → ℕ → ℤ
@@ -25,6 +27,7 @@ low31 (negsuc n) = negsuc n
 abbrev pub afterQuotient : ℕ → ℕ → ℕ
 afterQuotient n d = cond (eqb n 0) (cond (eqb d 1) 0 1) ((n - 1) / d + 1)
 
+-- the first and the last piece that have a byte of file k
 abbrev pub firstPiece : FileStorage → List ℕ → ℕ → ℕ
 firstPiece fs rows k = rowAt rows k .offset / fs .«piece_length»
 
@@ -35,6 +38,7 @@ lastPiece fs rows k = lastQuotient (rowAt rows k .offset + rowAt rows k .size) (
 abbrev pub positionOf : FileStorage → Request → ℕ
 positionOf fs r = r .piece * fs .«piece_length» + r .start
 
+-- the first piece that begins at the request or after it
 abbrev pub exclusiveBegin : Request → ℕ
 exclusiveBegin r = cond (eqb (r .start) 0) (r .piece) (r .piece + 1)
 
@@ -48,18 +52,36 @@ exclusiveEnd fs k size r =
     cond (eqb (k + 1) (fs .«num_files»)) (numPieces fs)
     (endOrBegin (exclusiveBegin r) ((positionOf fs r + size + 1) / fs .«piece_length»))
 
+-- the pieces that lie wholly in file k; the end in its low 31 bits
+abbrev pub exclusiveRange : FileStorage → List ℕ → ℕ → Range
+exclusiveRange fs rows k =
+    record {
+      begin = pos (exclusiveBegin (fileStart fs rows k));
+      end = pos (exclusiveEnd fs k (rowAt rows k .size) (fileStart fs rows k) % 2 ^ 31);
+    }
+
+-- one more than the last piece that has one of `size` bytes from the request on
 abbrev pub inclusiveEnd : FileStorage → ℕ → Request → ℕ
 inclusiveEnd fs size r = afterQuotient (positionOf fs r + size) (fs .«piece_length»)
 
--- the first file whose root, 32 zeros where it has none, is the one asked for; −1 where none is
+-- the pieces that have a byte of file k; the end in its low 31 bits
+abbrev pub inclusiveRange : FileStorage → List ℕ → ℕ → Range
+inclusiveRange fs rows k =
+    record {
+      begin = pos (fileStart fs rows k .piece);
+      end = pos (inclusiveEnd fs (rowAt rows k .size) (fileStart fs rows k) % 2 ^ 31);
+    }
+
+-- the first of n files from file k on whose root, 32 zeros where it has none, is `root`; −1 where none fits
 unfoldable pub rootFrom : ℕ → ℕ → List ℕ → List ℕ → List ℕ → ℤ
 rootFrom zero k rows roots root = negsuc 0
-rootFrom (suc n) k rows roots root = cond (equal (rootOf rows roots k) root) (pos k) (rootFrom n (k + 1) rows roots root)
+rootFrom (suc n) k rows roots root =
+    cond (equal (rootOf rows roots k) root) (pos k) (rootFrom n (k + 1) rows roots root)
 
 abbrev pub fileForRoot : FileStorage → List ℕ → List ℕ → List ℕ → ℤ
 fileForRoot fs rows roots root = rootFrom (fs .«num_files») 0 rows roots root
 
--- pieces and blocks of a file
+-- the number of pieces and of blocks of file k
 abbrev pub piecesOf : FileStorage → List ℕ → ℕ → ℕ
 piecesOf fs rows k = ceiling (rowAt rows k .size) (fs .«piece_length»)
 

@@ -1,14 +1,13 @@
--- Document 01, 'Layout answers': `map_file`, with its refusals: 11, 13, 14, and 10 where the rows are not there.
-use Prim.Native.Nat.{ℕ, _+_, _-_, _/_, _%_, _^_, min}
+-- Document 01, 'Layout answers': where bytes of a file lie, as `map_file` gives it. It relies on the number of pieces
+-- (`rules`).
+use Prim.Native.Nat.{ℕ, _+_, _-_, _/_, _%_, min}
 use mathlib.Core.Bool.{cond}
+use mathlib.Core.List.{List}
 use lib.Dec.{leb}
-use Rattle.tables.specs.Rows.{rowAt}
-use Rattle.rules.specs.Questions.{numPieces, rowsHeld, answered, badPieceLength, noFile, manyPieces, badRange, short}
-use mathlib.Core.List.{List, [], _∷_}
-use lib.IntN.{ℤ, pos}
-use Rattle.types.specs.Refusals.{Outcome}
+use lib.IntN.{pos}
 use Rattle.tables.specs.declared.storage.FileStorage.{FileStorage}
-use Rattle.rules.specs.Bounds.{clampedOf, clampedOf}
+use Rattle.tables.specs.Rows.{rowAt}
+use Rattle.rules.specs.Questions.{numPieces}
 use Rattle.rules.specs.Results.{SignedRequest}
 
 -- a piece, a start within it, and a length
@@ -17,20 +16,25 @@ pub record Request : Type 0 where
   pub start : ℕ
   pub length : ℕ
 
--- `map_file` 'does not stop at the file's end; at or past the total it gives the piece count, 0, 0'
+-- the request for `size` bytes from position `at` of the set's bytes on: 'at or past the total it gives the piece
+-- count, 0, 0'
 abbrev pub requestAt : FileStorage → ℕ → ℕ → Request
 requestAt fs at size =
     cond (leb (fs .«total_size») at) (record { piece = numPieces fs; start = 0; length = 0 })
-    (record { piece = at / fs .«piece_length»; start = at % fs .«piece_length»; length = min size (fs .«total_size» - at) })
+    (record {
+      piece = at / fs .«piece_length»;
+      start = at % fs .«piece_length»;
+      length = min size (fs .«total_size» - at);
+    })
 
+-- `map_file` 'does not stop at the file's end'
 abbrev pub mapFile : FileStorage → List ℕ → ℕ → ℕ → ℕ → Request
 mapFile fs rows k offset size = requestAt fs (rowAt rows k .offset + offset) size
 
--- a request as three signed numbers of 32 bits
-abbrev pub asSigned : Request → SignedRequest
-asSigned r = record { piece = pos (r .piece % 2 ^ 31); start = pos (r .start % 2 ^ 31); length = pos (r .length % 2 ^ 31) }
+-- 'what `map_file` gives for place 0 of the file'
+abbrev pub fileStart : FileStorage → List ℕ → ℕ → Request
+fileStart fs rows k = mapFile fs rows k 0 1
 
-abbrev pub fileMapped : FileStorage → List ℕ → ℤ → ℤ → ℤ → Outcome SignedRequest
-fileMapped fs rows z offset size =
-    answered (badPieceLength fs ∷ noFile fs z ∷ manyPieces fs ∷ badRange offset size ∷ short (rowsHeld fs rows) ∷ [])
-    (asSigned (mapFile fs rows (clampedOf z) (clampedOf offset) (clampedOf size)))
+-- a request in signed numbers
+abbrev pub asSigned : Request → SignedRequest
+asSigned r = record { piece = pos (r .piece); start = pos (r .start); length = pos (r .length) }

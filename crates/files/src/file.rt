@@ -1,32 +1,35 @@
-// Answers about files' pieces, blocks and trees, and `map_file`. They rely on `merkle` for the nodes and
-// on `types` for signed numbers; each tests its refusals first (`rules`).
+// Answers about files' pieces, blocks and trees, and `map_file`. They rely on `merkle` for the nodes, on `types` for
+// signed numbers and on `rules`: each decides its refusals first.
 ghost use mathlib.Core.Path.{_≡_};
-ghost use mathlib.Core.Bool.{false, not, _&&_};
-ghost use mathlib.Core.List.{[], _∷_};
-ghost use Prim.Native.Nat.{_+_, _-_, _*_, _/_, _%_, _^_, _<_};
+ghost use mathlib.Core.Bool.{false, not};
+ghost use Prim.Native.Nat.{_+_, _*_, _/_, _%_, _^_, _<_};
 ghost use lib.Dec.{eqb};
 ghost use lib.IntN.{pos};
 ghost use lib.ListN.{length};
 ghost use Rattle.types.specs.Refusals.{numberOf, usizeSays};
 ghost use Rattle.lists.specs.Lists.{equal};
 ghost use Rattle.tables.specs.Rows.{rowAt};
-ghost use Rattle.merkle.specs.Width.{widthOf, hasTree};
-ghost use Rattle.rules.specs.Rules.{when, firstOf};
-ghost use Rattle.rules.specs.Questions.{rowsHeld, rootsHeld, answered, badPieceLength, noFile, manyPieces, noTree, short};
-ghost use Rattle.rules.specs.Bounds.{clampedOf};
+ghost use Rattle.merkle.specs.Width.{hasTree};
+ghost use Rattle.rules.specs.Rules.{firstOf};
 ghost use Rattle.answers.specs.Answers.{rootOf};
-ghost use Rattle.rules.specs.Results.{i32Says, i64Says, pieceSays, fileSays, pieceRangeSays, numberRangeSays, requestSays};
-ghost use Rattle.files.specs.Request.{requestAt, mapFile};
-ghost use Rattle.files.specs.Given.{fileMapped};
-ghost use Rattle.files.specs.Given.{exclusiveGiven, inclusiveGiven};
+ghost use Rattle.rules.specs.Results.{i32Says, i64Says, pieceSays, fileSays};
+ghost use Rattle.rules.specs.Results.{rangeNumbers, pieceRangeSays, numberRangeSays, requestSays};
+ghost use Rattle.files.specs.Request.{requestAt};
+ghost use Rattle.files.specs.Given.{pieceAtFileGiven, lastPieceAtFileGiven, exclusiveGiven, inclusiveGiven};
+ghost use Rattle.files.specs.Given.{fileNumPiecesGiven, filePieceRangeGiven, fileNumBlocksGiven};
+ghost use Rattle.files.specs.Given.{nodeGiven, firstPieceNodeGiven, firstBlockNodeGiven};
+ghost use Rattle.files.specs.Given.{fileForRootGiven, fileMapped};
 ghost use Rattle.layout.specs.Deciding.{Counted};
 ghost use Rattle.files.specs.private.Deciding.{requestOf, bytesRules, setRules, positionRules};
-ghost use Rattle.files.specs.Files.{lastQuotient, low31, afterQuotient, firstPiece, lastPiece, positionOf, exclusiveBegin, endOrBegin, exclusiveEnd, inclusiveEnd, rootFrom, fileForRoot, piecesOf, blocksOf};
+ghost use Rattle.files.specs.Files.{lastQuotient, low31, afterQuotient, lastPiece, piecesOf, blocksOf, rootFrom};
+ghost use Rattle.files.specs.Files.{positionOf, exclusiveBegin, endOrBegin, exclusiveEnd};
+ghost use Rattle.files.specs.Files.{exclusiveRange, inclusiveRange};
 use crate::number::file_or_past;
 use lists::div;
 use lists::div_ceil;
 use lists::min;
 use rules::Check;
+use rules::DEFAULT_BLOCK_SIZE;
 use rules::FileResult;
 use rules::I32RangeResult;
 use rules::I32Result;
@@ -60,24 +63,24 @@ use types::clamped64;
 use types::is_negative32;
 
 // A request in unsigned numbers.
-pub(crate) struct Place {
+pub(crate) struct UnsignedRequest {
     piece: u64,
     start: u64,
     length: u64,
 }
 
-// The pieces of file k.
+// The number of pieces of file k.
 fn pieces_of(fs: FileStorage, rows: &[u64], k: usize) -> u64
     ensures { λ r. ⌜ r ≡ piecesOf fs (now (rows .entry)) k ⌝ }
 {
     div_ceil(tables::size_at(rows, k), fs.piece_length)
 }
 
-// The blocks of file k.
+// The number of blocks of file k.
 fn blocks_of(rows: &[u64], k: usize) -> u64
     ensures { λ r. ⌜ r ≡ blocksOf (now (rows .entry)) k ⌝ }
 {
-    div_ceil(tables::size_at(rows, k), 16384)
+    div_ceil(tables::size_at(rows, k), DEFAULT_BLOCK_SIZE)
 }
 
 // `(n - 1) / d` toward zero, as a piece: −1 where n is 0 and d is 1.
@@ -106,14 +109,14 @@ fn after_quotient(n: u64, d: u64) -> u64
     div(n - 1, d) + 1
 }
 
-// A place of the set's bytes as its piece and its start in that piece.
+// A position in the set's bytes: its piece, and its start in that piece.
 struct Cut {
     piece: u64,
     start: u64,
 }
 
-// Place `at` cut by the piece length. A power of two, which most piece lengths are, cuts by a shift; the power is made
-// from the length's low zero bits and compared with it, so that nothing rests on their count.
+// Position `at` as its piece and its start in it. A piece length that is a power of two, as most are, cuts by a shift;
+// the power is made from the length's low zero bits and compared with it, so that nothing rests on their count.
 fn cut_at(at: u64, piece_length: u64) -> Cut
     requires { ⌜ 0 < «piece_length» ⌝ }
     ensures { λ r. ⌜ (r .piece ≡ at / «piece_length») × (r .start ≡ at % «piece_length») ⌝ }
@@ -132,28 +135,28 @@ fn cut_at(at: u64, piece_length: u64) -> Cut
     }
 }
 
-// Where place `at` of the set's bytes lies, and how many of `size` bytes are left from there on.
-fn request_at(fs: FileStorage, at: u64, size: u64) -> Place
+// The piece and the start of position `at` of the set's bytes, and how many of `size` bytes the set has from there on.
+fn request_at(fs: FileStorage, at: u64, size: u64) -> UnsignedRequest
     requires { ⌜ 0 < fs .«piece_length» ⌝ }
     ensures { λ r. ⌜ requestOf r ≡ requestAt fs at size ⌝ }
 {
     if fs.total_size <= at {
-        return Place {
+        return UnsignedRequest {
             piece: count_pieces(fs),
             start: 0,
             length: 0,
         };
     }
     let c = cut_at(at, fs.piece_length);
-    Place {
+    UnsignedRequest {
         piece: c.piece,
         start: c.start,
         length: min(size, fs.total_size - at),
     }
 }
 
-// The first piece that begins at or behind the request.
-fn exclusive_begin(r: Place) -> u64
+// The first piece that begins at the request or after it.
+fn exclusive_begin(r: UnsignedRequest) -> u64
     requires { ⌜ r .piece < 2 ^ 32 ⌝ }
     ensures { λ b. ⌜ b ≡ exclusiveBegin (requestOf r) ⌝ }
 {
@@ -164,7 +167,7 @@ fn exclusive_begin(r: Place) -> u64
 }
 
 // The end, or the begin where the end is below it or 2147483648.
-fn clamp(begin: u64, end: u64) -> u64
+fn end_or_begin(begin: u64, end: u64) -> u64
     ensures { λ r. ⌜ r ≡ endOrBegin begin end ⌝ }
 {
     if end < begin {
@@ -176,32 +179,36 @@ fn clamp(begin: u64, end: u64) -> u64
     end
 }
 
-// Where the request's bytes begin, and `size` behind that.
-fn place_behind(fs: FileStorage, r: Place, size: u64) -> u64
+// The position `size` bytes after the request's begin.
+fn position_after(fs: FileStorage, r: UnsignedRequest, size: u64) -> u64
     requires { ⌜ r .piece * fs .«piece_length» + r .start + size < 2 ^ 64 ⌝ }
     ensures { λ e. ⌜ e ≡ positionOf fs (requestOf r) + size ⌝ }
 {
     r.piece * fs.piece_length + r.start + size
 }
 
-// The end of the pieces that lie wholly in file k of that size.
-fn exclusive_end(fs: FileStorage, k: usize, size: u64, r: Place) -> u64
-    requires { ⌜ (k < fs .«num_files») × (r .piece < 2 ^ 32) × (r .piece * fs .«piece_length» + r .start + size + 1 < 2 ^ 64) ⌝ }
+// The end of the pieces that lie wholly in file k; `size` is the file's size, and `r` the request for its first byte.
+fn exclusive_end(fs: FileStorage, k: usize, size: u64, r: UnsignedRequest) -> u64
+    requires { ⌜
+        (k < fs .«num_files») ×
+        (r .piece < 2 ^ 32) ×
+        (r .piece * fs .«piece_length» + r .start + size + 1 < 2 ^ 64)
+        ⌝ }
     ensures { λ e. ⌜ e ≡ exclusiveEnd fs k size (requestOf r) ⌝ }
 {
     if k + 1 == fs.num_files {
         return count_pieces(fs);
     }
-    clamp(
+    end_or_begin(
         exclusive_begin(r),
-        div(place_behind(fs, r, size) + 1, fs.piece_length),
+        div(position_after(fs, r, size) + 1, fs.piece_length),
     )
 }
 
 // The pieces that lie wholly in file k.
 fn exclusive(fs: FileStorage, rows: &[u64], k: usize) -> PieceIndexRange
     requires { ⌜ Counted fs × (k < fs .«num_files») ⌝ }
-    ensures { λ r. ⌜ (r .begin .0 ≡ pos (exclusiveBegin (mapFile fs (now (rows .entry)) k 0 1) % 2 ^ 31)) × (r .end .0 ≡ pos (exclusiveEnd fs k (rowAt (now (rows .entry)) k .size) (mapFile fs (now (rows .entry)) k 0 1) % 2 ^ 31)) ⌝ }
+    ensures { λ r. ⌜ rangeNumbers r ≡ exclusiveRange fs (now (rows .entry)) k ⌝ }
 {
     let r = request_at(fs, tables::offset_at(rows, k), 1);
     PieceIndexRange {
@@ -213,31 +220,34 @@ fn exclusive(fs: FileStorage, rows: &[u64], k: usize) -> PieceIndexRange
 // The pieces that have a byte of file k.
 fn inclusive(fs: FileStorage, rows: &[u64], k: usize) -> PieceIndexRange
     requires { ⌜ Counted fs ⌝ }
-    ensures { λ r. ⌜ (r .begin .0 ≡ pos (mapFile fs (now (rows .entry)) k 0 1 .piece % 2 ^ 31)) × (r .end .0 ≡ pos (inclusiveEnd fs (rowAt (now (rows .entry)) k .size) (mapFile fs (now (rows .entry)) k 0 1) % 2 ^ 31)) ⌝ }
+    ensures { λ r. ⌜ rangeNumbers r ≡ inclusiveRange fs (now (rows .entry)) k ⌝ }
 {
     let r = request_at(fs, tables::offset_at(rows, k), 1);
     PieceIndexRange {
         begin: PieceIndex::new(r.piece),
         end: PieceIndex::new(after_quotient(
-            place_behind(fs, r, tables::size_at(rows, k)),
+            position_after(fs, r, tables::size_at(rows, k)),
             fs.piece_length,
         )),
     }
 }
 
-// Whether a tree has no width for so many leaves.
+// The most leaves of a tree.
+const MAX_LEAVES: u64 = 1073741823;
+
+// Whether no tree has that number of leaves.
 fn is_no_width(leaves: u64) -> bool
     ensures { λ r. ⌜ r ≡ not (hasTree leaves) ⌝ }
 {
     if leaves < 1 {
         return true;
     }
-    1073741823 < leaves
+    MAX_LEAVES < leaves
 }
 
-// The first node of the layer of a file's leaves.
+// The first node of a layer of a file's tree with that number of leaves.
 fn first_node(fs: FileStorage, rows: &[u64], index: FileIndex, leaves: u64) -> UsizeResult
-    ensures { λ r. ⌜ usizeSays r ≡ answered (badPieceLength fs ∷ noFile fs (index .0) ∷ noTree fs (rowAt (now (rows .entry)) (clampedOf (index .0))) ∷ when (not (hasTree leaves)) 16 ∷ short (rowsHeld fs (now (rows .entry))) ∷ []) (widthOf leaves - 1) ⌝ }
+    ensures { λ r. ⌜ usizeSays r ≡ nodeGiven fs (now (rows .entry)) (index .0) leaves ⌝ }
 {
     let no_tree = is_either(is_no_tree(fs, rows, index.get()), is_no_width(leaves));
     match ask_file(fs, index, false, false, no_tree, rows.len() / 8) {
@@ -246,7 +256,7 @@ fn first_node(fs: FileStorage, rows: &[u64], index: FileIndex, leaves: u64) -> U
     }
 }
 
-// Whether the root of file k is that one.
+// Whether `root` is the root of file k, which is zeros where it has none.
 fn has_root_of(rows: &[u64], roots: &[u8], k: usize, root: Sha256Hash) -> bool
     ensures { λ r. ⌜ r ≡ equal (rootOf (now (rows .entry)) (now (roots .entry)) k) root ⌝ }
 {
@@ -254,7 +264,7 @@ fn has_root_of(rows: &[u64], roots: &[u8], k: usize, root: Sha256Hash) -> bool
     lists::same(&own, &root)
 }
 
-// The first of n files with that root, −1 where there is none.
+// The first of n files whose root is `root`, −1 where none fits.
 fn find_root(rows: &[u64], roots: &[u8], n: usize, root: Sha256Hash) -> FileIndex
     ensures { λ r. ⌜ r .0 ≡ low31 (rootFrom n 0 (now (rows .entry)) (now (roots .entry)) root) ⌝ }
 {
@@ -270,7 +280,7 @@ fn find_root(rows: &[u64], roots: &[u8], n: usize, root: Sha256Hash) -> FileInde
 
 // The first piece of a file.
 pub fn piece_index_at_file(fs: FileStorage, rows: &[u64], index: FileIndex) -> PieceResult
-    ensures { λ r. ⌜ pieceSays r ≡ answered (badPieceLength fs ∷ noFile fs (index .0) ∷ manyPieces fs ∷ short (rowsHeld fs (now (rows .entry))) ∷ []) (pos (firstPiece fs (now (rows .entry)) (clampedOf (index .0)) % 2 ^ 31)) ⌝ }
+    ensures { λ r. ⌜ pieceSays r ≡ pieceAtFileGiven fs (now (rows .entry)) (index .0) ⌝ }
 {
     match ask_file(fs, index, has_many(fs), false, false, rows.len() / 8) {
         Check::Go => PieceResult::Ok(PieceIndex::new(div(
@@ -293,7 +303,7 @@ fn last_piece_of(fs: FileStorage, rows: &[u64], k: usize) -> PieceIndex
 
 // The last piece of a file, −1 for an empty file at 0 where the piece length is 1.
 pub fn last_piece_index_at_file(fs: FileStorage, rows: &[u64], index: FileIndex) -> PieceResult
-    ensures { λ r. ⌜ pieceSays r ≡ answered (badPieceLength fs ∷ noFile fs (index .0) ∷ manyPieces fs ∷ short (rowsHeld fs (now (rows .entry))) ∷ []) (low31 (lastPiece fs (now (rows .entry)) (clampedOf (index .0)))) ⌝ }
+    ensures { λ r. ⌜ pieceSays r ≡ lastPieceAtFileGiven fs (now (rows .entry)) (index .0) ⌝ }
 {
     match ask_file(fs, index, has_many(fs), false, false, rows.len() / 8) {
         Check::Go => PieceResult::Ok(last_piece_of(fs, rows, index.get())),
@@ -301,9 +311,9 @@ pub fn last_piece_index_at_file(fs: FileStorage, rows: &[u64], index: FileIndex)
     }
 }
 
-// How many pieces a file has that starts on a piece.
+// The number of pieces of a file that starts on a piece.
 pub fn file_num_pieces(fs: FileStorage, rows: &[u64], index: FileIndex) -> I32Result
-    ensures { λ r. ⌜ i32Says r ≡ answered (badPieceLength fs ∷ noFile fs (index .0) ∷ manyPieces fs ∷ noTree fs (rowAt (now (rows .entry)) (clampedOf (index .0))) ∷ short (rowsHeld fs (now (rows .entry))) ∷ []) (pos (piecesOf fs (now (rows .entry)) (clampedOf (index .0)) % 2 ^ 31)) ⌝ }
+    ensures { λ r. ⌜ i32Says r ≡ fileNumPiecesGiven fs (now (rows .entry)) (index .0) ⌝ }
 {
     match ask_file(
         fs,
@@ -320,7 +330,7 @@ pub fn file_num_pieces(fs: FileStorage, rows: &[u64], index: FileIndex) -> I32Re
 
 // A file's pieces, counted from 0.
 pub fn file_piece_range(fs: FileStorage, rows: &[u64], index: FileIndex) -> I32RangeResult
-    ensures { λ r. ⌜ numberRangeSays r ≡ answered (badPieceLength fs ∷ noFile fs (index .0) ∷ manyPieces fs ∷ noTree fs (rowAt (now (rows .entry)) (clampedOf (index .0))) ∷ short (rowsHeld fs (now (rows .entry))) ∷ []) (record { begin = pos 0; end = pos (piecesOf fs (now (rows .entry)) (clampedOf (index .0)) % 2 ^ 31) }) ⌝ }
+    ensures { λ r. ⌜ numberRangeSays r ≡ filePieceRangeGiven fs (now (rows .entry)) (index .0) ⌝ }
 {
     match ask_file(
         fs,
@@ -338,9 +348,9 @@ pub fn file_piece_range(fs: FileStorage, rows: &[u64], index: FileIndex) -> I32R
     }
 }
 
-// How many blocks a file has that starts on a piece.
+// The number of blocks of a file that starts on a piece.
 pub fn file_num_blocks(fs: FileStorage, rows: &[u64], index: FileIndex) -> I64Result
-    ensures { λ r. ⌜ i64Says r ≡ answered (badPieceLength fs ∷ noFile fs (index .0) ∷ noTree fs (rowAt (now (rows .entry)) (clampedOf (index .0))) ∷ short (rowsHeld fs (now (rows .entry))) ∷ []) (pos (blocksOf (now (rows .entry)) (clampedOf (index .0)))) ⌝ }
+    ensures { λ r. ⌜ i64Says r ≡ fileNumBlocksGiven fs (now (rows .entry)) (index .0) ⌝ }
 {
     match ask_file(
         fs,
@@ -357,26 +367,26 @@ pub fn file_num_blocks(fs: FileStorage, rows: &[u64], index: FileIndex) -> I64Re
 
 // The first node of the layer of pieces in a file's tree.
 pub fn file_first_piece_node(fs: FileStorage, rows: &[u64], index: FileIndex) -> UsizeResult
-    ensures { λ r. ⌜ usizeSays r ≡ answered (badPieceLength fs ∷ noFile fs (index .0) ∷ noTree fs (rowAt (now (rows .entry)) (clampedOf (index .0))) ∷ when (not (hasTree (piecesOf fs (now (rows .entry)) (clampedOf (index .0))))) 16 ∷ short (rowsHeld fs (now (rows .entry))) ∷ []) (widthOf (piecesOf fs (now (rows .entry)) (clampedOf (index .0))) - 1) ⌝ }
+    ensures { λ r. ⌜ usizeSays r ≡ firstPieceNodeGiven fs (now (rows .entry)) (index .0) ⌝ }
 {
     first_node(fs, rows, index, pieces_of(fs, rows, index.get()))
 }
 
 // The first node of the layer of blocks in a file's tree.
 pub fn file_first_block_node(fs: FileStorage, rows: &[u64], index: FileIndex) -> UsizeResult
-    ensures { λ r. ⌜ usizeSays r ≡ answered (badPieceLength fs ∷ noFile fs (index .0) ∷ noTree fs (rowAt (now (rows .entry)) (clampedOf (index .0))) ∷ when (not (hasTree (blocksOf (now (rows .entry)) (clampedOf (index .0))))) 16 ∷ short (rowsHeld fs (now (rows .entry))) ∷ []) (widthOf (blocksOf (now (rows .entry)) (clampedOf (index .0))) - 1) ⌝ }
+    ensures { λ r. ⌜ usizeSays r ≡ firstBlockNodeGiven fs (now (rows .entry)) (index .0) ⌝ }
 {
     first_node(fs, rows, index, blocks_of(rows, index.get()))
 }
 
-// The first file whose root, zeros where it has none, is that one; −1 where there is none.
+// The first file whose root, zeros where it has none, is `root`; −1 where none fits.
 pub fn file_index_for_root(
     fs: FileStorage,
     rows: &[u64],
     roots: &[u8],
     root: Sha256Hash,
 ) -> FileResult
-    ensures { λ r. ⌜ fileSays r ≡ answered (badPieceLength fs ∷ short (rowsHeld fs (now (rows .entry)) && rootsHeld fs (now (roots .entry))) ∷ []) (low31 (fileForRoot fs (now (rows .entry)) (now (roots .entry)) root)) ⌝ }
+    ensures { λ r. ⌜ fileSays r ≡ fileForRootGiven fs (now (rows .entry)) (now (roots .entry)) root ⌝ }
 {
     let held = are_both(
         is_held(fs.num_files, rows.len() / 8),
@@ -389,8 +399,12 @@ pub fn file_index_for_root(
 }
 
 // A request in signed numbers.
-fn signed_request(r: Place) -> PeerRequest
-    ensures { λ q. ⌜ (q .piece .0 ≡ pos (r .piece % 2 ^ 31)) × (q .start ≡ pos (r .start % 2 ^ 31)) × (q .length ≡ pos (r .length % 2 ^ 31)) ⌝ }
+fn signed_request(r: UnsignedRequest) -> PeerRequest
+    ensures { λ q. ⌜
+        (q .piece .0 ≡ pos (r .piece % 2 ^ 31)) ×
+        (q .start ≡ pos (r .start % 2 ^ 31)) ×
+        (q .length ≡ pos (r .length % 2 ^ 31))
+        ⌝ }
 {
     PeerRequest {
         piece: PieceIndex::new(r.piece),
@@ -399,7 +413,7 @@ fn signed_request(r: Place) -> PeerRequest
     }
 }
 
-// The offset of a row that is there.
+// The offset of row k, which the table has.
 fn offset_of(rows: &[u64], k: usize) -> u64
     requires { ⌜ k * 8 < length (now rows) ⌝ }
     ensures { λ r. ⌜ r ≡ rowAt (now (rows .entry)) k .offset ⌝ }
@@ -407,8 +421,8 @@ fn offset_of(rows: &[u64], k: usize) -> u64
     rows[k * 8] % 0x1_0000_0000_0000
 }
 
-// Whether a set's own tests let it answer questions about bytes of its files.
-fn is_fit(fs: FileStorage, room: usize) -> bool
+// Whether the set passes its own tests, so that it answers questions about bytes of its files.
+fn passes_set(fs: FileStorage, room: usize) -> bool
     ensures { λ r. ⌜ r ≡ eqb (firstOf (setRules fs room)) 0 ⌝ }
 {
     if is_bad_length(fs.piece_length) {
@@ -420,8 +434,8 @@ fn is_fit(fs: FileStorage, room: usize) -> bool
     is_held(fs.num_files, room)
 }
 
-// Whether a question's own tests let it be answered.
-fn is_asked(fs: FileStorage, k: usize, offset: i64, size: i32) -> bool
+// Whether a question passes its own tests: file k is one of the set's, and offset and size are in range.
+fn passes_position(fs: FileStorage, k: usize, offset: i64, size: i32) -> bool
     ensures { λ r. ⌜ r ≡ eqb (firstOf (positionRules fs (pos k) offset size)) 0 ⌝ }
 {
     if k < fs.num_files {
@@ -430,7 +444,7 @@ fn is_asked(fs: FileStorage, k: usize, offset: i64, size: i32) -> bool
     false
 }
 
-// Why a question about bytes of a file that is not answered is refused; it never gets to `Go`.
+// The refusal of a question about bytes of a file that does not pass; `Go` is never reached.
 fn refused_bytes(fs: FileStorage, index: FileIndex, offset: i64, size: i32, room: usize) -> Refusal
     requires { ⌜ eqb (firstOf (bytesRules fs (index .0) offset size room)) 0 ≡ false ⌝ }
     ensures { λ r. ⌜ numberOf r ≡ firstOf (bytesRules fs (index .0) offset size room) ⌝ }
@@ -449,9 +463,9 @@ fn refused_bytes(fs: FileStorage, index: FileIndex, offset: i64, size: i32, room
     }
 }
 
-// Where bytes of a file lie: the piece, the start in it, and how many are left in the set. It does not stop at the file's
-// end. All tests stand before the answer, so that no answer waits for the number of a refusal, and those on the set stand
-// apart, so that a compiler can make them once for a loop of questions.
+// Where bytes of a file lie: the piece, the start in it, and how many of them the set has. It does not stop at the
+// file's end. All tests stand before the answer, so that no answer waits for the number of a refusal, and those on the
+// set stand apart, so that a compiler can make them once for a loop of questions.
 pub fn map_file(
     fs: FileStorage,
     rows: &[u64],
@@ -462,8 +476,8 @@ pub fn map_file(
     ensures { λ r. ⌜ requestSays r ≡ fileMapped fs (now (rows .entry)) (index .0) offset size ⌝ }
 {
     let k = file_or_past(index);
-    let fit = is_fit(fs, rows.len() / 8);
-    if are_both(fit, is_asked(fs, k, offset, size)) {
+    let fit = passes_set(fs, rows.len() / 8);
+    if are_both(fit, passes_position(fs, k, offset, size)) {
         return RequestResult::Ok(signed_request(request_at(
             fs,
             offset_of(rows, k) + clamped64(offset),

@@ -1,6 +1,6 @@
-// Layout answers about one file, from file_storage.rs: its pieces, blocks and trees, and `map_file`. Every answer tests document 01's
-// refusals first, in its order; a list of questions first that its tables have the places. Relies on `rules` for the refusals, and on
-// `answers`, `merkle`, `tables`, `types` and `lists`.
+// Layout answers about one file, from file_storage.rs: its pieces, blocks and trees, and `map_file`. Every answer
+// decides document 01's refusals first, in their order. Relies on `rules` for the refusals, and on `answers`, `merkle`,
+// `layout`, `tables`, `types` and `lists`.
 mod file;
 mod list;
 mod number;

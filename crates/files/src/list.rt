@@ -1,15 +1,14 @@
-// `map_file` for a list of questions: one call of it for each, in a loop that the compiler sees whole. It relies on file.rt
-// and on the laws of rows written one behind another (tables, proofs/Filled.antt).
+// `map_file` for a list of questions: one call of it for each, in a loop that the compiler sees whole. It relies on
+// file.rt and on the laws of rows written one after another (tables, proofs/Filled.antt).
 ghost use mathlib.Core.Path.{_≡_};
 ghost use mathlib.Core.List.{[], _∷_};
 ghost use Prim.Native.Nat.{_+_, _*_, _/_, _≤_, _<_};
 ghost use lib.ListN.{length};
 ghost use lib.Seq.{sets};
-ghost use Rattle.types.specs.Refusals.{usizeSays};
 ghost use Rattle.tables.specs.Rows.{filled};
 ghost use Rattle.rules.specs.Bounds.{clampedOf};
 ghost use Rattle.rules.specs.Results.{requestSays};
-ghost use Rattle.files.specs.List.{AnswersListed, answerWords, answerAt, filesMapped};
+ghost use Rattle.files.specs.List.{listedSays, answerWords, answerAt, filesMapped};
 use crate::file::map_file;
 use rules::RequestResult;
 use tables::FileStorage;
@@ -18,7 +17,7 @@ use types::Refusal;
 use types::UsizeResult;
 use types::clamped32;
 
-// Puts four words side by side, from place `at` on.
+// Puts four words side by side, from position `at` on.
 fn put_words(answers: &mut [u32], at: usize, w0: u32, w1: u32, w2: u32, w3: u32)
     requires { ⌜ at + 3 < length (now answers) ⌝ }
     ensures { λ _. ⌜ now (answers .exit) ≡ sets (now (answers .entry)) at (w0 ∷ w1 ∷ w2 ∷ w3 ∷ []) ⌝ }
@@ -36,7 +35,7 @@ fn word32(x: i32) -> u32
     clamped32(x) as u32
 }
 
-// Puts the answer to question i in its place.
+// Puts the four words of the answer to question i.
 fn put_answer(answers: &mut [u32], i: usize, answer: RequestResult)
     requires { ⌜ i * 4 + 3 < length (now answers) ⌝ }
     ensures { λ _. ⌜ now (answers .exit) ≡ sets (now (answers .entry)) (i * 4) (answerWords (requestSays answer)) ⌝ }
@@ -63,8 +62,17 @@ fn answer_each(
     sizes: &[i32],
     answers: &mut [u32],
 )
-    requires { ⌜ (length (now files) ≤ length (now offsets)) × (length (now files) ≤ length (now sizes)) × (length (now files) ≤ length (now answers) / 4) ⌝ }
-    ensures { λ _. ⌜ now (answers .exit) ≡ sets (now (answers .entry)) 0 (filled (answerAt fs (now (rows .entry)) (now (files .entry)) (now (offsets .entry)) (now (sizes .entry))) 0 (length (now (files .entry)))) ⌝ }
+    requires { ⌜
+        (length (now files) ≤ length (now offsets)) ×
+        (length (now files) ≤ length (now sizes)) ×
+        (length (now files) ≤ length (now answers) / 4)
+        ⌝ }
+    ensures { λ _. ⌜
+        now (answers .exit)
+        ≡ sets (now (answers .entry)) 0
+        (filled (answerAt fs (now (rows .entry)) (now (files .entry)) (now (offsets .entry)) (now (sizes .entry))) 0
+        (length (now (files .entry))))
+        ⌝ }
 {
     let n = files.len();
     let mut i = 0;
@@ -75,8 +83,8 @@ fn answer_each(
     }
 }
 
-// `map_file` for each question, whose file, offset and size stand at one place of three tables: its answer's four
-// words are put at that place of `answers`. It gives the number of questions.
+// `map_file` for each question: question i is file, offset and size i, and its answer is put as four words from 4 × i
+// on. It gives the number of questions.
 pub fn map_files(
     fs: FileStorage,
     rows: &[u64],
@@ -85,7 +93,11 @@ pub fn map_files(
     sizes: &[i32],
     answers: &mut [u32],
 ) -> UsizeResult
-    ensures { λ r. ⌜ _≡_ {A = AnswersListed} (record { says = usizeSays r; answers = now (answers .exit) }) (filesMapped fs (now (rows .entry)) (now (files .entry)) (now (offsets .entry)) (now (sizes .entry)) (now (answers .entry))) ⌝ }
+    ensures { λ r. ⌜
+        listedSays r (now (answers .exit))
+        ≡ filesMapped fs (now (rows .entry)) (now (files .entry)) (now (offsets .entry)) (now (sizes .entry))
+        (now (answers .entry))
+        ⌝ }
 {
     let n = files.len();
     let room = lists::min_usize(

@@ -4,7 +4,8 @@ ghost use mir.Syntax.{w64};
 ghost use mir.Val.{ofZ};
 use types::FileIndex;
 
-// The 64 bits of a file's number: a negative one is counted back from 2^64, past the files of every set whose rows are there.
+// The 64 bits of a file's number: a negative one counts back from 2^64, past the files of every set that a table of
+// rows holds.
 pub(crate) fn file_or_past(index: FileIndex) -> usize
     ensures { λ r. ⌜ r ≡ ofZ w64 (index .0) ⌝ }
 {

@@ -11,7 +11,7 @@ use Rattle.types.specs.declared.refusal.Refusal.{Refusal}
 use Rattle.tables.specs.declared.storage.FileStorage.{FileStorage}
 use Rattle.tables.specs.Rows.{rowAt}
 use Rattle.rules.specs.Rules.{firstOf}
-use Rattle.rules.specs.Bounds.{clampedOf, clampedOf}
+use Rattle.rules.specs.Bounds.{clampedOf}
 use Rattle.rules.specs.Questions.{rowsHeld, badPieceLength, manyPieces, noPiece, badRange, short}
 use Rattle.rules.specs.declared.decide.Check.{Check}
 use Rattle.rules.specs.declared.decide.Check.the-variants.{Go, Stop}

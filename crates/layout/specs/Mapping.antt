@@ -7,7 +7,7 @@ use lib.IntN.{ℤ}
 use Rattle.tables.specs.declared.storage.FileStorage.{FileStorage}
 use Rattle.tables.specs.Rows.{rowAt}
 use Rattle.rules.specs.Rules.{Rule}
-use Rattle.rules.specs.Bounds.{clampedOf, clampedOf}
+use Rattle.rules.specs.Bounds.{clampedOf}
 use Rattle.rules.specs.Questions.{rowsHeld, badPieceLength, manyPieces, noPiece, badRange, short}
 use Rattle.layout.specs.Pieces.{startOf}
 use Rattle.layout.specs.Search.{fileFound}

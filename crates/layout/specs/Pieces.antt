@@ -1,12 +1,14 @@
--- Document 01, 'Layout answers': answers about pieces.
+-- Document 01, 'Layout answers': values of answers about pieces. It relies on the number of pieces (`rules`) and on the
+-- search.
 use Prim.Native.Nat.{ℕ, _+_, _-_, _*_, min}
-use mathlib.Core.Bool.{Bool, cond}
+use mathlib.Core.Bool.{cond}
 use mathlib.Core.List.{List}
 use lib.Dec.{eqb, leb}
 use lib.IntN.{ℤ, pos, negsuc}
 use Rattle.lists.specs.Lists.{ceiling}
 use Rattle.tables.specs.declared.storage.FileStorage.{FileStorage}
 use Rattle.tables.specs.Rows.{rowAt}
+use Rattle.rules.specs.Bounds.{blockSize}
 use Rattle.rules.specs.Questions.{numPieces}
 use Rattle.layout.specs.Search.{partitionPoint, fileFound}
 
@@ -21,15 +23,19 @@ startOf fs p = p * fs .«piece_length»
 abbrev pub pieceSize : FileStorage → ℕ → ℕ
 pieceSize fs p = cond (eqb (p + 1) (numPieces fs)) (fs .«total_size» - startOf fs p) (fs .«piece_length»)
 
--- piece p cut where the first file behind its start begins
+-- the first file that begins after the start of piece p; the number of files where there is none
+abbrev pub fileAfter : FileStorage → List ℕ → ℕ → ℕ
+fileAfter fs rows p = partitionPoint rows (fs .«num_files») (startOf fs p)
+
+-- the size of piece p, cut where that file begins
 abbrev pub pieceSize2 : FileStorage → List ℕ → ℕ → ℕ
 pieceSize2 fs rows p =
-    cond (leb (fs .«num_files») (partitionPoint rows (fs .«num_files») (startOf fs p))) (pieceSize fs p)
-    (min (rowAt rows (partitionPoint rows (fs .«num_files») (startOf fs p)) .offset - startOf fs p) (fs .«piece_length»))
+    cond (leb (fs .«num_files») (fileAfter fs rows p)) (pieceSize fs p)
+    (min (rowAt rows (fileAfter fs rows p) .offset - startOf fs p) (fs .«piece_length»))
 
--- 'A block is 16384 bytes'
+-- how many blocks n bytes are
 abbrev pub blocksIn : ℕ → ℕ
-blocksIn n = ceiling n 16384
+blocksIn n = ceiling n blockSize
 
 abbrev pub fileAtPiece : FileStorage → List ℕ → ℕ → ℕ
 fileAtPiece fs rows p = fileFound rows (fs .«num_files») (startOf fs p)

@@ -9,7 +9,7 @@ use lib.ListN.{length}
 use Rattle.types.specs.Refusals.{Outcome, value, refused}
 use Rattle.tables.specs.declared.storage.FileStorage.{FileStorage}
 use Rattle.rules.specs.Rules.{firstOf}
-use Rattle.rules.specs.Bounds.{clampedOf, clampedOf}
+use Rattle.rules.specs.Bounds.{clampedOf}
 use Rattle.layout.specs.declared.start.Cursor.{Cursor}
 use Rattle.rules.specs.Questions.{short}
 use Rattle.layout.specs.Pieces.{startOf}

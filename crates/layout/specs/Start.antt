@@ -10,7 +10,7 @@ use Rattle.types.specs.Refusals.{Outcome, value, refused}
 use Rattle.tables.specs.declared.storage.FileStorage.{FileStorage}
 use Rattle.tables.specs.Rows.{rowAt}
 use Rattle.rules.specs.Rules.{firstOf}
-use Rattle.rules.specs.Bounds.{clampedOf, clampedOf}
+use Rattle.rules.specs.Bounds.{clampedOf}
 use Rattle.layout.specs.declared.start.Cursor.{Cursor}
 use Rattle.layout.specs.Pieces.{startOf}
 use Rattle.layout.specs.Search.{fileFound}

@@ -1,15 +1,14 @@
-// Answers about pieces, and files at offsets and pieces. They rely on the search and on `types` for
-// signed numbers; each tests its refusals first (`rules`).
+// Answers about pieces, and about files at offsets and pieces. They rely on the search, on `types` for signed numbers
+// and on `rules`: each decides its refusals first.
 ghost use mathlib.Core.Path.{_≡_};
-ghost use mathlib.Core.List.{[], _∷_};
-ghost use Prim.Native.Nat.{_+_, _-_, _*_, _/_, _%_, _^_, _≤_, _<_};
-ghost use lib.IntN.{pos};
+ghost use Prim.Native.Nat.{_+_, _-_, _*_, _/_, _^_, _≤_, _<_};
 ghost use lib.ListN.{length};
-ghost use Rattle.rules.specs.Bounds.{clampedOf};
-ghost use Rattle.rules.specs.Questions.{rowsHeld, answered, numPieces, badPieceLength, manyPieces, noPiece, short};
+ghost use Rattle.rules.specs.Bounds.{maxPieces};
 ghost use Rattle.rules.specs.Results.{i32Says, pieceSays, fileSays, pieceRangeSays, fileRangeSays};
-ghost use Rattle.layout.specs.Pieces.{lessOne, startOf, pieceSize, pieceSize2, blocksIn, fileAtPiece, lastFileAtPiece};
-ghost use Rattle.layout.specs.Given.{numPiecesGiven, pieceSize2Given, fileAtOffsetGiven};
+ghost use Rattle.layout.specs.Pieces.{lessOne, startOf, pieceSize, pieceSize2};
+ghost use Rattle.layout.specs.Given.{numPiecesGiven, lastPieceGiven, pieceRangeGiven, fileRangeGiven};
+ghost use Rattle.layout.specs.Given.{pieceSizeGiven, pieceSize2Given, blocksInPiece2Given, blocksPerPieceGiven};
+ghost use Rattle.layout.specs.Given.{fileAtOffsetGiven, fileAtPieceGiven, lastFileAtPieceGiven};
 use crate::search::find;
 use crate::search::find_near;
 use crate::search::partition_point;
@@ -17,6 +16,7 @@ use lists::div_ceil;
 use lists::min;
 use lists::saturating_sub;
 use rules::Check;
+use rules::DEFAULT_BLOCK_SIZE;
 use rules::FileRangeResult;
 use rules::FileResult;
 use rules::I32Result;
@@ -35,9 +35,9 @@ use types::PieceIndex;
 use types::PieceIndexRange;
 use types::clamped64;
 
-// The last of n pieces, −1 where there is none.
+// The last of n pieces, −1 for 0.
 fn last_of(n: u64) -> PieceIndex
-    requires { ⌜ n ≤ 2147483647 ⌝ }
+    requires { ⌜ n ≤ maxPieces ⌝ }
     ensures { λ r. ⌜ r .0 ≡ lessOne n ⌝ }
 {
     if n == 0 {
@@ -65,7 +65,7 @@ fn size_of(fs: FileStorage, p: u64) -> u64
     fs.piece_length
 }
 
-// Piece p cut where the first file behind its start begins.
+// The size of piece p, cut where the next file begins: the first with an offset past the piece's start.
 fn size2_of(fs: FileStorage, rows: &[u64], p: u64) -> u64
     requires { ⌜ (p < 2 ^ 32) × (p * fs .«piece_length» < 2 ^ 64) × (fs .«num_files» ≤ length (now rows) / 8) ⌝ }
     ensures { λ r. ⌜ r ≡ pieceSize2 fs (now (rows .entry)) p ⌝ }
@@ -81,7 +81,7 @@ fn size2_of(fs: FileStorage, rows: &[u64], p: u64) -> u64
     )
 }
 
-// The last byte's place of piece p.
+// Where the last byte of piece p stands.
 fn last_byte(fs: FileStorage, p: u64) -> u64
     requires { ⌜ (p < 2 ^ 32) × (p * fs .«piece_length» + pieceSize fs p < 2 ^ 64) ⌝ }
     ensures { λ r. ⌜ r ≡ startOf fs p + pieceSize fs p - 1 ⌝ }
@@ -101,7 +101,7 @@ pub fn num_pieces(fs: FileStorage) -> I32Result
 
 // The last piece, −1 where there is none.
 pub fn last_piece(fs: FileStorage) -> PieceResult
-    ensures { λ r. ⌜ pieceSays r ≡ answered (badPieceLength fs ∷ manyPieces fs ∷ []) (lessOne (numPieces fs)) ⌝ }
+    ensures { λ r. ⌜ pieceSays r ≡ lastPieceGiven fs ⌝ }
 {
     match ask_pieces(fs) {
         Check::Go => PieceResult::Ok(last_of(count_pieces(fs))),
@@ -111,7 +111,7 @@ pub fn last_piece(fs: FileStorage) -> PieceResult
 
 // All pieces.
 pub fn piece_range(fs: FileStorage) -> PieceRangeResult
-    ensures { λ r. ⌜ pieceRangeSays r ≡ answered (badPieceLength fs ∷ manyPieces fs ∷ []) (record { begin = pos 0; end = pos (numPieces fs) }) ⌝ }
+    ensures { λ r. ⌜ pieceRangeSays r ≡ pieceRangeGiven fs ⌝ }
 {
     match ask_pieces(fs) {
         Check::Go => PieceRangeResult::Ok(PieceIndexRange {
@@ -124,7 +124,7 @@ pub fn piece_range(fs: FileStorage) -> PieceRangeResult
 
 // All files.
 pub fn file_range(fs: FileStorage) -> FileRangeResult
-    ensures { λ r. ⌜ fileRangeSays r ≡ answered (badPieceLength fs ∷ []) (record { begin = pos 0; end = pos (fs .«num_files» % 2 ^ 31) }) ⌝ }
+    ensures { λ r. ⌜ fileRangeSays r ≡ fileRangeGiven fs ⌝ }
 {
     match ask_set(fs, false, true) {
         Check::Go => FileRangeResult::Ok(FileIndexRange {
@@ -137,7 +137,7 @@ pub fn file_range(fs: FileStorage) -> FileRangeResult
 
 // The size of a piece: the piece length, but for the last.
 pub fn piece_size(fs: FileStorage, piece: PieceIndex) -> I32Result
-    ensures { λ r. ⌜ i32Says r ≡ answered (badPieceLength fs ∷ manyPieces fs ∷ noPiece fs (piece .0) ∷ []) (pos (pieceSize fs (clampedOf (piece .0)) % 2 ^ 31)) ⌝ }
+    ensures { λ r. ⌜ i32Says r ≡ pieceSizeGiven fs (piece .0) ⌝ }
 {
     match ask_piece(fs, piece, false, true) {
         Check::Go => I32Result::Ok(types::signed32(size_of(fs, piece.get() as u64))),
@@ -145,7 +145,7 @@ pub fn piece_size(fs: FileStorage, piece: PieceIndex) -> I32Result
     }
 }
 
-// The size of a piece, cut where the first file behind its start begins.
+// The size of a piece, cut where the next file begins.
 pub fn piece_size2(fs: FileStorage, rows: &[u64], piece: PieceIndex) -> I32Result
     ensures { λ r. ⌜ i32Says r ≡ pieceSize2Given fs (now (rows .entry)) (piece .0) ⌝ }
 {
@@ -155,14 +155,14 @@ pub fn piece_size2(fs: FileStorage, rows: &[u64], piece: PieceIndex) -> I32Resul
     }
 }
 
-// How many blocks such a cut piece has.
+// How many blocks a piece has that is cut where the next file begins.
 pub fn blocks_in_piece2(fs: FileStorage, rows: &[u64], piece: PieceIndex) -> I32Result
-    ensures { λ r. ⌜ i32Says r ≡ answered (badPieceLength fs ∷ manyPieces fs ∷ noPiece fs (piece .0) ∷ short (rowsHeld fs (now (rows .entry))) ∷ []) (pos (blocksIn (pieceSize2 fs (now (rows .entry)) (clampedOf (piece .0))) % 2 ^ 31)) ⌝ }
+    ensures { λ r. ⌜ i32Says r ≡ blocksInPiece2Given fs (now (rows .entry)) (piece .0) ⌝ }
 {
     match ask_piece(fs, piece, false, is_held(fs.num_files, rows.len() / 8)) {
         Check::Go => I32Result::Ok(types::signed32(div_ceil(
             size2_of(fs, rows, piece.get() as u64),
-            16384,
+            DEFAULT_BLOCK_SIZE,
         ))),
         Check::Stop(e) => I32Result::Err(e),
     }
@@ -170,10 +170,10 @@ pub fn blocks_in_piece2(fs: FileStorage, rows: &[u64], piece: PieceIndex) -> I32
 
 // How many blocks a piece of full length has.
 pub fn blocks_per_piece(fs: FileStorage) -> I32Result
-    ensures { λ r. ⌜ i32Says r ≡ answered (badPieceLength fs ∷ []) (pos (blocksIn (fs .«piece_length») % 2 ^ 31)) ⌝ }
+    ensures { λ r. ⌜ i32Says r ≡ blocksPerPieceGiven fs ⌝ }
 {
     match ask_set(fs, false, true) {
-        Check::Go => I32Result::Ok(types::signed32(div_ceil(fs.piece_length, 16384))),
+        Check::Go => I32Result::Ok(types::signed32(div_ceil(fs.piece_length, DEFAULT_BLOCK_SIZE))),
         Check::Stop(e) => I32Result::Err(e),
     }
 }
@@ -196,7 +196,7 @@ pub fn file_index_at_offset(fs: FileStorage, rows: &[u64], offset: i64) -> FileR
 
 // The file at the start of a piece.
 pub fn file_index_at_piece(fs: FileStorage, rows: &[u64], piece: PieceIndex) -> FileResult
-    ensures { λ r. ⌜ fileSays r ≡ answered (badPieceLength fs ∷ manyPieces fs ∷ noPiece fs (piece .0) ∷ short (rowsHeld fs (now (rows .entry))) ∷ []) (pos (fileAtPiece fs (now (rows .entry)) (clampedOf (piece .0)) % 2 ^ 31)) ⌝ }
+    ensures { λ r. ⌜ fileSays r ≡ fileAtPieceGiven fs (now (rows .entry)) (piece .0) ⌝ }
 {
     match ask_piece(fs, piece, false, is_held(fs.num_files, rows.len() / 8)) {
         Check::Go => FileResult::Ok(FileIndex::new(
@@ -208,7 +208,7 @@ pub fn file_index_at_piece(fs: FileStorage, rows: &[u64], piece: PieceIndex) -> 
 
 // The file at the last byte of a piece.
 pub fn last_file_index_at_piece(fs: FileStorage, rows: &[u64], piece: PieceIndex) -> FileResult
-    ensures { λ r. ⌜ fileSays r ≡ answered (badPieceLength fs ∷ manyPieces fs ∷ noPiece fs (piece .0) ∷ short (rowsHeld fs (now (rows .entry))) ∷ []) (pos (lastFileAtPiece fs (now (rows .entry)) (clampedOf (piece .0)) % 2 ^ 31)) ⌝ }
+    ensures { λ r. ⌜ fileSays r ≡ lastFileAtPieceGiven fs (now (rows .entry)) (piece .0) ⌝ }
 {
     match ask_piece(fs, piece, false, is_held(fs.num_files, rows.len() / 8)) {
         Check::Go => FileResult::Ok(FileIndex::new(

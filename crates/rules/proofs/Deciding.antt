@@ -11,12 +11,13 @@
 --     below-not, below-as, index-low      what its sign says of it
 --     over-is                             whether there are more than k pieces, by a product
 --     gone                                after `Go` no rule's test holds
-use Prim.Native.Nat.{ℕ, _*_, _≤_, _<_}
+--     length-good, set-length-good, low-i32   what that says of the piece length, and of a number that an i32 holds
+use Prim.Native.Nat.{ℕ, _*_, _%_, _^_, _≤_, _<_}
 use mathlib.Core.Path.{_≡_, refl, sym, ap, _∙_}
 use mathlib.Core.Bool.{Bool, true, false, cond, not, true≢false, _&&_, _||_}
-use mathlib.Core.List.{List, [], _∷_, _++_}
+use mathlib.Core.List.{List, [], _∷_}
 use native.Mathlib.Omega.{arith}
-use lib.Dec.{eqb, ltb, leb}
+use lib.Dec.{eqb, ltb}
 use lib.IntN.{ℤ, pos, negsuc}
 use mir.Syntax.{w32}
 use mir.Val.{SFits}
@@ -28,13 +29,14 @@ use Rattle.types.specs.Signed.{belowOr}
 use Rattle.types.specs.declared.refusal.Refusal.{Refusal}
 use Rattle.types.specs.declared.refusal.UsizeResult.{UsizeResult}
 use Rattle.types.specs.declared.refusal.UsizeResult.the-variants as usize
+use Rattle.types.proofs.Boundary.{low}
 use Rattle.types.proofs.Refusals.{numbered}
 use Rattle.path.specs.Join.{appended, Joined, joinedIf, fits}
 use Rattle.tables.specs.declared.storage.FileStorage.{FileStorage}
 use Rattle.rules.specs.declared.decide.Check.{Check}
 use Rattle.rules.specs.declared.decide.Check.the-variants.{Go, Stop}
 use Rattle.rules.specs.Rules.{Rule, when, firstOf, outcomeOf}
-use Rattle.rules.specs.Bounds.{badLength, isNegative, isBelow, clampedOf, clampedOf, limit}
+use Rattle.rules.specs.Bounds.{badLength, isNegative, isBelow, clampedOf, limit}
 use Rattle.rules.specs.Results.{checkNumber}
 use Rattle.rules.specs.Questions.{answered, badPieceLength, noFile, noDirectory, noLink, badRange, short, heldAnswer, directoryAnswer, fileAnswer, linkAnswer}
 use Rattle.rules.specs.Composed.{composedIf, composedFile}
@@ -134,16 +136,16 @@ module _ {A : Type 0} (fs : FileStorage) (z : ℤ) (linked : ℕ → Bool) (a : 
   pub link-refused : (x : Refusal) → d ≡ usize.Err x → refused (numberOf x) ≡ linkAnswer fs z linked test a
   link-refused = found-refused (linkNumber fs z linked test) (clampedOf z) a d (rw q at p)
 
--- the tests of a link come behind those of a file
+-- the tests of a link come after those of a file
 module _ (fs : FileStorage) (z : ℤ) (linked : ℕ → Bool) (held : Bool) where
-  behind : (bad missing : Bool) (r : ℕ) → cond bad 1 (cond missing 11 r) ≡ cond (eqb (cond bad 1 (cond missing 11 0)) 0) r (cond bad 1 (cond missing 11 0))
-  behind true missing r = refl
-  behind false true r = refl
-  behind false false r = refl
+  after-file : (bad missing : Bool) (r : ℕ) → cond bad 1 (cond missing 11 r) ≡ cond (eqb (cond bad 1 (cond missing 11 0)) 0) r (cond bad 1 (cond missing 11 0))
+  after-file true missing r = refl
+  after-file false true r = refl
+  after-file false false r = refl
 
   order : linkNumber fs z linked held
       ≡ cond (eqb (fileNumber fs z true) 0) (cond (not (linked (clampedOf z))) 15 (cond (not held) 10 0)) (fileNumber fs z true)
-  order = behind (badLength (fs .«piece_length»)) (not (isBelow (fs .«num_files») z)) (cond (not (linked (clampedOf z))) 15 (cond (not held) 10 0))
+  order = after-file (badLength (fs .«piece_length»)) (not (isBelow (fs .«num_files») z)) (cond (not (linked (clampedOf z))) 15 (cond (not held) 10 0))
 
   pub link-goes : (k : ℕ) → value k ≡ fileAnswer fs z true (λ k. k)
       → (o : Outcome ℕ) → o ≡ outcomeOf (cond (not (linked k)) 15 (cond (not held) 10 0)) k → o ≡ linkAnswer fs z linked held (λ k. k)
@@ -177,7 +179,7 @@ module _ (fs : FileStorage) (z : ℤ) (t : ℕ → List ℕ) (buf : List ℕ) (h
 
 -- ---- what is known once no rule stopped a question
 
--- one of so many
+-- a number from 0 to count − 1
 module _ (r count : ℕ) where
   low-side : (b : Bool) (n k : ℕ) → value k ≡ cond b (value n) (refused r) → b ≡ true
   low-side true n k e = refl
@@ -233,6 +235,14 @@ pub length-good : (n : ℕ) → badLength n ≡ false → (0 < n) × (n ≤ 2147
 length-good n e =
     let p = either-false (ltb n 1) (ltb 2147483647 n) e in
     (omega (arith, ltb-false n 1 (p .0)), ltb-false 2147483647 n (p .1))
+
+pub set-length-good : (fs : FileStorage) (bad held : Bool) {d : Check} → checkNumber d ≡ firstOf (badPieceLength fs ∷ when bad 14 ∷ short held ∷ []) → d ≡ Go
+    → fs .«piece_length» ≤ 2147483647
+set-length-good fs bad held p e = length-good (fs .«piece_length») (gone (badPieceLength fs ∷ when bad 14 ∷ short held ∷ []) refl p e .0) .1
+
+-- an i32 that is not negative is its own low 31 bits
+pub low-i32 : (n : ℕ) → n ≤ 2147483647 → pos (n % 2 ^ 31) ≡ pos n
+low-i32 n h = low 31 n (omega arith)
 
 -- two tests of one refusal
 pub either-rule : (o f s : Rule) (a b : Bool) → firstOf (o ∷ f ∷ when (a || b) 16 ∷ s ∷ []) ≡ firstOf (o ∷ f ∷ when a 16 ∷ when b 16 ∷ s ∷ [])

@@ -1,6 +1,6 @@
 -- Rules in order: two lists of them in a row, and what is known where none stops a call.
 use Prim.Native.Nat.{ℕ, _<_}
-use mathlib.Core.Path.{_≡_, refl, sym, ap, _∙_}
+use mathlib.Core.Path.{_≡_, refl, ap, _∙_}
 use mathlib.Core.Bool.{Bool, true, false, cond, true≢false, false≢true, _&&_, _||_}
 use mathlib.Core.List.{List, [], _∷_, _++_}
 use native.Mathlib.Omega.{arith}
@@ -33,15 +33,15 @@ abbrev pub orElse : ℕ → ℕ → ℕ
 orElse n m = cond (eqb n 0) m n
 
 -- two lists of rules in a row
-behind-one : (t : Bool) (n a b : ℕ) → 0 < n → cond t n (orElse a b) ≡ orElse (cond t n a) b
-behind-one true n a b h = let e : eqb n 0 ≡ false = ne-eqb n 0 (λ q. omega arith) in rw e
-behind-one false n a b h = refl
+append-one : (t : Bool) (n a b : ℕ) → 0 < n → cond t n (orElse a b) ≡ orElse (cond t n a) b
+append-one true n a b h = let e : eqb n 0 ≡ false = ne-eqb n 0 (λ q. omega arith) in rw e
+append-one false n a b h = refl
 
 pub first-append : (rs ss : List Rule) → Numbered rs → firstOf (rs ++ ss) ≡ orElse (firstOf rs) (firstOf ss)
 first-append [] ss h = refl
 first-append (r ∷ rs) ss h =
     let q = both-true (ltb 0 (r .number)) (named rs) h in
-    ap (cond (r .test) (r .number)) (first-append rs ss (q .1)) ∙ behind-one (r .test) (r .number) (firstOf rs) (firstOf ss) (ltb-true 0 (r .number) (q .0))
+    ap (cond (r .test) (r .number)) (first-append rs ss (q .1)) ∙ append-one (r .test) (r .number) (firstOf rs) (firstOf ss) (ltb-true 0 (r .number) (q .0))
 
 -- where no rule stops a call, no test holds
 passed-one : (t : Bool) (n m : ℕ) → 0 < n → 0 ≡ cond t n m → (t ≡ false) × (0 ≡ m)
@@ -63,7 +63,7 @@ stopped rs ss e a h k = rw (first-append rs ss h, ← k, numbered e, numbered e)
 pub after : (rs ss : List Rule) → Numbered rs → 0 ≡ firstOf rs → firstOf (rs ++ ss) ≡ firstOf ss
 after rs ss h k = rw (first-append rs ss h, ← k)
 
--- what an outcome says of the number behind it
+-- what an outcome says of its number
 pub outcome-value : {A : Type 0} (n : ℕ) (a b : A) → value a ≡ outcomeOf n b → (n ≡ 0) × (a ≡ b)
 outcome-value n a b e = at (eqb n 0) refl e
   where

@@ -1,6 +1,5 @@
--- Document 01's table of refusals, the rows for questions, each a rule: 'any question' 11, 13, 12, 14, 15, 16, and 10 last.
--- 1 is answered of every set, first. An answer is its value where no rule of its list holds, else the number of the first
--- that does. It relies on the rules in order of Rules.antt and on what the lent tables hold (`tables`).
+-- Document 01's table of refusals, the rows for questions, each a rule: 'any question' 11, 13, 12, 14, 15, 16, and 10
+-- last. 1 comes first for every set. It relies on the rules in order of Rules.antt and on the rows of `tables`.
 use Prim.Native.Nat.{ℕ, _/_, _%_}
 use mathlib.Core.Bool.{Bool, not, _&&_, _||_}
 use mathlib.Core.List.{List, [], _∷_}
@@ -13,8 +12,9 @@ use Rattle.tables.specs.declared.storage.FileStorage.{FileStorage}
 use Rattle.tables.specs.declared.rows.Row.{Row}
 use Rattle.tables.specs.Rows.{has, dirWidth, padBit, rootWidth, rowWidth}
 use Rattle.rules.specs.Rules.{Rule, when, firstOf, outcomeOf}
-use Rattle.rules.specs.Bounds.{isNegative, isBelow, clampedOf, clampedOf, limit, badLength}
+use Rattle.rules.specs.Bounds.{isNegative, isBelow, clampedOf, limit, maxPieces, badLength}
 
+-- the value where no rule of the list holds, else the number of the first that does
 abbrev pub answered : {A : Type 0} → List Rule → A → Outcome A
 answered rules a = outcomeOf (firstOf rules) a
 
@@ -38,7 +38,7 @@ noDirectory fs i = when (leb (fs .«num_paths») i) 11
 
 -- 'over 2147483647 pieces, for questions that take or give a piece number or a count of pieces'
 abbrev pub manyPieces : FileStorage → Rule
-manyPieces fs = when (ltb 2147483647 (numPieces fs)) 13
+manyPieces fs = when (ltb maxPieces (numPieces fs)) 13
 
 -- 'no such piece'
 abbrev pub noPiece : FileStorage → ℤ → Rule
@@ -46,7 +46,8 @@ noPiece fs z = when (not (isBelow (numPieces fs) z)) 12
 
 -- 'offset or size below 0, or offset above 281474976710655'
 abbrev pub badRange : ℤ → ℤ → Rule
-badRange offset size = when (isNegative offset || (isNegative size || ltb limit (clampedOf offset))) 14
+badRange offset size =
+    when (isNegative offset || (isNegative size || ltb limit (clampedOf offset))) 14
 
 -- 'for `file_index_at_offset`, not below the total'
 abbrev pub badOffset : FileStorage → ℤ → Rule
@@ -58,13 +59,14 @@ noLink linked = when (not linked) 15
 
 -- 'for a nonempty pad or a nonempty file off a piece start'
 abbrev pub noTree : FileStorage → Row → Rule
-noTree fs r = when (ltb 0 (r .size) && (has (r .flags) padBit || not (eqb (r .offset % fs .«piece_length») 0))) 16
+noTree fs r =
+    when (ltb 0 (r .size) && (has (r .flags) padBit || not (eqb (r .offset % fs .«piece_length») 0))) 16
 
 -- 'a table, text area, output or work space shorter than the result needs'
 abbrev pub short : Bool → Rule
 short held = when (not held) 10
 
--- ---- the lent tables hold what the set counts
+-- ---- the lent tables are long enough for what the set counts
 
 abbrev pub rowsHeld : FileStorage → List ℕ → Bool
 rowsHeld fs rows = leb (fs .«num_files») (length rows / rowWidth)
@@ -87,7 +89,7 @@ timesHeld fs times = leb (fs .«num_mtimes») (length times)
 abbrev pub setAnswer : {A : Type 0} → FileStorage → A → Outcome A
 setAnswer fs a = answered (badPieceLength fs ∷ []) a
 
--- the same where tables are lent: `held` says whether they hold what the set counts
+-- the same where tables are lent: `held` says whether they are long enough for what the set counts
 abbrev pub heldAnswer : {A : Type 0} → FileStorage → Bool → A → Outcome A
 heldAnswer fs held a = answered (badPieceLength fs ∷ short held ∷ []) a
 
@@ -99,6 +101,17 @@ directoryAnswer fs i held a = answered (badPieceLength fs ∷ noDirectory fs i �
 abbrev pub fileAnswer : {A : Type 0} → FileStorage → ℤ → Bool → (ℕ → A) → Outcome A
 fileAnswer fs z held a = answered (badPieceLength fs ∷ noFile fs z ∷ short held ∷ []) (a (clampedOf z))
 
--- the same where the file must hold a link text
+-- an answer about piece z, by its number
+abbrev pub pieceAnswer : {A : Type 0} → FileStorage → ℤ → Bool → (ℕ → A) → Outcome A
+pieceAnswer fs z held a =
+    answered (badPieceLength fs ∷ manyPieces fs ∷ noPiece fs z ∷ short held ∷ []) (a (clampedOf z))
+
+-- an answer about file z that takes or gives a piece number or a count of pieces
+abbrev pub filePiecesAnswer : {A : Type 0} → FileStorage → ℤ → Bool → (ℕ → A) → Outcome A
+filePiecesAnswer fs z held a =
+    answered (badPieceLength fs ∷ noFile fs z ∷ manyPieces fs ∷ short held ∷ []) (a (clampedOf z))
+
+-- an answer about the link text of file z: `linked` says which files hold one
 abbrev pub linkAnswer : {A : Type 0} → FileStorage → ℤ → (ℕ → Bool) → Bool → (ℕ → A) → Outcome A
-linkAnswer fs z linked held a = answered (badPieceLength fs ∷ noFile fs z ∷ noLink (linked (clampedOf z)) ∷ short held ∷ []) (a (clampedOf z))
+linkAnswer fs z linked held a =
+    answered (badPieceLength fs ∷ noFile fs z ∷ noLink (linked (clampedOf z)) ∷ short held ∷ []) (a (clampedOf z))

@@ -1,11 +1,13 @@
--- What each answer says: its values, or document 01's number; and what a decision says. It relies on the numbers of refusals of
--- `types`.
+-- What each answer says: its value, or document 01's number; and what a decision says. It relies on the numbers of
+-- refusals of `types`.
 use Prim.Native.Nat.{ℕ}
 use mathlib.Core.Bool.{Bool}
 use mathlib.Core.List.{List}
 use lib.IntN.{ℤ}
 use lib.ListN.{replicate}
 use Rattle.types.specs.Refusals.{numberOf, Outcome, value, refused}
+use Rattle.types.specs.declared.index.PieceIndexRange.{PieceIndexRange}
+use Rattle.types.specs.declared.index.PeerRequest.{PeerRequest}
 use Rattle.tables.specs.declared.span.Span.{Span}
 use Rattle.rules.specs.declared.result.I32Result.{I32Result}
 use Rattle.rules.specs.declared.result.I32Result.the-variants as i32
@@ -70,7 +72,7 @@ unitSays (unit.Err e) root = refused (numberOf e)
 abbrev pub rootSays : RootResult → Outcome (List ℕ)
 rootSays r = unitSays (r .answer) (r .root)
 
--- the root beside the answer: the value, or zeros where it was refused
+-- the root that stands beside an answer: its value, or zeros where it was refused
 abbrev pub rootBeside : Outcome (List ℕ) → List ℕ
 rootBeside (value root) = root
 rootBeside (refused k) = replicate 32 0
@@ -79,11 +81,12 @@ abbrev pub u32Says : U32Result → Outcome ℕ
 u32Says (u32.Ok n) = value n
 u32Says (u32.Err e) = refused (numberOf e)
 
--- begin and end, the end not included
+-- a range of numbers: its begin, and its end, which is not included
 pub record Range : Type 0 where
   pub begin : ℤ
   pub end : ℤ
 
+-- a piece, a start within it, and a length, as signed numbers
 pub record SignedRequest : Type 0 where
   pub piece : ℤ
   pub start : ℤ
@@ -97,8 +100,11 @@ abbrev pub fileSays : FileResult → Outcome ℤ
 fileSays (file.Ok f) = value (f .0)
 fileSays (file.Err e) = refused (numberOf e)
 
+abbrev pub rangeNumbers : PieceIndexRange → Range
+rangeNumbers r = record { begin = r .begin .0; end = r .end .0 }
+
 abbrev pub pieceRangeSays : PieceRangeResult → Outcome Range
-pieceRangeSays (pieces.Ok r) = value (record { begin = r .begin .0; end = r .end .0 })
+pieceRangeSays (pieces.Ok r) = value (rangeNumbers r)
 pieceRangeSays (pieces.Err e) = refused (numberOf e)
 
 abbrev pub fileRangeSays : FileRangeResult → Outcome Range
@@ -109,6 +115,9 @@ abbrev pub numberRangeSays : I32RangeResult → Outcome Range
 numberRangeSays (numbers.Ok r) = value (record { begin = r .begin; end = r .end })
 numberRangeSays (numbers.Err e) = refused (numberOf e)
 
+abbrev pub requestNumbers : PeerRequest → SignedRequest
+requestNumbers r = record { piece = r .piece .0; start = r .start; length = r .length }
+
 abbrev pub requestSays : RequestResult → Outcome SignedRequest
-requestSays (request.Ok r) = value (record { piece = r .piece .0; start = r .start; length = r .length })
+requestSays (request.Ok r) = value (requestNumbers r)
 requestSays (request.Err e) = refused (numberOf e)

@@ -1,5 +1,5 @@
--- Refusals in order: document 01, 'Refusals, by place': 'The place's list is its order'. It relies on the
--- outcomes of `types`.
+-- Refusals in order. Document 01, 'Refusals, by place': 'The place's list is its order'. It relies on the outcomes
+-- of `types`.
 use Prim.Native.Nat.{ℕ}
 use mathlib.Core.Bool.{Bool, true, false, cond}
 use mathlib.Core.List.{List, [], _∷_}

@@ -1,12 +1,13 @@
-// What every answer decides first: document 01's refusals of a question, in its order. It relies on the tests of test.rt and on the
-// laws of proofs/Deciding.antt.
+// What is decided before an answer: document 01's refusals of a question, in its order. It relies on the tests of
+// test.rt and on the laws of proofs/Deciding.antt.
 ghost use mathlib.Core.Path.{_≡_};
 ghost use mathlib.Core.List.{[], _∷_};
 ghost use lib.Dec.{leb};
 ghost use Rattle.types.specs.Refusals.{usizeSays};
 ghost use Rattle.rules.specs.Rules.{when, firstOf};
 ghost use Rattle.rules.specs.Results.{checkNumber};
-ghost use Rattle.rules.specs.Questions.{badPieceLength, noFile, noDirectory, manyPieces, noPiece, short, fileAnswer};
+ghost use Rattle.rules.specs.Questions.{badPieceLength, noFile, noDirectory, manyPieces, noPiece, short};
+ghost use Rattle.rules.specs.Questions.{fileAnswer};
 use crate::test::has_many;
 use crate::test::is_bad_length;
 use crate::test::is_held;
@@ -34,7 +35,18 @@ pub fn first_refusal(
     no_tree: bool,
     held: bool,
 ) -> Check
-    ensures { λ r. ⌜ checkNumber r ≡ firstOf (when «bad_length» 1 ∷ when «no_file» 11 ∷ when many 13 ∷ when «no_piece» 12 ∷ when «bad_range» 14 ∷ when «no_tree» 16 ∷ short held ∷ []) ⌝ }
+    ensures { λ r. ⌜
+        checkNumber r
+        ≡ firstOf
+        (when «bad_length» 1 ∷
+        when «no_file» 11 ∷
+        when many 13 ∷
+        when «no_piece» 12 ∷
+        when «bad_range» 14 ∷
+        when «no_tree» 16 ∷
+        short held ∷
+        [])
+        ⌝ }
 {
     if bad_length {
         return Check::Stop(Refusal::InvalidPieceLength);
@@ -60,7 +72,7 @@ pub fn first_refusal(
     Check::Stop(Refusal::NoRoom)
 }
 
-// A question about the set as a whole, or about an offset in it.
+// Decides a question about the set as a whole, or about an offset in it.
 pub fn ask_set(fs: FileStorage, bad_range: bool, held: bool) -> Check
     ensures { λ r. ⌜ checkNumber r ≡ firstOf (badPieceLength fs ∷ when «bad_range» 14 ∷ short held ∷ []) ⌝ }
 {
@@ -75,7 +87,7 @@ pub fn ask_set(fs: FileStorage, bad_range: bool, held: bool) -> Check
     )
 }
 
-// A question about directory i.
+// Decides a question about directory i.
 pub fn ask_directory(fs: FileStorage, i: usize, held: bool) -> Check
     ensures { λ r. ⌜ checkNumber r ≡ firstOf (badPieceLength fs ∷ noDirectory fs i ∷ short held ∷ []) ⌝ }
 {
@@ -90,7 +102,7 @@ pub fn ask_directory(fs: FileStorage, i: usize, held: bool) -> Check
     )
 }
 
-// A question about the set's pieces.
+// Decides a question about the set's pieces.
 pub fn ask_pieces(fs: FileStorage) -> Check
     ensures { λ r. ⌜ checkNumber r ≡ firstOf (badPieceLength fs ∷ manyPieces fs ∷ []) ⌝ }
 {
@@ -105,9 +117,13 @@ pub fn ask_pieces(fs: FileStorage) -> Check
     )
 }
 
-// A question about a piece.
+// Decides a question about a piece.
 pub fn ask_piece(fs: FileStorage, piece: PieceIndex, bad_range: bool, held: bool) -> Check
-    ensures { λ r. ⌜ checkNumber r ≡ firstOf (badPieceLength fs ∷ manyPieces fs ∷ noPiece fs (piece .0) ∷ when «bad_range» 14 ∷ short held ∷ []) ⌝ }
+    ensures { λ r. ⌜
+        checkNumber r
+        ≡ firstOf
+        (badPieceLength fs ∷ manyPieces fs ∷ noPiece fs (piece .0) ∷ when «bad_range» 14 ∷ short held ∷ [])
+        ⌝ }
 {
     first_refusal(
         is_bad_length(fs.piece_length),
@@ -120,7 +136,7 @@ pub fn ask_piece(fs: FileStorage, piece: PieceIndex, bad_range: bool, held: bool
     )
 }
 
-// A question about a file.
+// Decides a question about a file whose rows stand in a table with `room` places.
 pub fn ask_file(
     fs: FileStorage,
     index: FileIndex,
@@ -129,7 +145,17 @@ pub fn ask_file(
     no_tree: bool,
     room: usize,
 ) -> Check
-    ensures { λ r. ⌜ checkNumber r ≡ firstOf (badPieceLength fs ∷ noFile fs (index .0) ∷ when many 13 ∷ when «bad_range» 14 ∷ when «no_tree» 16 ∷ short (leb (fs .«num_files») room) ∷ []) ⌝ }
+    ensures { λ r. ⌜
+        checkNumber r
+        ≡ firstOf
+        (badPieceLength fs ∷
+        noFile fs (index .0) ∷
+        when many 13 ∷
+        when «bad_range» 14 ∷
+        when «no_tree» 16 ∷
+        short (leb (fs .«num_files») room) ∷
+        [])
+        ⌝ }
 {
     first_refusal(
         is_bad_length(fs.piece_length),
@@ -142,7 +168,7 @@ pub fn ask_file(
     )
 }
 
-// The number of a file that a question is about, or why the question isn't answered.
+// The number of the file that a question is about, or its refusal; `held` says whether the lent tables are long enough.
 pub fn file_in(fs: FileStorage, index: FileIndex, held: bool) -> UsizeResult
     ensures { λ r. ⌜ usizeSays r ≡ fileAnswer fs (index .0) held (λ k. k) ⌝ }
 {

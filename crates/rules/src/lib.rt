@@ -1,5 +1,5 @@
-// Refusals in order: document 01's table, the rows for questions, rendered once. A call decides by them before it answers; the
-// answers are a value or a refusal. Relies on `types`, `tables`, `lists` and `path`.
+// Refusals in order: document 01's table, the rows for questions, rendered once. A call decides by them before it
+// answers; an answer is a value or a refusal. Relies on `types`, `tables`, `lists` and `path`.
 mod decide;
 mod result;
 mod test;
@@ -26,6 +26,7 @@ pub use result::SpanResult;
 pub use result::U8Result;
 pub use result::U32Result;
 pub use result::UnitResult;
+pub use test::DEFAULT_BLOCK_SIZE;
 pub use test::are_both;
 pub use test::count_pieces;
 pub use test::has_many;

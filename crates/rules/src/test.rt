@@ -1,11 +1,11 @@
-// Document 01's rows for questions, each a test, and whether the lent tables hold what a set counts. It relies on `types` for file and
-// piece numbers, on `tables` for rows and on the laws of proofs/Deciding.antt.
+// Document 01's rows for questions, each a test, and whether a lent table is long enough. It relies on `types` for file
+// and piece numbers, on `tables` for rows and on the laws of proofs/Deciding.antt.
 ghost use mathlib.Core.Path.{_≡_};
 ghost use mathlib.Core.Bool.{not, _&&_, _||_};
 ghost use Prim.Native.Nat.{_<_};
 ghost use lib.Dec.{ltb, leb};
 ghost use Rattle.tables.specs.Rows.{rowAt};
-ghost use Rattle.rules.specs.Bounds.{badLength, isNegative, isBelow, clampedOf, limit};
+ghost use Rattle.rules.specs.Bounds.{badLength, isNegative, isBelow, clampedOf, limit, maxPieces};
 ghost use Rattle.rules.specs.Questions.{numPieces, noTree};
 use tables::FileStorage;
 use types::FileIndex;
@@ -15,6 +15,15 @@ use types::clamped64;
 use types::is_negative32;
 use types::is_negative64;
 
+// The largest offset, the largest piece length, the most pieces, and the bytes of a block.
+const MAX_FILE_OFFSET: u64 = 281474976710655;
+
+const MAX_PIECE_LENGTH: u64 = 2147483647;
+
+const MAX_PIECES: u64 = 2147483647;
+
+pub const DEFAULT_BLOCK_SIZE: u64 = 16384;
+
 // Whether a piece length is out of range.
 pub fn is_bad_length(piece_length: u64) -> bool
     ensures { λ r. ⌜ r ≡ badLength «piece_length» ⌝ }
@@ -22,7 +31,7 @@ pub fn is_bad_length(piece_length: u64) -> bool
     if piece_length < 1 {
         return true;
     }
-    2147483647 < piece_length
+    MAX_PIECE_LENGTH < piece_length
 }
 
 // Whether a table with `room` places holds `count`.
@@ -32,7 +41,7 @@ pub fn is_held(count: usize, room: usize) -> bool
     count <= room
 }
 
-// Whether both of two tests hold.
+// Whether both tests hold.
 pub fn are_both(a: bool, b: bool) -> bool
     ensures { λ r. ⌜ r ≡ (a && b) ⌝ }
 {
@@ -42,7 +51,7 @@ pub fn are_both(a: bool, b: bool) -> bool
     false
 }
 
-// Whether one of two tests holds.
+// Whether one of the tests holds.
 pub fn is_either(a: bool, b: bool) -> bool
     ensures { λ r. ⌜ r ≡ (a || b) ⌝ }
 {
@@ -59,8 +68,8 @@ pub fn count_pieces(fs: FileStorage) -> u64
     lists::div_ceil(fs.total_size, fs.piece_length)
 }
 
-// Whether the set has more than k pieces: for a length in range by a product, which costs less than a
-// quotient.
+// Whether the set has more than k pieces: by a product where the length is in range, which costs less than
+// a quotient.
 fn has_over(fs: FileStorage, k: u64) -> bool
     requires { ⌜ k < 2147483648 ⌝ }
     ensures { λ r. ⌜ r ≡ ltb k (numPieces fs) ⌝ }
@@ -71,14 +80,14 @@ fn has_over(fs: FileStorage, k: u64) -> bool
     k * fs.piece_length < fs.total_size
 }
 
-// Whether the set has more pieces than an `i32` counts.
+// Whether the set has too many pieces to be counted by an `i32`.
 pub fn has_many(fs: FileStorage) -> bool
-    ensures { λ r. ⌜ r ≡ ltb 2147483647 (numPieces fs) ⌝ }
+    ensures { λ r. ⌜ r ≡ ltb maxPieces (numPieces fs) ⌝ }
 {
-    has_over(fs, 2147483647)
+    has_over(fs, MAX_PIECES)
 }
 
-// Whether there is no such file.
+// Whether the set has no file of that number.
 pub fn is_no_file(fs: FileStorage, index: FileIndex) -> bool
     ensures { λ r. ⌜ r ≡ not (isBelow (fs .«num_files») (index .0)) ⌝ }
 {
@@ -88,7 +97,7 @@ pub fn is_no_file(fs: FileStorage, index: FileIndex) -> bool
     }
 }
 
-// Whether there is no such piece.
+// Whether the set has no piece of that number.
 pub(crate) fn is_no_piece(fs: FileStorage, piece: PieceIndex) -> bool
     ensures { λ r. ⌜ r ≡ not (isBelow (numPieces fs) (piece .0)) ⌝ }
 {
@@ -98,7 +107,7 @@ pub(crate) fn is_no_piece(fs: FileStorage, piece: PieceIndex) -> bool
     !has_over(fs, piece.get() as u64)
 }
 
-// Whether an offset is negative or past the limit, or a size is negative.
+// Whether an offset is negative or past the limit, or its size is negative, which `negative` says.
 pub fn is_bad_range(offset: i64, negative: bool) -> bool
     ensures { λ r. ⌜ r ≡ (isNegative offset || (negative || ltb limit (clampedOf offset))) ⌝ }
 {
@@ -108,7 +117,7 @@ pub fn is_bad_range(offset: i64, negative: bool) -> bool
     if negative {
         return true;
     }
-    281474976710655 < clamped64(offset)
+    MAX_FILE_OFFSET < clamped64(offset)
 }
 
 // Whether an offset is negative or not below the total.
@@ -121,7 +130,7 @@ pub fn is_bad_offset(fs: FileStorage, offset: i64) -> bool
     fs.total_size <= clamped64(offset)
 }
 
-// Whether file k is a nonempty pad, or not empty and off a piece start.
+// Whether file k has no tree: it is a nonempty pad, or a nonempty file off a piece start.
 pub fn is_no_tree(fs: FileStorage, rows: &[u64], k: usize) -> bool
     ensures { λ r. ⌜ r ≡ noTree fs (rowAt (now (rows .entry)) k) .test ⌝ }
 {

@@ -13,11 +13,11 @@ use borrow.Author.Needs.{needs}
 use Rattle.answers.proofs.file.time_of.Statement.{statement}
 use Rattle.answers.proofs.file.time_of.Tie as tie
 
-behind : (n : ℕ) (l : List ℤ) (k : ℕ) → n ≤ k → getD (take n l) k (pos 0) ≡ pos 0
-behind zero l k h = refl
-behind (suc n) [] k h = refl
-behind (suc n) (x ∷ l) zero h = absurd (omega arith)
-behind (suc n) (x ∷ l) (suc k) h = behind n l k (omega arith)
+past-held : (n : ℕ) (l : List ℤ) (k : ℕ) → n ≤ k → getD (take n l) k (pos 0) ≡ pos 0
+past-held zero l k h = refl
+past-held (suc n) [] k h = refl
+past-held (suc n) (x ∷ l) zero h = absurd (omega arith)
+past-held (suc n) (x ∷ l) (suc k) h = past-held n l k (omega arith)
 
 time-at-requires : tie.Need-time-at-requires
 time-at-requires c κs = search needs
@@ -31,7 +31,7 @@ returns c =
 returns-2 : tie.Need-returns-2
 returns-2 c =
     let a = c .before .before .args in
-    sym (behind (a .fs .«num_mtimes») (a .times .now) (a .k) (c .if1 .left))
+    sym (past-held (a .fs .«num_mtimes») (a .times .now) (a .k) (c .if1 .left))
 
 pub time-of-spec : {M : Type 1} → statement M
 time-of-spec = tie.close (tie.spec time-at-requires returns returns-2)

@@ -1,12 +1,13 @@
 -- `files::file::exclusive` meets its contract.
 use borrow.Author.Needs.{needs}
-use mathlib.Core.Path.{ap, _∙_}
+use mathlib.Core.Path.{refl, ap, _∙_}
 use native.Mathlib.Omega.{arith}
 use Rattle.tables.specs.Rows.{rowAt}
 use Rattle.files.specs.private.Deciding.{requestOf}
+use Rattle.files.specs.Request.{fileStart}
 use Rattle.files.specs.Files.{exclusiveBegin, exclusiveEnd}
 use Rattle.files.proofs.Requests.{placed, first-place}
-use Rattle.files.proofs.Deciding.{low-as}
+use Rattle.files.proofs.Deciding.{low-as, low-whole}
 use Rattle.files.proofs.file.exclusive.Statement.{statement}
 use Rattle.files.proofs.file.exclusive.Tie as tie
 
@@ -38,8 +39,10 @@ new-requires-2 c κs = search needs
 returns : tie.Need-returns
 returns c =
     let a = c .before .before .before .before .before .before .before .before .args in
-    let e = first-place (a .fs) (a .rows .now) (a .k) (c .before .before .before .before .before .before .offset-at .ensures) (c .before .before .before .before .before .request-at .ensures) in (
-      low-as (c .before .before .before .new .ensures) (c .before .before .before .before .exclusive-begin .ensures ∙ ap exclusiveBegin e),
+    let e = first-place (a .fs) (a .rows .now) (a .k) (c .before .before .before .before .before .before .offset-at .ensures) (c .before .before .before .before .before .request-at .ensures) in
+    let p = placed (a .fs) _ 1 (fileStart (a .fs) (a .rows .now) (a .k)) (c .before .before .before .before .before .before .before .before .pre .0) refl in
+    cc (
+      low-whole (c .before .before .before .new .ensures) (c .before .before .before .before .exclusive-begin .ensures ∙ ap exclusiveBegin e) (p .begin),
       low-as (c .new2 .ensures) (rw (c .before .before .size-at .ensures) at (c .before .exclusive-end .ensures) ∙ ap (exclusiveEnd (a .fs) (a .k) (rowAt (a .rows .now) (a .k) .size)) e),
     )
 

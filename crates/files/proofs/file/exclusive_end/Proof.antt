@@ -16,8 +16,8 @@ returns c = rw (eq-eqb _ _ (c .before .if1 .taken)) (c .count-pieces .ensures)
 exclusive-begin-requires : tie.Need-exclusive-begin-requires
 exclusive-begin-requires c κs = search needs
 
-place-behind-requires : tie.Need-place-behind-requires
-place-behind-requires c κs = search needs
+position-after-requires : tie.Need-position-after-requires
+position-after-requires c κs = search needs
 
 add-div : tie.Need-add-div
 add-div c = search needs
@@ -25,11 +25,11 @@ add-div c = search needs
 div-requires : tie.Need-div-requires
 div-requires c κs = search needs
 
-clamp-requires : tie.Need-clamp-requires
-clamp-requires c κs = search needs
+end-or-begin-requires : tie.Need-end-or-begin-requires
+end-or-begin-requires c κs = search needs
 
 returns-2 : tie.Need-returns-2
-returns-2 c = rw (ne-eqb _ _ (c .before .before .before .before .if1 .left)) (rw (c .before .before .before .exclusive-begin .ensures, c .before .div .ensures, c .before .before .place-behind .ensures) at (c .clamp .ensures))
+returns-2 c = rw (ne-eqb _ _ (c .before .before .before .before .if1 .left)) (rw (c .before .before .before .exclusive-begin .ensures, c .before .div .ensures, c .before .before .position-after .ensures) at (c .end-or-begin .ensures))
 
 pub exclusive-end-spec : {M : Type 1} → statement M
 exclusive-end-spec =
@@ -39,8 +39,8 @@ exclusive-end-spec =
     count-pieces-requires
     returns
     exclusive-begin-requires
-    place-behind-requires
+    position-after-requires
     add-div
     div-requires
-    clamp-requires
+    end-or-begin-requires
     returns-2)

@@ -29,8 +29,7 @@ enum-known-e c = search needs
 
 returns : tie.Need-returns
 returns c =
-    let h = rw (c .before .get .ensures) at (c .inclusive .ensures) in
-    go _ (rw (c .before .before .before .before .before .has-many .ensures) at (c .before .before .before .before .ask-file .ensures)) (c .before .before .enum-told .given .1) _ (cc)
+    go _ (rw (c .before .before .before .before .before .has-many .ensures) at (c .before .before .before .before .ask-file .ensures)) (c .before .before .enum-told .given .1) _ (rw (c .before .get .ensures) at (c .inclusive .ensures))
 
 returns-2 : tie.Need-returns-2
 returns-2 c = stop _ (rw (c .before .before .before .before .has-many .ensures) at (c .before .before .before .ask-file .ensures)) _ (c .before .e .given .1)

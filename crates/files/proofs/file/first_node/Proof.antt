@@ -4,7 +4,7 @@ use mathlib.Core.Path.{_≡_, refl, sym, ap₂, _∙_}
 use mathlib.Core.Bool.{true, false, not, _||_}
 use Prim.Native.Nat.{_-_}
 use borrow.Author.Tests.{not-false}
-use Rattle.tables.specs.Rows.{rowAt, has}
+use Rattle.tables.specs.Rows.{rowAt}
 use Rattle.merkle.specs.Width.{hasTree, widthOf, firstNode}
 use Rattle.rules.specs.Questions.{rowsHeld, badPieceLength, noFile, noTree, short}
 use Rattle.rules.specs.Bounds.{clampedOf}

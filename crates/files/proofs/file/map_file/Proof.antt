@@ -2,7 +2,7 @@
 use mathlib.Core.Path.{_≡_, refl, sym, ap, _∙_}
 use mathlib.Core.Bool.{true, false}
 use native.Mathlib.Omega.{arith}
-use Prim.Native.Nat.{_/_, _^_, _<_}
+use Prim.Native.Nat.{_/_, _^_, _≤_, _<_}
 use lib.Dec.{eqb, leb}
 use lib.IntN.{pos}
 use lib.ListN.{length}
@@ -12,12 +12,14 @@ use mir.Facts.{toZ-ofZ}
 use borrow.Author.Tests.{eqb-true, leb-true, not-false}
 use Rattle.types.specs.Refusals.{value, refused}
 use Rattle.rules.specs.Rules.{firstOf}
-use Rattle.rules.specs.Bounds.{clampedOf, clampedOf, isBelow}
+use Rattle.rules.specs.Bounds.{clampedOf, isBelow}
 use Rattle.files.specs.Request.{Request, mapFile}
 use Rattle.files.specs.private.Deciding.{requestOf, bytesRules, positionRules}
 use Rattle.rules.proofs.Rules.{Passed, passed}
-use Rattle.files.proofs.Deciding.{low-as, past-index, bytes-past}
-use Rattle.rules.proofs.Deciding.{below-is, offset-low, length-good}
+use Rattle.files.proofs.Deciding.{low-whole, past-index, bytes-past}
+use Rattle.files.proofs.Requests.{placed}
+use Rattle.layout.proofs.Deciding.{counted}
+use Rattle.rules.proofs.Deciding.{below-is, offset-low, length-good, index-low}
 use borrow.Author.Needs.{needs}
 use Rattle.files.proofs.file.map_file.Statement.{statement}
 use Rattle.files.proofs.file.map_file.Tie as tie
@@ -30,8 +32,8 @@ answered-is c =
     let o : SFits w64 (a .offset) = search needs in
     let s : SFits w32 (a .size) = search needs in
     let r : length (a .rows .now) / 8 < 2 ^ 63 = search needs in
-    let q : c .before .is-asked .result ≡ eqb (firstOf (positionRules (a .fs) (pos (ofZ w64 (a .index .0))) (a .offset) (a .size))) 0 = rw (c .before .before .before .file-or-past .ensures, toZ-ofZ o, toZ-ofZ s) at (c .before .is-asked .ensures) in
-    (rw (q, c .before .before .is-fit .ensures) at (c .are-both .ensures)) ∙ bytes-past (a .fs) (a .index .0) (a .offset) (a .size) (length (a .rows .now) / 8) i r
+    let q : c .before .passes-position .result ≡ eqb (firstOf (positionRules (a .fs) (pos (ofZ w64 (a .index .0))) (a .offset) (a .size))) 0 = rw (c .before .before .before .file-or-past .ensures, toZ-ofZ o, toZ-ofZ s) at (c .before .passes-position .ensures) in
+    (rw (q, c .before .before .passes-set .ensures) at (c .are-both .ensures)) ∙ bytes-past (a .fs) (a .index .0) (a .offset) (a .size) (length (a .rows .now) / 8) i r
 
 -- where it is, no refusal's test holds
 answered : (c : tie.Then1) → eqb (firstOf (bytesRules (c .before .before .before .before .before .before .args .fs) (c .before .before .before .before .before .before .args .index .0) (c .before .before .before .before .before .before .args .offset) (c .before .before .before .before .before .before .args .size) (length (c .before .before .before .before .before .before .args .rows .now) / 8))) 0 ≡ true
@@ -49,11 +51,11 @@ number-is c =
 file-or-past-requires : tie.Need-file-or-past-requires
 file-or-past-requires c κs = search needs
 
-is-fit-requires : tie.Need-is-fit-requires
-is-fit-requires c κs = search needs
+passes-set-requires : tie.Need-passes-set-requires
+passes-set-requires c κs = search needs
 
-is-asked-requires : tie.Need-is-asked-requires
-is-asked-requires c κs = search needs
+passes-position-requires : tie.Need-passes-position-requires
+passes-position-requires c κs = search needs
 
 are-both-requires : tie.Need-are-both-requires
 are-both-requires c κs = search needs
@@ -98,12 +100,15 @@ returns c =
     let n : c .before .before .clamped32 .result ≡ clampedOf (a .size) = rw (toZ-ofZ size-fits) at (c .before .before .clamped32 .ensures) in
     let e : requestOf (c .before .request-at .result) ≡ mapFile (a .fs) (a .rows .now) (clampedOf (a .index .0)) (clampedOf (a .offset)) (clampedOf (a .size)) = rw (c .before .before .before .before .offset-of .ensures, number-is (c .before .before .before .before .before), s, n) at (c .before .request-at .ensures) in
     let h = c .signed-request .ensures in
+    let t = passes (c .before .before .before .before .before) in
+    let p = placed (a .fs) _ (clampedOf (a .size)) (mapFile (a .fs) (a .rows .now) (clampedOf (a .index .0)) (clampedOf (a .offset)) (clampedOf (a .size))) (counted (a .fs) (t .0) (t .1 .1 .0)) refl in
+    let l : mapFile (a .fs) (a .rows .now) (clampedOf (a .index .0)) (clampedOf (a .offset)) (clampedOf (a .size)) .length ≤ 2147483647 = omega (arith, p .length, index-low (a .size) size-fits) in
     rw (answered (c .before .before .before .before .before))
     (ap value
     (cc (
-      low-as (h .0) (ap (λ (r : Request). r .piece) e),
-      low-as (h .1) (ap (λ (r : Request). r .start) e),
-      low-as (h .2) (ap (λ (r : Request). r .length) e),
+      low-whole (h .0) (ap (λ (r : Request). r .piece) e) (p .piece),
+      low-whole (h .1) (ap (λ (r : Request). r .start) e) (p .start),
+      low-whole (h .2) (ap (λ (r : Request). r .length) e) l,
     )))
 
 -- where the question is not answered, a refusal's test holds
@@ -129,8 +134,8 @@ map-file-spec =
     tie.close
     (tie.spec
     file-or-past-requires
-    is-fit-requires
-    is-asked-requires
+    passes-set-requires
+    passes-position-requires
     are-both-requires
     offset-of-requires
     clamped64-requires

@@ -1,13 +1,15 @@
 -- `layout::piece::piece_size` meets its contract.
 use borrow.Author.Needs.{needs}
-use mathlib.Core.Path.{_∙_}
+use mathlib.Core.Path.{refl, _∙_}
 use mathlib.Core.Bool.{true, false}
 use native.Mathlib.Omega.{arith}
 use mir.Syntax.{w32}
 use mir.Val.{SFits}
 use mir.Facts.{toZ-ofZ}
 use Rattle.layout.proofs.Deciding.{piece-known}
-use Rattle.rules.proofs.Deciding.{go, stop}
+use Rattle.rules.specs.Bounds.{clampedOf}
+use Rattle.layout.specs.Pieces.{pieceSize}
+use Rattle.rules.proofs.Deciding.{go, stop, low-i32}
 use Rattle.layout.proofs.piece.piece_size.Statement.{statement}
 use Rattle.layout.proofs.piece.piece_size.Tie as tie
 
@@ -35,8 +37,11 @@ enum-known-e c = search needs
 returns : tie.Need-returns
 returns c =
     let fits : SFits w32 (c .signed32 .result) = search needs in
+    let a = c .before .before .before .before .before .before .args in
+    let p = clampedOf (a .piece .0) in
+    let k = piece-known (a .fs) (a .piece .0) false true p refl (c .before .before .before .before .before .ask-piece .ensures) (c .before .before .before .enum-told .given .1) in
     go _ (c .before .before .before .before .before .ask-piece .ensures) (c .before .before .before .enum-told .given .1) _
-    (toZ-ofZ fits ∙ (rw (c .before .size-of .ensures, c .before .before .get .ensures) at (c .signed32 .ensures)))
+    (toZ-ofZ fits ∙ (rw (c .before .size-of .ensures, c .before .before .get .ensures) at (c .signed32 .ensures)) ∙ low-i32 (pieceSize (a .fs) p) (k .size))
 
 returns-2 : tie.Need-returns-2
 returns-2 c = stop _ (c .before .before .before .ask-piece .ensures) _ (c .before .e .given .1)

@@ -8,7 +8,7 @@ use mir.Val.{SFits}
 use mir.Facts.{toZ-ofZ}
 use mathlib.Core.List.{[], _∷_}
 use Rattle.rules.specs.Rules.{firstOf}
-use Rattle.rules.specs.Bounds.{clampedOf, isNegative, clampedOf}
+use Rattle.rules.specs.Bounds.{clampedOf, isNegative}
 use Rattle.rules.specs.Questions.{rowsHeld, badPieceLength, manyPieces, noPiece, badRange, short}
 use Rattle.layout.specs.Pieces.{startOf}
 use Rattle.rules.specs.Results.{checkNumber}

@@ -1,5 +1,5 @@
--- `files::file::is_asked` meets its contract.
-use mathlib.Core.Path.{_≡_, refl, sym, ap, _∙_}
+-- `files::file::passes_position` meets its contract.
+use mathlib.Core.Path.{_≡_, refl, ap, _∙_}
 use mathlib.Core.Bool.{Bool, true, false, not}
 use mathlib.Core.List.{[], _∷_}
 use lib.Dec.{eqb}
@@ -11,8 +11,8 @@ use Rattle.rules.specs.Rules.{when, firstOf}
 use Rattle.rules.specs.Questions.{badRange}
 use borrow.Author.Tests.{lt-ltb, le-ltb}
 use borrow.Author.Needs.{needs}
-use Rattle.files.proofs.file.is_asked.Statement.{statement}
-use Rattle.files.proofs.file.is_asked.Tie as tie
+use Rattle.files.proofs.file.passes_position.Statement.{statement}
+use Rattle.files.proofs.file.passes_position.Tie as tie
 
 -- whether the range is bad, as the contract says it
 range-of : (c : tie.After-is-bad-range) → c .is-bad-range .result ≡ badRange (c .before .before .before .before .args .offset) (c .before .before .before .before .args .size) .test
@@ -39,5 +39,5 @@ returns c = rw (lt-ltb _ _ (c .before .before .if1 .taken)) (ap not (range-of c)
 returns-2 : tie.Need-returns-2
 returns-2 c = rw (le-ltb _ _ (c .if1 .left))
 
-pub is-asked-spec : {M : Type 1} → statement M
-is-asked-spec = tie.close (tie.spec is-negative32-requires is-bad-range-requires returns returns-2)
+pub passes-position-spec : {M : Type 1} → statement M
+passes-position-spec = tie.close (tie.spec is-negative32-requires is-bad-range-requires returns returns-2)

@@ -1,4 +1,4 @@
--- `files::file::is_fit` meets its contract: at each test those before it did not hold.
+-- `files::file::passes_set` meets its contract: at each test those before it did not hold.
 use mathlib.Core.Path.{_≡_, sym, _∙_}
 use mathlib.Core.Bool.{Bool, true, false}
 use mathlib.Core.List.{[], _∷_}
@@ -6,8 +6,8 @@ use lib.Dec.{eqb}
 use Rattle.rules.specs.Rules.{firstOf}
 use Rattle.rules.specs.Questions.{short}
 use borrow.Author.Needs.{needs}
-use Rattle.files.proofs.file.is_fit.Statement.{statement}
-use Rattle.files.proofs.file.is_fit.Tie as tie
+use Rattle.files.proofs.file.passes_set.Statement.{statement}
+use Rattle.files.proofs.file.passes_set.Tie as tie
 
 held : (h r : Bool) → h ≡ r → h ≡ eqb (firstOf (short r ∷ [])) 0
 held h true e = e
@@ -32,8 +32,8 @@ returns-3 : tie.Need-returns-3
 returns-3 c = rw (sym (c .before .before .before .before .is-bad-length .ensures) ∙ c .before .before .before .if1 .left, sym (c .before .before .has-many .ensures) ∙ c .before .if2 .left)
     (held _ _ (c .is-held .ensures))
 
-pub is-fit-spec : {M : Type 1} → statement M
-is-fit-spec =
+pub passes-set-spec : {M : Type 1} → statement M
+passes-set-spec =
     tie.close
     (tie.spec
     is-bad-length-requires

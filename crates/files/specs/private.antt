@@ -1,0 +1,2 @@
+-- Definitions that only private functions cite.
+pub mod Deciding
