@@ -1,5 +1,5 @@
--- Document 01, 'Layout answers': `map_block`, with its refusals and the tables that it fills: 'The slices are put into a
--- table lent by the caller'. Here the table is three columns of numbers.
+-- Document 01, 'Layout answers': `map_block`, with its refusals and the tables that it fills: 'The slices are put into
+-- a table lent by the caller'. Here the table is three columns of numbers.
 use Prim.Native.Nat.{ℕ, _+_, min}
 use mathlib.Core.Bool.{Bool, cond}
 use mathlib.Core.List.{List, [], _∷_, map}
@@ -24,7 +24,12 @@ pub record Mapped : Type 0 where
 abbrev pub mapped : ℕ → List Slice → List ℕ → List ℕ → List ℕ → Mapped
 mapped k ss f o s =
     cond (eqb k 0)
-    (record { says = value (length ss); file = sets f 0 (filesOf ss); offset = sets o 0 (offsetsOf ss); size = sets s 0 (sizesOf ss) })
+    (record {
+      says = value (length ss);
+      file = sets f 0 (filesOf ss);
+      offset = sets o 0 (offsetsOf ss);
+      size = sets s 0 (sizesOf ss);
+    })
     (record { says = refused k; file = f; offset = o; size = s })
 
 -- each column has a place for each slice

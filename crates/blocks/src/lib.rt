@@ -1,17 +1,22 @@
-// The core of `map_block`, from file_storage.rs: the slices of files that a block covers, put into three columns of numbers. `layout`
-// plans the block; the code here makes one slice after another and stores it.
+// The core of `map_block`, from file_storage.rs: the slices of files that a block covers, put into three columns of
+// numbers. `layout` finds where the slices begin and whether there is room; the code here makes one after another and
+// stores it.
 ghost use mathlib.Core.Path.{_≡_};
 ghost use mathlib.Core.List.{[]};
-ghost use Prim.Native.Nat.{_-_};
+ghost use lib.ListN.{length};
 ghost use lib.Seq.{sets};
 ghost use Rattle.types.specs.Refusals.{usizeSays};
-ghost use Rattle.layout.specs.Mapping.{before, walk, filesOf, offsetsOf, sizesOf};
+ghost use Rattle.layout.specs.Mapping.{before, filesOf, offsetsOf, sizesOf};
+ghost use Rattle.layout.specs.Start.{slicesFrom};
 ghost use Rattle.blocks.specs.Block.{Mapped, mapBlock};
+use layout::Cursor;
 use layout::slice_count;
 use lists::min;
 use lists::saturating_sub;
+use rules::Check;
 use tables::FileStorage;
 use types::PieceIndex;
+use types::Refusal;
 use types::UsizeResult;
 
 // Puts a slice that has bytes at place n of the columns.
@@ -24,9 +29,15 @@ fn put_slice(
     offset: u64,
     size: u64,
 )
-    ensures { λ _. ⌜ now («out_file» .exit) ≡ sets (now («out_file» .entry)) n (filesOf (before (record { file = file; offset = offset; size = size }) [])) ⌝ }
-    ensures { λ _. ⌜ now («out_offset» .exit) ≡ sets (now («out_offset» .entry)) n (offsetsOf (before (record { file = file; offset = offset; size = size }) [])) ⌝ }
-    ensures { λ _. ⌜ now («out_size» .exit) ≡ sets (now («out_size» .entry)) n (sizesOf (before (record { file = file; offset = offset; size = size }) [])) ⌝ }
+    ensures { λ _. ⌜ now («out_file» .exit)
+        ≡ sets (now («out_file» .entry)) n
+        (filesOf (before (record { file = file; offset = offset; size = size }) [])) ⌝ }
+    ensures { λ _. ⌜ now («out_offset» .exit)
+        ≡ sets (now («out_offset» .entry)) n
+        (offsetsOf (before (record { file = file; offset = offset; size = size }) [])) ⌝ }
+    ensures { λ _. ⌜ now («out_size» .exit)
+        ≡ sets (now («out_size» .entry)) n
+        (sizesOf (before (record { file = file; offset = offset; size = size }) [])) ⌝ }
 {
     if size == 0 {
         return;
@@ -36,28 +47,30 @@ fn put_slice(
     lists::put_word(out_size, n, size);
 }
 
-// Puts those slices into the columns' first places.
+// Puts the slices from a cursor on into the columns' first places, and gives their number.
 fn write_slices(
     rows: &[u64],
-    files: usize,
-    from: usize,
-    skip: u64,
-    want: u64,
+    at: Cursor,
     out_file: &mut [u64],
     out_offset: &mut [u64],
     out_size: &mut [u64],
-)
-    ensures { λ _. ⌜ now («out_file» .exit) ≡ sets (now («out_file» .entry)) 0 (filesOf (walk (files - from) (now (rows .entry)) from skip want)) ⌝ }
-    ensures { λ _. ⌜ now («out_offset» .exit) ≡ sets (now («out_offset» .entry)) 0 (offsetsOf (walk (files - from) (now (rows .entry)) from skip want)) ⌝ }
-    ensures { λ _. ⌜ now («out_size» .exit) ≡ sets (now («out_size» .entry)) 0 (sizesOf (walk (files - from) (now (rows .entry)) from skip want)) ⌝ }
+) -> usize
+    ensures { λ r. ⌜ r ≡ length (slicesFrom (now (rows .entry)) at) ⌝ }
+    ensures { λ _. ⌜ now («out_file» .exit)
+        ≡ sets (now («out_file» .entry)) 0 (filesOf (slicesFrom (now (rows .entry)) at)) ⌝ }
+    ensures { λ _. ⌜ now («out_offset» .exit)
+        ≡ sets (now («out_offset» .entry)) 0 (offsetsOf (slicesFrom (now (rows .entry)) at)) ⌝ }
+    ensures { λ _. ⌜ now («out_size» .exit)
+        ≡ sets (now («out_size» .entry)) 0 (sizesOf (slicesFrom (now (rows .entry)) at)) ⌝ }
 {
+    let files = at.files;
     let mut n = 0;
-    let mut k = from;
-    let mut s = skip;
-    let mut left = want;
+    let mut k = at.file;
+    let mut s = at.skip;
+    let mut left = at.left;
     while k < files {
         if left == 0 {
-            return;
+            return n;
         }
         let size = tables::size_at(rows, k);
         let here = saturating_sub(size, s);
@@ -68,6 +81,7 @@ fn write_slices(
         s = saturating_sub(s, size);
         k += 1;
     }
+    n
 }
 
 // The slices of a block of a piece, put into the columns' first places.
@@ -82,26 +96,27 @@ pub fn map_block_core(
     out_size: &mut [u64],
 ) -> UsizeResult
     ensures { λ r. ⌜ _≡_ {A = Mapped}
-        (record { says = usizeSays r; file = now («out_file» .exit); offset = now («out_offset» .exit); size = now («out_size» .exit) })
+        (record {
+          says = usizeSays r;
+          file = now («out_file» .exit);
+          offset = now («out_offset» .exit);
+          size = now («out_size» .exit);
+        })
         (mapBlock fs (now (rows .entry)) (piece .0) offset size
         (now («out_file» .entry)) (now («out_offset» .entry)) (now («out_size» .entry))) ⌝ }
 {
+    let start = layout::start_block(fs, rows, piece, offset, size);
+    let check = start.check;
+    if let Check::Stop(e) = check {
+        return UsizeResult::Err(e);
+    }
+    let from = start.from;
     let room = lists::min_usize(
         out_file.len(),
         lists::min_usize(out_offset.len(), out_size.len()),
     );
-    let plan = layout::plan_block(fs, rows, piece, offset, size, room);
-    let from = plan.from;
-    let answer = plan.answer;
-    write_slices(
-        rows,
-        from.files,
-        from.file,
-        from.skip,
-        from.left,
-        out_file,
-        out_offset,
-        out_size,
-    );
-    answer
+    if layout::has_room(rows, from, room) {
+        return UsizeResult::Ok(write_slices(rows, from, out_file, out_offset, out_size));
+    }
+    UsizeResult::Err(Refusal::NoRoom)
 }

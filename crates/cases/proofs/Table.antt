@@ -3,7 +3,7 @@ use mathlib.Core.Path.{_≡_, refl}
 use mathlib.Core.Bool.{true}
 use Rattle.tables.specs.Rows.{filled}
 use Rattle.tables.specs.Model.{tabled}
-use Rattle.layout.specs.Search.{halved}
+use Rattle.layout.specs.Search.{ascend, lastAtOrBefore}
 use Rattle.layout.specs.Mapping.{walk}
 use Rattle.plan.specs.Write.{directoryIndexFrom}
 use Rattle.links.specs.Clean.{step}
@@ -11,5 +11,5 @@ use Rattle.links.specs.Clean as links
 use Rattle.cases.specs.Cases.{table, allHold}
 
 pub starred : allHold table ≡ true
-unfolding halved walk filled tabled directoryIndexFrom step links.walk
+unfolding ascend lastAtOrBefore walk filled tabled directoryIndexFrom step links.walk
 starred = refl

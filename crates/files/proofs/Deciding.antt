@@ -19,7 +19,7 @@ use Rattle.rules.specs.Bounds.{badLength, clampedOf, isBelow}
 use Rattle.rules.specs.declared.decide.Check.{Check}
 use Rattle.rules.specs.declared.decide.Check.the-variants.{Go}
 use Rattle.rules.specs.Results.{checkNumber}
-use Rattle.layout.specs.Deciding.{Counted}
+use Rattle.layout.specs.private.Deciding.{Counted}
 use Rattle.files.specs.private.Deciding.{setRules, positionRules, bytesRules}
 use Rattle.rules.specs.Questions.{numPieces, badPieceLength, noFile, manyPieces, badRange, short}
 use Rattle.rules.proofs.Deciding.{gone, below-is, low-i32}

@@ -14,7 +14,7 @@ use Rattle.tables.specs.declared.storage.FileStorage.{FileStorage}
 use Rattle.rules.specs.Questions.{numPieces}
 use Rattle.files.specs.Request.{Request, requestAt, fileStart}
 use Rattle.files.specs.Files.{positionOf, exclusiveBegin}
-use Rattle.layout.specs.Deciding.{Counted}
+use Rattle.layout.specs.private.Deciding.{Counted}
 
 pub record Placed (fs : FileStorage) (at size : ℕ) (r : Request) : Type 0 where
   pub piece : r .piece ≤ 2147483647

@@ -19,7 +19,7 @@ ghost use Rattle.files.specs.Given.{pieceAtFileGiven, lastPieceAtFileGiv
 ghost use Rattle.files.specs.Given.{fileNumPiecesGiven, filePieceRangeGiven, fileNumBlocksGiven};
 ghost use Rattle.files.specs.Given.{nodeGiven, firstPieceNodeGiven, firstBlockNodeGiven};
 ghost use Rattle.files.specs.Given.{fileForRootGiven, fileMapped};
-ghost use Rattle.layout.specs.Deciding.{Counted};
+ghost use Rattle.layout.specs.private.Deciding.{Counted};
 ghost use Rattle.files.specs.private.Deciding.{requestOf, bytesRules, setRules, positionRules};
 ghost use Rattle.files.specs.Files.{lastQuotient, low31, afterQuotient, lastPiece, piecesOf, blocksOf, rootFrom};
 ghost use Rattle.files.specs.Files.{positionOf, exclusiveBegin, endOrBegin, exclusiveEnd};

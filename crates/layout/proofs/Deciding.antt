@@ -23,7 +23,7 @@ use Rattle.rules.specs.Bounds.{clampedOf, isBelow}
 use Rattle.rules.specs.declared.decide.Check.{Check}
 use Rattle.rules.specs.declared.decide.Check.the-variants.{Go}
 use Rattle.rules.specs.Results.{checkNumber}
-use Rattle.layout.specs.Deciding.{Counted}
+use Rattle.layout.specs.private.Deciding.{Counted}
 use Rattle.rules.specs.Questions.{numPieces, badPieceLength, manyPieces, noPiece, short}
 use Rattle.rules.proofs.Deciding.{gone, length-good, below-is}
 use Rattle.layout.specs.Pieces.{startOf, pieceSize}

@@ -1,4 +1,4 @@
--- Laws of the search in steps whose number depends on the number of rows alone (specs/Level.antt). They rely on the laws of
+-- Laws of the search in steps whose number depends on the number of rows alone (specs/private/Level.antt). They rely on the laws of
 -- halving.
 --     first, later         how many words a step goes
 --     all-rows, found      where a search begins and ends
@@ -16,9 +16,10 @@ use lib.ListN.{getD}
 use lib.Pow.{pow-mono, pow-pos}
 use borrow.Author.Tests.{ltb-true, ltb-false}
 use Rattle.tables.specs.Rows.{rowAt}
-use Rattle.layout.specs.Search.{reach, stride, moved, halved, fileFound}
-use Rattle.layout.specs.Level.{Level}
-use Rattle.layout.proofs.Halving.{reach-some, Split, split, idle, enough}
+use Rattle.layout.specs.Search.{offsetAt, fileFound}
+use Rattle.layout.specs.Steps.{reach, stride, moved, halved}
+use Rattle.layout.specs.private.Level.{Level}
+use Rattle.layout.proofs.Halving.{reach-some, Split, split, idle, enough, found-is}
 
 within-words : (b s n most : ℕ) {at w : ℕ} → 0 < most → 0 < n → b + s + min n most ≤ n → at ≡ b * 8 → w ≡ s * 8 → at + w < n * 8
 within-words b s n most z h q p e = omega arith
@@ -40,7 +41,7 @@ module _ (n j : ℕ) where
 
 module _ (rows : List ℕ) (n t : ℕ) where
   abbrev f : ℕ → ℕ
-  f i = rowAt rows i .offset
+  f = offsetAt rows
 
   -- from level j on and from level i on, where both are enough for n
   same : (i j b : ℕ) → n ≤ reach i → n ≤ reach j → halved i f t n b ≡ halved j f t n b
@@ -68,7 +69,11 @@ module _ (rows : List ℕ) (n t : ℕ) where
 
   pub found : {at : ℕ} → Level rows n t 0 at → at / 8 ≡ fileFound rows n t
   unfolding halved
-  found l = let p = l .place in let g = l .gives in omega arith
+  found {at} l =
+      let p = l .place in
+      let g = l .gives in
+      let e : at / 8 ≡ halved n f t n 0 = omega arith in
+      e ∙ found-is rows n t
 
   -- step j, which goes s words on
   module _ (j : ℕ) {at : ℕ} (l : Level rows n t (j + 1) at) (s : ℕ) (e : s ≡ stride n j * 8) where
@@ -78,7 +83,7 @@ module _ (rows : List ℕ) (n t : ℕ) where
     pub inside : 0 < n → at + s < n * 8
     inside h = let p = l .place in let q = parts .up in let z = reach-some j in within-words (l .b) (stride n j) n (reach j) z h q p e
 
-    gives : halved j f t n (moved f t (l .b) (stride n j)) ≡ fileFound rows n t
+    gives : halved j f t n (moved f t (l .b) (stride n j)) ≡ halved n f t n 0
     unfolding halved
     gives = rw (add-one j) at (l .gives)
 
@@ -88,6 +93,6 @@ module _ (rows : List ℕ) (n t : ℕ) where
         place : at + s ≡ (l .b + stride n j) * 8
         place = let p = l .place in omega arith
 
-        by : (x : Bool) → r ≡ cond x ((l .b + stride n j) * 8) at → halved j f t n (cond x (l .b + stride n j) (l .b)) ≡ fileFound rows n t → Level rows n t j r
+        by : (x : Bool) → r ≡ cond x ((l .b + stride n j) * 8) at → halved j f t n (cond x (l .b + stride n j) (l .b)) ≡ halved n f t n 0 → Level rows n t j r
         by true k g = record { b = l .b + stride n j; place = k; left = parts .up; gives = g }
         by false k g = record { b = l .b; place = k ∙ l .place; left = parts .down; gives = g }

@@ -13,10 +13,12 @@ use borrow.Author.Tests.{le-leb, lt-leb, leb-true}
 use lib.IntN.{ℤ}
 use lib.ListN.{length}
 use lib.Seq.{sets}
-use Rattle.types.specs.Refusals.{numberOf, Outcome, value, refused, usizeSays}
+use Rattle.types.specs.Refusals.{numberOf, Outcome, value, refused}
 use Rattle.types.specs.declared.refusal.Refusal.{Refusal}
-use Rattle.types.specs.declared.refusal.UsizeResult.{UsizeResult}
-use Rattle.types.specs.declared.refusal.UsizeResult.the-variants.{Ok, Err}
+use Rattle.types.proofs.Refusals.{numbered}
+use Rattle.rules.specs.declared.decide.Check.{Check}
+use Rattle.rules.specs.declared.decide.Check.the-variants.{Go, Stop}
+use Rattle.rules.specs.Results.{checkNumber}
 use Rattle.tables.specs.declared.storage.FileStorage.{FileStorage}
 use Rattle.rules.specs.Rules.{Rule, firstOf}
 use Rattle.rules.specs.Bounds.{clampedOf}
@@ -24,58 +26,14 @@ use Rattle.rules.specs.Questions.{rowsHeld, badPieceLength, manyPieces, noPiece
 use Rattle.layout.specs.declared.start.Cursor.{Cursor}
 use Rattle.layout.specs.Pieces.{startOf}
 use Rattle.layout.specs.Mapping.{Slice, walk, blockOf, blockRules}
-use Rattle.layout.specs.Start.{slicesFrom, cursorAt, Started, all, none, started, blockStart}
+use Rattle.layout.specs.Start.{slicesFrom, cursorAt, Started, blockStart}
 use Rattle.rules.proofs.Rules.{first-append}
+use Rattle.layout.proofs.Starts.{block-stopped, block-open, block-from}
 use Rattle.layout.specs.Plan.{Planned, stayed, whole, planned, blockPlan}
 
 -- the number of the first refusal: k before the room is looked at, then 10 where there is none
 abbrev number : ℕ → Bool → ℕ
 number k held = cond (eqb k 0) (firstOf (short held ∷ [])) k
-
--- what is known of a start that is not refused
-record Open (k : ℕ) (ss : List Slice) (c from : Cursor) (n : ℕ) : Type 0 where
-  none-yet : eqb k 0 ≡ true
-  many : n ≡ length ss
-  begins : from ≡ c
-
--- a start by its number k, its slices, and the cursor at which they begin
-module _ (k : ℕ) (ss : List Slice) (c : Cursor) {o : Outcome ℕ} {from : Cursor} (h : _≡_ {A = Started} (record { says = o; from = from }) (started k ss c)) (room : ℕ) where
-  refusing : (j : ℕ) → o ≡ refused j → stayed j ≡ planned (number k (leb (length ss) room)) ss c
-  refusing j q = at (eqb k 0) refl (rw q at h)
-    where
-      at : (b : Bool) → eqb k 0 ≡ b → _≡_ {A = Started} (record { says = refused j; from = from }) (cond b (all ss c) (none k)) → stayed j ≡ planned (number k (leb (length ss) room)) ss c
-      at true p h′ =
-          let u : _≡_ {A = Outcome ℕ} (refused j) (value (length ss)) = ap (λ (x : Started). x .says) h′ in
-          absurd (let z : _≡_ {A = ℕ} 0 1 = cc in omega arith)
-      at false p h′ =
-          let u : _≡_ {A = Outcome ℕ} (refused j) (refused k) = ap (λ (x : Started). x .says) h′ in
-          let n : j ≡ k = cc in
-          rw (n, p, p)
-
-  open-is : (n : ℕ) → o ≡ value n → Open k ss c from n
-  open-is n q = at (eqb k 0) refl (rw q at h)
-    where
-      at : (b : Bool) → eqb k 0 ≡ b → _≡_ {A = Started} (record { says = value n; from = from }) (cond b (all ss c) (none k)) → Open k ss c from n
-      at true p h′ =
-          let u : value n ≡ value (length ss) = ap (λ (x : Started). x .says) h′ in
-          record { none-yet = p; many = cc; begins = ap (λ (x : Started). x .from) h′ }
-      at false p h′ =
-          let u : _≡_ {A = Outcome ℕ} (value n) (refused k) = ap (λ (x : Started). x .says) h′ in
-          absurd (let z : _≡_ {A = ℕ} 0 1 = cc in omega arith)
-
-  no-room : (n : ℕ) → o ≡ value n → room < n → stayed 10 ≡ planned (number k (leb (length ss) room)) ss c
-  no-room n q l =
-      let i = open-is n q in
-      let m : room < length ss = omega arith in
-      let b : leb (length ss) room ≡ false = lt-leb (length ss) room m in
-      rw (i .none-yet, b)
-
-  enough : (n : ℕ) → o ≡ value n → n ≤ room → _≡_ {A = Planned} (record { says = value n; count = n; from = from }) (planned (number k (leb (length ss) room)) ss c)
-  enough n q l =
-      let i = open-is n q in
-      let m : length ss ≤ room = omega arith in
-      let b : leb (length ss) room ≡ true = le-leb (length ss) room m in
-      rw (i .none-yet, b, i .many, i .begins)
 
 -- a plan by its refusal k, 0 for none, and its slices, which begin at a cursor
 module _ (rows : List ℕ) (ss : List Slice) (c : Cursor) (e : slicesFrom rows c ≡ ss) (k : ℕ) where
@@ -119,15 +77,26 @@ module _ (fs : FileStorage) (rows : List ℕ) (z offset size : ℤ) where
   plan-is : (room : ℕ) → blockPlan fs rows z offset size room ≡ planned (number (firstOf rules) (leb (length block) room)) block start
   plan-is room = ap (λ (k : ℕ). planned k block start) (first-append rules (short (leb (length block) room) ∷ []) refl)
 
-  module _ (count : UsizeResult) {from : Cursor} (h : _≡_ {A = Started} (record { says = usizeSays count; from = from }) (blockStart fs rows z offset size)) (room : ℕ) where
-    pub plan-refused : (e : Refusal) → count ≡ Err e → stayed (numberOf e) ≡ blockPlan fs rows z offset size room
-    plan-refused e q = refusing (firstOf rules) block start h room (numberOf e) (ap usizeSays q) ∙ sym (plan-is room)
+  module _ (d : Check) {from : Cursor} (h : _≡_ {A = Started} (record { number = checkNumber d; from = from }) (blockStart fs rows z offset size)) (room : ℕ) where
+    pub plan-refused : (e : Refusal) → d ≡ Stop e → stayed (numberOf e) ≡ blockPlan fs rows z offset size room
+    plan-refused e q = rw (block-stopped fs rows z offset size d h e (short (leb (length block) room) ∷ []) q, numbered e)
 
-    pub plan-short : (n : ℕ) → count ≡ Ok n → room < n → stayed 10 ≡ blockPlan fs rows z offset size room
-    plan-short n q l = no-room (firstOf rules) block start h room n (ap usizeSays q) l ∙ sym (plan-is room)
+    -- the slices from the start's cursor on are the block's
+    from-block : d ≡ Go → slicesFrom rows from ≡ block
+    from-block q = ap (slicesFrom rows) (block-from fs rows z offset size d h q)
 
-    pub plan-whole : (n : ℕ) → count ≡ Ok n → n ≤ room → _≡_ {A = Planned} (record { says = value n; count = n; from = from }) (blockPlan fs rows z offset size room)
-    plan-whole n q l = enough (firstOf rules) block start h room n (ap usizeSays q) l ∙ sym (plan-is room)
+    pub plan-short : (n : ℕ) → d ≡ Go → n ≡ length (slicesFrom rows from) → room < n → stayed 10 ≡ blockPlan fs rows z offset size room
+    plan-short n q e l =
+        let m : n ≡ length block = e ∙ ap length (from-block q) in
+        let b : leb (length block) room ≡ false = lt-leb (length block) room (omega arith) in
+        rw (block-open fs rows z offset size d h (short (leb (length block) room) ∷ []) q, b)
+
+    pub plan-whole : (n : ℕ) → d ≡ Go → n ≡ length (slicesFrom rows from) → n ≤ room
+        → _≡_ {A = Planned} (record { says = value n; count = n; from = from }) (blockPlan fs rows z offset size room)
+    plan-whole n q e l =
+        let m : n ≡ length block = e ∙ ap length (from-block q) in
+        let b : leb (length block) room ≡ true = le-leb (length block) room (omega arith) in
+        rw (block-open fs rows z offset size d h (short (leb (length block) room) ∷ []) q, b, m, block-from fs rows z offset size d h q)
 
   pub plan-counts : (room : ℕ) {p : Planned} → p ≡ blockPlan fs rows z offset size room → p .count ≡ length (slicesFrom rows (p .from))
   plan-counts room h = rw (h, plan-is room) (counts rows block start refl (number (firstOf rules) (leb (length block) room)))

@@ -1,21 +1,17 @@
 -- Laws of the slices of a block, as the loops use them: a turn, and the end.
---     walk-turn, walk-length      the slice of one file, and those behind it
+--     walk-turn, walk-length      the slice of one file, and those after it
 --     walk-none, walk-end         nothing left to take, or no file left
---     block-walk                  the walk that the code makes is that of the block
-use mathlib.Core.Path.{_≡_, refl, sym, ap, _∙_}
+--     walk-files, walk-bytes      there are no more slices than files, nor than bytes
+use mathlib.Core.Path.{_≡_, refl, ap, _∙_}
 use mathlib.Core.Bool.{Bool, true, false, cond}
-use mathlib.Core.List.{List, [], _∷_, _++_, map, map-append}
+use mathlib.Core.List.{List, [], _∷_, _++_}
 use Prim.Native.Nat.{ℕ, zero, suc, _+_, _-_, _≤_, _<_, min}
 use native.Mathlib.Omega.{arith}
 use lib.Dec.{eqb}
-use borrow.Author.Tests.{le-leb, lt-leb}
-use lib.IntN.{ℤ}
-use lib.ListN.{length, length-append, length-map}
-use lib.Seq.{sets}
+use borrow.Author.Tests.{ne-eqb}
+use lib.ListN.{length, length-append}
 use Rattle.tables.specs.Rows.{rowAt}
-use Rattle.tables.specs.declared.storage.FileStorage.{FileStorage}
-use Rattle.layout.specs.Search.{fileFound}
-use Rattle.layout.specs.Mapping.{Slice, before, walk, slicesOf}
+use Rattle.layout.specs.Mapping.{Slice, before, walk}
 
 -- a slice in front of others
 before-append : (s : Slice) (rest : List Slice) → before s rest ≡ before s [] ++ rest
@@ -39,6 +35,19 @@ one-le n = at (eqb n 0)
     at true = omega arith
     at false = omega arith
 
+count-le : (n : ℕ) → cond (eqb n 0) 0 1 ≤ n
+count-le zero = omega arith
+count-le (suc n) =
+    let e : eqb (suc n) 0 ≡ false = ne-eqb (suc n) 0 (omega arith) in
+    rw e (omega arith)
+
+before-more : (s : Slice) (rest : List Slice) → length (before s rest) ≡ cond (eqb (s .size) 0) 0 1 + length rest
+before-more s rest = at (eqb (s .size) 0)
+  where
+    at : (b : Bool) → length (cond b rest (s ∷ rest)) ≡ cond b 0 1 + length rest
+    at true = omega arith
+    at false = omega arith
+
 module _ (rows : List ℕ) where
   pub walk-none : (f k s n : ℕ) → n ≡ 0 → walk f rows k s n ≡ []
   unfolding walk
@@ -50,6 +59,29 @@ module _ (rows : List ℕ) where
   pub walk-end : (files k s n : ℕ) → files ≤ k → walk (files - k) rows k s n ≡ []
   unfolding walk
   walk-end files k s n h = let e : files - k ≡ 0 = omega arith in rw e
+
+  -- no file has two slices, and none is empty
+  pub walk-files : (f k s n : ℕ) → length (walk f rows k s n) ≤ f
+  unfolding walk
+  walk-files zero k s n = omega arith
+  walk-files (suc f) k s n =
+      let s′ : Slice = record { file = k; offset = s; size = min (rowAt rows k .size - s) n } in
+      let rest = walk f rows (k + 1) (s - rowAt rows k .size) (n - (rowAt rows k .size - s)) in
+      let i : length rest ≤ f = walk-files f (k + 1) (s - rowAt rows k .size) (n - (rowAt rows k .size - s)) in
+      let e = before-more s′ rest in
+      let o = one-le (min (rowAt rows k .size - s) n) in
+      omega arith
+
+  pub walk-bytes : (f k s n : ℕ) → length (walk f rows k s n) ≤ n
+  unfolding walk
+  walk-bytes zero k s n = omega arith
+  walk-bytes (suc f) k s n =
+      let part = min (rowAt rows k .size - s) n in
+      let rest = walk f rows (k + 1) (s - rowAt rows k .size) (n - (rowAt rows k .size - s)) in
+      let i : length rest ≤ n - (rowAt rows k .size - s) = walk-bytes f (k + 1) (s - rowAt rows k .size) (n - (rowAt rows k .size - s)) in
+      let e = before-more (record { file = k; offset = s; size = part }) rest in
+      let o = count-le part in
+      omega arith
 
   -- what the code computes in a turn at file k
   module _ (files k s n : ℕ) {size here part n′ s′ : ℕ} (h : k < files) (es : size ≡ rowAt rows k .size) (eh : here ≡ size - s) (ep : part ≡ min here n)
@@ -67,9 +99,3 @@ module _ (rows : List ℕ) where
     walk-length =
         ap length walk-turn ∙ length-append (before (record { file = k; offset = s; size = part }) []) _ ∙
         ap (λ (m : ℕ). m + length (walk (files - (k + 1)) rows (k + 1) s′ n′)) (before-length (record { file = k; offset = s; size = part }))
-
--- the walk that the code makes is that of the block
-pub block-walk : (fs : FileStorage) (rows : List ℕ) (target size : ℕ) {k off skip left want : ℕ}
-    → k ≡ fileFound rows (fs .«num_files») target → off ≡ rowAt rows k .offset → skip ≡ target - off → left ≡ fs .«total_size» - target → want ≡ min size left
-    → walk (fs .«num_files» - k) rows k skip want ≡ slicesOf fs rows target size
-block-walk fs rows target size ek eo es el ew = rw (ew, el, es, eo, ek)

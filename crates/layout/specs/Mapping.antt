@@ -22,7 +22,7 @@ pub record Slice : Type 0 where
 abbrev pub before : Slice → List Slice → List Slice
 before s rest = cond (eqb (s .size) 0) rest (s ∷ rest)
 
--- n bytes from place s of file k on, over at most f files: what file k has of them, then the rest in the files behind it
+-- n bytes from place s of file k on, over at most f files: what file k has of them, then the rest in the files after it
 unfoldable pub walk : ℕ → List ℕ → ℕ → ℕ → ℕ → List Slice
 walk zero rows k s n = []
 walk (suc f) rows k s n =

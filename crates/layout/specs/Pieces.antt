@@ -7,10 +7,9 @@ use lib.Dec.{eqb, leb}
 use lib.IntN.{ℤ, pos, negsuc}
 use Rattle.lists.specs.Lists.{ceiling}
 use Rattle.tables.specs.declared.storage.FileStorage.{FileStorage}
-use Rattle.tables.specs.Rows.{rowAt}
 use Rattle.rules.specs.Bounds.{blockSize}
 use Rattle.rules.specs.Questions.{numPieces}
-use Rattle.layout.specs.Search.{partitionPoint, fileFound}
+use Rattle.layout.specs.Search.{offsetAt, partitionPoint, fileFound}
 
 -- n less 1, which is −1 for 0
 abbrev pub lessOne : ℕ → ℤ
@@ -31,7 +30,7 @@ fileAfter fs rows p = partitionPoint rows (fs .«num_files») (startOf fs p)
 abbrev pub pieceSize2 : FileStorage → List ℕ → ℕ → ℕ
 pieceSize2 fs rows p =
     cond (leb (fs .«num_files») (fileAfter fs rows p)) (pieceSize fs p)
-    (min (rowAt rows (fileAfter fs rows p) .offset - startOf fs p) (fs .«piece_length»))
+    (min (offsetAt rows (fileAfter fs rows p) - startOf fs p) (fs .«piece_length»))
 
 -- how many blocks n bytes are
 abbrev pub blocksIn : ℕ → ℕ

@@ -1,5 +1,5 @@
--- What `map_block` is to do, before it writes: its answer, how many slices it writes, and where the first begins. The slices
--- and the refusals are those of `layout`.
+-- What `map_block` is to do, before it writes: its answer, how many slices it writes, and where the first begins. The
+-- slices and the refusals are those of Mapping.antt.
 use Prim.Native.Nat.{ℕ, _+_}
 use mathlib.Core.Bool.{cond}
 use mathlib.Core.List.{List, [], _∷_}
@@ -14,7 +14,7 @@ use Rattle.layout.specs.declared.start.Cursor.{Cursor}
 use Rattle.rules.specs.Questions.{short}
 use Rattle.layout.specs.Pieces.{startOf}
 use Rattle.layout.specs.Mapping.{Slice, blockOf, blockRules}
-use Rattle.layout.specs.Start.{cursorAt}
+use Rattle.layout.specs.Start.{cursorAt, nowhere}
 
 pub record Planned : Type 0 where
   pub says : Outcome ℕ
@@ -23,7 +23,7 @@ pub record Planned : Type 0 where
 
 -- a refusal, and nothing to write
 abbrev pub stayed : ℕ → Planned
-stayed k = record { says = refused k; count = 0; from = record { file = 0; files = 0; skip = 0; left = 0 } }
+stayed k = record { says = refused k; count = 0; from = nowhere }
 
 -- all slices, which begin at a cursor
 abbrev pub whole : List Slice → Cursor → Planned

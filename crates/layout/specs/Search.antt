@@ -1,34 +1,31 @@
--- The file at an offset: a search over the rows' offsets that halves, at each step, the rows that are left. On offsets that
--- ascend, as they do in every set that the calls lead to, it is the last file whose offset is at or below the target
--- (proofs/Halving.antt); on any others it is still what is said here.
-use Prim.Native.Nat.{ℕ, zero, suc, _+_, _-_, _/_, _^_, min}
-use mathlib.Core.Bool.{cond}
+-- The file at an offset: the last file whose offset is at or before the target, where the rows' offsets ascend, as they do
+-- in every set that the calls lead to. On other rows it is where the steps of Steps.antt lead.
+use Prim.Native.Nat.{ℕ, zero, suc, _+_, _-_}
+use mathlib.Core.Bool.{Bool, true, false, cond}
 use mathlib.Core.List.{List}
 use lib.Dec.{eqb, leb}
 use Rattle.tables.specs.Rows.{rowAt}
+use Rattle.layout.specs.Steps.{halved}
 
--- how many rows j steps tell apart: a little less than 2 ^ j, because rows that are powers of two apart would share few
--- places of a processor's cache
-abbrev pub reach : ℕ → ℕ
-reach j = 2 ^ j - 2 ^ j / 128
+-- the offset of file k
+abbrev pub offsetAt : List ℕ → ℕ → ℕ
+offsetAt rows = λ k. rowAt rows k .offset
 
--- how far step j goes among n rows, so that no more are left than j steps tell apart
-abbrev pub stride : ℕ → ℕ → ℕ
-stride n j = min (reach (j + 1) - reach j) (n - reach j)
+-- no offset of n files is before that of the file in front of it
+unfoldable pub ascend : List ℕ → ℕ → Bool
+ascend rows zero = true
+ascend rows (suc k) = cond (leb (offsetAt rows (k - 1)) (offsetAt rows k)) (ascend rows k) false
 
--- s places on, where the value there is at or below the target
-abbrev pub moved : (ℕ → ℕ) → ℕ → ℕ → ℕ → ℕ
-moved f t b s = cond (leb (f (b + s)) t) (b + s) b
+-- the last of n files whose offset is at or before the target; 0 where there is none
+unfoldable pub lastAtOrBefore : List ℕ → ℕ → ℕ → ℕ
+lastAtOrBefore rows zero t = 0
+lastAtOrBefore rows (suc k) t = cond (leb (offsetAt rows k) t) k (lastAtOrBefore rows k t)
 
--- from place b on, the j last steps
-unfoldable pub halved : ℕ → (ℕ → ℕ) → ℕ → ℕ → ℕ → ℕ
-halved zero f t n b = b
-halved (suc j) f t n b = halved j f t n (moved f t b (stride n j))
-
--- the file found among n rows; n steps are always enough
+-- the file found among n; n steps are always enough
 abbrev pub fileFound : List ℕ → ℕ → ℕ → ℕ
-fileFound rows n t = halved n (λ i. rowAt rows i .offset) t n 0
+fileFound rows n t = cond (ascend rows n) (lastAtOrBefore rows n t) (halved n (offsetAt rows) t n 0)
 
 -- the Rust's `partition_point`: how many of n rows begin at or before the target
 abbrev pub partitionPoint : List ℕ → ℕ → ℕ → ℕ
-partitionPoint rows n t = cond (eqb n 0) 0 (cond (leb (rowAt rows (fileFound rows n t) .offset) t) (fileFound rows n t + 1) 0)
+partitionPoint rows n t =
+    cond (eqb n 0) 0 (cond (leb (offsetAt rows (fileFound rows n t)) t) (fileFound rows n t + 1) 0)

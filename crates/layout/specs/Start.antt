@@ -1,12 +1,10 @@
--- How many slices a block has, or why it is refused before any table is looked at, and where the first begins. The slices
--- and the refusals are those of Block.antt.
+-- Where the first slice of a block begins, or why the block is refused before any table is looked at. The slices and
+-- the refusals are those of Mapping.antt.
 use Prim.Native.Nat.{ℕ, _+_, _-_}
 use mathlib.Core.Bool.{cond}
 use mathlib.Core.List.{List, []}
 use lib.Dec.{eqb}
 use lib.IntN.{ℤ}
-use lib.ListN.{length}
-use Rattle.types.specs.Refusals.{Outcome, value, refused}
 use Rattle.tables.specs.declared.storage.FileStorage.{FileStorage}
 use Rattle.tables.specs.Rows.{rowAt}
 use Rattle.rules.specs.Rules.{firstOf}
@@ -14,7 +12,7 @@ use Rattle.rules.specs.Bounds.{clampedOf}
 use Rattle.layout.specs.declared.start.Cursor.{Cursor}
 use Rattle.layout.specs.Pieces.{startOf}
 use Rattle.layout.specs.Search.{fileFound}
-use Rattle.layout.specs.Mapping.{Slice, walk, cut, blockOf, blockRules}
+use Rattle.layout.specs.Mapping.{Slice, walk, cut, blockRules}
 
 -- the slices from a cursor on
 abbrev pub slicesFrom : List ℕ → Cursor → List Slice
@@ -30,25 +28,24 @@ cursorAt fs rows target size =
       left = cut (fs .«total_size») target size;
     }
 
+-- a cursor with no slice to come
+abbrev pub nowhere : Cursor
+nowhere = record { file = 0; files = 0; skip = 0; left = 0 }
+
+-- the number of the refusal, 0 for none, and where the first slice begins
 pub record Started : Type 0 where
-  pub says : Outcome ℕ
+  pub number : ℕ
   pub from : Cursor
 
--- a refusal, and no slice to come
-abbrev pub none : ℕ → Started
-none k = record { says = refused k; from = record { file = 0; files = 0; skip = 0; left = 0 } }
+abbrev pub refusedStart : ℕ → Started
+refusedStart k = record { number = k; from = nowhere }
 
--- slices, which begin at a cursor
-abbrev pub all : List Slice → Cursor → Started
-all ss c = record { says = value (length ss); from = c }
-
--- a refusal, or for 0 the slices
-abbrev pub started : ℕ → List Slice → Cursor → Started
-started k ss c = cond (eqb k 0) (all ss c) (none k)
+-- a refusal, or for 0 the cursor
+abbrev pub started : ℕ → Cursor → Started
+started k c = cond (eqb k 0) (record { number = 0; from = c }) (refusedStart k)
 
 abbrev pub blockStart : FileStorage → List ℕ → ℤ → ℤ → ℤ → Started
 blockStart fs rows z offset size =
     started
     (firstOf (blockRules fs rows z offset size []))
-    (blockOf fs rows z offset size)
     (cursorAt fs rows (startOf fs (clampedOf z) + clampedOf offset) (clampedOf size))

@@ -1,5 +1,6 @@
-// Layout answers, from file_storage.rs: pieces, files at offsets, and the plan of a block. Every answer tests document 01's refusals
-// first, in its order. Relies on `rules` for the refusals, and on `tables`, `types` and `lists`.
+// Layout answers, from file_storage.rs: pieces, files at offsets, and where the slices of a block begin. Every answer
+// tests document 01's refusals first, in its order. Relies on `rules` for the refusals, and on `tables`, `types` and
+// `lists`.
 mod piece;
 mod plan;
 mod search;
@@ -20,5 +21,6 @@ pub use plan::Plan;
 pub use plan::plan_block;
 pub use start::Cursor;
 pub use start::Start;
+pub use start::has_room;
 pub use start::slice_count;
 pub use start::start_block;

@@ -1,10 +1,12 @@
-// The plan of a block: what `map_block` answers, how many slices it writes into a table with so much room, and where the first
-// begins. Both forms of `map_block` go by it. It relies on the block's start.
+// The plan of a block: what `map_block` answers, how many slices it writes into a table with `room` places, and where the
+// first begins. It relies on the block's start and on the count of the slices.
 ghost use mathlib.Core.Path.{_≡_};
 ghost use Rattle.types.specs.Refusals.{numberOf, usizeSays};
 ghost use Rattle.layout.specs.Plan.{Planned, stayed, blockPlan};
 use crate::start::Cursor;
+use crate::start::count_slices;
 use crate::start::start_block;
+use rules::Check;
 use tables::FileStorage;
 use types::PieceIndex;
 use types::Refusal;
@@ -19,7 +21,9 @@ pub struct Plan {
 
 // The plan of a refusal, which writes nothing.
 fn refuse(e: Refusal) -> Plan
-    ensures { λ r. ⌜ _≡_ {A = Planned} (record { says = usizeSays (r .answer); count = r .count; from = r .from }) (stayed (numberOf e)) ⌝ }
+    ensures { λ r. ⌜ _≡_ {A = Planned}
+        (record { says = usizeSays (r .answer); count = r .count; from = r .from })
+        (stayed (numberOf e)) ⌝ }
 {
     Plan {
         answer: UsizeResult::Err(e),
@@ -42,22 +46,23 @@ pub fn plan_block(
     size: i64,
     room: usize,
 ) -> Plan
-    ensures { λ r. ⌜ _≡_ {A = Planned} (record { says = usizeSays (r .answer); count = r .count; from = r .from }) (blockPlan fs (now (rows .entry)) (piece .0) offset size room) ⌝ }
+    ensures { λ r. ⌜ _≡_ {A = Planned}
+        (record { says = usizeSays (r .answer); count = r .count; from = r .from })
+        (blockPlan fs (now (rows .entry)) (piece .0) offset size room) ⌝ }
 {
     let start = start_block(fs, rows, piece, offset, size);
+    let check = start.check;
+    if let Check::Stop(e) = check {
+        return refuse(e);
+    }
     let from = start.from;
-    let found = start.count;
-    match found {
-        UsizeResult::Ok(count) => {
-            if room < count {
-                return refuse(Refusal::NoRoom);
-            }
-            Plan {
-                answer: UsizeResult::Ok(count),
-                count,
-                from,
-            }
-        }
-        UsizeResult::Err(e) => refuse(e),
+    let count = count_slices(rows, from.files, from.file, from.skip, from.left);
+    if room < count {
+        return refuse(Refusal::NoRoom);
+    }
+    Plan {
+        answer: UsizeResult::Ok(count),
+        count,
+        from,
     }
 }

@@ -1,12 +1,13 @@
-// The file at an offset, by halving over the rows' offsets. It relies on `tables` for the offsets and on
-// the laws of proofs/Halving.antt and proofs/Levels.antt.
+// The file at an offset, by halving over the rows' offsets. It relies on `tables` for the offsets and on the laws of
+// proofs/Halving.antt and proofs/Levels.antt.
 ghost use mathlib.Core.Path.{_≡_};
 ghost use mathlib.Core.Bool.{cond};
 ghost use Prim.Native.Nat.{_+_, _/_, _%_, _^_, _≤_, _<_};
 ghost use lib.Dec.{leb};
 ghost use lib.ListN.{length, getD};
-ghost use Rattle.layout.specs.Search.{reach, partitionPoint, fileFound};
-ghost use Rattle.layout.specs.Level.{Level};
+ghost use Rattle.layout.specs.Search.{partitionPoint, fileFound};
+ghost use Rattle.layout.specs.Steps.{reach};
+ghost use Rattle.layout.specs.private.Level.{Level};
 
 // `step` words on, where the offset there is at or before the target.
 fn past(rows: &[u64], target: u64, at: usize, step: usize) -> usize

@@ -1,13 +1,14 @@
-// How many slices a block has, or why it is refused, and where the first begins: what a caller needs to
-// make the slices one by one. It relies on the search and on the count of the slices.
+// Where the first slice of a block begins, or why the block is refused, and whether a table has a place for each slice:
+// what a caller needs to make the slices one by one. It relies on the search and on the count of the slices.
 ghost use mathlib.Core.Path.{_≡_};
 ghost use mathlib.Core.Bool.{cond};
 ghost use Prim.Native.Nat.{_-_, _/_, _≤_};
-ghost use lib.Dec.{eqb};
+ghost use lib.Dec.{eqb, leb};
 ghost use lib.ListN.{length};
-ghost use Rattle.types.specs.Refusals.{numberOf, usizeSays};
-ghost use Rattle.layout.specs.Mapping.{walk, slicesOf};
-ghost use Rattle.layout.specs.Start.{cursorAt, Started, all, none, blockStart};
+ghost use Rattle.types.specs.Refusals.{numberOf};
+ghost use Rattle.rules.specs.Results.{checkNumber};
+ghost use Rattle.layout.specs.Mapping.{walk};
+ghost use Rattle.layout.specs.Start.{slicesFrom, cursorAt, Started, refusedStart, blockStart};
 use crate::piece::start_of;
 use crate::search::find;
 use lists::min;
@@ -19,7 +20,6 @@ use rules::is_held;
 use tables::FileStorage;
 use types::PieceIndex;
 use types::Refusal;
-use types::UsizeResult;
 use types::clamped64;
 use types::is_negative64;
 
@@ -31,9 +31,9 @@ pub struct Cursor {
     pub left: u64,
 }
 
-// How many slices a block has, or why it is refused, and where the first begins.
+// Why a block is refused, or where its first slice begins.
 pub struct Start {
-    pub count: UsizeResult,
+    pub check: Check,
     pub from: Cursor,
 }
 
@@ -48,7 +48,7 @@ pub fn slice_count(size: u64) -> usize
 }
 
 // How many slices `want` bytes from place `skip` of file `from` on have.
-fn count_slices(rows: &[u64], files: usize, from: usize, skip: u64, want: u64) -> usize
+pub(crate) fn count_slices(rows: &[u64], files: usize, from: usize, skip: u64, want: u64) -> usize
     ensures { λ r. ⌜ r ≡ length (walk (files - from) (now (rows .entry)) from skip want) ⌝ }
 {
     let mut n = 0;
@@ -69,12 +69,28 @@ fn count_slices(rows: &[u64], files: usize, from: usize, skip: u64, want: u64) -
     n
 }
 
+// Whether a table with `room` places has one for each slice. No slice is empty and no file has two, so the slices are
+// counted only where there are more files and more bytes than places.
+pub fn has_room(rows: &[u64], at: Cursor, room: usize) -> bool
+    ensures { λ r. ⌜ r ≡ leb (length (slicesFrom (now (rows .entry)) at)) room ⌝ }
+{
+    if at.files <= room {
+        return true;
+    }
+    if at.left <= room as u64 {
+        return true;
+    }
+    count_slices(rows, at.files, at.file, at.skip, at.left) <= room
+}
+
 // The start of a block that is refused.
 fn refuse(e: Refusal) -> Start
-    ensures { λ r. ⌜ _≡_ {A = Started} (record { says = usizeSays (r .count); from = r .from }) (none (numberOf e)) ⌝ }
+    ensures { λ r. ⌜ _≡_ {A = Started}
+        (record { number = checkNumber (r .check); from = r .from })
+        (refusedStart (numberOf e)) ⌝ }
 {
     Start {
-        count: UsizeResult::Err(e),
+        check: Check::Stop(e),
         from: Cursor {
             file: 0,
             files: 0,
@@ -84,23 +100,20 @@ fn refuse(e: Refusal) -> Start
     }
 }
 
-// The start of `size` bytes from the target on.
-fn start_at(fs: FileStorage, rows: &[u64], target: u64, size: u64) -> Start
+// Where `size` bytes from the target on begin.
+fn cursor_at(fs: FileStorage, rows: &[u64], target: u64, size: u64) -> Cursor
     requires { ⌜ fs .«num_files» ≤ length (now rows) / 8 ⌝ }
-    ensures { λ r. ⌜ _≡_ {A = Started} (record { says = usizeSays (r .count); from = r .from }) (all (slicesOf fs (now (rows .entry)) target size) (cursorAt fs (now (rows .entry)) target size)) ⌝ }
+    ensures { λ r. ⌜ r ≡ cursorAt fs (now (rows .entry)) target size ⌝ }
 {
     let files = fs.num_files;
     let file = find(rows, files, target);
     let skip = saturating_sub(target, tables::offset_at(rows, file));
     let left = min(size, saturating_sub(fs.total_size, target));
-    Start {
-        count: UsizeResult::Ok(count_slices(rows, files, file, skip, left)),
-        from: Cursor {
-            file,
-            files,
-            skip,
-            left,
-        },
+    Cursor {
+        file,
+        files,
+        skip,
+        left,
     }
 }
 
@@ -112,7 +125,9 @@ pub fn start_block(
     offset: i64,
     size: i64,
 ) -> Start
-    ensures { λ r. ⌜ _≡_ {A = Started} (record { says = usizeSays (r .count); from = r .from }) (blockStart fs (now (rows .entry)) (piece .0) offset size) ⌝ }
+    ensures { λ r. ⌜ _≡_ {A = Started}
+        (record { number = checkNumber (r .check); from = r .from })
+        (blockStart fs (now (rows .entry)) (piece .0) offset size) ⌝ }
 {
     let check = ask_piece(
         fs,
@@ -124,5 +139,8 @@ pub fn start_block(
         return refuse(e);
     }
     let target = start_of(fs, piece.get() as u64) + clamped64(offset);
-    start_at(fs, rows, target, clamped64(size))
+    Start {
+        check: Check::Go,
+        from: cursor_at(fs, rows, target, clamped64(size)),
+    }
 }

@@ -48,7 +48,7 @@ use Rattle.layout.proofs.start.Cursor.Laws as CU′
 use Rattle.layout.proofs.plan.Plan as PL
 use Rattle.layout.proofs.plan_block as plan-block
 use Rattle.mapping.specs.declared.Step.{Step}
-use Rattle.mapping.specs.Records.{recordsFrom}
+use Rattle.mapping.specs.private.Records.{recordsFrom}
 use Rattle.mapping.proofs.Step as ST
 use Rattle.mapping.proofs.next_slice as next-slice
 

@@ -14,7 +14,7 @@ use Rattle.layout.specs.declared.start.Cursor.{Cursor}
 use Rattle.layout.specs.Mapping.{Slice}
 use Rattle.layout.specs.Start.{slicesFrom}
 use Rattle.mapping.specs.Table.{recordOf}
-use Rattle.mapping.specs.Records.{recordsFrom}
+use Rattle.mapping.specs.private.Records.{recordsFrom}
 
 -- `ys` is the table at entry, and the slices to put into it are `count` from the cursor `from` on
 pub record Inv (rows : List ℕ) (ys : List FileSlice) (count : ℕ) (from : Cursor) (n : ℕ) (l : List FileSlice) (c : Cursor) : Type 0 where

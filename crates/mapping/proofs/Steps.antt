@@ -21,7 +21,7 @@ use Rattle.layout.specs.Mapping.{Slice, walk}
 use Rattle.layout.specs.declared.start.Cursor.{Cursor}
 use Rattle.layout.specs.Start.{slicesFrom}
 use Rattle.mapping.specs.Table.{recordOf}
-use Rattle.mapping.specs.Records.{recordsFrom}
+use Rattle.mapping.specs.private.Records.{recordsFrom}
 use Rattle.layout.proofs.Slices.{walk-none, walk-end, walk-turn}
 
 pub slice-is : (file offset size : ℕ) {i : FileIndex} {o s : ℤ} → offset < 2 ^ 63 → size < 2 ^ 63

@@ -1,5 +1,5 @@
--- Document 01, 'Layout answers': 'The slices are put into a table lent by the caller, one record each'. The slices and the
--- refusals are those of Block.antt.
+-- Document 01, 'Layout answers': 'The slices are put into a table lent by the caller, one record each'. The slices and
+-- the refusals are those of `layout`, Mapping.antt.
 use Prim.Native.Nat.{ℕ, _%_, _^_}
 use mathlib.Core.Bool.{cond}
 use mathlib.Core.List.{List, [], _∷_, map}
@@ -16,7 +16,8 @@ use Rattle.layout.specs.Mapping.{Slice, blockOf, blockRules}
 
 -- a slice as the record of signed numbers that the Rust has
 abbrev pub recordOf : Slice → FileSlice
-recordOf s = record { «file_index» = record { 0 = pos (s .file % 2 ^ 31) }; offset = pos (s .offset); size = pos (s .size) }
+recordOf s =
+    record { «file_index» = record { 0 = pos (s .file % 2 ^ 31) }; offset = pos (s .offset); size = pos (s .size) }
 
 -- the answer, and what the table holds after it
 pub record Filled : Type 0 where
@@ -32,6 +33,7 @@ filled k ss out =
 abbrev pub blockMapped : FileStorage → List ℕ → ℤ → ℤ → ℤ → List FileSlice → Filled
 blockMapped fs rows z offset size out =
     filled
-    (firstOf (blockRules fs rows z offset size (short (leb (length (blockOf fs rows z offset size)) (length out)) ∷ [])))
+    (firstOf
+    (blockRules fs rows z offset size (short (leb (length (blockOf fs rows z offset size)) (length out)) ∷ [])))
     (blockOf fs rows z offset size)
     out

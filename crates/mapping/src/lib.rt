@@ -7,7 +7,7 @@ ghost use lib.ListN.{length, set};
 ghost use Rattle.types.specs.Refusals.{usizeSays};
 ghost use Rattle.layout.specs.Start.{slicesFrom};
 ghost use Rattle.mapping.specs.Table.{recordOf, Filled, blockMapped};
-ghost use Rattle.mapping.specs.Records.{recordsFrom};
+ghost use Rattle.mapping.specs.private.Records.{recordsFrom};
 use layout::Cursor;
 use tables::FileStorage;
 use types::FileIndex;
@@ -15,7 +15,7 @@ use types::FileSlice;
 use types::PieceIndex;
 use types::UsizeResult;
 
-// A slice, and where the bytes behind it begin.
+// A slice, and where the bytes after it begin.
 struct Step {
     slice: FileSlice,
     rest: Cursor,
@@ -95,7 +95,9 @@ pub fn map_block(
     size: i64,
     out: &mut [FileSlice],
 ) -> UsizeResult
-    ensures { λ r. ⌜ _≡_ {A = Filled} (record { says = usizeSays r; table = now (out .exit) }) (blockMapped fs (now (rows .entry)) (piece .0) offset size (now (out .entry))) ⌝ }
+    ensures { λ r. ⌜ _≡_ {A = Filled}
+        (record { says = usizeSays r; table = now (out .exit) })
+        (blockMapped fs (now (rows .entry)) (piece .0) offset size (now (out .entry))) ⌝ }
 {
     let plan = layout::plan_block(fs, rows, piece, offset, size, out.len());
     let mut at = plan.from;

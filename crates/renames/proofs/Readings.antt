@@ -2,7 +2,7 @@
 -- both tables are spliced. They rely on the laws of proofs/Ordered.antt and proofs/Slots.antt.
 use Prim.Native.Nat.{ℕ, zero, suc, _+_, _-_, _*_, _≤_, _<_}
 use mathlib.Core.Path.{_≡_, refl, sym, ap, _∙_}
-use mathlib.Core.Bool.{Bool, false, cond}
+use mathlib.Core.Bool.{Bool, false, cond, _&&_}
 use mathlib.Core.Logic.{_⊎_, inl, inr}
 use mathlib.Core.List.{List, [], _∷_, _++_, append-assoc}
 use native.Mathlib.Nat.{zero-add, add-zero, sub-zero}
@@ -72,7 +72,7 @@ renamesWith r n i k s old e t =
 
 -- whether entry i + k is one of the n from entry i on, and has that number
 abbrev pub isNamedFrom : ℕ → ℕ → ℕ → ℕ → List ℕ → Bool
-isNamedFrom n file i k e = cond (ltb k n) (eqb (getD e ((i + k) * 3) 0) file) false
+isNamedFrom n file i k e = ltb k n && eqb (getD e ((i + k) * 3) 0) file
 
 -- one rename that stands before the slot
 module _ (r : Renamed) (n i k s old : ℕ) (e t : List ℕ) where

@@ -1,10 +1,10 @@
--- `blocks::write_slices` meets its contract. The loop's invariant: the slices of the walk from file k on, put behind
--- the n that are in the columns, leave what all slices put into the columns at entry leave; n is at most k.
+-- `blocks::write_slices` meets its contract. The loop's invariant: the slices of the walk from file k on, put after
+-- the n that are in the columns, leave what all slices put into the columns at entry leave; n and they are as many as all; n is at most k.
 use borrow.Author.Needs.{needs}
 use native.Mathlib.Omega.{arith}
 use mathlib.Core.Path.{_≡_, refl, sym, ap, _∙_}
 use mathlib.Core.List.{List, []}
-use lib.ListN.{length}
+use lib.ListN.{length, length-append}
 use lib.Seq.{sets}
 use Prim.Native.Nat.{ℕ, _+_, _-_, _≤_}
 use Rattle.layout.specs.Mapping.{Slice, before, walk, filesOf, offsetsOf, sizesOf}
@@ -22,20 +22,23 @@ record Inv (rest all : List Slice) (f₀ o₀ s₀ f o s : List ℕ) (n k : ℕ)
   in-f : sets f n (filesOf rest) ≡ sets f₀ 0 (filesOf all)
   in-o : sets o n (offsetsOf rest) ≡ sets o₀ 0 (offsetsOf all)
   in-s : sets s n (sizesOf rest) ≡ sets s₀ 0 (sizesOf all)
+  sum : n + length rest ≡ length all
 
 -- where nothing is to come the columns are whole
 over : {rest all : List Slice} {f₀ o₀ s₀ f o s : List ℕ} {n k : ℕ} → Inv rest all f₀ o₀ s₀ f o s n k → rest ≡ []
-    → (f ≡ sets f₀ 0 (filesOf all)) × ((o ≡ sets o₀ 0 (offsetsOf all)) × (s ≡ sets s₀ 0 (sizesOf all)))
-over i e = (rw e at (i .in-f), (rw e at (i .in-o), rw e at (i .in-s)))
+    → (n ≡ length all) × ((f ≡ sets f₀ 0 (filesOf all)) × ((o ≡ sets o₀ 0 (offsetsOf all)) × (s ≡ sets s₀ 0 (sizesOf all))))
+over i e =
+    let z = ap length e in
+    (omega (arith, i .sum, z), (rw e at (i .in-f), (rw e at (i .in-o), rw e at (i .in-s))))
 
 abbrev Inv-loop : tie.InvT-loop
-Inv-loop rows files from skip want out-file₀ out-offset₀ out-size₀ n₀ k₀ s₀ left₀ out-file out-offset out-size n k s left = Inv (walk (files - k) rows k s left) (walk (files - from) rows from skip want) out-file₀ out-offset₀ out-size₀ out-file out-offset out-size n k
+Inv-loop rows out-file₀ out-offset₀ out-size₀ files n₀ k₀ s₀ left₀ out-file out-offset out-size n k s left = Inv (walk (files - k) rows k s left) (walk (files - k₀) rows k₀ s₀ left₀) out-file₀ out-offset₀ out-size₀ out-file out-offset out-size n k
 
 abbrev μ-loop : tie.MeasureT-loop
-μ-loop rows files from skip want out-file₀ out-offset₀ out-size₀ n₀ k₀ s₀ left₀ out-file out-offset out-size n k s left = files - k
+μ-loop rows out-file₀ out-offset₀ out-size₀ files n₀ k₀ s₀ left₀ out-file out-offset out-size n k s left = files - k
 
 loop-holds : tie.Need-loop-holds Inv-loop μ-loop
-loop-holds c = record { low = omega arith; len-f = refl; len-o = refl; len-s = refl; in-f = refl; in-o = refl; in-s = refl }
+loop-holds c = record { low = omega arith; len-f = refl; len-o = refl; len-s = refl; in-f = refl; in-o = refl; in-s = refl; sum = omega arith }
 
 same-length : tie.Need-same-length Inv-loop μ-loop
 same-length c = search needs
@@ -50,7 +53,7 @@ returns : tie.Need-returns Inv-loop μ-loop
 returns c =
     let l = c .before .before .loop in
     let a = c .before .before .before .before .before .before .before .args in
-    over (l .inv) (walk-none (a .rows .now) (a .files - l .k) (l .k) (l .s) (l .left) (c .if1 .taken))
+    over (l .inv) (walk-none (a .rows .now) (a .at .files - l .k) (l .k) (l .s) (l .left) (c .if1 .taken))
 
 size-at-requires : tie.Need-size-at-requires Inv-loop μ-loop
 size-at-requires c κs = search needs
@@ -89,7 +92,7 @@ loop-again c =
     let a = c .before .before .before .before .before .before .before .before .before .before .before .before .before .before .before .before .before .before .before .before .before .before .before .args in
     let x = before (record { file = l .k; offset = l .s; size = c .before .before .before .before .before .before .before .before .before .before .before .before .before .min .result }) [] in
     let e =
-    walk-turn (a .rows .now) (a .files) (l .k) (l .s) (l .left) (c .before .before .before .before .before .before .before .before .before .before .before .before .before .before .before .before .before .loop-test .taken) (c .before .before .before .before .before .before .before .before .before .before .before .before .before .before .before .size-at .ensures) (c .before .before .before .before .before .before .before .before .before .before .before .before .before .before .saturating-sub .ensures) (c .before .before .before .before .before .before .before .before .before .before .before .before .before .min .ensures) (c .before .saturating-sub2 .ensures) (c .saturating-sub3 .ensures)
+    walk-turn (a .rows .now) (a .at .files) (l .k) (l .s) (l .left) (c .before .before .before .before .before .before .before .before .before .before .before .before .before .before .before .before .before .loop-test .taken) (c .before .before .before .before .before .before .before .before .before .before .before .before .before .before .before .size-at .ensures) (c .before .before .before .before .before .before .before .before .before .before .before .before .before .before .saturating-sub .ensures) (c .before .before .before .before .before .before .before .before .before .before .before .before .before .min .ensures) (c .before .saturating-sub2 .ensures) (c .saturating-sub3 .ensures)
     in
     let m : l .n + c .before .before .slice-count .result ≡ l .n + length x = ap (λ (j : ℕ). l .n + j) (c .before .before .slice-count .ensures ∙ sym (before-length (record { file = l .k; offset = l .s; size = c .before .before .before .before .before .before .before .before .before .before .before .before .before .min .result }))) in
     record {
@@ -100,6 +103,7 @@ loop-again c =
       in-f = column-turn (λ s. s .file) (l .out-file) (l .n) x _ (l .inv .in-f) e (p .ensures .0) m;
       in-o = column-turn (λ s. s .offset) (l .out-offset) (l .n) x _ (l .inv .in-o) e (p .ensures .1 .0) m;
       in-s = column-turn (λ s. s .size) (l .out-size) (l .n) x _ (l .inv .in-s) e (p .ensures .1 .1) m;
+      sum = omega (arith, l .inv .sum, m, ap length e ∙ length-append x _);
     }
 
 same-length-4 : tie.Need-same-length-4 Inv-loop μ-loop
@@ -115,7 +119,7 @@ returns-2 : tie.Need-returns-2 Inv-loop μ-loop
 returns-2 c =
     let l = c .before .loop in
     let a = c .before .before .before .before .before .before .args in
-    over (l .inv) (walk-end (a .rows .now) (a .files) (l .k) (l .s) (l .left) (c .loop-test .left))
+    over (l .inv) (walk-end (a .rows .now) (a .at .files) (l .k) (l .s) (l .left) (c .loop-test .left))
 
 pub write-slices-spec : {M : Type 1} → statement M
 write-slices-spec =

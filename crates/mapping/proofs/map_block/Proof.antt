@@ -72,7 +72,7 @@ use Rattle.layout.proofs.plan_block.Symbol as plan-block-def
 use Rattle.layout.proofs.plan_block.Symbol.{name as #layout·plan-block}
 use Rattle.layout.proofs.plan_block.Met as plan-block-thm
 use Rattle.mapping.specs.declared.Step.{Step}
-use Rattle.mapping.specs.Records.{recordsFrom}
+use Rattle.mapping.specs.private.Records.{recordsFrom}
 use Rattle.mapping.proofs.Step as ST
 use Rattle.mapping.proofs.Step.Laws as ST′
 use Rattle.mapping.proofs.Again.{LentAgain, lends-again, comes-back}

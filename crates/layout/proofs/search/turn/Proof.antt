@@ -3,8 +3,8 @@ use mathlib.Core.Path.{_≡_, _∙_, ap}
 use native.Mathlib.Omega.{arith}
 use Prim.Native.Nat.{ℕ, _+_, _-_, _*_, _/_, _≤_, _<_}
 use borrow.Author.Needs.{needs}
-use Rattle.layout.specs.Search.{reach, stride}
-use Rattle.layout.specs.Level.{Level}
+use Rattle.layout.specs.Steps.{reach, stride}
+use Rattle.layout.specs.private.Level.{Level}
 use Rattle.layout.proofs.Halving.{reach-some, reach-mono}
 use Rattle.layout.proofs.Levels.{first, later, skipped, begun, inside, turned}
 use Rattle.layout.proofs.search.turn.Statement.{statement}

@@ -83,8 +83,8 @@ add-target c =
 clamped64-requires-2 : tie.Need-clamped64-requires-2
 clamped64-requires-2 c κs = search needs
 
-start-at-requires : tie.Need-start-at-requires
-start-at-requires c κs =
+cursor-at-requires : tie.Need-cursor-at-requires
+cursor-at-requires c κs =
     let a = c .before .before .before .before .before .before .before .before .before .before .before .args in
     piece-held (a .fs) (a .piece .0) (c .before .before .before .before .before .before .before .before .is-bad-range .result) _ _ (c .before .before .before .before .before .before .before .is-held .ensures) (c .before .before .before .before .before .before .ask-piece .ensures) (c .before .before .before .before .enum-told .given .1)
 
@@ -97,7 +97,7 @@ returns-2 c =
     let o : c .before .before .clamped64 .result ≡ clampedOf (a .offset) = rw (toZ-ofZ offset-fits) at (c .before .before .clamped64 .ensures) in
     let n : c .before .clamped642 .result ≡ clampedOf (a .size) = rw (toZ-ofZ size-fits) at (c .before .clamped642 .ensures) in
     start-answered (a .fs) (a .rows .now) (a .piece .0) (a .offset) (a .size) _ (decided (c .before .before .before .before .before .before .before))
-    (c .before .before .before .start-of .result + c .before .before .clamped64 .result) (c .before .clamped642 .result) (ap₂ _+_ p o) n (c .before .before .before .before .before .enum-told .given .1) (c .start-at .ensures)
+    (c .before .before .before .start-of .result + c .before .before .clamped64 .result) (c .before .clamped642 .result) (ap₂ _+_ p o) n (c .before .before .before .before .before .enum-told .given .1) (c .cursor-at .ensures)
 
 pub start-block-spec : {M : Type 1} → statement M
 start-block-spec =
@@ -116,5 +116,5 @@ start-block-spec =
     clamped64-requires
     add-target
     clamped64-requires-2
-    start-at-requires
+    cursor-at-requires
     returns-2)

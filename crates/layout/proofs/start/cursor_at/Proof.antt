@@ -1,0 +1,36 @@
+-- `layout::start::cursor_at` meets its contract.
+use borrow.Author.Needs.{needs}
+use Rattle.layout.proofs.Starts.{cursor-is}
+use Rattle.layout.proofs.start.cursor_at.Statement.{statement}
+use Rattle.layout.proofs.start.cursor_at.Tie as tie
+
+find-requires : tie.Need-find-requires
+find-requires c κs = c .before .pre
+
+offset-at-requires : tie.Need-offset-at-requires
+offset-at-requires c κs = search needs
+
+saturating-sub-requires : tie.Need-saturating-sub-requires
+saturating-sub-requires c κs = search needs
+
+saturating-sub-requires-2 : tie.Need-saturating-sub-requires-2
+saturating-sub-requires-2 c κs = search needs
+
+min-requires : tie.Need-min-requires
+min-requires c κs = search needs
+
+returns : tie.Need-returns
+returns c =
+    let a = c .before .before .before .before .before .before .args in
+    cursor-is (a .fs) (a .rows .now) (a .target) (a .size) (c .before .before .before .before .find .ensures) (c .before .before .before .offset-at .ensures) (c .before .before .saturating-sub .ensures) (c .before .saturating-sub2 .ensures) (c .min .ensures)
+
+pub cursor-at-spec : {M : Type 1} → statement M
+cursor-at-spec =
+    tie.close
+    (tie.spec
+    find-requires
+    offset-at-requires
+    saturating-sub-requires
+    saturating-sub-requires-2
+    min-requires
+    returns)
