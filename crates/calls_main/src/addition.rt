@@ -1,12 +1,9 @@
-// The words of an addition: `add NAME PATH SIZE FLAGS MTIME LINK ROOT`. Relies on the modules for words.
+// The words of an addition: `add NAME PATH SIZE FLAGS MTIME LINK ROOT`. Relies on `script`.
 use crate::input::Buffer;
-use crate::numbers;
-use crate::numbers::Long;
-use crate::numbers::Number;
-use crate::roots;
-use crate::strings;
-use crate::strings::Decoded;
 use crate::words;
+use script::Decoded;
+use script::I64Word;
+use script::U64Word;
 use tables::Presence;
 
 // What the words stand for. The three texts stand in a buffer, one after the other, and these are their ends.
@@ -40,16 +37,23 @@ struct Texts {
     link: usize,
 }
 
+// The root among them.
+struct Root {
+    is_formed: bool,
+    presence: Presence,
+    root: [u8; 32],
+}
+
 // Reads the words of a line.
 pub(crate) fn read(line: &[u8], target: &mut Buffer) -> Addition {
     let texts = read_texts(line, target);
     let numbers = read_numbers(line);
-    let root = roots::word(line, 7);
+    let root = read_root(script::word(line, 7));
     let given = texts.given;
     let rooted = root.presence;
     let bytes = root.root;
     Addition {
-        is_formed: words::are_formed(texts.is_formed, numbers.is_formed, root.is_formed),
+        is_formed: are_formed(texts.is_formed, numbers.is_formed, root.is_formed),
         given: given,
         name: texts.name,
         path: texts.path,
@@ -70,13 +74,13 @@ fn read_numbers(line: &[u8]) -> Numbers {
         flags: 0,
         time: 0,
     };
-    let Long::Is(size) = numbers::long_word(line, 3) else {
+    let I64Word::Is(size) = words::i64_at(line, 3) else {
         return malformed;
     };
-    let Number::Is(flags) = numbers::word(line, 4) else {
+    let U64Word::Is(flags) = words::u64_at(line, 4) else {
         return malformed;
     };
-    let Long::Is(time) = numbers::long_word(line, 5) else {
+    let I64Word::Is(time) = words::i64_at(line, 5) else {
         return malformed;
     };
     if 255 < flags {
@@ -99,31 +103,54 @@ fn read_texts(line: &[u8], target: &mut Buffer) -> Texts {
         path: 0,
         link: 0,
     };
-    let is_none = lists::same(words::word(line, 1), b"-");
-    let Decoded::Bytes(name) = decode_name(line, is_none, target) else {
+    let has_no_name = is_none(script::word(line, 1));
+    let Decoded::Bytes(name) = decode_name(line, has_no_name, target) else {
         return malformed;
     };
-    let Decoded::Bytes(path) = strings::word(line, 2, target, name) else {
+    let Decoded::Bytes(path) = words::decode(line, 2, target, name) else {
         return malformed;
     };
-    let Decoded::Bytes(link) = strings::word(line, 6, target, path) else {
+    let Decoded::Bytes(link) = words::decode(line, 6, target, path) else {
         return malformed;
     };
     Texts {
         is_formed: true,
-        given: presence(is_none),
+        given: presence(has_no_name),
         name: name,
         path: path,
         link: link,
     }
 }
 
+// Reads the root, unless there is none.
+fn read_root(word: &[u8]) -> Root {
+    if is_none(word) {
+        return Root {
+            is_formed: true,
+            presence: Presence::Absent,
+            root: [0u8; 32],
+        };
+    }
+    let given = script::to_root(word);
+    let root = given.root;
+    Root {
+        is_formed: given.is_formed,
+        presence: Presence::Present,
+        root: root,
+    }
+}
+
+// Whether a word says that something is not there.
+fn is_none(word: &[u8]) -> bool {
+    lists::same(word, b"-")
+}
+
 // Decodes the given name, unless there is none.
-fn decode_name(line: &[u8], is_none: bool, target: &mut Buffer) -> Decoded {
-    if is_none {
+fn decode_name(line: &[u8], has_no_name: bool, target: &mut Buffer) -> Decoded {
+    if has_no_name {
         return Decoded::Bytes(0);
     }
-    strings::word(line, 1, target, 0)
+    words::decode(line, 1, target, 0)
 }
 
 // Whether something is there, by whether it is none.
@@ -132,4 +159,14 @@ fn presence(is_none: bool) -> Presence {
         return Presence::Absent;
     }
     Presence::Present
+}
+
+// Whether words of three kinds are all in form.
+pub(crate) fn are_formed(a: bool, b: bool, c: bool) -> bool {
+    if a {
+        if b {
+            return c;
+        }
+    }
+    false
 }

@@ -1,17 +1,15 @@
-// A line's answer. Each module answers the lines that have one of its forms: first those that speak of no set or turn
-// to another, then the changes of the set that is spoken of, then the questions. A new call is a form in one module,
-// and an arm beside it. Relies on the modules of the calls.
+// A line's answer. Each module answers the lines that have one of its forms: first those that open a set or turn to
+// another, then the changes of the set that is spoken of; what is none of these is asked of `questions`. A new call is
+// a form in one module, and an arm beside it. Relies on the modules of the calls.
+use crate::asking;
 use crate::changes;
 use crate::input::Buffer;
 use crate::opening;
-use crate::output;
-use crate::paths;
 use crate::places::Dirs;
 use crate::places::Roots;
 use crate::places::Rows;
 use crate::places::Texts;
 use crate::places::Times;
-use crate::questions;
 use crate::sets;
 use crate::sets::Made;
 use crate::sets::Sets;
@@ -38,25 +36,22 @@ pub(crate) fn answer(
     let Made::NoCall = made else {
         return made;
     };
-    questions::answer(content, all, rows, roots, times, dirs, text);
+    asking::answer(content, all, rows, roots, times, dirs, text);
     Made::Answered
 }
 
-// Answers a line that speaks of no set, or says what it changes of the sets, where `at` is the place of the one that
-// is spoken of. A comment and a line of blanks have no answer, and a line that is too long is no call.
+// Says what a line changes of the sets, where `at` is the place of the one that is spoken of. A comment and a line of
+// blanks have no answer, and a line that is too long is no call.
 fn without_tables(line: &[u8], length: usize, at: usize) -> Made {
     let content = lists::part(line, 0, length);
     if lists::byte(content, 0) == b'#' {
         return Made::Answered;
     }
     if line.len() < length {
-        output::bad_call();
+        replies::bad_call();
         return Made::Answered;
     }
     if !words::has(content, 0) {
-        return Made::Answered;
-    }
-    if paths::answer(content) {
         return Made::Answered;
     }
     opening::make(content, at)
@@ -66,19 +61,19 @@ fn without_tables(line: &[u8], length: usize, at: usize) -> Made {
 pub(crate) fn noted(made: Made, before: Sets) -> Sets {
     match made {
         Made::Refused(refusal) => {
-            output::refused(refusal);
+            replies::refused(refusal);
             before
         }
         Made::Changed(set) => {
-            output::done();
+            replies::done();
             sets::with(before, set)
         }
         Made::Use(place) => {
-            output::done();
+            replies::done();
             sets::turned_to(before, place)
         }
         Made::Reset => {
-            output::done();
+            replies::done();
             sets::none()
         }
         _ => before,

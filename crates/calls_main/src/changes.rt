@@ -6,6 +6,7 @@ use crate::addition::Addition;
 use crate::cleanings;
 use crate::importing;
 use crate::input::Buffer;
+use crate::input::between;
 use crate::places;
 use crate::places::Dirs;
 use crate::places::Places;
@@ -16,7 +17,6 @@ use crate::places::Times;
 use crate::renaming;
 use crate::sets::Made;
 use crate::sets::Set;
-use crate::strings;
 use crate::words;
 use additions::FileInfo;
 use change::StorageResult;
@@ -114,9 +114,9 @@ fn add_read(
         places::words_of(dirs, parts.dirs),
         places::bytes_of(text, parts.text),
         file,
-        strings::between(texts, 0, words.name),
-        strings::between(texts, words.name, words.path),
-        strings::between(texts, words.path, words.link),
+        between(texts, 0, words.name),
+        between(texts, words.name, words.path),
+        between(texts, words.path, words.link),
     )
 }
 

@@ -1,33 +1,24 @@
-// `compat A B`, the question on two sets: both are lent their parts of the tables. Relies on `names`, and on
-// the modules for sets, words and answers.
-use crate::answer;
-use crate::numbers;
-use crate::numbers::Number;
+// `compat A B`, the question on two sets: both are lent their parts of the tables. Relies on `compatible`,
+// `script` and `replies`, and on the module for sets.
 use crate::places;
 use crate::sets;
 use crate::sets::Set;
 use crate::sets::Sets;
 use crate::words;
+use script::U64Word;
 
-// Answers whether the sets that a line names are compatible, and says whether it names two sets.
+// Answers whether the sets that a line names are compatible, and says whether it asks that.
 pub(crate) fn answer(line: &[u8], all: Sets, rows: &[u64], dirs: &[u64], text: &[u8]) -> bool {
-    if words::form_of(b"compat A B", line) == words::NONE {
-        return false;
+    match words::form_of(b"compat A B", line) {
+        0 => of_sets(set_in(line, 1, all), set_in(line, 2, all), rows, dirs, text),
+        _ => return false,
     }
-    let a = set_in(line, 1, all);
-    let b = set_in(line, 2, all);
-    if !a.is_open {
-        return false;
-    }
-    if !b.is_open {
-        return false;
-    }
-    of_sets(a, b, rows, dirs, text)
+    true
 }
 
 // The set that a word of the line names, or one that was never opened.
 fn set_in(line: &[u8], number: usize, all: Sets) -> Set {
-    let Number::Is(n) = numbers::word(line, number) else {
+    let U64Word::Is(n) = words::u64_at(line, number) else {
         return sets::closed();
     };
     if 3 < n {
@@ -36,11 +27,17 @@ fn set_in(line: &[u8], number: usize, all: Sets) -> Set {
     sets::set_at(all, n as usize)
 }
 
-// Answers whether two sets are compatible.
-fn of_sets(a: Set, b: Set, rows: &[u64], dirs: &[u64], text: &[u8]) -> bool {
+// Answers whether two sets are compatible; a set that was never opened is none.
+fn of_sets(a: Set, b: Set, rows: &[u64], dirs: &[u64], text: &[u8]) {
+    if !a.is_open {
+        return replies::bad_call();
+    }
+    if !b.is_open {
+        return replies::bad_call();
+    }
     let p = a.parts;
     let q = b.parts;
-    answer::boolean(compatible::files_compatible(
+    replies::boolean(compatible::files_compatible(
         a.fs,
         places::words_at(rows, p.rows),
         places::words_at(dirs, p.dirs),

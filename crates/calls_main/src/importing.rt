@@ -1,8 +1,6 @@
 // `import I :N I :N …`: the pairs of the line are read into columns, which are lent to the library with the
-// set's parts of the tables of renames. Relies on `renames`, and on the modules for sets and words.
+// set's parts of the tables of renames. Relies on `renames` and `script`, and on the module for sets.
 use crate::input::Buffer;
-use crate::numbers;
-use crate::numbers::Short;
 use crate::places;
 use crate::places::Places;
 use crate::places::Rows;
@@ -10,11 +8,11 @@ use crate::places::Texts;
 use crate::renaming;
 use crate::sets::Made;
 use crate::sets::Set;
-use crate::strings;
-use crate::strings::Decoded;
 use crate::words;
 use renames::RenamedFiles;
 use renames::RenamesResult;
+use script::Decoded;
+use script::I32Word;
 use tables::FileStorage;
 
 // The numbers of the files, and the lengths of their names.
@@ -93,12 +91,12 @@ fn first_of(numbers: &[i32], n: usize) -> &[i32] {
 
 // Reads the pairs after the call's name: the files, the lengths of the names, and the names one after the other.
 fn read_pairs(line: &[u8], files: &mut Files, lengths: &mut Lengths, names: &mut Buffer) -> Pairs {
-    let mut left = words::after(line, 0).len();
+    let mut left = script::after(line, 0).len();
     let mut count = 0;
     let mut used = 0;
     while words::has(last(line, left), 0) {
         let pair = last(line, left);
-        let rest = words::after(pair, 1).len();
+        let rest = script::after(pair, 1).len();
         if left <= rest {
             return Pairs::Malformed;
         }
@@ -127,13 +125,13 @@ fn read_pair(
     count: usize,
     used: usize,
 ) -> Decoded {
-    let Short::Is(file) = numbers::short_word(pair, 0) else {
+    let I32Word::Is(file) = words::i32_at(pair, 0) else {
         return Decoded::Malformed;
     };
     if 16384 <= count {
         return Decoded::Malformed;
     }
-    let Decoded::Bytes(end) = strings::word(pair, 1, names, used) else {
+    let Decoded::Bytes(end) = words::decode(pair, 1, names, used) else {
         return Decoded::Malformed;
     };
     files[count] = file;

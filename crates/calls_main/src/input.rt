@@ -1,10 +1,14 @@
 // Standard input, line by line: blocks are read into a buffer, and each line is copied out of them into
-// another. Relies on `io` and on the accessors of `lists`.
-use crate::scan;
+// another. Relies on `io`, on `script` for a line's end, and on the accessors of `lists`.
 use libc::STDIN_FILENO;
 
 // A buffer of input, of a line, or of what its words stand for.
 pub(crate) type Buffer = [u8; 65536];
+
+// The bytes of a buffer from one place up to another.
+pub(crate) fn between(bytes: &Buffer, from: usize, to: usize) -> &[u8] {
+    lists::part(bytes, from, lists::saturating_sub_usize(to, from))
+}
 
 // What is read but not yet taken stands in the block from `at` to `end`. The line has `length` bytes
 // so far, of which as many are kept as its buffer has places; it is open until its end is found, and
@@ -83,7 +87,7 @@ fn take(block: &[u8], line: &mut [u8], cursor: Cursor) -> Cursor {
     let at = cursor.at;
     let length = cursor.length;
     let rest = lists::part(block, at, lists::saturating_sub_usize(cursor.end, at));
-    let n = scan::before_first(rest, b'\n');
+    let n = script::before_first(rest, b'\n');
     lists::copy_after(line, length, lists::part(rest, 0, n));
     Cursor {
         at: plus(at, plus(n, 1)),

@@ -2,30 +2,17 @@
 // call, in the form that the driver over the Rust speaks too. What it answers is the libraries' to
 // promise; proved here is that the program is safe and ends.
 mod addition;
-mod answer;
+mod asking;
 mod calls;
 mod changes;
 mod cleanings;
 mod compat;
-mod file_questions;
-mod file_words;
 mod importing;
 mod input;
-mod layout_questions;
-mod numbers;
 mod opening;
-mod output;
-mod path_questions;
-mod paths;
 mod places;
-mod questions;
-mod renamed_questions;
 mod renaming;
-mod roots;
-mod scan;
-mod set_questions;
 mod sets;
-mod strings;
 mod words;
 
 // Answers line by line. The tables have four parts each, one for each set. A proved loop has to end, and nothing

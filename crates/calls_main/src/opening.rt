@@ -1,15 +1,15 @@
-// `open`, `use` and `reset`: opening a set, turning to another, and forgetting all. Relies on `storage`, and on the
-// modules for sets and words.
+// `open`, `use` and `reset`: opening a set, turning to another, and forgetting all. Relies on `storage` and
+// `script`, and on the module for sets.
 ghost use Prim.Native.Nat.{_≤_};
-use crate::numbers;
-use crate::numbers::Number;
-use crate::numbers::Short;
+use crate::addition::are_formed;
 use crate::places;
 use crate::places::Places;
 use crate::sets;
 use crate::sets::Made;
 use crate::words;
 use change::StorageResult;
+use script::I32Word;
+use script::U64Word;
 
 // What a line says of one kind of room: whether a word names it, and how many places it has.
 struct Named {
@@ -33,7 +33,7 @@ pub(crate) fn make(line: &[u8], at: usize) -> Made {
 
 // `open LENGTH [files=N] [dirs=N] [text=N]`. Where a line names no room, a set has the most that it can have.
 fn open(line: &[u8], at: usize) -> Made {
-    let Short::Is(piece_length) = numbers::short_word(line, 1) else {
+    let I32Word::Is(piece_length) = words::i32_at(line, 1) else {
         return Made::NoCall;
     };
     let files = room_of(line, b"files=", 256);
@@ -43,7 +43,7 @@ fn open(line: &[u8], at: usize) -> Made {
     if words::has(line, most) {
         return Made::NoCall;
     }
-    if !words::are_formed(files.is_formed, dirs.is_formed, text.is_formed) {
+    if !are_formed(files.is_formed, dirs.is_formed, text.is_formed) {
         return Made::NoCall;
     }
     opened(
@@ -80,13 +80,13 @@ fn room_of(line: &[u8], name: &[u8], most: usize) -> Named {
 
 // Whether a word of the line begins with a name.
 fn names(line: &[u8], number: usize, name: &[u8]) -> bool {
-    lists::same(lists::part(words::word(line, number), 0, name.len()), name)
+    lists::same(lists::part(script::word(line, number), 0, name.len()), name)
 }
 
 // The room that a word of the line names; it is out of form where it is more than the program has.
 fn counted(line: &[u8], number: usize, name: &[u8], most: usize) -> Named {
-    let word = words::word(line, number);
-    let Number::Is(n) = numbers::parse(lists::part(word, name.len(), word.len())) else {
+    let word = script::word(line, number);
+    let U64Word::Is(n) = script::to_u64(lists::part(word, name.len(), word.len())) else {
         return Named {
             is_named: true,
             is_formed: false,
@@ -113,7 +113,7 @@ fn one(is_so: bool) -> usize
 
 // `use N`.
 fn turn_to(line: &[u8]) -> Made {
-    let Number::Is(place) = numbers::word(line, 1) else {
+    let U64Word::Is(place) = words::u64_at(line, 1) else {
         return Made::NoCall;
     };
     if 3 < place {

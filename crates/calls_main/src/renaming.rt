@@ -1,37 +1,50 @@
-// `rename I :NEW`: the set's parts of the tables of renames are lent to the library. Relies on `renames`, and on the
-// modules for sets and words.
-use crate::file_words;
-use crate::file_words::FileWords;
+// `rename I :NEW`: the set's parts of the tables of renames are lent to the library. Relies on `renames` and
+// `script`, and on the module for sets.
 use crate::input::Buffer;
+use crate::input::between;
 use crate::places;
 use crate::places::Places;
 use crate::places::Rows;
 use crate::places::Texts;
 use crate::sets::Made;
 use crate::sets::Set;
-use crate::strings;
+use crate::words;
 use renames::RenamedFiles;
 use renames::RenamesResult;
+use script::Decoded;
+use script::I32Word;
 use tables::FileStorage;
 use types::FileIndex;
 
 // `rename I :NEW`.
 pub(crate) fn rename(line: &[u8], set: Set, rows: &mut Rows, text: &mut Texts) -> Made {
-    let mut name = io::large_buffer();
-    let words = file_words::read(line, &mut name);
-    if !words.is_formed {
+    let I32Word::Is(index) = words::i32_at(line, 1) else {
         return Made::NoCall;
-    }
+    };
+    let mut name = io::large_buffer();
+    let Decoded::Bytes(length) = words::decode(line, 2, &mut name, 0) else {
+        return Made::NoCall;
+    };
     outcome(
         set,
-        rename_read(words, &name, set.fs, set.held, set.parts, rows, text),
+        rename_read(
+            FileIndex(index),
+            &name,
+            length,
+            set.fs,
+            set.held,
+            set.parts,
+            rows,
+            text,
+        ),
     )
 }
 
-// Renames the file that the words name; its new name stands in a buffer.
+// Renames a file; its new name stands in the first `length` bytes of a buffer.
 fn rename_read(
-    words: FileWords,
+    index: FileIndex,
     name: &Buffer,
+    length: usize,
     fs: FileStorage,
     held: RenamedFiles,
     parts: Places,
@@ -43,8 +56,8 @@ fn rename_read(
         held,
         places::words_of(rows, parts.entries),
         places::bytes_of(text, parts.area),
-        FileIndex(words.index),
-        strings::between(name, 0, words.length),
+        index,
+        between(name, 0, length),
     )
 }
 

@@ -1,0 +1,41 @@
+// The answer to a line that is a question: the module that has the line's form gives it. Relies on the modules of the
+// questions.
+use crate::file_paths;
+use crate::file_rows;
+use crate::layouts;
+use crate::no_set::on_no_set;
+use crate::renamed_files;
+use crate::whole_set;
+use renames::RenamedFiles;
+use tables::FileStorage;
+
+// Answers a question on a set, or on none; `entries` and `area` are the tables of the set's renames.
+pub fn on_set(
+    line: &[u8],
+    fs: FileStorage,
+    rows: &[u64],
+    roots: &[u8],
+    times: &[i64],
+    dirs: &[u64],
+    text: &[u8],
+    held: RenamedFiles,
+    entries: &[u64],
+    area: &[u8],
+) {
+    if whole_set::answer(line, fs, dirs, text) {
+        return;
+    }
+    if file_rows::answer(line, fs, rows, roots, times, dirs, text) {
+        return;
+    }
+    if layouts::answer(line, fs, rows, roots) {
+        return;
+    }
+    if file_paths::answer(line, fs, rows, dirs, text) {
+        return;
+    }
+    if renamed_files::answer(line, fs, rows, dirs, text, held, entries, area) {
+        return;
+    }
+    on_no_set(line)
+}

@@ -1,0 +1,39 @@
+// Questions on a set as a whole. Relies on `answers` and `layout`, on `script` and on `replies`.
+use tables::FileStorage;
+
+// Answers a line that has one of this module's forms, and says whether it has.
+pub(crate) fn answer(line: &[u8], fs: FileStorage, dirs: &[u64], text: &[u8]) -> bool {
+    if on_pieces(line, fs) {
+        return true;
+    }
+    on_files(line, fs, dirs, text)
+}
+
+// Answers a question on pieces; an arm stands for each form, in their order.
+fn on_pieces(line: &[u8], fs: FileStorage) -> bool {
+    match script::form_of(b"piece_length, num_pieces, blocks_per_piece, v2", line) {
+        0 => replies::short(answers::piece_length(fs)),
+        1 => replies::short(layout::num_pieces(fs)),
+        2 => replies::short(layout::blocks_per_piece(fs)),
+        3 => replies::boolean(answers::v2(fs)),
+        _ => return false,
+    }
+    true
+}
+
+// Answers a question on files, directories and text; an arm stands for each form, in their order.
+fn on_files(line: &[u8], fs: FileStorage, dirs: &[u64], text: &[u8]) -> bool {
+    match script::form_of(
+        b"name, num_files, total_size, size_on_disk, text_bytes, dirs",
+        line,
+    ) {
+        0 => replies::text(answers::name(fs, text), text),
+        1 => replies::short(answers::num_files(fs)),
+        2 => replies::long(answers::total_size(fs)),
+        3 => replies::long(answers::size_on_disk(fs)),
+        4 => replies::value(fs.text_len as u64),
+        5 => replies::directories(fs, dirs, text),
+        _ => return false,
+    }
+    true
+}
