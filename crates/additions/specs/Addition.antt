@@ -1,5 +1,14 @@
 -- Document 01, 'The set': what an addition is, what it decides, and what the set is after it. All on the model: nothing
 -- here speaks of tables. It relies on the model of `tables`, the splits of `path` and the rules in order of `rules`.
+--
+-- Names from elsewhere: `cond t a b` is a where t is true, else b; `eqb`, `ltb` and `leb` test =, < and ≤; `a - b` is 0
+-- where b is larger. `pos n` is the integer n and `negsuc n` is −(n + 1); `clampedOf` is an integer, 0 where it is
+-- negative. A text is its bytes.
+-- Of a path (path, specs/Split.antt): `rsplitBranch` and `rsplitLeaf` are what stands before and after its last
+-- separator, once one at its end is dropped; `lsplitFirst` and `lsplitRest` what stands before and after the first,
+-- once one at its start is dropped; `hasParent`, that it has more than one part; `isComplete`, that it is absolute.
+-- `when t n` is refusal n where t holds; `firstOf` is the number of the first refusal of a list whose test holds, 0
+-- where none does; `outcomeOf k a` is refusal k, or a where k is 0.
 use Prim.Native.Nat.{ℕ, _+_, _-_, _*_, _/_, _%_}
 use mathlib.Core.Bool.{Bool, true, false, cond, not, _&&_, _||_}
 use mathlib.Core.List.{List, [], _∷_, _++_, map}

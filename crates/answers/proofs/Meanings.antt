@@ -9,7 +9,7 @@ use native.Mathlib.Omega.{arith}
 use lib.Dec.{eqb}
 use lib.IntN.{ℤ, pos}
 use lib.ListN.{length, getD, replicate}
-use borrow.Author.Tests.{lt-ltb, eqb-true}
+use borrow.Author.Tests.{eqb-true}
 use Rattle.types.specs.Refusals.{Outcome, value, refused}
 use Rattle.path.specs.Join.{appended}
 use Rattle.tables.specs.declared.storage.FileStorage.{FileStorage}
@@ -19,7 +19,7 @@ use Rattle.tables.specs.Rows.{rowAt, dirAt, noPath, rootAt, has}
 use Rattle.tables.specs.Model.{Optional, absent, present, presentIf, Directory, single, absolute, stored, pathIn, File, Store, directoryText, fileOf, viewOf}
 use Rattle.tables.proofs.Tabled.{length-tabled, getD-tabled}
 use Rattle.rules.specs.Rules.{firstOf, outcomeOf}
-use Rattle.rules.specs.Bounds.{badLength, clampedOf}
+use Rattle.rules.specs.Bounds.{clampedOf}
 use Rattle.rules.specs.Questions.{badPieceLength, noDirectory, short, heldAnswer, directoryAnswer, fileAnswer, linkAnswer}
 use Rattle.answers.specs.Answers.{timeOf, rootOf, isAbsolute, internalPath, symlinkPath}
 use Rattle.rules.proofs.Deciding.{fileNumber, linkNumber}
@@ -38,11 +38,6 @@ isAbsoluteIn (stored d b) = false
 abbrev pub linkIn : List ℕ → Optional (List ℕ) → List ℕ
 linkIn name absent = []
 linkIn name (present t) = appended name t
-
--- an open set answers about each of its files where the tables hold them
-pub file-answered : {A : Type 0} (fs : FileStorage) (k : ℕ) (held : Bool) (a : ℕ → A) → badLength (fs .«piece_length») ≡ false
-    → k < fs .«num_files» → held ≡ true → fileAnswer fs (pos k) held a ≡ value (a k)
-file-answered fs k held a e h q = rw (e, lt-ltb k (fs .«num_files») h, q)
 
 -- an answer that is a place, as the text that stands there
 abbrev pub textSaid : List ℕ → Outcome Span → Outcome (List ℕ)

@@ -1,8 +1,8 @@
 -- Document 01, 'Layout answers': `map_block`, with its refusals and the tables that it fills: 'The slices are put into
 -- a table lent by the caller'. Here the table is three columns of numbers.
-use Prim.Native.Nat.{ℕ, _+_, min}
+use Prim.Native.Nat.{ℕ, min}
 use mathlib.Core.Bool.{Bool, cond}
-use mathlib.Core.List.{List, [], _∷_, map}
+use mathlib.Core.List.{List, [], _∷_}
 use lib.Dec.{eqb, leb}
 use lib.IntN.{ℤ}
 use lib.ListN.{length}

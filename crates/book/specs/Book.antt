@@ -1,8 +1,12 @@
 -- Document 01, 'The book of demand 3'. The book 'is fed the calls' arguments, no table of the set among them, and which
 -- calls were refused'. Nothing here speaks of the port's tables or of its model. Of the port it relies on the records
--- of the calls' arguments (`Addition` of `additions`, `Naming` of `renames`), on `clampedOf` of `rules`, a signed size as
--- a natural number, and on `isPresent` of `additions`, whether an argument is given; besides, on the sums and tests of
--- `lists` and `rules`.
+-- of the calls' arguments (`Addition` of `additions`, `Naming` of `renames`), on `clampedOf` of `rules`, a signed size
+-- as a natural number, and on `isPresent` of `additions`, whether an argument is given; besides, on the sums and tests
+-- of `lists` and `rules`.
+--
+-- Names from elsewhere: `cond t a b` is a where t is true, else b; `eqb`, `ltb` and `leb` test =, < and ≤; `a - b` is 0
+-- where b is larger. `isPresent` tests that an optional argument is given; `clampedOf` is an integer, 0 where it is
+-- negative; `sum` adds a list up.
 use Prim.Native.Nat.{ℕ, _+_, _-_, _%_}
 use mathlib.Core.Bool.{Bool, true, false, cond, not, _&&_, _||_}
 use mathlib.Core.List.{List, [], _∷_, _++_, map}
@@ -82,7 +86,9 @@ afterAddition b a =
     record {
       pieceLength = b .pieceLength;
       v2 = versionAfter b a;
-      rows = b .rows ++ (rowFor a ∷ filling (b .pieceLength) (versionAfter b a) (bytesOf (b .rows) + clampedOf (a .size)));
+      rows =
+          b .rows
+          ++ (rowFor a ∷ filling (b .pieceLength) (versionAfter b a) (bytesOf (b .rows) + clampedOf (a .size)));
       links = linksAfter b a;
     }
 

@@ -2,6 +2,10 @@
 -- as the last one left them'. It relies on the port: a step's premise is what the called function ensures. `opened`,
 -- `addStored`, `trimStored`, `cleanStored`, `renameFile` and `importFilenames` are the definitions that the contracts
 -- of `storage`, `trim`, `cleaning` and `renames` cite, so a refused call is a step like any other.
+--
+-- Names from elsewhere: `value a` is an answer, `refused k` a refusal by number k; `pos n` is the integer n; `take n`
+-- is the first n elements. The tables are those of `Store` (tables, specs/Model.antt): rows, roots, times, directories
+-- and text beside the set's record.
 use mathlib.Core.Path.{_≡_}
 use mathlib.Core.List.{List, [], _∷_}
 use Prim.Native.Nat.{ℕ, _*_, _≤_}

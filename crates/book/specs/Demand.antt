@@ -1,7 +1,11 @@
 -- Demand 3: what is asked of the set that a list of calls led to, and what must hold of the answers. It relies on the
 -- port: a question's premise is what `map_block` and `map_file` ensure (`blockMapped` of `mapping`, `fileMapped` of
--- `files`). What must hold is said by Slices.antt, by `clampedOf` of `rules`, which reads the numbers of a table's record,
--- and by `recordOf` of `mapping`, the record of a slice.
+-- `files`). What must hold is said by Slices.antt, by `clampedOf` of `rules`, which reads the numbers of a table's
+-- record, and by `recordOf` of `mapping`, the record of a slice.
+--
+-- Names from elsewhere: `pos n` is the integer n. `getD xs i d` is element i of xs, d past its end; `take n` and `drop
+-- n` are the first n elements and the rest; `partOf xs at n` is the n elements from position `at` on; `value a` is an
+-- answer, `refused k` a refusal by number k.
 use Prim.Native.Nat.{ℕ, _+_, _*_, _≤_, _<_}
 use mathlib.Core.Path.{_≡_}
 use mathlib.Core.List.{List, [], _∷_, _++_, map}

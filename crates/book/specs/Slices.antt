@@ -1,6 +1,10 @@
 -- Slices of files that lie end to end (BEP 3): joined slices, the slices that hold each file once and in full, and the
 -- bytes that slices stand for. The files are given by their sizes. Of the port it relies on the record of a slice in
 -- `layout` alone.
+--
+-- Names from elsewhere: `cond t a b` is a where t is true, else b; `eqb`, `ltb` and `leb` test =, < and ≤; `a - b` is 0
+-- where b is larger. `getD xs i d` is element i of xs, d past its end; `take n` and `drop n` are the first n elements
+-- and the rest; `partOf xs at n` is the n elements from position `at` on.
 use Prim.Native.Nat.{ℕ, zero, suc, _+_, _-_, _≤_, min, max}
 use mathlib.Core.Bool.{cond, _&&_}
 use mathlib.Core.List.{List, [], _∷_, _++_}

@@ -1,7 +1,7 @@
 -- What is known of a set that its tables hold.
 use Prim.Native.Nat.{_≤_}
-use mathlib.Core.Path.{_≡_, refl, sym}
-use mathlib.Core.Bool.{Bool, true, false, true≢false}
+use mathlib.Core.Path.{_≡_}
+use mathlib.Core.Bool.{true}
 use borrow.Author.Tests.{leb-true}
 use Rattle.tables.specs.declared.storage.FileStorage.{FileStorage}
 use Rattle.change.specs.declared.rooms.Rooms.{Rooms}

@@ -56,9 +56,6 @@ ltb-over r a b h = sym (lt-ltb r (a + b) (omega arith))
 -- ---- file by file
 
 module _ (h : ℕ → ℕ → ℕ) (g : ℕ → ℕ) (marks : List ℕ) (n : ℕ) where
-  abbrev to-come : ℕ → ℕ → List ℕ
-  to-come i k = verdictsBy g marks (n - i) i k
-
   -- i files are passed, k flagged links among them, and so many bytes are left
   module _ (u : ℕ) where
     abbrev pub Leaving : ℕ → ℕ → ℕ → Type 0

@@ -1,5 +1,9 @@
 -- Document 01, 'Layout answers': where bytes of a file lie, as `map_file` gives it. It relies on the number of pieces
 -- (`rules`).
+--
+-- Names from elsewhere: `cond t a b` is a where t is true, else b; `eqb`, `ltb` and `leb` test =, < and ≤; `a - b` is 0
+-- where b is larger. `rowAt rows k` is the row of file k, with its offset and size; `numPieces` is the number of the
+-- set's pieces, the last one counted whole.
 use Prim.Native.Nat.{ℕ, _+_, _-_, _/_, _%_, min}
 use mathlib.Core.Bool.{cond}
 use mathlib.Core.List.{List}

@@ -1,21 +1,17 @@
 -- What is known of a set, a piece and a file once no rule stopped a question about them. They rely on the rules in order of `rules`.
---     pieces-known, piece-known           the set's pieces can be counted, and the piece is one of them
+--     counted, pieces-known, piece-known  the set's pieces can be counted, and the piece is one of them
 --     set-held, piece-held                the rows are there
---     file-known, file-counted            the file is one of the set's
---     past-held, past-index, asked-past   a negative number's file is past the end of every set that a table holds
---     asked-apart                         a question about bytes of a file is answered where the set and the question pass
-use Prim.Native.Nat.{ℕ, suc, _+_, _-_, _*_, _%_, _^_, _≤_, _<_}
-use mathlib.Core.Path.{_≡_, refl, sym, ap, _∙_}
-use mathlib.Core.Bool.{Bool, true, false, cond, not, true≢false}
-use mathlib.Core.List.{List, [], _∷_, _++_}
+--     piece-range-good                    the offset and the size are in range
+use Prim.Native.Nat.{ℕ, _+_, _-_, _*_, _^_, _≤_, _<_}
+use mathlib.Core.Path.{_≡_, refl, sym, _∙_}
+use mathlib.Core.Bool.{Bool, true, false, cond}
+use mathlib.Core.List.{[], _∷_}
 use native.Mathlib.Nat.{mul-le-mul, suc-mul}
 use native.Mathlib.Numerals.{add-one}
 use native.Mathlib.Omega.{arith}
-use lib.Dec.{eqb, ltb, leb}
-use lib.IntN.{ℤ, pos, negsuc}
-use mir.Syntax.{w32, w64}
-use mir.Val.{SFits, ofZ}
-use borrow.Author.Tests.{lt-ltb, le-ltb, ltb-true, ltb-false, leb-true, eqb-true, ne-eqb, not-false}
+use lib.Dec.{eqb, leb}
+use lib.IntN.{ℤ}
+use borrow.Author.Tests.{ltb-false, leb-true, eqb-true, not-false}
 use Rattle.lists.proofs.Quotients.{ceiling-covers}
 use Rattle.tables.specs.declared.storage.FileStorage.{FileStorage}
 use Rattle.rules.specs.Rules.{when, firstOf}

@@ -4,18 +4,15 @@
 --     all-rows, found      where a search begins and ends
 --     skipped, begun       steps that are not needed
 --     inside, turned       a step
-use Prim.Native.Nat.{ℕ, suc, _+_, _-_, _*_, _/_, _%_, _^_, _≤_, _<_, min}
+use Prim.Native.Nat.{ℕ, _+_, _-_, _*_, _/_, _%_, _^_, _≤_, _<_, min}
 use mathlib.Core.Path.{_≡_, refl, sym, ap, _∙_}
 use mathlib.Core.Bool.{Bool, true, false, cond}
 use mathlib.Core.List.{List}
-use native.Mathlib.Nat.{two-pow-succ, lt-div-mul-add, div-eq-of-lt}
 use native.Mathlib.Numerals.{add-one}
 use native.Mathlib.Omega.{arith}
 use lib.Dec.{ltb, leb}
 use lib.ListN.{getD}
-use lib.Pow.{pow-mono, pow-pos}
 use borrow.Author.Tests.{ltb-true, ltb-false}
-use Rattle.tables.specs.Rows.{rowAt}
 use Rattle.layout.specs.Search.{offsetAt, fileFound}
 use Rattle.layout.specs.Steps.{reach, stride, moved, halved}
 use Rattle.layout.specs.private.Level.{Level}

@@ -1,4 +1,5 @@
--- The definitions that the contracts of `layout` cite; those in `private` stand in contracts of private functions alone.
+-- The definitions that the contracts of `layout` cite; those in `private` stand in contracts of private functions
+-- alone.
 pub mod Search
 pub mod Steps
 pub mod Pieces

@@ -1,4 +1,9 @@
 -- Document 01, 'Layout answers': the slices of a block, and `map_block`'s refusals before that of room.
+--
+-- Names from elsewhere: `cond t a b` is a where t is true, else b; `eqb`, `ltb` and `leb` test =, < and ≤; `a - b` is 0
+-- where b is larger. `rowAt rows k` is the row of file k, with its offset and size; `fileFound` the file at a byte of
+-- the set: the last that begins at or before it; `clampedOf` an integer, 0 where it is negative. The rules are document
+-- 01's table of refusals (rules, specs/Questions.antt).
 use Prim.Native.Nat.{ℕ, zero, suc, _+_, _-_, min}
 use mathlib.Core.Bool.{cond}
 use mathlib.Core.List.{List, [], _∷_, map}

@@ -1,5 +1,5 @@
--- The file at an offset: the last file whose offset is at or before the target, where the rows' offsets ascend, as they do
--- in every set that the calls lead to. On other rows it is where the steps of Steps.antt lead.
+-- The file at an offset: the last file whose offset is at or before the target, where the rows' offsets ascend, as they
+-- do in every set that the calls lead to. On other rows it is where the steps of Steps.antt lead.
 use Prim.Native.Nat.{ℕ, zero, suc, _+_, _-_}
 use mathlib.Core.Bool.{Bool, true, false, cond}
 use mathlib.Core.List.{List}

@@ -1,6 +1,6 @@
--- The steps of the search for a file, which halve the rows that are left. They say what is found on rows whose offsets do
--- not ascend: no call leads to such rows, but the promise holds for lent rows of any content. Where the offsets ascend, the
--- steps find what Search.antt says (proofs/Halving.antt, `steps-find`).
+-- The steps of the search for a file, which halve the rows that are left. They say what is found on rows whose offsets
+-- do not ascend: no call leads to such rows, but the promise holds for lent rows of any content. Where the offsets
+-- ascend, the steps find what Search.antt says (proofs/Halving.antt, `steps-find`).
 use Prim.Native.Nat.{ℕ, zero, suc, _+_, _-_, _/_, _^_, min}
 use mathlib.Core.Bool.{cond}
 use lib.Dec.{leb}

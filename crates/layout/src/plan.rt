@@ -1,5 +1,5 @@
-// The plan of a block: what `map_block` answers, how many slices it writes into a table with `room` places, and where the
-// first begins. It relies on the block's start and on the count of the slices.
+// The plan of a block: what `map_block` answers, how many slices it writes into a table with `room` places, and where
+// the first begins. It relies on the block's start and on the count of the slices.
 ghost use mathlib.Core.Path.{_≡_};
 ghost use Rattle.types.specs.Refusals.{numberOf, usizeSays};
 ghost use Rattle.layout.specs.Plan.{Planned, stayed, blockPlan};

@@ -1,6 +1,13 @@
 -- Document 01, 'Links': what `sanitize_symlinks` makes of every link's text, on what a set means: its files'
 -- directories, names and texts, and its directories. 'Two passes as in the Rust.' It relies on the model of a set in
 -- `tables`, on what stands at a path (`lookup`) and on the splits and joins of `path`.
+--
+-- Names from elsewhere: `cond t a b` is a where t is true, else b; `eqb`, `ltb` and `leb` test =, < and ≤; `a - b` is 0
+-- where b is larger. `take n` and `drop n` are the first n elements and the rest.
+-- Of a file (lookup, specs/Lookup.antt): `flagged`, that it is a link with flag 8 and a text; `ownPath`, its internal
+-- path; `fileAt`, what stands at a path: `nothing`, a `file` or a `link`; `known`, that a file or a directory does. Of
+-- paths (path, specs/Join.antt): `appended` and `combined` are the Rust's `append_path` and `combine_path`;
+-- `lsplitAtFirst p n` is p up to its first separator from position n on; `isComplete`, that a path is absolute.
 use Prim.Native.Nat.{ℕ, zero, suc, _+_, _-_}
 use mathlib.Core.Bool.{Bool, true, false, cond}
 use mathlib.Core.List.{List, [], _∷_, map}

@@ -1,5 +1,10 @@
 -- Document 01, 'Layout answers': 'The slices are put into a table lent by the caller, one record each'. The slices and
 -- the refusals are those of `layout`, Mapping.antt.
+--
+-- Names from elsewhere: `cond t a b` is a where t is true, else b; `eqb`, `ltb` and `leb` test =, < and ≤; `a - b` is 0
+-- where b is larger. `pos n` is the integer n. `blockOf` are the slices of a block and `blockRules` its refusals
+-- (layout, specs/Mapping.antt); `firstOf` is the number of the first refusal that holds, 0 where none does; `sets out 0
+-- xs` is the table `out` with xs in its first places.
 use Prim.Native.Nat.{ℕ, _%_, _^_}
 use mathlib.Core.Bool.{cond}
 use mathlib.Core.List.{List, [], _∷_, map}

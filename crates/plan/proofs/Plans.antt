@@ -43,9 +43,9 @@ use Rattle.plan.specs.declared.counts.FileFacts.{FileFacts}
 use Rattle.plan.specs.declared.plan.TextSpans.{TextSpans}
 use Rattle.plan.specs.declared.plan.TextLengths.{TextLengths}
 use Rattle.plan.specs.declared.plan.AddPlan.{AddPlan}
-use Rattle.plan.specs.Write.{setText, nameText, linkNew, isNewDirectory, isOutside, oldName, textAfter}
+use Rattle.plan.specs.Write.{setText, nameText, linkNew, isNewDirectory, isOutside, textAfter}
 use Rattle.plan.specs.Outcomes.{addingNumber}
-use Rattle.plan.specs.private.Steps.{dirPlanOf, dirsWith, padDirPlanOf, rowFlags, countsOf, shortOf, textSpansFor, planFrom, dirTexts, plannedBeside, TextsOf}
+use Rattle.plan.specs.private.Steps.{dirPlanOf, dirsWith, padDirPlanOf, countsOf, shortOf, textSpansFor, dirTexts, plannedBeside, TextsOf}
 use Rattle.plan.specs.Plan.{planOf, plannedFor}
 
 -- ---- the texts
@@ -220,10 +220,6 @@ module _ (fs : FileStorage) (name : List ℕ) (files : List File) (ds : List (Li
     where
       held : (z : Bool) → cond z (length times) (max (length times) (length files + 1)) ≡ cond z (fs .«num_mtimes») (max (fs .«num_mtimes») (fs .«num_files» + 1))
       held z = rw (l, e)
-
-  -- the plan
-  pub plan-is : planFrom fs sizes counts (rowFlags facts (isOutside (directoryAdded m a))) first second spans (oldName fs) parts ≡ planOf fs m a
-  plan-is = refl
 
 -- ---- the same on the model that the tables mean
 

@@ -1,5 +1,5 @@
 -- What an addition's plan is, by the definitions of Write.antt and Outcomes.antt on what the tables mean.
-use Prim.Native.Nat.{ℕ, _+_}
+use Prim.Native.Nat.{_+_}
 use mathlib.Core.Bool.{cond}
 use lib.Dec.{eqb}
 use lib.ListN.{length}

@@ -1,6 +1,6 @@
 -- What an addition writes: the tables after it, word by word, for tables of any content. The decisions are
 -- those of Addition.antt on what the tables mean (`viewOf`); here stands where each text and row goes.
-use Prim.Native.Nat.{ℕ, _+_, _-_, _%_, max}
+use Prim.Native.Nat.{ℕ, _+_, _-_, max}
 use mathlib.Core.Bool.{Bool, false, cond, not, _&&_}
 use mathlib.Core.List.{List, [], _∷_, _++_}
 use lib.Dec.{eqb}

@@ -2,7 +2,7 @@
 // small are in `Countable`.
 ghost use mathlib.Core.Path.{_≡_};
 ghost use mathlib.Core.Bool.{true, cond};
-ghost use Prim.Native.Nat.{_+_, _%_, _≤_, _<_, _^_, max};
+ghost use Prim.Native.Nat.{_+_, _≤_, _<_, _^_, max};
 ghost use lib.Dec.{eqb};
 ghost use Rattle.tables.specs.Model.{isPad};
 ghost use Rattle.rules.specs.Bounds.{maxEntries, maxLinks};

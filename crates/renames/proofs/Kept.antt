@@ -2,27 +2,17 @@
 -- laws rely on those of proofs/Rising.antt and proofs/Decisions.antt.
 use Prim.Native.Nat.{ℕ, _+_, _-_, _*_, _/_, _≤_}
 use mathlib.Core.Path.{_≡_, refl, sym, ap, _∙_}
-use mathlib.Core.Bool.{Bool, true, false, cond, not}
+use mathlib.Core.Bool.{true}
 use mathlib.Core.List.{List, [], _∷_, _++_, append-assoc}
 use native.Mathlib.Nat.{add-zero}
 use native.Mathlib.Omega.{arith}
-use borrow.Author.Tests.{ltb-false, le-leb}
-use lib.Dec.{ltb, eqb}
-use lib.IntN.{ℤ}
+use borrow.Author.Tests.{le-leb}
 use lib.ListN.{length, getD, drop, length-append}
 use lib.Seq.{sets, sets-eq, length-sets, getD-drop, drop-drop, take-append-seam, drop-append-seam}
-use Rattle.types.specs.Refusals.{value, refused}
-use Rattle.tables.specs.declared.storage.FileStorage.{FileStorage}
-use Rattle.rules.specs.Rules.{outcomeOf}
-use Rattle.rules.specs.Bounds.{badLength, clampedOf, isBelow}
-use Rattle.rules.proofs.Rules.{either-false}
 use Rattle.renames.specs.declared.rename.RenameMode.{RenameMode}
 use Rattle.renames.specs.declared.rename.RenameMode.the-variants.{FullPath, NoRootPath, AbsolutePath}
-use Rattle.renames.specs.declared.rename.RenamedFiles.{RenamedFiles}
-use Rattle.renames.specs.Renames.{Renamed, modeWord, modeOf, renamesFrom, renamesOf, orderedFrom, inOrder, lacksRoom, stateOf, wordsOf, textsOf, renamedTo, RenamesChanged, renamesChangedIf, renameFile}
-use Rattle.renames.specs.private.Changing.{renameOf}
-use Rattle.renames.proofs.Rising.{Rises, Small, rises-read, small-read, rises-with, small-with}
-use Rattle.renames.proofs.Decisions.{order-in, four-passed}
+use Rattle.renames.specs.Renames.{Renamed, modeWord, modeOf, renamesFrom, renamesOf, orderedFrom, inOrder, stateOf, wordsOf, textsOf}
+use Rattle.renames.proofs.Rising.{Rises, Small}
 
 -- ---- a list written is read back
 
@@ -117,37 +107,3 @@ module _ (rs : List Renamed) (e t : List ℕ) (up : Rises 0 rs) (small : Small r
   kept-list =
       ap (λ (x : List ℕ). renamesFrom (length rs) 0 entries x) text-is
       ∙ list-read rs 0 entries (drop (0 + length (wordsOf rs)) e) (drop (0 + length (textsOf rs)) t) entries-are
-
--- ---- `rename_file`
-
--- what a change says
-says-is : (n : ℕ) (rs : List Renamed) (e t : List ℕ) → outcomeOf n (stateOf rs) ≡ renamesChangedIf n rs e t .says
-says-is n rs e t = at (eqb n 0)
-  where
-    at : (b : Bool) → cond b (value (stateOf rs)) (refused n)
-        ≡ (cond {A = RenamesChanged} b (record { says = value (stateOf rs); entries = sets e 0 (wordsOf rs); text = sets t 0 (textsOf rs) }) (record { says = refused n; entries = e; text = t })) .says
-    at true = refl
-    at false = refl
-
--- a rename that is not refused leaves tables in order, which read the list with the rename in it
-module _ (fs : FileStorage) (rf rf′ : RenamedFiles) (e t : List ℕ) (z : ℤ) (name : List ℕ) where
-  abbrev after : List Renamed
-  after = renamedTo z name (renamesOf rf e t)
-
-  pub renamed-kept : renameFile fs rf e t z name .says ≡ value rf′ → clampedOf z ≤ 2147483647
-      → (inOrder rf′ (renameFile fs rf e t z name .entries) (renameFile fs rf e t z name .text) ≡ true)
-      × (renamesOf rf′ (renameFile fs rf e t z name .entries) (renameFile fs rf e t z name .text) ≡ after)
-  renamed-kept h small =
-      let n : ℕ =
-      cond (badLength (fs .«piece_length»)) 1
-      (cond (not (isBelow (fs .«num_files») z)) 11 (cond (not (inOrder rf e t)) 10 (cond (lacksRoom after e t) 10 0)))
-      in
-      let k = four-passed (badLength (fs .«piece_length»)) (not (isBelow (fs .«num_files») z)) (inOrder rf e t) (lacksRoom after e t) rf′ (stateOf after) (sym (says-is n after e t ∙ h)) in
-      let o = order-in rf e (length t) (k .1) in
-      let s = either-false (ltb (length e / 3) (length after)) (ltb (length t) (length (textsOf after))) (k .2) in
-      let r : Renamed = renameOf (clampedOf z) name in
-      let up = rises-with r (renamesOf rf e t) 0 (omega arith) (rises-read (rf .«num_renames») 0 0 (rf .«text_len») e t (o .2)) in
-      let low = small-with r (renamesOf rf e t) small (small-read (rf .«num_renames») 0 0 (rf .«text_len») e t (o .2)) in
-      let held = ltb-false _ _ (s .0) in
-      let room = ltb-false _ _ (s .1) in
-      rw (k .0, k .3) (kept-order after e t up low held room, kept-list after e t up low held room)

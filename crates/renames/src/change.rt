@@ -2,7 +2,7 @@
 // `rules` for the set's refusals and on the laws of proofs/Changes.antt and proofs/Decisions.antt.
 ghost use mathlib.Core.Path.{_≡_};
 ghost use mathlib.Core.Bool.{true};
-ghost use Prim.Native.Nat.{_+_, _-_, _*_, _/_, _≤_};
+ghost use Prim.Native.Nat.{_+_, _-_, _/_, _≤_};
 ghost use lib.ListN.{length};
 ghost use lib.Seq.{sets};
 ghost use Rattle.renames.specs.Renames.{modeWord, modeFor, orderedFrom, wordsOf, textsOf, stateOf};

@@ -1,7 +1,7 @@
 // The slot of a file's rename in the lent tables: where it stands, or would stand. Relies on the total accessors of
 // `lists` and on the laws of proofs/Slots.antt.
 ghost use mathlib.Core.Path.{_≡_};
-ghost use Prim.Native.Nat.{_+_, _*_, _≤_, _<_, _^_};
+ghost use Prim.Native.Nat.{_*_, _≤_, _<_, _^_};
 ghost use lib.ListN.{length};
 ghost use Rattle.renames.specs.Finding.{belowFrom, bytesFrom, isNamed};
 ghost use Rattle.renames.specs.private.Slots.{slotAt, slotOf};

@@ -1,7 +1,7 @@
 -- Refusals in order. Document 01, 'Refusals, by place': 'The place's list is its order'. It relies on the outcomes
 -- of `types`.
 use Prim.Native.Nat.{ℕ}
-use mathlib.Core.Bool.{Bool, true, false, cond}
+use mathlib.Core.Bool.{Bool, cond}
 use mathlib.Core.List.{List, [], _∷_}
 use lib.Dec.{eqb}
 use Rattle.types.specs.Refusals.{Outcome, value, refused}

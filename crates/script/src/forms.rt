@@ -1,7 +1,6 @@
 // The form of a call: its name and a word for each of its values, as in `map_file I OFFSET SIZE`. Relies on words.rt.
 ghost use mathlib.Core.Path.{_≡_};
 ghost use mathlib.Core.Bool.{_&&_, cond};
-ghost use lib.Dec.{eqb};
 ghost use Rattle.script.specs.Words.{partBefore};
 ghost use Rattle.script.specs.Forms.{isOpen, hasForm, formOf};
 use crate::scan::before_first;

@@ -1,7 +1,6 @@
 // Roots in a script's form: 64 lower-case hex digits, or `*XX` for 32 bytes of that value, its digits of either case.
 // Relies on strings.rt for upper-case digits, and on the laws of proofs/Units.antt.
 ghost use mathlib.Core.Path.{_≡_};
-ghost use lib.ListN.{length, replicate};
 ghost use Rattle.script.specs.Roots.{Root, rootOf, repeatedOf, speltOf, lowerOf, eitherOf, noRoot};
 use crate::strings::hex_byte;
 use crate::strings::hex_value;

@@ -4,7 +4,7 @@ use mathlib.Core.Path.{_≡_, refl}
 use mathlib.Core.List.{List, [], _∷_, map}
 use lib.IntN.{pos}
 use lib.ListN.{replicate}
-use Rattle.types.specs.Refusals.{value, refused}
+use Rattle.types.specs.Refusals.{refused}
 use Rattle.lists.specs.Decimal.{digitsWithin}
 use Rattle.tables.specs.Model.{Optional, absent, present, File, Model}
 use Rattle.additions.specs.Addition.{Addition, added, addedTo, textOf}
@@ -44,15 +44,6 @@ texts = refl
 
 rooms : Rooms
 rooms = record { files = 3; directories = 2; times = 0; text = 19 }
-
--- 'on an empty v1 set, size 281474976710655 is taken, one more gives 3'
-limit-taken : addedTo rooms (newModel 10) (file aWav 281474976710655 absent) ≡ value (added (newModel 10) (file aWav 281474976710655 absent))
-unfolding aWav rooms
-limit-taken = refl
-
-limit-passed : addedTo rooms (newModel 10) (file aWav 281474976710656 absent) ≡ refused 3
-unfolding aWav rooms
-limit-passed = refl
 
 -- 'v2, length 16384, one file of 281474976710655: 4'
 pad-passes : addedTo rooms (newModel 16384) (file aWav 281474976710655 (present (replicate 32 1))) ≡ refused 4

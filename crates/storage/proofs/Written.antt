@@ -2,10 +2,9 @@
 use Prim.Native.Nat.{ℕ, _+_}
 use mathlib.Core.Path.{_≡_, refl, sym, subst, _∙_}
 use mathlib.Core.Bool.{Bool, true, false, cond, not, _&&_}
-use mathlib.Core.List.{List, [], _++_}
+use mathlib.Core.List.{List, []}
 use lib.Dec.{eqb}
 use lib.IntN.{ℤ}
-use lib.ListN.{length}
 use lib.Seq.{sets}
 use Rattle.types.specs.Refusals.{value, refused}
 use Rattle.tables.specs.declared.storage.FileStorage.{FileStorage}
@@ -16,7 +15,7 @@ use Rattle.additions.specs.declared.parts.PathKind.{PathKind}
 use Rattle.additions.specs.declared.parts.PathKind.the-variants.{Single, Absolute, Inside, Outside}
 use Rattle.additions.specs.Addition.{Addition, padDirectory, padOf, isAmong, directoryAdded, withDirectoryOf}
 use Rattle.additions.specs.private.Texts.{directoryAt}
-use Rattle.plan.specs.Write.{newTextOf, isNewDirectory, newTexts, setText, directoryNew, nameText, linkNew, padDirectoryNew, padText, oldName, textKept, directoryStart, nameStart, linkStart, padDirectoryStart, padNameStart, isNewPad, rowAdded, padRow, textAdded, rowsAdded, dirsAdded}
+use Rattle.plan.specs.Write.{newTextOf, isNewDirectory, newTexts, directoryNew, padDirectoryNew, padText, oldName, textKept, directoryStart, nameStart, linkStart, padDirectoryStart, padNameStart, isNewPad, rowAdded, padRow, textAdded, rowsAdded, dirsAdded}
 use Rattle.plan.specs.private.Steps.{TextsOf}
 use Rattle.plan.specs.Plan.{planOf}
 use Rattle.plan.proofs.Joined.{sets-joined}

@@ -1,6 +1,11 @@
 -- What a set's tables mean: document 01, 'The set'. A set is its files in order, each with offset, size, name,
--- directory, flags, link text and root, its directories, its times, its name, v1 or v2, and its totals. It relies on the
--- rows of Rows.antt, the texts of Span.antt and the joins of `path`.
+-- directory, flags, link text and root, its directories, its times, its name, v1 or v2, and its totals. It relies on
+-- the rows of Rows.antt, the texts of Span.antt and the joins of `path`.
+--
+-- Names from elsewhere: `cond t a b` is a where t is true, else b; `eqb`, `ltb` and `leb` test =, < and ≤; `a - b` is 0
+-- where b is larger. A text is its bytes, and `textAt` reads the bytes that a span (position, length) covers. `rowAt`
+-- and `dirAt` read a row of a table, `rootAt` a root; `has flags bit` tests a bit. `appended` puts a name after a
+-- directory, one separator between them.
 use Prim.Native.Nat.{ℕ, zero, suc, _%_}
 use mathlib.Core.Bool.{Bool, true, false, cond}
 use mathlib.Core.List.{List, [], _∷_}
@@ -36,8 +41,8 @@ pathIn single name = name
 pathIn absolute name = name
 pathIn (stored d outside) name = appended d name
 
--- 'A file has offset, size, name, directory, flags …, modified time, link text and a root of 32 bytes or none'; `made` is
--- true of a pad that an addition made. Times are held beside the files
+-- 'A file has offset, size, name, directory, flags …, modified time, link text and a root of 32 bytes or none'; `made`
+-- is true of a pad that an addition made. Times are held beside the files
 pub record File : Type 0 where
   pub offset : ℕ
   pub size : ℕ

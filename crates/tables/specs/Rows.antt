@@ -1,7 +1,8 @@
 -- Records in flat lists: words for the file rows and the directory rows, bytes for the roots. Reading past a list's end
--- gives zeros and storing there does nothing, so every list has a row at every index. It relies on the spans of Span.antt.
+-- gives zeros and storing there does nothing, so every list has a row at every index. It relies on the spans of
+-- Span.antt.
 use Prim.Native.Nat.{ℕ, zero, suc, _+_, _-_, _*_, _/_, _%_, _^_, min}
-use mathlib.Core.Bool.{Bool, false, cond, not, _&&_}
+use mathlib.Core.Bool.{Bool, cond, not, _&&_}
 use mathlib.Core.List.{List, [], _∷_, _++_}
 use lib.Dec.{eqb, ltb}
 use lib.ListN.{length, getD, take, drop, replicate}
@@ -20,8 +21,9 @@ dirWidth = 2
 abbrev pub rootWidth : ℕ
 rootWidth = 32
 
--- ---- bits of a row's flags, each by its value. Those that an addition gives: 'pad 1, hidden 2, executable 4, symlink 8'
+-- ---- bits of a row's flags, each by its value
 
+-- those that an addition gives: 'pad 1, hidden 2, executable 4, symlink 8'
 abbrev pub padBit : ℕ
 padBit = 1
 
@@ -34,7 +36,7 @@ executableBit = 4
 abbrev pub symlinkBit : ℕ
 symlinkBit = 8
 
--- and those that the table adds: a link text is held
+-- those that the table adds: a link text is held
 abbrev pub linkHeldBit : ℕ
 linkHeldBit = 16
 

@@ -30,7 +30,7 @@ low c s = record { at = lower c (s .at); len = s .len }
 abbrev pub clip : ℕ → Span → Span
 clip u s = record { at = min (s .at) u; len = min (s .len) (u - s .at) }
 
--- the area once span c of its first u bytes is removed: what follows c slides down; the bytes after the used part, and as
--- many before them as were removed, are left as they were
+-- the area once span c of its first u bytes is removed: what follows c slides down; the bytes after the used part, and
+-- as many before them as were removed, are left as they were
 abbrev pub slid : Span → ℕ → List ℕ → List ℕ
 slid c u text = sets text (c .at) (drop (endOf c) (take u text))

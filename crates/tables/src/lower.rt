@@ -1,5 +1,5 @@
-// Rows once texts are removed from the text area: the span of each text after a removed one is lowered. Relies on rows.rt,
-// span.rt and the laws of proofs/Filled.antt; what the rows read then is in proofs/Moves.antt.
+// Rows once texts are removed from the text area: the span of each text after a removed one is lowered. Relies on
+// rows.rt, span.rt and the laws of proofs/Filled.antt; what the rows read then is in proofs/Moves.antt.
 ghost use mathlib.Core.Path.{_≡_};
 ghost use mathlib.Core.Bool.{cond};
 ghost use Prim.Native.Nat.{_+_, _<_, _^_};

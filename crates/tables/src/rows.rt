@@ -11,25 +11,31 @@ ghost use Rattle.tables.specs.Rows.{padBit, symlinkBit, linkHeldBit, out
 ghost use Rattle.tables.specs.Entry.{entryAt};
 use crate::span::Span;
 
-// The words of a file row and of a directory row, and the bytes of a root.
+// The words of a file row.
 pub const ROW_WIDTH: usize = 8;
 
+// The words of a directory row.
 pub const DIR_WIDTH: usize = 2;
 
+// The bytes of a root.
 pub const ROOT_WIDTH: usize = 32;
 
-// Bits of a row's flags: pad and symlink as an addition gives them; a link text is held; the directory stands outside the
-// set's name; a pad that an addition made; a root is there.
+// Bits of a row's flags. The file is a pad.
 pub const PAD_BIT: u64 = 1;
 
+// The file is a link.
 pub const SYMLINK_BIT: u64 = 8;
 
+// A link text is held.
 pub const LINK_HELD_BIT: u64 = 16;
 
+// The directory stands outside the set's name.
 pub const OUTSIDE_BIT: u64 = 32;
 
+// An addition made the pad.
 pub const MADE_BIT: u64 = 64;
 
+// A root is there.
 pub const ROOT_BIT: u64 = 128;
 
 // Offsets and sizes are held in 48 bits.

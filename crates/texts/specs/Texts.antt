@@ -51,7 +51,8 @@ abbrev pub rowLowered : Span → Row → Row
 rowLowered c r = rowWith r (low c (r .name)) (low c (r .link))
 
 abbrev pub rowsLowered : List ℕ → ℕ → Span → List ℕ
-rowsLowered rows n c = sets rows 0 (filled (λ i. words (rowLowered c (rowAt rows i))) 0 (min n (length rows / rowWidth)))
+rowsLowered rows n c =
+    sets rows 0 (filled (λ i. words (rowLowered c (rowAt rows i))) 0 (min n (length rows / rowWidth)))
 
 -- the set after span c of its text area is removed
 abbrev pub cutOut : Store → Span → Store

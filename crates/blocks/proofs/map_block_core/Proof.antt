@@ -5,8 +5,6 @@ use mir.Syntax.{w64}
 use lib.IntN.{ℤ}
 use mir.Val.{SFits, toZ, ofZ}
 use mir.Facts.{toZ-ofZ}
-use Prim.Native.Nat.{min}
-use lib.ListN.{length}
 use Rattle.rules.specs.Results.{checkNumber}
 use Rattle.layout.specs.Start.{Started, blockStart}
 use Rattle.blocks.proofs.Columns.{block-refused, block-short, block-written}

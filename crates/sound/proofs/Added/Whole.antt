@@ -7,7 +7,6 @@ use native.Mathlib.Omega.{arith}
 use lib.Dec.{eqb}
 use lib.IntN.{ℤ}
 use lib.ListN.{length, length-append}
-use lib.Seq.{sets}
 use Rattle.tables.specs.declared.storage.FileStorage.{FileStorage}
 use Rattle.tables.specs.Span.{slid}
 use Rattle.tables.specs.Rows.{has}

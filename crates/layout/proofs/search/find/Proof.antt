@@ -1,6 +1,5 @@
 -- `layout::search::find` meets its contract.
 use native.Mathlib.Omega.{arith}
-use borrow.Author.Needs.{needs}
 use Rattle.layout.proofs.Levels.{all-rows, found}
 use Rattle.layout.proofs.search.find.Statement.{statement}
 use Rattle.layout.proofs.search.find.Tie as tie

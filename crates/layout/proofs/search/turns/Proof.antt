@@ -2,7 +2,6 @@
 use mathlib.Core.Path.{_≡_}
 use native.Mathlib.Omega.{arith}
 use Prim.Native.Nat.{_+_, _-_, _≤_}
-use borrow.Author.Needs.{needs}
 use Rattle.layout.specs.private.Level.{Level}
 use Rattle.layout.specs.Steps.{reach}
 use Rattle.layout.proofs.Halving.{reach-mono, through}

@@ -1,6 +1,6 @@
 -- `script::words::from_word` meets its contract. The loop's invariant: what is left of the line from `at` on has the
 -- word at number `left`.
-use Prim.Native.Nat.{_-_, _≤_}
+use Prim.Native.Nat.{_≤_}
 use mathlib.Core.Path.{_≡_, refl, ap, _∙_}
 use native.Mathlib.Omega.{arith}
 use lib.ListN.{length, drop}
