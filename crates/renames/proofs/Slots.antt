@@ -2,7 +2,7 @@
 -- definitions of specs/Finding.antt and specs/private/Slots.antt.
 use Prim.Native.Nat.{ℕ, zero, suc, _+_, _-_, _*_, _≤_, _<_}
 use mathlib.Core.Path.{_≡_, refl, ap, _∙_}
-use mathlib.Core.Bool.{Bool, true, false, cond}
+use mathlib.Core.Bool.{Bool, true, false, cond, _&&_}
 use mathlib.Core.List.{List}
 use native.Mathlib.Omega.{arith}
 use borrow.Author.Tests.{lt-ltb, le-ltb, ltb-true}
@@ -60,7 +60,7 @@ bytes-split (suc k) m i e =
 
 -- what the rename has already is one entry of the n, or nothing
 module _ (n k i : ℕ) (e : List ℕ) (h : i ≤ n) where
-  at-most : (b c : Bool) → ltb i n ≡ b → i + cond (cond b c false) 1 0 ≤ n
+  at-most : (b c : Bool) → ltb i n ≡ b → i + cond (b && c) 1 0 ≤ n
   at-most true true q = let p = ltb-true i n q in omega arith
   at-most true false q = omega arith
   at-most false c q = omega arith
