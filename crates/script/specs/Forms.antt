@@ -1,4 +1,4 @@
--- CALLS.md, the column 'call': the form of a call is its name and a word for each of its values, as in
+-- docs/CALLS.md, the column 'call': the form of a call is its name and a word for each of its values, as in
 -- `map_file I OFFSET SIZE`. 44 is `,`, which parts forms, and 46 is `.`.
 use Prim.Native.Nat.{ℕ, _+_, _-_, _^_}
 use mathlib.Core.Bool.{Bool, true, cond, _&&_, _||_}

@@ -1,5 +1,5 @@
--- CALLS.md: 'Numbers are decimal, with `-` where negative'; 'a number out of its type's range' is no number. 48 to 57
--- are the digits, 45 is `-`.
+-- docs/CALLS.md: 'Numbers are decimal, with `-` where negative'; 'a number out of its type's range' is no number. 48 to
+-- 57 are the digits, 45 is `-`.
 use Prim.Native.Nat.{ℕ, _+_, _-_, _*_, _^_}
 use mathlib.Core.Bool.{Bool, cond, _&&_}
 use mathlib.Core.List.{List, [], _∷_}

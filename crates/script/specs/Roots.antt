@@ -1,4 +1,4 @@
--- CALLS.md: 'A root is 64 lower-case hex digits, or `*XX` for 32 bytes of that value'; the digits of `*XX` are of
+-- docs/CALLS.md: 'A root is 64 lower-case hex digits, or `*XX` for 32 bytes of that value'; the digits of `*XX` are of
 -- either case. 42 is `*`, 97 to 102 are `a` to `f`.
 use Prim.Native.Nat.{ℕ, _+_, _-_, _*_}
 use mathlib.Core.Bool.{Bool, true, false, cond}

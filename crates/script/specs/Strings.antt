@@ -1,4 +1,4 @@
--- CALLS.md: 'A byte string is `:` and its bytes, all but graphic ASCII (33 to 126) and `%` itself as `%XX` in
+-- docs/CALLS.md: 'A byte string is `:` and its bytes, all but graphic ASCII (33 to 126) and `%` itself as `%XX` in
 -- upper-case hex; `:` alone is the empty string.' 37 is `%`, 58 is `:`, 48 to 57 are the digits, 65 to 70 `A` to `F`.
 use Prim.Native.Nat.{ℕ, _+_, _-_, _*_}
 use mathlib.Core.Bool.{Bool, true, false, not, cond, _&&_}

@@ -1,4 +1,4 @@
--- CALLS.md: 'Words are parted by blanks.' A line is a list of bytes; 32 is a blank.
+-- docs/CALLS.md: 'Words are parted by blanks.' A line is a list of bytes; 32 is a blank.
 use Prim.Native.Nat.{ℕ, zero, suc, _+_}
 use mathlib.Core.Bool.{Bool, true, false, not, cond}
 use mathlib.Core.List.{List, [], _∷_}
