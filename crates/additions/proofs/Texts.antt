@@ -24,7 +24,7 @@ use Rattle.additions.specs.declared.parts.PathKind.{PathKind}
 use Rattle.additions.specs.declared.parts.PathKind.the-variants.{Single, Absolute, Inside, Outside}
 use Rattle.additions.specs.declared.parts.PathParts.{PathParts}
 use Rattle.additions.specs.Addition.{setNameOf, nameAfter, withoutLeading, pathName, storedName, limitedName, badName, optionalOf}
-use Rattle.additions.specs.private.Texts.{isHere, nameFrom, setTextOf, textUnder, absoluteKind}
+use Rattle.additions.specs.private.Texts.{isHere, nameFrom, setTextOf, textUnder, absoluteKind, PartsWithin}
 use Rattle.additions.specs.Parts.{kindFor, noSpan, wholeSpan, leafSpan, firstSpan, setNameSpan, nameSpan, directorySpan, partsOf}
 use Rattle.additions.specs.private.Checks.{limitedLength, badBeside}
 
@@ -313,3 +313,72 @@ module _ (absolute : Bool) where
   bad-none Absent given e = refl
   bad-none Present [] e = refl
   bad-none Present (c ∷ t) e = absurd (true≢false e)
+
+-- ---- the parts lie within the path
+
+ends-le : (x l : List ℕ) → Ends x l → length x ≤ length l
+ends-le x l w = omega (arith, ap length (w .1), length-append (w .0) x)
+
+trimmed-le : (path : List ℕ) → length (trimmed isSeparator path) ≤ length path
+trimmed-le path =
+    let w = trimmed-rest isSeparator path in
+    omega (arith, ap length (w .1), length-append (trimmed isSeparator path) (w .0))
+
+branch-le : (path : List ℕ) → length (rsplitBranch path) ≤ length path
+branch-le path =
+    let w = branch-leads path in
+    omega (arith, ap length (w .1), length-append (rsplitBranch path) (w .0))
+
+end-within : (x l : List ℕ) (n : ℕ) → Ends x l → length l ≤ n → length l - length x + length x ≤ n
+end-within x l n w h = let k = ends-le x l w in omega (arith, k, h)
+
+name-within : (path : List ℕ) → nameSpan path .at + nameSpan path .len ≤ length path
+name-within path = at (isComplete path)
+  where
+    at : (t : Bool) → cond t (wholeSpan path) (leafSpan path) .at + cond t (wholeSpan path) (leafSpan path) .len ≤ length path
+    at true = omega arith
+    at false =
+        end-within (rsplitLeaf path) (trimmed isSeparator path) (length path) (leaf-ends (trimmed isSeparator path)) (trimmed-le path)
+
+before-le : (q : List ℕ) → length (beforeFirst q) ≤ length q
+before-le [] = omega arith
+before-le (c ∷ t) = at (isSeparator c) (before-le t)
+  where
+    at : (b : Bool) → length (beforeFirst t) ≤ length t → length (cond b [] (c ∷ beforeFirst t)) ≤ suc (length t)
+    at true h = omega arith
+    at false h = omega (arith, h)
+
+first-within : (path : List ℕ) → firstSpan path .at + firstSpan path .len ≤ length path
+first-within [] = omega arith
+first-within (c ∷ t) = at (isSeparator c)
+  where
+    at : (b : Bool) → cond b 1 0 + length (beforeFirst (drop (cond b 1 0) (c ∷ t))) ≤ suc (length t)
+    at true = let h = before-le t in omega (arith, h)
+    at false = let h = before-le (c ∷ t) in omega (arith, h)
+
+set-within : (files : ℕ) (path : List ℕ)
+    → setNameSpan files (hasParent path) path .at + setNameSpan files (hasParent path) path .len ≤ length path
+set-within files path = at (eqb files 0) (hasParent path)
+  where
+    at : (t u : Bool) → cond t (cond u (firstSpan path) (wholeSpan path)) noSpan .at + cond t (cond u (firstSpan path) (wholeSpan path)) noSpan .len ≤ length path
+    at true true = first-within path
+    at true false = omega arith
+    at false u = omega arith
+
+directory-within : (kind : PathKind) (path : List ℕ)
+    → directorySpan kind (rsplitBranch path) .at + directorySpan kind (rsplitBranch path) .len ≤ length path
+directory-within Single path = omega arith
+directory-within Absolute path = omega arith
+directory-within Inside path =
+    end-within (withoutLeading (lsplitRest (rsplitBranch path))) (rsplitBranch path) (length path)
+    (ends-trans (unled-ends (lsplitRest (rsplitBranch path))) (ends-trans (behind-ends (skipped (rsplitBranch path))) (skipped-ends (rsplitBranch path))))
+    (branch-le path)
+directory-within Outside path = let h = branch-le path in omega (arith, h)
+
+pub parts-within : (files : ℕ) (name path : List ℕ) → PartsWithin (length path) (partsOf files name path)
+parts-within files name path =
+    record {
+      set-name = set-within files path;
+      directory = directory-within (kindFor (nameAfter files name path) path) path;
+      name = name-within path;
+    }

@@ -11,7 +11,7 @@ ghost use Rattle.tables.specs.Model.{storeOf};
 ghost use Rattle.rules.specs.Bounds.{limit, maxLinks};
 ghost use Rattle.change.specs.Rooms.{holdsIn};
 ghost use Rattle.additions.specs.Addition.{additionOf};
-ghost use Rattle.additions.specs.private.Texts.{outsideKind, directoryAt};
+ghost use Rattle.additions.specs.private.Texts.{outsideKind, directoryAt, PartsWithin};
 ghost use Rattle.plan.specs.Write.{padDigits, oldName};
 ghost use Rattle.plan.specs.private.Steps.{dirTexts, factsOf, lengthsOf, textSpansOf};
 ghost use Rattle.plan.specs.private.Steps.{textSpansSays, spansWithin, planFrom, plannedIn, plannedBeside};
@@ -346,6 +346,16 @@ fn facts_of(fs: FileStorage, file: FileInfo, link: &[u8]) -> FileFacts
     }
 }
 
+// The bytes of a path that a span within it covers.
+fn part_of(path: &[u8], s: Span) -> &[u8]
+    requires { ⌜ s .at + s .len ≤ length (now path) ⌝ }
+    ensures { λ r. ⌜ now r ≡ textAt (now (path .entry)) s ⌝ }
+{
+    let at = s.at;
+    let to = at + s.len;
+    &path[at..to]
+}
+
 // The lengths of an addition's texts, where `links` link texts are held.
 fn lengths_of(
     links: usize,
@@ -355,14 +365,15 @@ fn lengths_of(
     parts: PathParts,
     link: &[u8],
 ) -> TextLengths
+    requires { ⌜ PartsWithin (length (now path)) parts ⌝ }
     ensures { λ r. ⌜
         r ≡ lengthsOf links given (now (filename .entry)) (now (path .entry)) parts (now (link .entry))
         ⌝ }
 {
     let set_span = parts.set_name;
     let name_span = parts.name;
-    let set_name = tables::text_at(path, set_span);
-    let own = tables::text_at(path, name_span);
+    let set_name = part_of(path, set_span);
+    let own = part_of(path, name_span);
     let kept = additions::link_text(links, link);
     TextLengths {
         set_name: set_name.len(),
@@ -386,6 +397,7 @@ fn plan_texts(
 ) -> PlanResult
     requires { ⌜ holdsIn fs rooms ≡ true ⌝ }
     requires { ⌜ fs .«total_size» + sizes .size + sizes .pad ≤ limit ⌝ }
+    requires { ⌜ PartsWithin (length (now path)) parts ⌝ }
     ensures { λ r. ⌜
         planSays r
         ≡ plannedBeside fs rooms (dirTexts (now (dirs .entry)) (now (text .entry)) (fs .«num_paths»)) sizes
@@ -401,7 +413,7 @@ fn plan_texts(
     let given = file.given;
     let lengths = lengths_of(fs.num_symlinks, given, filename, path, parts, symlink_path);
     let directory = parts.directory;
-    let dir = tables::text_at(path, directory);
+    let dir = part_of(path, directory);
     plan_dirs(fs, rooms, dirs, text, sizes, facts, dir, lengths, parts)
 }
 

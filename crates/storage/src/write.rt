@@ -3,13 +3,13 @@
 ghost use mathlib.Core.Path.{_≡_};
 ghost use mathlib.Core.Bool.{cond};
 ghost use mathlib.Core.List.{[]};
-ghost use Prim.Native.Nat.{_-_, _≤_};
+ghost use Prim.Native.Nat.{_+_, _-_, _≤_};
 ghost use lib.IntN.{pos};
-ghost use lib.ListN.{replicate};
+ghost use lib.ListN.{length, replicate};
 ghost use lib.Seq.{sets};
 ghost use Rattle.tables.specs.Span.{textAt};
 ghost use Rattle.rules.specs.Bounds.{maxEntries};
-ghost use Rattle.additions.specs.private.Texts.{nameFrom, linkTextOf};
+ghost use Rattle.additions.specs.private.Texts.{nameFrom, linkTextOf, PartsWithin};
 ghost use Rattle.plan.specs.Write.{padDigits, rootsAdded, timesAdded};
 ghost use Rattle.additions.specs.Addition.{optionalOf};
 ghost use Rattle.storage.specs.private.Written.{renamed, textWritten, dirsRenamed};
@@ -91,6 +91,16 @@ fn write_text(
     put_pad(text, plan.pad_row.name.at, plan.pad_row.size);
 }
 
+// The bytes of a path that a span within it covers.
+fn part_of(path: &[u8], s: Span) -> &[u8]
+    requires { ⌜ s .at + s .len ≤ length (now path) ⌝ }
+    ensures { λ r. ⌜ now r ≡ textAt (now (path .entry)) s ⌝ }
+{
+    let at = s.at;
+    let to = at + s.len;
+    &path[at..to]
+}
+
 // Writes the new texts of an addition, which stand in its path, its given name and its link text.
 fn write_texts(
     text: &mut [u8],
@@ -100,6 +110,7 @@ fn write_texts(
     path: &[u8],
     symlink_path: &[u8],
 )
+    requires { ⌜ PartsWithin (length (now path)) (plan .parts) ⌝ }
     ensures { λ _. ⌜
         now (text .exit)
         ≡ textWritten (plan .before .«num_files») (plan .before .«text_len») plan (now (text .entry))
@@ -118,11 +129,11 @@ fn write_texts(
         plan.before.num_files,
         plan.before.text_len,
         plan,
-        tables::text_at(path, set_span),
-        tables::text_at(path, dir_span),
+        part_of(path, set_span),
+        part_of(path, dir_span),
         given,
         filename,
-        tables::text_at(path, name_span),
+        part_of(path, name_span),
         additions::link_text(plan.before.num_symlinks, symlink_path),
     );
 }
@@ -218,6 +229,7 @@ pub(crate) fn write_all(
     symlink_path: &[u8],
 )
     requires { ⌜ plan .before .«num_files» ≤ maxEntries ⌝ }
+    requires { ⌜ PartsWithin (length (now path)) (plan .parts) ⌝ }
     ensures { λ _. ⌜ now (rows .exit) ≡ rowsWritten (plan .before .«num_files») plan (now (rows .entry)) ⌝ }
     ensures { λ _. ⌜
         now (roots .exit)

@@ -2,7 +2,7 @@
 -- proofs/Texts.antt shows that they are the same.
 use mathlib.Core.Bool.{Bool, true, false, cond, not, _&&_}
 use mathlib.Core.List.{List, []}
-use Prim.Native.Nat.{ℕ}
+use Prim.Native.Nat.{ℕ, _+_, _≤_}
 use lib.Dec.{eqb}
 use Rattle.path.specs.Split.{lsplitRest}
 use Rattle.path.specs.Join.{isEmpty}
@@ -11,6 +11,7 @@ use Rattle.tables.specs.declared.rows.Presence.the-variants.{Absent, Present}
 use Rattle.tables.specs.Model.{Directory, single, absolute, stored}
 use Rattle.additions.specs.declared.parts.PathKind.{PathKind}
 use Rattle.additions.specs.declared.parts.PathKind.the-variants.{Single, Absolute, Inside, Outside}
+use Rattle.additions.specs.declared.parts.PathParts.{PathParts}
 use Rattle.additions.specs.Addition.{setNameOf, withoutLeading, keepsLink}
 
 abbrev pub isHere : Presence → Bool
@@ -54,3 +55,9 @@ absoluteKind Single = false
 absoluteKind Absolute = true
 absoluteKind Inside = false
 absoluteKind Outside = false
+
+-- the parts of a path that are stored lie within its n bytes
+pub record PartsWithin (n : ℕ) (p : PathParts) : Type 0 where
+  pub set-name : p .«set_name» .at + p .«set_name» .len ≤ n
+  pub directory : p .directory .at + p .directory .len ≤ n
+  pub name : p .name .at + p .name .len ≤ n

@@ -13,11 +13,11 @@ same : {a a' b b' d d' : ℕ} → a ≡ a' → b ≡ b' → d ≡ d'
     → _≡_ {A = TextLengths} (record { «set_name» = a; name = b; link = d }) (record { «set_name» = a'; name = b'; link = d' })
 same e f g = cc
 
-text-at-requires : tie.Need-text-at-requires
-text-at-requires c κs = search needs
+part-of-requires : tie.Need-part-of-requires
+part-of-requires c κs = c .before .before .before .before .before .pre .set-name
 
-text-at-requires-2 : tie.Need-text-at-requires-2
-text-at-requires-2 c κs = search needs
+part-of-requires-2 : tie.Need-part-of-requires-2
+part-of-requires-2 c κs = c .before .before .before .before .before .before .pre .name
 
 link-text-requires : tie.Need-link-text-requires
 link-text-requires c κs = search needs
@@ -28,9 +28,9 @@ name-length-requires c κs = search needs
 returns : tie.Need-returns
 returns c =
     let a = c .before .before .before .before .before .before .before .before .before .args in
-    same (ap length (c .before .before .before .text-at .ensures)) (c .name-length .ensures ∙ ap (λ (l : List ℕ). length (nameFrom (a .given) (a .filename .now) l)) (c .before .before .text-at2 .ensures)) (ap length (c .before .link-text .ensures))
+    same (ap length (c .before .before .before .part-of .ensures)) (c .name-length .ensures ∙ ap (λ (l : List ℕ). length (nameFrom (a .given) (a .filename .now) l)) (c .before .before .part-of2 .ensures)) (ap length (c .before .link-text .ensures))
 
 pub lengths-of-spec : {M : Type 1} → statement M
 lengths-of-spec =
     tie.close
-    (tie.spec text-at-requires text-at-requires-2 link-text-requires name-length-requires returns)
+    (tie.spec part-of-requires part-of-requires-2 link-text-requires name-length-requires returns)

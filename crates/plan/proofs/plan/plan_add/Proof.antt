@@ -1,10 +1,11 @@
 -- `plan::plan::plan_add` meets its contract: the tests stop, the tables do not hold the set, or the numbers of the plan are those
 -- of the model.
 use borrow.Author.Needs.{needs}
-use mathlib.Core.Path.{_≡_, refl, sym, ap, _∙_}
+use mathlib.Core.Path.{_≡_, refl, sym, ap, subst, _∙_}
 use mathlib.Core.Bool.{Bool, true}
 use Prim.Native.Nat.{ℕ}
 use borrow.Author.Tests.{not-true, not-false}
+use lib.ListN.{length}
 use Rattle.tables.specs.Span.{textAt}
 use Rattle.tables.specs.Model.{Store, storeOf, viewOf}
 use Rattle.rules.specs.Rules.{firstOf, outcomeOf}
@@ -14,10 +15,11 @@ use Rattle.additions.specs.declared.checks.Sizes.{Sizes}
 use Rattle.additions.specs.declared.checks.SizesResult.the-variants.{Ok}
 use Rattle.additions.specs.declared.parts.PathParts.{PathParts}
 use Rattle.additions.specs.Addition.{Addition, isPresent, isZero, keepsLink, additionOf}
-use Rattle.additions.specs.private.Texts.{isHere, nameFrom, linkTextOf}
+use Rattle.additions.specs.private.Texts.{isHere, nameFrom, linkTextOf, PartsWithin}
 use Rattle.additions.specs.Parts.{partsOf}
 use Rattle.additions.specs.private.Checks.{sizesSays, sizesFor, numberRules}
 use Rattle.additions.proofs.Rules.{sum-in}
+use Rattle.additions.proofs.Texts.{parts-within}
 use Rattle.plan.specs.declared.counts.FileFacts.{FileFacts}
 use Rattle.plan.specs.private.Steps.{factsOf}
 use Rattle.plan.proofs.Plans.{here-is, texts-of, add-stopped, add-unheld, add-planned}
@@ -101,7 +103,7 @@ plan-texts-requires : tie.Need-plan-texts-requires
 plan-texts-requires c κs =
     let a = c .before .before .before .before .before .before .before .before .before .before .before .before .before .before .before in
     let p = passed (c .before .before .before .before .before .before) (c .before .before .before .before .sizes .given .0 .0) (c .before .before .before .before .sizes .given .1) in
-    (rw (c .before .before .rooms-in .ensures) (holding c), sum-in (a .args .fs) (call a .given) (parts a) (call a .size) (call a .link) (isPresent (call a .root)) (c .before .before .before .before .sizes .given .0 .0) (p .1) (p .0))
+    (rw (c .before .before .rooms-in .ensures) (holding c), (sum-in (a .args .fs) (call a .given) (parts a) (call a .size) (call a .link) (isPresent (call a .root)) (c .before .before .before .before .sizes .given .0 .0) (p .1) (p .0), subst (λ (q : PathParts). PartsWithin (length (a .args .path .now)) q) (sym (c .before .before .before .before .before .before .before .parts-of .ensures)) (parts-within (a .args .fs .«num_files») (viewOf (tables a) .name) (a .args .path .now))))
 
 returns-2 : tie.Need-returns-2
 returns-2 c = add-stopped (tables (c .before .before .before .before .before .before .before .before .before .before .before .before)) (call (c .before .before .before .before .before .before .before .before .before .before .before .before)) (c .before .e .given .0 .0) (sizes (c .before .before .before .before .before .before .before .before .before .before .before .before)) (sym (ap sizesSays (c .before .e .given .1)) ∙ sized (c .before .before .before))

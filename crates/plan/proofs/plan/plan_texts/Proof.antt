@@ -28,22 +28,22 @@ facts-of-requires : tie.Need-facts-of-requires
 facts-of-requires c κs = search needs
 
 lengths-of-requires : tie.Need-lengths-of-requires
-lengths-of-requires c κs = search needs
+lengths-of-requires c κs = c .before .before .before .before .before .before .pre .1 .1
 
-text-at-requires : tie.Need-text-at-requires
-text-at-requires c κs = search needs
+part-of-requires : tie.Need-part-of-requires
+part-of-requires c κs = c .before .before .before .before .before .before .before .before .pre .1 .1 .directory
 
 plan-dirs-requires : tie.Need-plan-dirs-requires
 plan-dirs-requires c κs =
     let a = c .before .before .before .before .before .before .before .before .before in
-    (a .pre .0, (a .pre .1, λ k. link-in (a .args .fs .«num_symlinks») (a .args .symlink-path .now) (sym (ap (λ (f : FileFacts). f .«keeps_link») (c .before .before .before .facts-of .ensures)) ∙ k)))
+    (a .pre .0, (a .pre .1 .0, λ k. link-in (a .args .fs .«num_symlinks») (a .args .symlink-path .now) (sym (ap (λ (f : FileFacts). f .«keeps_link») (c .before .before .before .facts-of .ensures)) ∙ k)))
 
 returns : tie.Need-returns
 returns c =
     let a = c .before .before .before .before .before .before .before .before .before .before .args in
-    c .plan-dirs .ensures ∙ same (a .fs) (a .rooms) (dirTexts (a .dirs .now) (a .text .now) (a .fs .«num_paths»)) (a .sizes) (a .parts) (c .before .before .before .before .facts-of .ensures) (c .before .text-at .ensures) (c .before .before .before .lengths-of .ensures)
+    c .plan-dirs .ensures ∙ same (a .fs) (a .rooms) (dirTexts (a .dirs .now) (a .text .now) (a .fs .«num_paths»)) (a .sizes) (a .parts) (c .before .before .before .before .facts-of .ensures) (c .before .part-of .ensures) (c .before .before .before .lengths-of .ensures)
 
 pub plan-texts-spec : {M : Type 1} → statement M
 plan-texts-spec =
     tie.close
-    (tie.spec facts-of-requires lengths-of-requires text-at-requires plan-dirs-requires returns)
+    (tie.spec facts-of-requires lengths-of-requires part-of-requires plan-dirs-requires returns)

@@ -1,6 +1,7 @@
 -- `storage::add::add_file` meets its contract: a refusal leaves every table, and a plan is written table by table.
 use mathlib.Core.Path.{_≡_, refl, sym, ap, subst, _∙_}
 use Prim.Native.Nat.{ℕ, _≤_}
+use lib.ListN.{length}
 use Rattle.types.specs.Refusals.{numberOf}
 use Rattle.types.specs.declared.refusal.Refusal.{Refusal}
 use Rattle.types.proofs.Refusals.{numbered}
@@ -9,7 +10,8 @@ use Rattle.tables.specs.Model.{Store, viewOf, storeOf}
 use Rattle.rules.proofs.Rules.{outcome-value, outcome-refused}
 use Rattle.additions.specs.declared.parts.PathParts.{PathParts}
 use Rattle.additions.specs.Addition.{Addition, additionOf}
-use Rattle.additions.specs.private.Texts.{nameFrom, linkTextOf}
+use Rattle.additions.specs.private.Texts.{nameFrom, linkTextOf, PartsWithin}
+use Rattle.additions.proofs.Texts.{parts-within}
 use Rattle.plan.specs.declared.plan.AddPlan.{AddPlan}
 use Rattle.plan.specs.declared.plan.PlanResult.the-variants.{Ok, Err}
 use Rattle.plan.specs.Write.{storeAdded, rootsAdded, timesAdded}
@@ -105,7 +107,7 @@ write-all-requires : tie.Need-write-all-requires
 write-all-requires c κs =
     let s = c .before .before .before .before .before .before .before .before .before .before .before .before .before .before .before .before .before .before .before .before .before in
     let q = planned (c .before .before .before .before .before .before .before .before) (c .before .before .before .before .before .before .planned2 .given .0 .0) (c .before .before .before .before .before .before .planned2 .given .1) in
-    subst (λ (p : AddPlan). p .before .«num_files» ≤ 65535) (sym (q .1)) (add-held (tables s) (call s) (q .0))
+    (subst (λ (p : AddPlan). p .before .«num_files» ≤ 65535) (sym (q .1)) (add-held (tables s) (call s) (q .0)), subst (λ (p : AddPlan). PartsWithin (length (s .args .path .now)) (p .parts)) (sym (q .1)) (parts-within (s .args .fs .«num_files») (viewOf (tables s) .name) (s .args .path .now)))
 
 same-length : tie.Need-same-length
 same-length c = search needs

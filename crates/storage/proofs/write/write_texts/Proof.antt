@@ -17,14 +17,14 @@ module _ (files used : ℕ) (p : AddPlan) (text : List ℕ) where
       ∙ ap (λ (v : List ℕ). textWritten files used p text x' d' v l) g
       ∙ ap (λ (v : List ℕ). textWritten files used p text x' d' n' v) h
 
-text-at-requires : tie.Need-text-at-requires
-text-at-requires c κs = search needs
+part-of-requires : tie.Need-part-of-requires
+part-of-requires c κs = c .before .before .before .before .before .before .before .before .before .pre .set-name
 
-text-at-requires-2 : tie.Need-text-at-requires-2
-text-at-requires-2 c κs = search needs
+part-of-requires-2 : tie.Need-part-of-requires-2
+part-of-requires-2 c κs = c .before .before .before .before .before .before .before .before .before .before .pre .directory
 
-text-at-requires-3 : tie.Need-text-at-requires-3
-text-at-requires-3 c κs = search needs
+part-of-requires-3 : tie.Need-part-of-requires-3
+part-of-requires-3 c κs = c .before .before .before .before .before .before .before .before .before .before .before .pre .name
 
 link-text-requires : tie.Need-link-text-requires
 link-text-requires c κs = search needs
@@ -38,15 +38,15 @@ same-length c = search needs
 returns : tie.Need-returns
 returns c =
     let a = c .before .before .before .before .before .before .before .before .before .before .before .before .before .before .before .before .args in
-    c .before .before .write-text .ensures ∙ same (a .plan .before .«num_files») (a .plan .before .«text_len») (a .plan) (a .text .now) (c .before .before .before .before .before .before .text-at .ensures) (c .before .before .before .before .before .text-at2 .ensures) (ap (nameFrom (a .given) (a .filename .now)) (c .before .before .before .before .text-at3 .ensures)) (c .before .before .before .link-text .ensures)
+    c .before .before .write-text .ensures ∙ same (a .plan .before .«num_files») (a .plan .before .«text_len») (a .plan) (a .text .now) (c .before .before .before .before .before .before .part-of .ensures) (c .before .before .before .before .before .part-of2 .ensures) (ap (nameFrom (a .given) (a .filename .now)) (c .before .before .before .before .part-of3 .ensures)) (c .before .before .before .link-text .ensures)
 
 pub write-texts-spec : {M : Type 1} → statement M
 write-texts-spec =
     tie.close
     (tie.spec
-    text-at-requires
-    text-at-requires-2
-    text-at-requires-3
+    part-of-requires
+    part-of-requires-2
+    part-of-requires-3
     link-text-requires
     write-text-requires
     same-length
