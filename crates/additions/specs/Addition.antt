@@ -56,7 +56,7 @@ additionOf file filename path link =
       flags = file .flags;
       time = file .mtime;
       link = link;
-      root = optionalOf (file .rooted) (file .root);
+      root = optionalOf (file .rooted) (file .root .bytes);
     }
 
 abbrev pub isZero : ℤ → Bool

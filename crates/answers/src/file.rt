@@ -31,14 +31,14 @@ fn time_of(fs: FileStorage, times: &[i64], k: usize) -> i64
 
 // The root of file k, zeros where it has none.
 pub fn root_of(rows: &[u64], roots: &[u8], k: usize) -> Sha256Hash
-    ensures { λ r. ⌜ r ≡ rootOf (now (rows .entry)) (now (roots .entry)) k ⌝ }
+    ensures { λ r. ⌜ r .bytes ≡ rootOf (now (rows .entry)) (now (roots .entry)) k ⌝ }
 {
     let file = tables::entry_at(rows, roots, k);
     let presence = file.presence;
     let root = file.root;
     match presence {
         Presence::Present => root,
-        Presence::Absent => [0u8; 32],
+        Presence::Absent => Sha256Hash::new(),
     }
 }
 
@@ -107,7 +107,7 @@ pub fn mtime(fs: FileStorage, times: &[i64], index: FileIndex) -> I64Result
 // The root of a file, zeros where it has none.
 pub fn root(fs: FileStorage, rows: &[u64], roots: &[u8], index: FileIndex) -> RootResult
     ensures { λ r. ⌜ rootSays r ≡ rootGiven fs (now (rows .entry)) (now (roots .entry)) (index .0) ⌝ }
-    ensures { λ r. ⌜ r .root ≡ rootBeside (rootSays r) ⌝ }
+    ensures { λ r. ⌜ r .root .bytes ≡ rootBeside (rootSays r) ⌝ }
 {
     let held = are_both(
         is_held(fs.num_files, rows.len() / 8),
@@ -120,7 +120,7 @@ pub fn root(fs: FileStorage, rows: &[u64], roots: &[u8], index: FileIndex) -> Ro
         },
         UsizeResult::Err(e) => RootResult {
             answer: UnitResult::Err(e),
-            root: [0u8; 32],
+            root: Sha256Hash::new(),
         },
     }
 }

@@ -25,6 +25,7 @@ use listing_output::put_refusal;
 use listing_output::put_set;
 use tables::FileStorage;
 use tables::Presence;
+use tables::Sha256Hash;
 use types::Refusal;
 use types::UsizeResult;
 
@@ -82,14 +83,14 @@ fn add_line(
     };
     let none = lists::part(line, 0, 0);
     let path = lists::part(line, 19, line.len());
-    let ones = [1u8; 32];
+    let bytes = [1u8; 32];
     let file = FileInfo {
         given: Presence::Absent,
         size: types::signed64(size),
         flags: (flags % 8) as u8,
         mtime: 0,
         rooted: rooted_by(flags),
-        root: ones,
+        root: Sha256Hash { bytes },
     };
     storage::add_file(fs, rows, roots, times, dirs, text, file, none, path, none)
 }

@@ -16,6 +16,7 @@ pub use values::boolean;
 pub use values::composed;
 pub use values::count;
 pub use values::file;
+pub use values::files;
 pub use values::hash;
 pub use values::long;
 pub use values::piece;

@@ -2,6 +2,7 @@
 // libraries' result types.
 use crate::output;
 use rules::BoolResult;
+use rules::FileRangeResult;
 use rules::FileResult;
 use rules::I32RangeResult;
 use rules::I32Result;
@@ -137,6 +138,14 @@ pub fn pieces(result: PieceRangeResult) {
     }
 }
 
+// A range of files.
+pub fn files(result: FileRangeResult) {
+    match result {
+        FileRangeResult::Ok(range) => two_values(range.begin.0, range.end.0),
+        FileRangeResult::Err(refusal) => output::refused(refusal),
+    }
+}
+
 // A range of numbers.
 pub fn range(result: I32RangeResult) {
     match result {
@@ -159,7 +168,8 @@ pub fn request(result: RequestResult) {
 // A root, in hex.
 pub fn root(result: RootResult) {
     let answer = result.answer;
-    let bytes = result.root;
+    let root = result.root;
+    let bytes = root.bytes;
     match answer {
         UnitResult::Ok => output::end(output::hex(output::ok(), &bytes)),
         UnitResult::Err(refusal) => output::refused(refusal),

@@ -70,7 +70,7 @@ unitSays unit.Ok root = value root
 unitSays (unit.Err e) root = refused (numberOf e)
 
 abbrev pub rootSays : RootResult → Outcome (List ℕ)
-rootSays r = unitSays (r .answer) (r .root)
+rootSays r = unitSays (r .answer) (r .root .bytes)
 
 -- the root that stands beside an answer: its value, or zeros where it was refused
 abbrev pub rootBeside : Outcome (List ℕ) → List ℕ

@@ -2,6 +2,7 @@
 pub mod Agree
 pub mod Spans
 pub mod Words
+pub mod Entries
 pub mod Filled
 pub mod Tabled
 pub mod Moves

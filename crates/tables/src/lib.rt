@@ -35,6 +35,7 @@ pub use rows::is_pad;
 pub use rows::is_symlink;
 pub use rows::offset_at;
 pub use rows::put_dir;
+pub use rows::put_entry;
 pub use rows::put_root;
 pub use rows::put_row;
 pub use rows::put_time;

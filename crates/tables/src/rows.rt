@@ -3,12 +3,12 @@
 ghost use mathlib.Core.Path.{_≡_};
 ghost use mathlib.Core.List.{[], _∷_};
 ghost use Prim.Native.Nat.{_+_, _<_, _^_};
-ghost use lib.ListN.{getD, set};
+ghost use lib.ListN.{getD, set, replicate};
 ghost use lib.Seq.{sets};
 ghost use lib.IntN.{pos};
 ghost use Rattle.tables.specs.Rows.{rowAt, putRow, dirAt, putDir, isStored, directorySpan, rootAt, putRoot, has};
 ghost use Rattle.tables.specs.Rows.{padBit, symlinkBit, linkHeldBit, outsideBit, rootBit};
-ghost use Rattle.tables.specs.Entry.{entryAt};
+ghost use Rattle.tables.specs.Entry.{entryAt, rowsWith, rootsWith};
 use crate::span::Span;
 
 // The words of a file row.
@@ -47,8 +47,20 @@ pub const NO_PATH: u64 = 1073741823;
 // The path index of a file that was added by an absolute path.
 pub const PATH_IS_ABSOLUTE: u64 = 1073741822;
 
-// A root's 32 bytes.
-pub type Sha256Hash = [u8; ROOT_WIDTH];
+// A root.
+pub struct Sha256Hash {
+    pub bytes: [u8; ROOT_WIDTH],
+}
+
+impl Sha256Hash {
+    // The root of zeros.
+    pub fn new() -> Sha256Hash
+        ensures { λ r. ⌜ r .bytes ≡ replicate 32 0 ⌝ }
+    {
+        let bytes = [0u8; ROOT_WIDTH];
+        Sha256Hash { bytes }
+    }
+}
 
 // Whether something that may be missing is there.
 pub enum Presence {
@@ -230,24 +242,25 @@ pub fn directory_span(dirs: &[u64], row: Row) -> Span
 
 // The root of row i, zeros past the end.
 pub fn root_at(roots: &[u8], i: usize) -> Sha256Hash
-    ensures { λ r. ⌜ r ≡ rootAt (now (roots .entry)) i ⌝ }
+    ensures { λ r. ⌜ r .bytes ≡ rootAt (now (roots .entry)) i ⌝ }
 {
-    let mut root = [0u8; ROOT_WIDTH];
+    let mut bytes = [0u8; ROOT_WIDTH];
     if roots.len() / ROOT_WIDTH < i {
-        return root;
+        return Sha256Hash { bytes };
     }
-    lists::copy_in(&mut root, lists::part(roots, i * ROOT_WIDTH, ROOT_WIDTH));
-    root
+    lists::copy_in(&mut bytes, lists::part(roots, i * ROOT_WIDTH, ROOT_WIDTH));
+    Sha256Hash { bytes }
 }
 
 // Writes the root of row i, nothing past the end.
 pub fn put_root(roots: &mut [u8], i: usize, root: Sha256Hash)
-    ensures { λ _. ⌜ now (roots .exit) ≡ putRoot (now (roots .entry)) i root ⌝ }
+    ensures { λ _. ⌜ now (roots .exit) ≡ putRoot (now (roots .entry)) i (root .bytes) ⌝ }
 {
     if roots.len() / ROOT_WIDTH < i {
         return;
     }
-    lists::copy_after(roots, i * ROOT_WIDTH, &root);
+    let bytes = root.bytes;
+    lists::copy_after(roots, i * ROOT_WIDTH, &bytes);
 }
 
 // The time of file i, 0 past the end.
@@ -321,5 +334,22 @@ pub fn entry_at(rows: &[u64], roots: &[u8], i: usize) -> FileEntry
         row,
         presence: Presence::Absent,
         root,
+    }
+}
+
+// Writes file i: its row, and its root where it is present.
+pub fn put_entry(rows: &mut [u64], roots: &mut [u8], i: usize, entry: FileEntry)
+    ensures { λ _. ⌜ now (rows .exit) ≡ rowsWith (now (rows .entry)) i entry ⌝ }
+    ensures { λ _. ⌜ now (roots .exit) ≡ rootsWith (now (roots .entry)) i entry ⌝ }
+{
+    let row = entry.row;
+    put_row(rows, i, row);
+    let presence = entry.presence;
+    match presence {
+        Presence::Present => {
+            let root = entry.root;
+            put_root(roots, i, root)
+        }
+        Presence::Absent => {}
     }
 }

@@ -43,12 +43,15 @@ returns c =
       refl,
     )
 
+new-requires : tie.Need-new-requires
+new-requires c κs = search needs
+
 returns-2 : tie.Need-returns-2
 returns-2 c =
-    let a = c .before .before .before .before .before .before .before .before .before .args in
-    let h = c .before .before .before .before in
-    let d = c .before .before .before .file-in in
-    (file-refused (a .fs) (a .index .0) (rootOf (a .rows .now) (a .roots .now)) (h .are-both .result) _ (d .result) (d .ensures) (held-is h) _ (c .before .e .given .1), refl)
+    let a = c .before .before .before .before .before .before .before .before .before .before .args in
+    let h = c .before .before .before .before .before in
+    let d = c .before .before .before .before .file-in in
+    (file-refused (a .fs) (a .index .0) (rootOf (a .rows .now) (a .roots .now)) (h .are-both .result) _ (d .result) (d .ensures) (held-is h) _ (c .before .before .e .given .1), c .new .ensures)
 
 pub root-spec : {M : Type 1} → statement M
 root-spec =
@@ -61,5 +64,6 @@ root-spec =
     enum-known-k
     root-of-requires
     enum-known-e
+    new-requires
     returns
     returns-2)

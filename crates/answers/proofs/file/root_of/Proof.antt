@@ -28,9 +28,9 @@ module _ (rows roots : List ℕ) (k : ℕ) (e : FileEntry) (h : e ≡ entryAt ro
   says : (p : Presence) → e .presence ≡ p → presenceIf (has (rowAt rows k .flags) 128) ≡ p
   says p q = ap (λ (x : FileEntry). x .presence) (sym h) ∙ q
 
-  root-present : e .presence ≡ Present → e .root ≡ rootOf rows roots k
+  root-present : e .presence ≡ Present → e .root .bytes ≡ rootOf rows roots k
   root-present q =
-      ap (λ (x : FileEntry). x .root) h ∙ here (has (rowAt rows k .flags) 128) (rootAt roots k) (replicate 32 0) (says Present q)
+      ap (λ (x : FileEntry). x .root .bytes) h ∙ here (has (rowAt rows k .flags) 128) (rootAt roots k) (replicate 32 0) (says Present q)
 
   root-absent : e .presence ≡ Absent → replicate 32 0 ≡ rootOf rows roots k
   root-absent q = gone (has (rowAt rows k .flags) 128) (rootAt roots k) (replicate 32 0) (says Absent q)
@@ -50,11 +50,14 @@ returns c =
     let a = f .before .before .before .args in
     root-present (a .rows .now) (a .roots .now) (a .k) (f .entry-at .result) (f .entry-at .ensures) (c .enum-told .given .1)
 
+new-requires : tie.Need-new-requires
+new-requires c κs = search needs
+
 returns-2 : tie.Need-returns-2
 returns-2 c =
-    let f = c .before .before .before in
+    let f = c .before .before .before .before in
     let a = f .before .before .before .args in
-    root-absent (a .rows .now) (a .roots .now) (a .k) (f .entry-at .result) (f .entry-at .ensures) (c .enum-told2 .given .1)
+    c .new .ensures ∙ root-absent (a .rows .now) (a .roots .now) (a .k) (f .entry-at .result) (f .entry-at .ensures) (c .before .enum-told2 .given .1)
 
 pub root-of-spec : {M : Type 1} → statement M
-root-of-spec = tie.close (tie.spec entry-at-requires enum-told enum-told-2 returns returns-2)
+root-of-spec = tie.close (tie.spec entry-at-requires enum-told enum-told-2 new-requires returns returns-2)

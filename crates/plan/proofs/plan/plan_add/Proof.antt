@@ -54,7 +54,7 @@ sized c =
     let a = c .before .before .before .before .before .before .before .before .before in
     c .decide-sizes .ensures
     ∙ ap (λ (p : PathParts). outcomeOf (numberBy a p (isHere (a .args .file .rooted))) (sizesBy a (isHere (a .args .file .rooted)))) (c .before .parts-of .ensures)
-    ∙ ap (λ (r : Bool). outcomeOf (numberBy a (parts a) r) (sizesBy a r)) (here-is (a .args .file .rooted) (a .args .file .root))
+    ∙ ap (λ (r : Bool). outcomeOf (numberBy a (parts a) r) (sizesBy a r)) (here-is (a .args .file .rooted) (a .args .file .root .bytes))
 
 passed : (c : tie.After-decide-sizes) (z : Sizes) → c .decide-sizes .result ≡ Ok z → (number (c .before .before .before .before .before .before .before .before .before) ≡ 0) × (z ≡ sizes (c .before .before .before .before .before .before .before .before .before))
 passed c z e = outcome-value (number (c .before .before .before .before .before .before .before .before .before)) z (sizes (c .before .before .before .before .before .before .before .before .before)) (sym (ap sizesSays e) ∙ sized c)
@@ -74,7 +74,7 @@ with-root c root =
     }
 
 facts-are : (c : tie.Start) → factsOf (c .args .fs) (c .args .file) (c .args .symlink-path .now) ≡ with-root c (isPresent (call c .root))
-facts-are c = ap (with-root c) (here-is (c .args .file .rooted) (c .args .file .root))
+facts-are c = ap (with-root c) (here-is (c .args .file .rooted) (c .args .file .root .bytes))
 
 parts-of-requires : tie.Need-parts-of-requires
 parts-of-requires c κs = search needs

@@ -5,15 +5,16 @@ use mathlib.Core.Bool.{Bool, true, false}
 use mathlib.Core.List.{List}
 use Prim.Native.Nat.{ℕ}
 use Rattle.tables.specs.declared.rows.Row.{Row}
+use Rattle.tables.specs.declared.rows.Sha256Hash.{Sha256Hash}
 use Rattle.tables.specs.declared.rows.FileEntry.{FileEntry}
 use Rattle.tables.specs.Rows.{rowAt, rootAt, has}
 use Rattle.tables.specs.Entry.{presenceIf, entryAt}
 use Rattle.tables.proofs.rows.entry_at.Statement.{statement}
 use Rattle.tables.proofs.rows.entry_at.Tie as tie
 
-entry-is : (rows roots : List ℕ) (i : ℕ) {row : Row} {root : List ℕ} {t : Bool} (b : Bool)
+entry-is : (rows roots : List ℕ) (i : ℕ) {row : Row} {root : Sha256Hash} {t : Bool} (b : Bool)
     → row ≡ rowAt rows i
-    → root ≡ rootAt roots i
+    → root .bytes ≡ rootAt roots i
     → t ≡ has (row .flags) 128
     → t ≡ b
     → _≡_ {A = FileEntry} (record { row = row; presence = presenceIf b; root = root }) (entryAt rows roots i)

@@ -10,7 +10,7 @@ use Rattle.tables.proofs.rows.put_root.Tie as tie
 returns : tie.Need-returns
 returns c =
     let a = c .before .before .args in
-    sym (sets-past (a .t3) (a .roots .now) (a .i * 32) (omega arith))
+    sym (sets-past (a .root .bytes) (a .roots .now) (a .i * 32) (omega arith))
 
 mul-copy-after : tie.Need-mul-copy-after
 mul-copy-after c = search needs
