@@ -3,7 +3,7 @@
 -- answer is a place, the set's text stands there. These laws rely on those of `tables` about places.
 use Prim.Native.Nat.{ℕ, _%_, _/_, _<_}
 use mathlib.Core.Path.{_≡_, refl, ap}
-use mathlib.Core.Bool.{Bool, true, false, cond}
+use mathlib.Core.Bool.{Bool, true, false, cond, _&&_}
 use mathlib.Core.List.{List, [], _∷_}
 use native.Mathlib.Omega.{arith}
 use lib.Dec.{eqb}
@@ -20,7 +20,7 @@ use Rattle.tables.specs.Model.{Optional, absent, present, presentIf, Directory,
 use Rattle.tables.proofs.Tabled.{length-tabled, getD-tabled}
 use Rattle.rules.specs.Rules.{firstOf, outcomeOf}
 use Rattle.rules.specs.Bounds.{clampedOf}
-use Rattle.rules.specs.Questions.{badPieceLength, noDirectory, short, heldAnswer, directoryAnswer, fileAnswer, linkAnswer}
+use Rattle.rules.specs.Questions.{badPieceLength, noDirectory, short, fewEntries, heldAnswer, directoryAnswer, fileAnswer, linkAnswer}
 use Rattle.answers.specs.Answers.{timeOf, rootOf, isAbsolute, internalPath, symlinkPath}
 use Rattle.rules.proofs.Deciding.{fileNumber, linkNumber}
 
@@ -54,17 +54,17 @@ said n text s = text-if (eqb n 0) n text s
 -- a question whose answer is a place is the same question for the text there: of the set, a directory, a file, a link
 module _ (fs : FileStorage) (held : Bool) (text : List ℕ) where
   pub set-text : (s : Span) → textSaid text (heldAnswer fs held s) ≡ heldAnswer fs held (textAt text s)
-  set-text s = said (firstOf (badPieceLength fs ∷ short held ∷ [])) text s
+  set-text s = said (firstOf (badPieceLength fs ∷ short (held && fewEntries fs) ∷ [])) text s
 
   pub directory-text : (i : ℕ) (s : Span) → textSaid text (directoryAnswer fs i held s) ≡ directoryAnswer fs i held (textAt text s)
-  directory-text i s = said (firstOf (badPieceLength fs ∷ noDirectory fs i ∷ short held ∷ [])) text s
+  directory-text i s = said (firstOf (badPieceLength fs ∷ noDirectory fs i ∷ short (held && fewEntries fs) ∷ [])) text s
 
   pub file-text : (z : ℤ) (a : ℕ → Span) → textSaid text (fileAnswer fs z held a) ≡ fileAnswer fs z held (λ k. textAt text (a k))
   file-text z a = said (fileNumber fs z held) text (a (clampedOf z))
 
-  pub link-text : (z : ℤ) (linked : ℕ → Bool) (a : ℕ → Span)
-      → textSaid text (linkAnswer fs z linked held a) ≡ linkAnswer fs z linked held (λ k. textAt text (a k))
-  link-text z linked a = said (linkNumber fs z linked held) text (a (clampedOf z))
+  pub link-text : (z : ℤ) (there linked : ℕ → Bool) (a : ℕ → Span)
+      → textSaid text (linkAnswer fs z there linked held a) ≡ linkAnswer fs z there linked held (λ k. textAt text (a k))
+  link-text z there linked a = said (linkNumber fs z there linked held) text (a (clampedOf z))
 
 -- by whether a bit of the flags is set, and by what the path index says
 root-if : (b : Bool) (x d : List ℕ) → cond b x d ≡ orElse (presentIf b x) d

@@ -1,5 +1,5 @@
 -- What each plain answer gives, with its refusals in the order of document 01, 'Refusals, by place': 1 for every set,
--- then 11, 15, and 10 where a lent table is too short. It relies on the lists of refusals of `rules` and on the values
+-- then 11, 15, and 10 where a lent table is too short or the set counts over 65535 files or directories. It relies on the lists of refusals of `rules` and on the values
 -- of Answers.antt.
 use Prim.Native.Nat.{ℕ, _%_, _^_}
 use mathlib.Core.Bool.{Bool, _&&_}
@@ -10,7 +10,7 @@ use Rattle.path.specs.Join.{Joined}
 use Rattle.tables.specs.declared.storage.FileStorage.{FileStorage}
 use Rattle.tables.specs.declared.span.Span.{Span}
 use Rattle.tables.specs.Rows.{rowAt, dirAt, has, linkHeldBit, padBit}
-use Rattle.rules.specs.Questions.{rowsHeld, rootsHeld, dirsHeld, textHeld, timesHeld}
+use Rattle.rules.specs.Questions.{rowThere, rowsHeld, rootsHeld, dirsHeld, textHeld, timesHeld}
 use Rattle.rules.specs.Questions.{setAnswer, heldAnswer, directoryAnswer, fileAnswer, linkAnswer}
 use Rattle.rules.specs.Composed.{composedFile}
 use Rattle.answers.specs.Answers.{timeOf, rootOf, isAbsolute, internalPath, symlinkPath}
@@ -18,7 +18,7 @@ use Rattle.answers.specs.Answers.{timeOf, rootOf, isAbsolute, internalPa
 -- ---- the set
 
 abbrev pub numFilesGiven : FileStorage → Outcome ℤ
-numFilesGiven fs = setAnswer fs (pos (fs .«num_files» % 2 ^ 31))
+numFilesGiven fs = setAnswer fs (pos (fs .«num_files»))
 
 -- the sum of the sizes, pads included
 abbrev pub totalSizeGiven : FileStorage → Outcome ℤ
@@ -39,7 +39,7 @@ abbrev pub setNameGiven : FileStorage → List ℕ → Outcome Span
 setNameGiven fs text = heldAnswer fs (textHeld fs text) (fs .name)
 
 abbrev pub numPathsGiven : FileStorage → Outcome ℤ
-numPathsGiven fs = setAnswer fs (pos (fs .«num_paths» % 2 ^ 31))
+numPathsGiven fs = setAnswer fs (pos (fs .«num_paths»))
 
 -- where the text of directory i stands in the text area
 abbrev pub pathAtGiven : FileStorage → List ℕ → List ℕ → ℕ → Outcome Span
@@ -77,7 +77,7 @@ fileNameGiven fs rows text z = fileAnswer fs z (rowsHeld fs rows && textHeld fs 
 -- '`internal_symlink` of a file without link text' gives 15
 abbrev pub internalSymlinkGiven : FileStorage → List ℕ → List ℕ → ℤ → Outcome Span
 internalSymlinkGiven fs rows text z =
-    linkAnswer fs z (λ k. has (rowAt rows k .flags) linkHeldBit) (rowsHeld fs rows && textHeld fs text)
+    linkAnswer fs z (rowThere rows) (λ k. has (rowAt rows k .flags) linkHeldBit) (rowsHeld fs rows && textHeld fs text)
     (λ k. rowAt rows k .link)
 
 abbrev pub symlinkGiven : FileStorage → List ℕ → List ℕ → ℤ → List ℕ → Joined

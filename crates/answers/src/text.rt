@@ -5,9 +5,9 @@ ghost use mathlib.Core.Path.{_≡_};
 ghost use Prim.Native.Nat.{_/_};
 ghost use lib.Dec.{leb};
 ghost use Rattle.types.specs.Refusals.{usizeSays};
-ghost use Rattle.tables.specs.Rows.{rowAt, has};
+ghost use Rattle.tables.specs.Rows.{rowAt, has, linkHeldBit};
 ghost use Rattle.rules.specs.Results.{spanSays};
-ghost use Rattle.rules.specs.Questions.{linkAnswer};
+ghost use Rattle.rules.specs.Questions.{linkAnswer, noLink, rowThere};
 ghost use Rattle.rules.specs.Composed.{composedSays, composedIf};
 ghost use Rattle.answers.specs.Answers.{internalPath, symlinkPath};
 ghost use Rattle.answers.specs.Given.{fileNameGiven, internalSymlinkGiven, symlinkGiven, internalFilePathGiven};
@@ -31,20 +31,36 @@ fn are_held(fs: FileStorage, words: usize, bytes: usize) -> bool
     )
 }
 
+// Whether the row of file k is there and holds no link text.
+fn is_unlinked(rows: &[u64], k: usize) -> bool
+    ensures { λ r. ⌜
+        r ≡ noLink (rowThere (now (rows .entry)) k) (has (rowAt (now (rows .entry)) k .flags) linkHeldBit) .test
+        ⌝ }
+{
+    if rules::is_there(rows, k) {
+        return !tables::holds_link(tables::flags_at(rows, k));
+    }
+    false
+}
+
 // The number of the file whose link text a question is about, or its refusal; `held` says whether the lent tables are
 // long enough.
 fn link_in(fs: FileStorage, rows: &[u64], index: FileIndex, held: bool) -> UsizeResult
     ensures { λ r. ⌜
         usizeSays r
-        ≡ linkAnswer fs (index .0) (λ k. has (rowAt (now (rows .entry)) k .flags) 16) held (λ k. k)
+        ≡ linkAnswer fs (index .0)
+        (rowThere (now (rows .entry))) (λ k. has (rowAt (now (rows .entry)) k .flags) linkHeldBit) held (λ k. k)
         ⌝ }
 {
-    match file_in(fs, index, true) {
+    if rules::is_bad_length(fs.piece_length) {
+        return UsizeResult::Err(Refusal::InvalidPieceLength);
+    }
+    match index.within(fs.num_files) {
         UsizeResult::Ok(k) => {
-            if !tables::holds_link(tables::flags_at(rows, k)) {
+            if is_unlinked(rows, k) {
                 return UsizeResult::Err(Refusal::NotASymlink);
             }
-            if held {
+            if rules::are_held(fs, held) {
                 UsizeResult::Ok(k)
             } else {
                 UsizeResult::Err(Refusal::NoRoom)

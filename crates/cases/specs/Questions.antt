@@ -16,7 +16,7 @@ use Rattle.additions.specs.Addition.{Addition}
 use Rattle.storage.specs.Opening.{newStorage}
 use Rattle.change.specs.Changes.{Changed}
 use Rattle.plan.specs.Outcomes.{addStored}
-use Rattle.rules.specs.Questions.{fileAnswer, linkAnswer, rowsHeld, textHeld}
+use Rattle.rules.specs.Questions.{fileAnswer, linkAnswer, rowThere, rowsHeld, textHeld}
 use Rattle.lookup.specs.Lookup.{lent}
 use Rattle.cleaning.specs.Cleaning.{Cleaned, cleanStored}
 use Rattle.rules.specs.Results.{Range, SignedRequest}
@@ -74,7 +74,7 @@ cleaned s =
 -- the link text of a file
 abbrev pub linkIn : Store → ℤ → Outcome (List ℕ)
 linkIn s z =
-    linkAnswer (s .fs) z (λ k. has (rowAt (s .rows) k .flags) linkHeldBit)
+    linkAnswer (s .fs) z (rowThere (s .rows)) (λ k. has (rowAt (s .rows) k .flags) linkHeldBit)
     (rowsHeld (s .fs) (s .rows) && textHeld (s .fs) (s .text))
     (λ k. textAt (s .text) (rowAt (s .rows) k .link))
 

@@ -12,6 +12,7 @@ use Rattle.tables.specs.declared.rows.Row.{Row}
 use Rattle.tables.specs.Rows.{rowAt, has, padBit, symlinkBit}
 use Rattle.rules.specs.Rules.{when, firstOf, outcomeOf}
 use Rattle.rules.specs.Bounds.{badLength}
+use Rattle.rules.specs.Questions.{short, fewEntries}
 use Rattle.answers.specs.Answers.{symlinkPath}
 use Rattle.names.specs.Paths.{filePath, namesHeld}
 
@@ -57,8 +58,9 @@ compatible a b =
     && (eqb (a .fs .«total_size») (b .fs .«total_size»)
     && (eqb (a .fs .«piece_length») (b .fs .«piece_length») && sameFrom (a .fs .«num_files») 0 a b))
 
+-- the lent tables hold what the set counts, and that is not 'over 65535 files or directories'
 abbrev pub heldIn : NamedSet → Bool
-heldIn s = namesHeld (s .fs) (s .rows) (s .dirs) (s .text)
+heldIn s = namesHeld (s .fs) (s .rows) (s .dirs) (s .text) && fewEntries (s .fs)
 
 -- refusals 1 and 10, of either set
 abbrev pub filesCompatible : NamedSet → NamedSet → Outcome Bool
@@ -66,5 +68,5 @@ filesCompatible a b =
     outcomeOf
     (firstOf
     (when (badLength (a .fs .«piece_length») || badLength (b .fs .«piece_length»)) 1 ∷
-    when (not (heldIn a && heldIn b)) 10 ∷ []))
+    short (heldIn a && heldIn b) ∷ []))
     (compatible a b)

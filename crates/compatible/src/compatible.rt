@@ -9,7 +9,7 @@ ghost use Rattle.rules.specs.Results.{boolSays};
 ghost use Rattle.answers.specs.Answers.{symlinkPath};
 ghost use Rattle.names.specs.Paths.{filePath, namesHeld};
 ghost use Rattle.compatible.specs.Compatible.{namedSetOf, isRelevant, sameNamed, sameFile, sameFrom, compatible};
-ghost use Rattle.compatible.specs.Compatible.{filesCompatible};
+ghost use Rattle.compatible.specs.Compatible.{heldIn, filesCompatible};
 use crate::walk::same_composed;
 use names::are_held;
 use names::set_span;
@@ -28,13 +28,22 @@ struct NamedFile {
 }
 
 // Whether the lent tables hold what the set counts.
-fn is_held(fs: FileStorage, rows: &[u64], dirs: &[u64], text: &[u8]) -> bool
+fn holds_names(fs: FileStorage, rows: &[u64], dirs: &[u64], text: &[u8]) -> bool
     ensures { λ r. ⌜ r ≡ namesHeld fs (now (rows .entry)) (now (dirs .entry)) (now (text .entry)) ⌝ }
 {
     if rows.len() / 8 < fs.num_files {
         return false;
     }
     are_held(fs, dirs.len(), text.len())
+}
+
+// Whether they do, and the set has no more files and directories than it may.
+fn is_held(fs: FileStorage, rows: &[u64], dirs: &[u64], text: &[u8]) -> bool
+    ensures { λ r. ⌜
+        r ≡ heldIn (namedSetOf fs (now (rows .entry)) (now (dirs .entry)) (now (text .entry)))
+        ⌝ }
+{
+    rules::are_held(fs, holds_names(fs, rows, dirs, text))
 }
 
 // The span `span` where the flags say that a link text is held, else the span of no bytes at 0.

@@ -1,6 +1,6 @@
 -- What is known of a file once no rule stopped a question about it, and the decision of `map_file` in two parts. They rely on the rules in
 -- order of `rules`.
---     file-known, file-counted            the file is one of the set's, and the set's pieces can be counted
+--     file-known, file-few            the file is one of the set's, and the set's pieces can be counted
 --     past-held, past-index, bytes-past   a negative number's file is past the end of every set that a table holds
 --     rules-apart                         a question about bytes of a file is answered where the set and the question pass
 use Prim.Native.Nat.{ℕ, suc, _-_, _%_, _^_, _≤_, _<_}
@@ -12,18 +12,19 @@ use lib.Dec.{eqb, ltb, leb}
 use lib.IntN.{ℤ, pos, negsuc}
 use mir.Syntax.{w32, w64}
 use mir.Val.{SFits, ofZ}
-use borrow.Author.Tests.{le-ltb, leb-true, not-false}
+use borrow.Author.Tests.{lt-ltb, le-ltb, leb-true, not-false}
 use Rattle.tables.specs.declared.storage.FileStorage.{FileStorage}
 use Rattle.rules.specs.Rules.{when, firstOf}
 use Rattle.rules.specs.Bounds.{badLength, clampedOf, isBelow}
 use Rattle.rules.specs.declared.decide.Check.{Check}
 use Rattle.rules.specs.declared.decide.Check.the-variants.{Go}
 use Rattle.rules.specs.Results.{checkNumber}
-use Rattle.layout.specs.private.Deciding.{Counted}
+use Rattle.layout.specs.private.Deciding.{FewPieces}
 use Rattle.files.specs.private.Deciding.{setRules, positionRules, bytesRules}
-use Rattle.rules.specs.Questions.{numPieces, badPieceLength, noFile, manyPieces, badRange, short}
-use Rattle.rules.proofs.Deciding.{gone, below-is, low-i32}
-use Rattle.layout.proofs.Deciding.{counted}
+use Rattle.rules.specs.Questions.{numPieces, badPieceLength, noFile, manyPieces, badRange, short, fewEntries}
+use Rattle.rules.proofs.Rules.{both-true}
+use Rattle.rules.proofs.Deciding.{gone, below-is, low-i32, held-few}
+use Rattle.layout.proofs.Deciding.{few-pieces}
 
 pub record FilePassed (fs : FileStorage) (z : ℤ) (many bad tree : Bool) : Type 0 where
   pub length : badLength (fs .«piece_length») ≡ false
@@ -33,10 +34,10 @@ pub record FilePassed (fs : FileStorage) (z : ℤ) (many bad tree : Bool) : Type
   pub not-tree : tree ≡ false
 
 pub file-known : (fs : FileStorage) (z : ℤ) (many bad tree : Bool) (room : ℕ) {d : Check}
-    → checkNumber d ≡ firstOf (badPieceLength fs ∷ noFile fs z ∷ when many 13 ∷ when bad 14 ∷ when tree 16 ∷ short (leb (fs .«num_files») room) ∷ []) → d ≡ Go
+    → checkNumber d ≡ firstOf (badPieceLength fs ∷ noFile fs z ∷ when many 13 ∷ when bad 14 ∷ when tree 16 ∷ short (leb (fs .«num_files») room && fewEntries fs) ∷ []) → d ≡ Go
     → FilePassed fs z many bad tree
 file-known fs z many bad tree room c e =
-    let q = gone (badPieceLength fs ∷ noFile fs z ∷ when many 13 ∷ when bad 14 ∷ when tree 16 ∷ short (leb (fs .«num_files») room) ∷ []) refl c e in
+    let q = gone (badPieceLength fs ∷ noFile fs z ∷ when many 13 ∷ when bad 14 ∷ when tree 16 ∷ short (leb (fs .«num_files») room && fewEntries fs) ∷ []) refl c e in
     record {
       length = q .0;
       below = below-is (fs .«num_files») z (not-false (isBelow (fs .«num_files») z) (q .1 .0));
@@ -45,8 +46,18 @@ file-known fs z many bad tree room c e =
       not-tree = q .1 .1 .1 .1 .0;
     }
 
-pub file-counted : (fs : FileStorage) (z : ℤ) (many bad tree : Bool) → many ≡ ltb 2147483647 (numPieces fs) → FilePassed fs z many bad tree → Counted fs
-file-counted fs z many bad tree h k = counted fs (k .length) (sym h ∙ k .not-many)
+-- its row is there
+pub file-there : (fs : FileStorage) (z : ℤ) (many bad tree : Bool) (room : ℕ) {d : Check}
+    → checkNumber d ≡ firstOf (badPieceLength fs ∷ noFile fs z ∷ when many 13 ∷ when bad 14 ∷ when tree 16 ∷ short (leb (fs .«num_files») room && fewEntries fs) ∷ []) → d ≡ Go
+    → ltb (clampedOf z) room ≡ true
+file-there fs z many bad tree room c e =
+    let q = gone (badPieceLength fs ∷ noFile fs z ∷ when many 13 ∷ when bad 14 ∷ when tree 16 ∷ short (leb (fs .«num_files») room && fewEntries fs) ∷ []) refl c e in
+    let b = below-is (fs .«num_files») z (not-false (isBelow (fs .«num_files») z) (q .1 .0)) in
+    let h = leb-true (fs .«num_files») room (held-few fs (leb (fs .«num_files») room) (q .1 .1 .1 .1 .1 .0) .0) in
+    lt-ltb (clampedOf z) room (omega arith)
+
+pub file-few : (fs : FileStorage) (z : ℤ) (many bad tree : Bool) → many ≡ ltb 2147483647 (numPieces fs) → FilePassed fs z many bad tree → FewPieces fs
+file-few fs z many bad tree h k = few-pieces fs (k .length) (sym h ∙ k .not-many)
 
 -- the low 31 bits of a number that is another
 pub low-as : {z : ℤ} {n m : ℕ} → z ≡ pos (n % 2 ^ 31) → n ≡ m → z ≡ pos (m % 2 ^ 31)
@@ -84,19 +95,19 @@ past-index (negsuc k) n e = absurd (true≢false (sym e))
 -- a question is answered where the set passes its tests and the question its own, by the number counted round
 pub bytes-past : (fs : FileStorage) (z offset size : ℤ) (room : ℕ) → SFits w32 z → room < 2 ^ 63
     → (eqb (firstOf (setRules fs room)) 0 && eqb (firstOf (positionRules fs (pos (ofZ w64 z)) offset size)) 0) ≡ eqb (firstOf (bytesRules fs z offset size room)) 0
-bytes-past fs z offset size room f h = by (leb (fs .«num_files») room) refl
+bytes-past fs z offset size room f h = by (leb (fs .«num_files») room && fewEntries fs) refl
   where
     apart : (eqb (firstOf (setRules fs room)) 0 && eqb (firstOf (positionRules fs z offset size)) 0) ≡ eqb (firstOf (bytesRules fs z offset size room)) 0
-    apart = sym (rules-apart (badPieceLength fs .test) (noFile fs z .test) (manyPieces fs .test) (badRange offset size .test) (short (leb (fs .«num_files») room) .test))
+    apart = sym (rules-apart (badPieceLength fs .test) (noFile fs z .test) (manyPieces fs .test) (badRange offset size .test) (short (leb (fs .«num_files») room && fewEntries fs) .test))
 
     unfit : (a b : Bool) → eqb (firstOf (when a 1 ∷ when b 13 ∷ when true 10 ∷ [])) 0 ≡ false
     unfit true b = refl
     unfit false true = refl
     unfit false false = refl
 
-    by : (b : Bool) → leb (fs .«num_files») room ≡ b
+    by : (b : Bool) → (leb (fs .«num_files») room && fewEntries fs) ≡ b
         → (eqb (firstOf (setRules fs room)) 0 && eqb (firstOf (positionRules fs (pos (ofZ w64 z)) offset size)) 0) ≡ eqb (firstOf (bytesRules fs z offset size room)) 0
-    by true e = rw (past-held z (fs .«num_files») f (omega (arith, leb-true (fs .«num_files») room e))) apart
+    by true e = rw (past-held z (fs .«num_files») f (omega (arith, leb-true (fs .«num_files») room (both-true (leb (fs .«num_files») room) (fewEntries fs) e .0)))) apart
     by false e =
         let u : eqb (firstOf (setRules fs room)) 0 ≡ false = rw e (unfit (badPieceLength fs .test) (manyPieces fs .test)) in
         rw u (rw u at apart)

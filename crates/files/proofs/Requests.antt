@@ -14,7 +14,7 @@ use Rattle.tables.specs.declared.storage.FileStorage.{FileStorage}
 use Rattle.rules.specs.Questions.{numPieces}
 use Rattle.files.specs.Request.{Request, requestAt, fileStart}
 use Rattle.files.specs.Files.{positionOf, exclusiveBegin}
-use Rattle.layout.specs.private.Deciding.{Counted}
+use Rattle.layout.specs.private.Deciding.{FewPieces}
 
 pub record Placed (fs : FileStorage) (at size : ℕ) (r : Request) : Type 0 where
   pub piece : r .piece ≤ 2147483647
@@ -29,7 +29,7 @@ begin-le true p n h = omega arith
 begin-le false p n h = omega arith
 
 -- where the request at a position begins
-pub placed : (fs : FileStorage) (at size : ℕ) (r : Request) → Counted fs → r ≡ requestAt fs at size → Placed fs at size r
+pub placed : (fs : FileStorage) (at size : ℕ) (r : Request) → FewPieces fs → r ≡ requestAt fs at size → Placed fs at size r
 placed fs at size r c e = rw e (by (leb (fs .«total_size») at) refl)
   where
     by : (b : Bool) → leb (fs .«total_size») at ≡ b

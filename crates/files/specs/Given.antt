@@ -2,7 +2,7 @@
 -- their refusals in the order of 'Refusals, by place'. It relies on the rules of `rules`, on Request.antt and on
 -- Files.antt.
 use Prim.Native.Nat.{ℕ, _-_, _%_, _^_}
-use mathlib.Core.Bool.{not, _&&_}
+use mathlib.Core.Bool.{Bool, not, _&&_}
 use mathlib.Core.List.{List, [], _∷_}
 use lib.IntN.{ℤ, pos}
 use Rattle.types.specs.Refusals.{Outcome}
@@ -12,8 +12,8 @@ use Rattle.merkle.specs.Width.{widthOf, hasTree}
 use Rattle.rules.specs.Rules.{Rule, when}
 use Rattle.rules.specs.Bounds.{clampedOf}
 use Rattle.rules.specs.Results.{Range, SignedRequest}
-use Rattle.rules.specs.Questions.{rowsHeld, rootsHeld, badPieceLength, noFile, manyPieces, badRange, noTree, short}
-use Rattle.rules.specs.Questions.{answered, heldAnswer, filePiecesAnswer}
+use Rattle.rules.specs.Questions.{rowThere, rowsHeld, rootsHeld, badPieceLength, noFile, manyPieces, badRange, noTree}
+use Rattle.rules.specs.Questions.{short, fewEntries, answered, heldAnswer, filePiecesAnswer}
 use Rattle.files.specs.Request.{mapFile, asSigned}
 use Rattle.files.specs.Files.{low31, firstPiece, lastPiece, piecesOf, blocksOf}
 use Rattle.files.specs.Files.{exclusiveRange, inclusiveRange, fileForRoot}
@@ -39,7 +39,7 @@ abbrev pub fileNumPiecesGiven : FileStorage → List ℕ → ℤ → Outcome ℤ
 fileNumPiecesGiven fs rows z =
     answered
     (badPieceLength fs ∷ noFile fs z ∷ manyPieces fs ∷ noTree fs (rowAt rows (clampedOf z)) ∷
-    short (rowsHeld fs rows) ∷ [])
+    short (rowsHeld fs rows && fewEntries fs) ∷ [])
     (pos (piecesOf fs rows (clampedOf z) % 2 ^ 31))
 
 -- its pieces, counted from 0
@@ -47,25 +47,26 @@ abbrev pub filePieceRangeGiven : FileStorage → List ℕ → ℤ → Outcome Ra
 filePieceRangeGiven fs rows z =
     answered
     (badPieceLength fs ∷ noFile fs z ∷ manyPieces fs ∷ noTree fs (rowAt rows (clampedOf z)) ∷
-    short (rowsHeld fs rows) ∷ [])
+    short (rowsHeld fs rows && fewEntries fs) ∷ [])
     (record { begin = pos 0; end = pos (piecesOf fs rows (clampedOf z) % 2 ^ 31) })
 
 abbrev pub fileNumBlocksGiven : FileStorage → List ℕ → ℤ → Outcome ℤ
 fileNumBlocksGiven fs rows z =
     answered
-    (badPieceLength fs ∷ noFile fs z ∷ noTree fs (rowAt rows (clampedOf z)) ∷ short (rowsHeld fs rows) ∷ [])
+    (badPieceLength fs ∷ noFile fs z ∷ noTree fs (rowAt rows (clampedOf z)) ∷ short (rowsHeld fs rows && fewEntries fs) ∷ [])
     (pos (blocksOf rows (clampedOf z)))
 
--- 'node of a file with 0 or over 1073741823 leaves'
-abbrev pub noNode : ℕ → Rule
-noNode leaves = when (not (hasTree leaves)) 16
+-- 'node of a file with 0 or over 1073741823 leaves'; `there` says whether the file's row is there
+abbrev pub noNode : Bool → ℕ → Rule
+noNode there leaves = when (there && not (hasTree leaves)) 16
 
 -- 'the first node of that layer is the width less 1'
 abbrev pub nodeGiven : FileStorage → List ℕ → ℤ → ℕ → Outcome ℕ
 nodeGiven fs rows z leaves =
     answered
-    (badPieceLength fs ∷ noFile fs z ∷ noTree fs (rowAt rows (clampedOf z)) ∷ noNode leaves ∷
-    short (rowsHeld fs rows) ∷ [])
+    (badPieceLength fs ∷ noFile fs z ∷ noTree fs (rowAt rows (clampedOf z)) ∷
+    noNode (rowThere rows (clampedOf z)) leaves ∷
+    short (rowsHeld fs rows && fewEntries fs) ∷ [])
     (widthOf leaves - 1)
 
 abbrev pub firstPieceNodeGiven : FileStorage → List ℕ → ℤ → Outcome ℕ
@@ -79,11 +80,11 @@ firstBlockNodeGiven fs rows z = nodeGiven fs rows z (blocksOf rows (clampedOf z)
 -- 'of 32 zero bytes finds the first file without a root or with that one; where none fits it gives −1'
 abbrev pub fileForRootGiven : FileStorage → List ℕ → List ℕ → List ℕ → Outcome ℤ
 fileForRootGiven fs rows roots root =
-    heldAnswer fs (rowsHeld fs rows && rootsHeld fs roots) (low31 (fileForRoot fs rows roots root))
+    heldAnswer fs (rowsHeld fs rows && rootsHeld fs roots) (fileForRoot fs rows roots root)
 
 -- ---- bytes of file z
 
 abbrev pub fileMapped : FileStorage → List ℕ → ℤ → ℤ → ℤ → Outcome SignedRequest
 fileMapped fs rows z offset size =
-    answered (badPieceLength fs ∷ noFile fs z ∷ manyPieces fs ∷ badRange offset size ∷ short (rowsHeld fs rows) ∷ [])
+    answered (badPieceLength fs ∷ noFile fs z ∷ manyPieces fs ∷ badRange offset size ∷ short (rowsHeld fs rows && fewEntries fs) ∷ [])
     (asSigned (mapFile fs rows (clampedOf z) (clampedOf offset) (clampedOf size)))

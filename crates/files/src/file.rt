@@ -11,15 +11,16 @@ ghost use Rattle.lists.specs.Lists.{equal};
 ghost use Rattle.tables.specs.Rows.{rowAt};
 ghost use Rattle.merkle.specs.Width.{hasTree};
 ghost use Rattle.rules.specs.Rules.{firstOf};
+ghost use Rattle.rules.specs.Questions.{rowThere};
 ghost use Rattle.answers.specs.Answers.{rootOf};
 ghost use Rattle.rules.specs.Results.{i32Says, i64Says, pieceSays, fileSays};
 ghost use Rattle.rules.specs.Results.{rangeNumbers, pieceRangeSays, numberRangeSays, requestSays};
 ghost use Rattle.files.specs.Request.{requestAt};
 ghost use Rattle.files.specs.Given.{pieceAtFileGiven, lastPieceAtFileGiven, exclusiveGiven, inclusiveGiven};
 ghost use Rattle.files.specs.Given.{fileNumPiecesGiven, filePieceRangeGiven, fileNumBlocksGiven};
-ghost use Rattle.files.specs.Given.{nodeGiven, firstPieceNodeGiven, firstBlockNodeGiven};
+ghost use Rattle.files.specs.Given.{noNode, nodeGiven, firstPieceNodeGiven, firstBlockNodeGiven};
 ghost use Rattle.files.specs.Given.{fileForRootGiven, fileMapped};
-ghost use Rattle.layout.specs.private.Deciding.{Counted};
+ghost use Rattle.layout.specs.private.Deciding.{FewPieces};
 ghost use Rattle.files.specs.private.Deciding.{requestOf, bytesRules, setRules, positionRules};
 ghost use Rattle.files.specs.Files.{lastQuotient, low31, afterQuotient, lastPiece, piecesOf, blocksOf, rootFrom};
 ghost use Rattle.files.specs.Files.{positionOf, exclusiveBegin, endOrBegin, exclusiveEnd};
@@ -38,6 +39,7 @@ use rules::PieceRangeResult;
 use rules::PieceResult;
 use rules::RequestResult;
 use rules::are_both;
+use rules::are_held;
 use rules::ask_file;
 use rules::ask_set;
 use rules::count_pieces;
@@ -207,7 +209,7 @@ fn exclusive_end(fs: FileStorage, k: usize, size: u64, r: UnsignedRequest) -> u6
 
 // The pieces that lie wholly in file k.
 fn exclusive(fs: FileStorage, rows: &[u64], k: usize) -> PieceIndexRange
-    requires { ⌜ Counted fs × (k < fs .«num_files») ⌝ }
+    requires { ⌜ FewPieces fs × (k < fs .«num_files») ⌝ }
     ensures { λ r. ⌜ rangeNumbers r ≡ exclusiveRange fs (now (rows .entry)) k ⌝ }
 {
     let r = request_at(fs, tables::offset_at(rows, k), 1);
@@ -219,7 +221,7 @@ fn exclusive(fs: FileStorage, rows: &[u64], k: usize) -> PieceIndexRange
 
 // The pieces that have a byte of file k.
 fn inclusive(fs: FileStorage, rows: &[u64], k: usize) -> PieceIndexRange
-    requires { ⌜ Counted fs ⌝ }
+    requires { ⌜ FewPieces fs ⌝ }
     ensures { λ r. ⌜ rangeNumbers r ≡ inclusiveRange fs (now (rows .entry)) k ⌝ }
 {
     let r = request_at(fs, tables::offset_at(rows, k), 1);
@@ -245,11 +247,22 @@ fn is_no_width(leaves: u64) -> bool
     MAX_LEAVES < leaves
 }
 
+// Whether the row of file k is there and no tree has that number of leaves.
+fn is_no_node(rows: &[u64], k: usize, leaves: u64) -> bool
+    ensures { λ r. ⌜ r ≡ noNode (rowThere (now (rows .entry)) k) leaves .test ⌝ }
+{
+    if rules::is_there(rows, k) {
+        return is_no_width(leaves);
+    }
+    false
+}
+
 // The first node of a layer of a file's tree with that number of leaves.
 fn first_node(fs: FileStorage, rows: &[u64], index: FileIndex, leaves: u64) -> UsizeResult
     ensures { λ r. ⌜ usizeSays r ≡ nodeGiven fs (now (rows .entry)) (index .0) leaves ⌝ }
 {
-    let no_tree = is_either(is_no_tree(fs, rows, index.get()), is_no_width(leaves));
+    let k = index.get();
+    let no_tree = is_either(is_no_tree(fs, rows, k), is_no_node(rows, k, leaves));
     match ask_file(fs, index, false, false, no_tree, rows.len() / 8) {
         Check::Go => merkle::merkle_first_node(leaves as usize),
         Check::Stop(e) => UsizeResult::Err(e),
@@ -258,15 +271,15 @@ fn first_node(fs: FileStorage, rows: &[u64], index: FileIndex, leaves: u64) -> U
 
 // Whether `root` is the root of file k, which is zeros where it has none.
 fn has_root_of(rows: &[u64], roots: &[u8], k: usize, root: Sha256Hash) -> bool
-    ensures { λ r. ⌜ r ≡ equal (rootOf (now (rows .entry)) (now (roots .entry)) k) root ⌝ }
+    ensures { λ r. ⌜ r ≡ equal (rootOf (now (rows .entry)) (now (roots .entry)) k) (root .bytes) ⌝ }
 {
     let own = answers::root_of(rows, roots, k);
-    lists::same(&own, &root)
+    lists::same(&own.bytes, &root.bytes)
 }
 
 // The first of n files whose root is `root`, −1 where none fits.
 fn find_root(rows: &[u64], roots: &[u8], n: usize, root: Sha256Hash) -> FileIndex
-    ensures { λ r. ⌜ r .0 ≡ low31 (rootFrom n 0 (now (rows .entry)) (now (roots .entry)) root) ⌝ }
+    ensures { λ r. ⌜ r .0 ≡ low31 (rootFrom n 0 (now (rows .entry)) (now (roots .entry)) (root .bytes)) ⌝ }
 {
     let mut k = 0;
     while k < n {
@@ -386,7 +399,7 @@ pub fn file_index_for_root(
     roots: &[u8],
     root: Sha256Hash,
 ) -> FileResult
-    ensures { λ r. ⌜ fileSays r ≡ fileForRootGiven fs (now (rows .entry)) (now (roots .entry)) root ⌝ }
+    ensures { λ r. ⌜ fileSays r ≡ fileForRootGiven fs (now (rows .entry)) (now (roots .entry)) (root .bytes) ⌝ }
 {
     let held = are_both(
         is_held(fs.num_files, rows.len() / 8),
@@ -431,7 +444,7 @@ fn passes_set(fs: FileStorage, room: usize) -> bool
     if has_many(fs) {
         return false;
     }
-    is_held(fs.num_files, room)
+    are_held(fs, is_held(fs.num_files, room))
 }
 
 // Whether a question passes its own tests: file k is one of the set's, and offset and size are in range.
@@ -456,7 +469,7 @@ fn refused_bytes(fs: FileStorage, index: FileIndex, offset: i64, size: i32, room
         false,
         is_bad_range(offset, is_negative32(size)),
         false,
-        is_held(fs.num_files, room),
+        are_held(fs, is_held(fs.num_files, room)),
     ) {
         Check::Go => Refusal::NoRoom,
         Check::Stop(e) => e,

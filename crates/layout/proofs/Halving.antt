@@ -6,7 +6,7 @@
 --     within               the place found is among the n
 --     steps-find           where the offsets ascend, the steps find the last file at or before the target
 --     found-is             the steps find the file, whatever the rows hold
---     found-last, found-below   the file found
+--     found-last, found-below, found-in   the file found
 use mathlib.Core.Path.{_≡_, refl, sym, ap, subst, _∙_}
 use mathlib.Core.Bool.{Bool, true, false, cond, true≢false}
 use mathlib.Core.List.{List}
@@ -250,3 +250,8 @@ pub found-below : (rows : List ℕ) (n t : ℕ) → 0 < n → fileFound rows n t
 found-below rows n t s =
     let w = within (offsetAt rows) t n n 0 (omega arith) in
     subst (λ (k : ℕ). k < n) (found-is rows n t) (omega arith)
+
+pub found-in : (rows : List ℕ) (n t : ℕ) → fileFound rows n t ≤ n
+found-in rows n t =
+    let w = within (offsetAt rows) t n n 0 (omega arith) in
+    subst (λ (k : ℕ). k ≤ n) (found-is rows n t) (omega arith)

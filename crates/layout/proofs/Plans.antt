@@ -4,7 +4,7 @@
 --     plan-counts, plan-fits                   what a plan says of its slices
 --     plan-written                             what stands in a table once they are put into it
 use mathlib.Core.Path.{_≡_, refl, sym, ap, _∙_}
-use mathlib.Core.Bool.{Bool, true, false, cond}
+use mathlib.Core.Bool.{Bool, true, false, cond, _&&_}
 use mathlib.Core.List.{List, [], _∷_}
 use Prim.Native.Nat.{ℕ, _+_, _≤_, _<_}
 use native.Mathlib.Omega.{arith}
@@ -21,7 +21,7 @@ use Rattle.rules.specs.Results.{checkNumber}
 use Rattle.tables.specs.declared.storage.FileStorage.{FileStorage}
 use Rattle.rules.specs.Rules.{Rule, firstOf}
 use Rattle.rules.specs.Bounds.{clampedOf}
-use Rattle.rules.specs.Questions.{rowsHeld, badPieceLength, manyPieces, noPiece, badRange, short}
+use Rattle.rules.specs.Questions.{rowsHeld, badPieceLength, manyPieces, noPiece, badRange, short, fewEntries}
 use Rattle.layout.specs.declared.start.Cursor.{Cursor}
 use Rattle.layout.specs.Pieces.{startOf}
 use Rattle.layout.specs.Mapping.{Slice, walk, blockOf, blockRules}
@@ -71,7 +71,7 @@ module _ (fs : FileStorage) (rows : List ℕ) (z offset size : ℤ) where
   start = cursorAt fs rows (startOf fs (clampedOf z) + clampedOf offset) (clampedOf size)
 
   abbrev rules : List Rule
-  rules = badPieceLength fs ∷ manyPieces fs ∷ noPiece fs z ∷ badRange offset size ∷ short (rowsHeld fs rows) ∷ []
+  rules = badPieceLength fs ∷ manyPieces fs ∷ noPiece fs z ∷ badRange offset size ∷ short (rowsHeld fs rows && fewEntries fs) ∷ []
 
   plan-is : (room : ℕ) → blockPlan fs rows z offset size room ≡ planned (number (firstOf rules) (leb (length block) room)) block start
   plan-is room = ap (λ (k : ℕ). planned k block start) (first-append rules (short (leb (length block) room) ∷ []) refl)

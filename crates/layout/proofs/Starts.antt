@@ -3,7 +3,7 @@
 --     start-stopped, start-answered             the start after the decision on the block's refusals
 --     block-stopped, block-open, block-from     what a start says of the block once room is looked at
 use mathlib.Core.Path.{_≡_, refl, sym, ap, _∙_}
-use mathlib.Core.Bool.{Bool, true, false, cond}
+use mathlib.Core.Bool.{Bool, true, false, cond, _&&_}
 use mathlib.Core.List.{List, [], _∷_}
 use Prim.Native.Nat.{ℕ, _+_, _-_, min}
 use lib.Dec.{eqb}
@@ -15,7 +15,7 @@ use Rattle.tables.specs.declared.storage.FileStorage.{FileStorage}
 use Rattle.tables.specs.Rows.{rowAt}
 use Rattle.rules.specs.Rules.{Rule, firstOf}
 use Rattle.rules.specs.Bounds.{clampedOf}
-use Rattle.rules.specs.Questions.{rowsHeld, badPieceLength, manyPieces, noPiece, badRange, short}
+use Rattle.rules.specs.Questions.{rowsHeld, badPieceLength, manyPieces, noPiece, badRange, short, fewEntries}
 use Rattle.rules.specs.declared.decide.Check.{Check}
 use Rattle.rules.specs.declared.decide.Check.the-variants.{Go, Stop}
 use Rattle.layout.specs.declared.start.Cursor.{Cursor}
@@ -34,7 +34,7 @@ cursor-is fs rows target size ek eo es er el = rw (el, er, es, eo, ek)
 
 -- a decision d on the refusals
 module _ (fs : FileStorage) (rows : List ℕ) (z offset size : ℤ) (d : Check)
-    (p : checkNumber d ≡ firstOf (badPieceLength fs ∷ manyPieces fs ∷ noPiece fs z ∷ badRange offset size ∷ short (rowsHeld fs rows) ∷ [])) where
+    (p : checkNumber d ≡ firstOf (badPieceLength fs ∷ manyPieces fs ∷ noPiece fs z ∷ badRange offset size ∷ short (rowsHeld fs rows && fewEntries fs) ∷ [])) where
   decided : (n : ℕ) → checkNumber d ≡ n
       → blockStart fs rows z offset size ≡ started n (cursorAt fs rows (startOf fs (clampedOf z) + clampedOf offset) (clampedOf size))
   decided n q =
@@ -67,7 +67,7 @@ module _ (k : ℕ) (c : Cursor) {n : ℕ} {from : Cursor} (h : _≡_ {A = Starte
 module _ (fs : FileStorage) (rows : List ℕ) (z offset size : ℤ) (d : Check) {from : Cursor}
     (h : _≡_ {A = Started} (record { number = checkNumber d; from = from }) (blockStart fs rows z offset size)) where
   abbrev rules : List Rule
-  rules = badPieceLength fs ∷ manyPieces fs ∷ noPiece fs z ∷ badRange offset size ∷ short (rowsHeld fs rows) ∷ []
+  rules = badPieceLength fs ∷ manyPieces fs ∷ noPiece fs z ∷ badRange offset size ∷ short (rowsHeld fs rows && fewEntries fs) ∷ []
 
   abbrev begin : Cursor
   begin = cursorAt fs rows (startOf fs (clampedOf z) + clampedOf offset) (clampedOf size)

@@ -1,41 +1,44 @@
 -- Document 01, 'Layout answers': what each answer about pieces, and about files at offsets and pieces, gives, with its
 -- refusals in the order of 'Refusals, by place'. It relies on the rules of `rules`, on Pieces.antt and on Search.antt.
-use Prim.Native.Nat.{ℕ, _%_, _^_}
+use Prim.Native.Nat.{ℕ}
+use mathlib.Core.Bool.{_&&_}
 use mathlib.Core.List.{List, [], _∷_}
 use lib.IntN.{ℤ, pos}
 use Rattle.types.specs.Refusals.{Outcome}
 use Rattle.tables.specs.declared.storage.FileStorage.{FileStorage}
 use Rattle.rules.specs.Bounds.{clampedOf}
 use Rattle.rules.specs.Results.{Range}
-use Rattle.rules.specs.Questions.{numPieces, rowsHeld, badPieceLength, manyPieces, noPiece, badOffset, short}
-use Rattle.rules.specs.Questions.{answered, pieceAnswer}
+use Rattle.rules.specs.Questions.{numPieces, rowsHeld, badPieceLength, manyPieces, noPiece, badOffset}
+use Rattle.rules.specs.Questions.{short, fewEntries, answered, pieceAnswer}
 use Rattle.layout.specs.Search.{fileFound}
 use Rattle.layout.specs.Pieces.{lessOne, pieceSize, pieceSize2, blocksIn, fileAtPiece, lastFileAtPiece}
 
 -- ---- the set
 
 abbrev pub numPiecesGiven : FileStorage → Outcome ℤ
-numPiecesGiven fs = answered (badPieceLength fs ∷ manyPieces fs ∷ []) (pos (numPieces fs))
+numPiecesGiven fs = answered (badPieceLength fs ∷ manyPieces fs ∷ short (fewEntries fs) ∷ []) (pos (numPieces fs))
 
 -- −1 where the set has no piece
 abbrev pub lastPieceGiven : FileStorage → Outcome ℤ
-lastPieceGiven fs = answered (badPieceLength fs ∷ manyPieces fs ∷ []) (lessOne (numPieces fs))
+lastPieceGiven fs = answered (badPieceLength fs ∷ manyPieces fs ∷ short (fewEntries fs) ∷ []) (lessOne (numPieces fs))
 
 abbrev pub pieceRangeGiven : FileStorage → Outcome Range
 pieceRangeGiven fs =
-    answered (badPieceLength fs ∷ manyPieces fs ∷ []) (record { begin = pos 0; end = pos (numPieces fs) })
+    answered (badPieceLength fs ∷ manyPieces fs ∷ short (fewEntries fs) ∷ []) (record { begin = pos 0; end = pos (numPieces fs) })
 
 abbrev pub fileRangeGiven : FileStorage → Outcome Range
-fileRangeGiven fs = answered (badPieceLength fs ∷ []) (record { begin = pos 0; end = pos (fs .«num_files» % 2 ^ 31) })
+fileRangeGiven fs =
+    answered (badPieceLength fs ∷ short (fewEntries fs) ∷ []) (record { begin = pos 0; end = pos (fs .«num_files») })
 
 abbrev pub blocksPerPieceGiven : FileStorage → Outcome ℤ
-blocksPerPieceGiven fs = answered (badPieceLength fs ∷ []) (pos (blocksIn (fs .«piece_length»)))
+blocksPerPieceGiven fs = answered (badPieceLength fs ∷ short (fewEntries fs) ∷ []) (pos (blocksIn (fs .«piece_length»)))
 
 -- ---- piece z
 
 abbrev pub pieceSizeGiven : FileStorage → ℤ → Outcome ℤ
 pieceSizeGiven fs z =
-    answered (badPieceLength fs ∷ manyPieces fs ∷ noPiece fs z ∷ []) (pos (pieceSize fs (clampedOf z)))
+    answered (badPieceLength fs ∷ manyPieces fs ∷ noPiece fs z ∷ short (fewEntries fs) ∷ [])
+    (pos (pieceSize fs (clampedOf z)))
 
 abbrev pub pieceSize2Given : FileStorage → List ℕ → ℤ → Outcome ℤ
 pieceSize2Given fs rows z = pieceAnswer fs z (rowsHeld fs rows) (λ p. pos (pieceSize2 fs rows p))
@@ -45,14 +48,14 @@ blocksInPiece2Given fs rows z = pieceAnswer fs z (rowsHeld fs rows) (λ p. pos (
 
 -- the file at the start of the piece, and the file at its last byte
 abbrev pub fileAtPieceGiven : FileStorage → List ℕ → ℤ → Outcome ℤ
-fileAtPieceGiven fs rows z = pieceAnswer fs z (rowsHeld fs rows) (λ p. pos (fileAtPiece fs rows p % 2 ^ 31))
+fileAtPieceGiven fs rows z = pieceAnswer fs z (rowsHeld fs rows) (λ p. pos (fileAtPiece fs rows p))
 
 abbrev pub lastFileAtPieceGiven : FileStorage → List ℕ → ℤ → Outcome ℤ
-lastFileAtPieceGiven fs rows z = pieceAnswer fs z (rowsHeld fs rows) (λ p. pos (lastFileAtPiece fs rows p % 2 ^ 31))
+lastFileAtPieceGiven fs rows z = pieceAnswer fs z (rowsHeld fs rows) (λ p. pos (lastFileAtPiece fs rows p))
 
 -- ---- an offset
 
 abbrev pub fileAtOffsetGiven : FileStorage → List ℕ → ℤ → Outcome ℤ
 fileAtOffsetGiven fs rows offset =
-    answered (badPieceLength fs ∷ badOffset fs offset ∷ short (rowsHeld fs rows) ∷ [])
-    (pos (fileFound rows (fs .«num_files») (clampedOf offset) % 2 ^ 31))
+    answered (badPieceLength fs ∷ badOffset fs offset ∷ short (rowsHeld fs rows && fewEntries fs) ∷ [])
+    (pos (fileFound rows (fs .«num_files») (clampedOf offset)))

@@ -5,7 +5,7 @@
 -- the set: the last that begins at or before it; `clampedOf` an integer, 0 where it is negative. The rules are document
 -- 01's table of refusals (rules, specs/Questions.antt).
 use Prim.Native.Nat.{ℕ, zero, suc, _+_, _-_, min}
-use mathlib.Core.Bool.{cond}
+use mathlib.Core.Bool.{cond, _&&_}
 use mathlib.Core.List.{List, [], _∷_, map}
 use lib.Dec.{eqb}
 use lib.IntN.{ℤ}
@@ -13,7 +13,7 @@ use Rattle.tables.specs.declared.storage.FileStorage.{FileStorage}
 use Rattle.tables.specs.Rows.{rowAt}
 use Rattle.rules.specs.Rules.{Rule}
 use Rattle.rules.specs.Bounds.{clampedOf}
-use Rattle.rules.specs.Questions.{rowsHeld, badPieceLength, manyPieces, noPiece, badRange, short}
+use Rattle.rules.specs.Questions.{rowsHeld, badPieceLength, manyPieces, noPiece, badRange, short, fewEntries}
 use Rattle.layout.specs.Pieces.{startOf}
 use Rattle.layout.specs.Search.{fileFound}
 
@@ -53,7 +53,7 @@ blockOf fs rows z offset size = slicesOf fs rows (startOf fs (clampedOf z) + cla
 -- `map_block`'s refusals, in order, in front of the last, which is for room
 abbrev pub blockRules : FileStorage → List ℕ → ℤ → ℤ → ℤ → List Rule → List Rule
 blockRules fs rows z offset size last =
-    badPieceLength fs ∷ manyPieces fs ∷ noPiece fs z ∷ badRange offset size ∷ short (rowsHeld fs rows) ∷ last
+    badPieceLength fs ∷ manyPieces fs ∷ noPiece fs z ∷ badRange offset size ∷ short (rowsHeld fs rows && fewEntries fs) ∷ last
 
 -- the columns of slices
 abbrev pub filesOf : List Slice → List ℕ

@@ -20,7 +20,7 @@ use Rattle.tables.specs.Model.{Store}
 use Rattle.rules.specs.Rules.{Rule, when, outcomeOf}
 use Rattle.rules.specs.Bounds.{badLength}
 use Rattle.rules.proofs.Rules.{passed, either-false, outcome-value, outcome-refused}
-use Rattle.rules.specs.Questions.{rowsHeld, dirsHeld, textHeld}
+use Rattle.rules.specs.Questions.{rowsHeld, dirsHeld, textHeld, fewEntries, short}
 use Rattle.lookup.specs.Lookup.{Entry, entriesOf, directoriesOf}
 use Rattle.lookup.specs.Space.{space, linkCount, lacksSpace}
 use Rattle.links.specs.Judging.{verdictOf, verdictsFor, verdicts, judgingNumber, Judged, judged}
@@ -58,7 +58,7 @@ module _ (s : Store) where
     rules : List Rule
     rules =
         when (badLength (s .fs .«piece_length»)) 1 ∷
-        when (not (rowsHeld (s .fs) (s .rows) && (dirsHeld (s .fs) (s .dirs) && textHeld (s .fs) (s .text)))) 10 ∷
+        short ((rowsHeld (s .fs) (s .rows) && (dirsHeld (s .fs) (s .dirs) && textHeld (s .fs) (s .text))) && fewEntries (s .fs)) ∷
         when (lacksSpace (entriesOf s) marks scratch path) 10 ∷
         []
 

@@ -15,7 +15,7 @@ use Rattle.path.specs.Join.{appended}
 use Rattle.tables.specs.Model.{Directory, single, absolute, stored, pathIn, Store}
 use Rattle.rules.specs.Rules.{when, firstOf}
 use Rattle.rules.specs.Bounds.{badLength}
-use Rattle.rules.specs.Questions.{rowsHeld, dirsHeld, textHeld}
+use Rattle.rules.specs.Questions.{rowsHeld, dirsHeld, textHeld, fewEntries, short}
 use Rattle.lookup.specs.Lookup.{Entry, ownPath, Seen, nothing, file, link, isDirectory, fileAt, entriesOf}
 use Rattle.lookup.specs.Lookup.{directoriesOf}
 use Rattle.lookup.specs.Space.{linkCount, lacksSpace}
@@ -113,7 +113,8 @@ abbrev pub judgingNumber : Store → ℕ → ℕ → ℕ → ℕ
 judgingNumber s marks scratch walkPath =
     firstOf
     (when (badLength (s .fs .«piece_length»)) 1 ∷
-    when (not (rowsHeld (s .fs) (s .rows) && (dirsHeld (s .fs) (s .dirs) && textHeld (s .fs) (s .text)))) 10 ∷
+    short
+    ((rowsHeld (s .fs) (s .rows) && (dirsHeld (s .fs) (s .dirs) && textHeld (s .fs) (s .text))) && fewEntries (s .fs)) ∷
     when (lacksSpace (entriesOf s) marks scratch walkPath) 10 ∷
     [])
 

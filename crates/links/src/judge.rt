@@ -9,7 +9,7 @@ ghost use lib.ListN.{length};
 ghost use Rattle.lists.specs.Lists.{cleared};
 ghost use Rattle.types.specs.Refusals.{usizeSays};
 ghost use Rattle.rules.specs.Rules.{outcomeOf};
-ghost use Rattle.rules.specs.Questions.{rowsHeld, dirsHeld, textHeld};
+ghost use Rattle.rules.specs.Questions.{rowsHeld, dirsHeld, textHeld, fewEntries};
 ghost use Rattle.lookup.specs.Space.{space, linkCount};
 ghost use Rattle.lookup.specs.Lookup.{lent, filesIn};
 ghost use Rattle.links.specs.Judging.{verdicts, judgingNumber, judgedOf, judged};
@@ -23,7 +23,7 @@ use types::Refusal;
 use types::UsizeResult;
 
 // Whether the lent tables hold what the set counts.
-fn is_held(fs: FileStorage, rows: &[u64], dirs: &[u64], text: &[u8]) -> bool
+fn holds_tables(fs: FileStorage, rows: &[u64], dirs: &[u64], text: &[u8]) -> bool
     ensures { λ r. ⌜
         r ≡ (rowsHeld fs (now (rows .entry))
         && (dirsHeld fs (now (dirs .entry)) && textHeld fs (now (text .entry))))
@@ -36,6 +36,16 @@ fn is_held(fs: FileStorage, rows: &[u64], dirs: &[u64], text: &[u8]) -> bool
         return false;
     }
     fs.text_len <= text.len()
+}
+
+// Whether they do, and the set has no more files and directories than it may.
+fn is_held(fs: FileStorage, rows: &[u64], dirs: &[u64], text: &[u8]) -> bool
+    ensures { λ r. ⌜
+        r ≡ ((rowsHeld fs (now (rows .entry))
+        && (dirsHeld fs (now (dirs .entry)) && textHeld fs (now (text .entry)))) && fewEntries fs)
+        ⌝ }
+{
+    rules::are_held(fs, holds_tables(fs, rows, dirs, text))
 }
 
 // The number of links to judge, or why none are judged. `marks`, `scratch` and `walk_path` are lengths of the work

@@ -5,23 +5,24 @@
 --     set-value, set-refused              an answer about the set
 --     directory-value, directory-refused  an answer about a directory
 --     file-value, file-refused            an answer about a file
---     link-value, link-refused, link-goes, link-stops     an answer about a file's link text
+--     link-value, link-refused            an answer about a file's link text
 --     composed-value, composed-refused    a text composed into a lent buffer
 --     below-yes, below-no                 what `within` says of a number
 --     below-not, below-as, index-low      what its sign says of it
 --     over-is                             whether there are more than k pieces, by a product
 --     gone                                after `Go` no rule's test holds
 --     length-good, set-length-good, low-i32   what that says of the piece length, and of a number that an i32 holds
+--     held-few, few-low, set-few  and of the tables and what the set counts
 use Prim.Native.Nat.{ℕ, _*_, _%_, _^_, _≤_, _<_}
 use mathlib.Core.Path.{_≡_, refl, sym, ap, _∙_}
 use mathlib.Core.Bool.{Bool, true, false, cond, not, true≢false, _&&_, _||_}
 use mathlib.Core.List.{List, [], _∷_}
 use native.Mathlib.Omega.{arith}
-use lib.Dec.{eqb, ltb}
+use lib.Dec.{eqb, ltb, leb}
 use lib.IntN.{ℤ, pos, negsuc}
 use mir.Syntax.{w32}
 use mir.Val.{SFits}
-use borrow.Author.Tests.{lt-ltb, le-ltb, ltb-true, ltb-false}
+use borrow.Author.Tests.{lt-ltb, le-ltb, ltb-true, ltb-false, leb-true, not-false}
 use Rattle.lists.specs.Lists.{ceiling}
 use Rattle.lists.proofs.Quotients.{ceiling-above, ceiling-le}
 use Rattle.types.specs.Refusals.{numberOf, Outcome, value, refused, usizeSays}
@@ -38,9 +39,9 @@ use Rattle.rules.specs.declared.decide.Check.the-variants.{Go, Stop}
 use Rattle.rules.specs.Rules.{Rule, when, firstOf, outcomeOf}
 use Rattle.rules.specs.Bounds.{badLength, isNegative, isBelow, clampedOf, limit}
 use Rattle.rules.specs.Results.{checkNumber}
-use Rattle.rules.specs.Questions.{answered, badPieceLength, noFile, noDirectory, noLink, badRange, short, heldAnswer, directoryAnswer, fileAnswer, linkAnswer}
+use Rattle.rules.specs.Questions.{answered, badPieceLength, noFile, noDirectory, noLink, badRange, short, fewEntries, heldAnswer, directoryAnswer, fileAnswer, linkAnswer}
 use Rattle.rules.specs.Composed.{composedIf, composedFile}
-use Rattle.rules.proofs.Rules.{Numbered, Passed, passed, either-false}
+use Rattle.rules.proofs.Rules.{Numbered, Passed, passed, either-false, both-true}
 
 -- two tests, each known in other words
 pub both-is : {r x y a b : Bool} → r ≡ (x && y) → x ≡ a → y ≡ b → r ≡ (a && b)
@@ -98,27 +99,28 @@ module _ {A : Type 0} (a : A) (rules : Bool → List Rule) (held test : Bool) (d
   held-refused = stop a (rw q at p)
 
 -- an answer about the set
-module _ {A : Type 0} (fs : FileStorage) (a : A) (held test : Bool) (d : Check) (p : checkNumber d ≡ firstOf (badPieceLength fs ∷ short held ∷ [])) (q : held ≡ test) where
+module _ {A : Type 0} (fs : FileStorage) (a : A) (held test : Bool) (d : Check) (p : checkNumber d ≡ firstOf (badPieceLength fs ∷ short (held && fewEntries fs) ∷ [])) (q : held ≡ test) where
   pub set-value : d ≡ Go → (x : A) → x ≡ a → value x ≡ heldAnswer fs test a
-  set-value = held-value a (λ t. badPieceLength fs ∷ short t ∷ []) held test d p q
+  set-value = held-value a (λ t. badPieceLength fs ∷ short (t && fewEntries fs) ∷ []) held test d p q
 
   pub set-refused : (x : Refusal) → d ≡ Stop x → refused (numberOf x) ≡ heldAnswer fs test a
-  set-refused = held-refused a (λ t. badPieceLength fs ∷ short t ∷ []) held test d p q
+  set-refused = held-refused a (λ t. badPieceLength fs ∷ short (t && fewEntries fs) ∷ []) held test d p q
 
 -- an answer about directory i
-module _ {A : Type 0} (fs : FileStorage) (i : ℕ) (a : A) (held test : Bool) (d : Check) (p : checkNumber d ≡ firstOf (badPieceLength fs ∷ noDirectory fs i ∷ short held ∷ [])) (q : held ≡ test) where
+module _ {A : Type 0} (fs : FileStorage) (i : ℕ) (a : A) (held test : Bool) (d : Check) (p : checkNumber d ≡ firstOf (badPieceLength fs ∷ noDirectory fs i ∷ short (held && fewEntries fs) ∷ [])) (q : held ≡ test) where
   pub directory-value : d ≡ Go → (x : A) → x ≡ a → value x ≡ directoryAnswer fs i test a
-  directory-value = held-value a (λ t. badPieceLength fs ∷ noDirectory fs i ∷ short t ∷ []) held test d p q
+  directory-value = held-value a (λ t. badPieceLength fs ∷ noDirectory fs i ∷ short (t && fewEntries fs) ∷ []) held test d p q
 
   pub directory-refused : (x : Refusal) → d ≡ Stop x → refused (numberOf x) ≡ directoryAnswer fs i test a
-  directory-refused = held-refused a (λ t. badPieceLength fs ∷ noDirectory fs i ∷ short t ∷ []) held test d p q
+  directory-refused = held-refused a (λ t. badPieceLength fs ∷ noDirectory fs i ∷ short (t && fewEntries fs) ∷ []) held test d p q
 
 -- the number of the first refusal of a question about a file or its link text, 0 for none
 abbrev pub fileNumber : FileStorage → ℤ → Bool → ℕ
-fileNumber fs z held = firstOf (badPieceLength fs ∷ noFile fs z ∷ short held ∷ [])
+fileNumber fs z held = firstOf (badPieceLength fs ∷ noFile fs z ∷ short (held && fewEntries fs) ∷ [])
 
-abbrev pub linkNumber : FileStorage → ℤ → (ℕ → Bool) → Bool → ℕ
-linkNumber fs z linked held = firstOf (badPieceLength fs ∷ noFile fs z ∷ noLink (linked (clampedOf z)) ∷ short held ∷ [])
+abbrev pub linkNumber : FileStorage → ℤ → (ℕ → Bool) → (ℕ → Bool) → Bool → ℕ
+linkNumber fs z there linked held =
+    firstOf (badPieceLength fs ∷ noFile fs z ∷ noLink (there (clampedOf z)) (linked (clampedOf z)) ∷ short (held && fewEntries fs) ∷ [])
 
 -- an answer about a file
 module _ {A : Type 0} (fs : FileStorage) (z : ℤ) (a : ℕ → A) (held test : Bool) (d : UsizeResult) (p : usizeSays d ≡ fileAnswer fs z held (λ k. k)) (q : held ≡ test) where
@@ -129,36 +131,12 @@ module _ {A : Type 0} (fs : FileStorage) (z : ℤ) (a : ℕ → A) (held test : 
   file-refused = found-refused (fileNumber fs z test) (clampedOf z) a d (rw q at p)
 
 -- an answer about the link text of a file
-module _ {A : Type 0} (fs : FileStorage) (z : ℤ) (linked : ℕ → Bool) (a : ℕ → A) (held test : Bool) (d : UsizeResult) (p : usizeSays d ≡ linkAnswer fs z linked held (λ k. k)) (q : held ≡ test) where
-  pub link-value : (k : ℕ) → d ≡ usize.Ok k → (x : A) → x ≡ a k → value x ≡ linkAnswer fs z linked test a
-  link-value = found-value (linkNumber fs z linked test) (clampedOf z) a d (rw q at p)
+module _ {A : Type 0} (fs : FileStorage) (z : ℤ) (there linked : ℕ → Bool) (a : ℕ → A) (held test : Bool) (d : UsizeResult) (p : usizeSays d ≡ linkAnswer fs z there linked held (λ k. k)) (q : held ≡ test) where
+  pub link-value : (k : ℕ) → d ≡ usize.Ok k → (x : A) → x ≡ a k → value x ≡ linkAnswer fs z there linked test a
+  link-value = found-value (linkNumber fs z there linked test) (clampedOf z) a d (rw q at p)
 
-  pub link-refused : (x : Refusal) → d ≡ usize.Err x → refused (numberOf x) ≡ linkAnswer fs z linked test a
-  link-refused = found-refused (linkNumber fs z linked test) (clampedOf z) a d (rw q at p)
-
--- the tests of a link come after those of a file
-module _ (fs : FileStorage) (z : ℤ) (linked : ℕ → Bool) (held : Bool) where
-  after-file : (bad missing : Bool) (r : ℕ) → cond bad 1 (cond missing 11 r) ≡ cond (eqb (cond bad 1 (cond missing 11 0)) 0) r (cond bad 1 (cond missing 11 0))
-  after-file true missing r = refl
-  after-file false true r = refl
-  after-file false false r = refl
-
-  order : linkNumber fs z linked held
-      ≡ cond (eqb (fileNumber fs z true) 0) (cond (not (linked (clampedOf z))) 15 (cond (not held) 10 0)) (fileNumber fs z true)
-  order = after-file (badLength (fs .«piece_length»)) (not (isBelow (fs .«num_files») z)) (cond (not (linked (clampedOf z))) 15 (cond (not held) 10 0))
-
-  pub link-goes : (k : ℕ) → value k ≡ fileAnswer fs z true (λ k. k)
-      → (o : Outcome ℕ) → o ≡ outcomeOf (cond (not (linked k)) 15 (cond (not held) 10 0)) k → o ≡ linkAnswer fs z linked held (λ k. k)
-  link-goes k e o h =
-      let v = is-value (fileNumber fs z true) (clampedOf z) k e in
-      let n : linkNumber fs z linked held ≡ cond (not (linked k)) 15 (cond (not held) 10 0) = rw (order, v .0, v .1) in
-      h ∙ rw (n, v .1)
-
-  pub link-stops : (m : ℕ) → refused m ≡ fileAnswer fs z true (λ k. k) → refused m ≡ linkAnswer fs z linked held (λ k. k)
-  link-stops m e =
-      let v = is-refused (fileNumber fs z true) (clampedOf z) m e in
-      let n : linkNumber fs z linked held ≡ fileNumber fs z true = order ∙ rw (v .0) in
-      rw (n, v .0, v .1)
+  pub link-refused : (x : Refusal) → d ≡ usize.Err x → refused (numberOf x) ≡ linkAnswer fs z there linked test a
+  link-refused = found-refused (linkNumber fs z there linked test) (clampedOf z) a d (rw q at p)
 
 -- a join is a text composed
 pub joined-is : (j : Joined) (branch leaf text buf : List ℕ) → j ≡ joinedIf (fits (appended branch leaf) buf) (appended branch leaf) buf
@@ -196,6 +174,15 @@ module _ (r count : ℕ) where
   pub below-no : (z : ℤ) (m : ℕ) → refused m ≡ belowOr r count z → isBelow count z ≡ false
   below-no (pos n) m e = high-side (ltb n count) n m e
   below-no (negsuc n) m e = refl
+
+  -- the same, with the number itself
+  pub below-value : (z : ℤ) (k : ℕ) → value k ≡ belowOr r count z → (isBelow count z ≡ true) × (k ≡ clampedOf z)
+  below-value (pos n) k e = allowed r n (ltb n count) k e
+  below-value (negsuc n) k e = absurd (let z : _≡_ {A = ℕ} 0 1 = cc in omega arith)
+
+  pub below-refused : (z : ℤ) (m : ℕ) → refused m ≡ belowOr r count z → (isBelow count z ≡ false) × (m ≡ r)
+  below-refused (pos n) m e = denied r n (ltb n count) m e
+  below-refused (negsuc n) m e = (refl, cc)
 
 pub below-is : (count : ℕ) (z : ℤ) → isBelow count z ≡ true → clampedOf z < count
 below-is count (pos n) e = ltb-true n count e
@@ -239,6 +226,21 @@ length-good n e =
 pub set-length-good : (fs : FileStorage) (bad held : Bool) {d : Check} → checkNumber d ≡ firstOf (badPieceLength fs ∷ when bad 14 ∷ short held ∷ []) → d ≡ Go
     → fs .«piece_length» ≤ 2147483647
 set-length-good fs bad held p e = length-good (fs .«piece_length») (gone (badPieceLength fs ∷ when bad 14 ∷ short held ∷ []) refl p e .0) .1
+
+-- the lent tables are long enough, and the set has no more files and directories than it may
+pub held-few : (fs : FileStorage) (held : Bool) → short (held && fewEntries fs) .test ≡ false → (held ≡ true) × (fewEntries fs ≡ true)
+held-few fs held e = both-true held (fewEntries fs) (not-false (held && fewEntries fs) e)
+
+-- how many those are
+pub few-low : (fs : FileStorage) → fewEntries fs ≡ true → (fs .«num_files» ≤ 65535) × (fs .«num_paths» ≤ 65535)
+few-low fs e =
+    let p = both-true (leb (fs .«num_files») 65535) (leb (fs .«num_paths») 65535) e in
+    (leb-true (fs .«num_files») 65535 (p .0), leb-true (fs .«num_paths») 65535 (p .1))
+
+pub set-few : (fs : FileStorage) (bad held : Bool) {d : Check} → checkNumber d ≡ firstOf (badPieceLength fs ∷ when bad 14 ∷ short (held && fewEntries fs) ∷ []) → d ≡ Go
+    → (fs .«num_files» ≤ 65535) × (fs .«num_paths» ≤ 65535)
+set-few fs bad held p e =
+    few-low fs (held-few fs held (gone (badPieceLength fs ∷ when bad 14 ∷ short (held && fewEntries fs) ∷ []) refl p e .1 .1 .0) .1)
 
 -- an i32 that is not negative is its own low 31 bits
 pub low-i32 : (n : ℕ) → n ≤ 2147483647 → pos (n % 2 ^ 31) ≡ pos n

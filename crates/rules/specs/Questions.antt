@@ -12,7 +12,7 @@ use Rattle.tables.specs.declared.storage.FileStorage.{FileStorage}
 use Rattle.tables.specs.declared.rows.Row.{Row}
 use Rattle.tables.specs.Rows.{has, dirWidth, padBit, rootWidth, rowWidth}
 use Rattle.rules.specs.Rules.{Rule, when, firstOf, outcomeOf}
-use Rattle.rules.specs.Bounds.{isNegative, isBelow, clampedOf, limit, maxPieces, badLength}
+use Rattle.rules.specs.Bounds.{isNegative, isBelow, clampedOf, limit, maxPieces, maxEntries, badLength}
 
 -- the value where no rule of the list holds, else the number of the first that does
 abbrev pub answered : {A : Type 0} → List Rule → A → Outcome A
@@ -51,13 +51,14 @@ badRange offset size =
 
 -- 'for `file_index_at_offset`, not below the total'
 abbrev pub badOffset : FileStorage → ℤ → Rule
-badOffset fs offset = when (isNegative offset || leb (fs .«total_size») (clampedOf offset)) 14
+badOffset fs offset =
+    when (isNegative offset || (ltb limit (clampedOf offset) || leb (fs .«total_size») (clampedOf offset))) 14
 
--- '`internal_symlink` of a file without link text'
-abbrev pub noLink : Bool → Rule
-noLink linked = when (not linked) 15
+-- '`internal_symlink` of a file without link text'; `there` says whether the file's row is there
+abbrev pub noLink : Bool → Bool → Rule
+noLink there linked = when (there && not linked) 15
 
--- 'for a nonempty pad or a nonempty file off a piece start'
+-- 'for a nonempty pad or a nonempty file off a piece start'; a row that is not there is empty
 abbrev pub noTree : FileStorage → Row → Rule
 noTree fs r =
     when (ltb 0 (r .size) && (has (r .flags) padBit || not (eqb (r .offset % fs .«piece_length») 0))) 16
@@ -66,7 +67,15 @@ noTree fs r =
 abbrev pub short : Bool → Rule
 short held = when (not held) 10
 
+-- not 'over 65535 files or directories'
+abbrev pub fewEntries : FileStorage → Bool
+fewEntries fs = leb (fs .«num_files») maxEntries && leb (fs .«num_paths») maxEntries
+
 -- ---- the lent tables are long enough for what the set counts
+
+-- row i is there
+abbrev pub rowThere : List ℕ → ℕ → Bool
+rowThere rows i = ltb i (length rows / rowWidth)
 
 abbrev pub rowsHeld : FileStorage → List ℕ → Bool
 rowsHeld fs rows = leb (fs .«num_files») (length rows / rowWidth)
@@ -87,31 +96,34 @@ timesHeld fs times = leb (fs .«num_mtimes») (length times)
 
 -- an answer about the set
 abbrev pub setAnswer : {A : Type 0} → FileStorage → A → Outcome A
-setAnswer fs a = answered (badPieceLength fs ∷ []) a
+setAnswer fs a = answered (badPieceLength fs ∷ short (fewEntries fs) ∷ []) a
 
 -- the same where tables are lent: `held` says whether they are long enough for what the set counts
 abbrev pub heldAnswer : {A : Type 0} → FileStorage → Bool → A → Outcome A
-heldAnswer fs held a = answered (badPieceLength fs ∷ short held ∷ []) a
+heldAnswer fs held a = answered (badPieceLength fs ∷ short (held && fewEntries fs) ∷ []) a
 
 -- an answer about directory i
 abbrev pub directoryAnswer : {A : Type 0} → FileStorage → ℕ → Bool → A → Outcome A
-directoryAnswer fs i held a = answered (badPieceLength fs ∷ noDirectory fs i ∷ short held ∷ []) a
+directoryAnswer fs i held a = answered (badPieceLength fs ∷ noDirectory fs i ∷ short (held && fewEntries fs) ∷ []) a
 
 -- an answer about file z, by its number
 abbrev pub fileAnswer : {A : Type 0} → FileStorage → ℤ → Bool → (ℕ → A) → Outcome A
-fileAnswer fs z held a = answered (badPieceLength fs ∷ noFile fs z ∷ short held ∷ []) (a (clampedOf z))
+fileAnswer fs z held a = answered (badPieceLength fs ∷ noFile fs z ∷ short (held && fewEntries fs) ∷ []) (a (clampedOf z))
 
 -- an answer about piece z, by its number
 abbrev pub pieceAnswer : {A : Type 0} → FileStorage → ℤ → Bool → (ℕ → A) → Outcome A
 pieceAnswer fs z held a =
-    answered (badPieceLength fs ∷ manyPieces fs ∷ noPiece fs z ∷ short held ∷ []) (a (clampedOf z))
+    answered (badPieceLength fs ∷ manyPieces fs ∷ noPiece fs z ∷ short (held && fewEntries fs) ∷ []) (a (clampedOf z))
 
 -- an answer about file z that takes or gives a piece number or a count of pieces
 abbrev pub filePiecesAnswer : {A : Type 0} → FileStorage → ℤ → Bool → (ℕ → A) → Outcome A
 filePiecesAnswer fs z held a =
-    answered (badPieceLength fs ∷ noFile fs z ∷ manyPieces fs ∷ short held ∷ []) (a (clampedOf z))
+    answered (badPieceLength fs ∷ noFile fs z ∷ manyPieces fs ∷ short (held && fewEntries fs) ∷ []) (a (clampedOf z))
 
--- an answer about the link text of file z: `linked` says which files hold one
-abbrev pub linkAnswer : {A : Type 0} → FileStorage → ℤ → (ℕ → Bool) → Bool → (ℕ → A) → Outcome A
-linkAnswer fs z linked held a =
-    answered (badPieceLength fs ∷ noFile fs z ∷ noLink (linked (clampedOf z)) ∷ short held ∷ []) (a (clampedOf z))
+-- an answer about the link text of file z: `there` says which rows are there, `linked` which files hold a text
+abbrev pub linkAnswer : {A : Type 0} → FileStorage → ℤ → (ℕ → Bool) → (ℕ → Bool) → Bool → (ℕ → A) → Outcome A
+linkAnswer fs z there linked held a =
+    answered
+    (badPieceLength fs ∷ noFile fs z ∷ noLink (there (clampedOf z)) (linked (clampedOf z)) ∷
+    short (held && fewEntries fs) ∷ [])
+    (a (clampedOf z))

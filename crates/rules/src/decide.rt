@@ -1,13 +1,16 @@
 // What is decided before an answer: document 01's refusals of a question, in its order. It relies on the tests of
 // test.rt and on the laws of proofs/Deciding.antt.
 ghost use mathlib.Core.Path.{_≡_};
+ghost use mathlib.Core.Bool.{_&&_};
 ghost use mathlib.Core.List.{[], _∷_};
 ghost use lib.Dec.{leb};
 ghost use Rattle.types.specs.Refusals.{usizeSays};
 ghost use Rattle.rules.specs.Rules.{when, firstOf};
 ghost use Rattle.rules.specs.Results.{checkNumber};
-ghost use Rattle.rules.specs.Questions.{badPieceLength, noFile, noDirectory, manyPieces, noPiece, short};
+ghost use Rattle.rules.specs.Questions.{badPieceLength, noFile, noDirectory, manyPieces, noPiece, short, fewEntries};
 ghost use Rattle.rules.specs.Questions.{fileAnswer};
+use crate::test::are_held;
+use crate::test::has_few_entries;
 use crate::test::has_many;
 use crate::test::is_bad_length;
 use crate::test::is_held;
@@ -74,7 +77,7 @@ pub fn first_refusal(
 
 // Decides a question about the set as a whole, or about an offset in it.
 pub fn ask_set(fs: FileStorage, bad_range: bool, held: bool) -> Check
-    ensures { λ r. ⌜ checkNumber r ≡ firstOf (badPieceLength fs ∷ when «bad_range» 14 ∷ short held ∷ []) ⌝ }
+    ensures { λ r. ⌜ checkNumber r ≡ firstOf (badPieceLength fs ∷ when «bad_range» 14 ∷ short (held && fewEntries fs) ∷ []) ⌝ }
 {
     first_refusal(
         is_bad_length(fs.piece_length),
@@ -83,13 +86,13 @@ pub fn ask_set(fs: FileStorage, bad_range: bool, held: bool) -> Check
         false,
         bad_range,
         false,
-        held,
+        are_held(fs, held),
     )
 }
 
 // Decides a question about directory i.
 pub fn ask_directory(fs: FileStorage, i: usize, held: bool) -> Check
-    ensures { λ r. ⌜ checkNumber r ≡ firstOf (badPieceLength fs ∷ noDirectory fs i ∷ short held ∷ []) ⌝ }
+    ensures { λ r. ⌜ checkNumber r ≡ firstOf (badPieceLength fs ∷ noDirectory fs i ∷ short (held && fewEntries fs) ∷ []) ⌝ }
 {
     first_refusal(
         is_bad_length(fs.piece_length),
@@ -98,13 +101,13 @@ pub fn ask_directory(fs: FileStorage, i: usize, held: bool) -> Check
         false,
         false,
         false,
-        held,
+        are_held(fs, held),
     )
 }
 
 // Decides a question about the set's pieces.
 pub fn ask_pieces(fs: FileStorage) -> Check
-    ensures { λ r. ⌜ checkNumber r ≡ firstOf (badPieceLength fs ∷ manyPieces fs ∷ []) ⌝ }
+    ensures { λ r. ⌜ checkNumber r ≡ firstOf (badPieceLength fs ∷ manyPieces fs ∷ short (fewEntries fs) ∷ []) ⌝ }
 {
     first_refusal(
         is_bad_length(fs.piece_length),
@@ -113,7 +116,7 @@ pub fn ask_pieces(fs: FileStorage) -> Check
         false,
         false,
         false,
-        true,
+        has_few_entries(fs),
     )
 }
 
@@ -122,7 +125,7 @@ pub fn ask_piece(fs: FileStorage, piece: PieceIndex, bad_range: bool, held: bool
     ensures { λ r. ⌜
         checkNumber r
         ≡ firstOf
-        (badPieceLength fs ∷ manyPieces fs ∷ noPiece fs (piece .0) ∷ when «bad_range» 14 ∷ short held ∷ [])
+        (badPieceLength fs ∷ manyPieces fs ∷ noPiece fs (piece .0) ∷ when «bad_range» 14 ∷ short (held && fewEntries fs) ∷ [])
         ⌝ }
 {
     first_refusal(
@@ -132,7 +135,7 @@ pub fn ask_piece(fs: FileStorage, piece: PieceIndex, bad_range: bool, held: bool
         is_no_piece(fs, piece),
         bad_range,
         false,
-        held,
+        are_held(fs, held),
     )
 }
 
@@ -153,7 +156,7 @@ pub fn ask_file(
         when many 13 ∷
         when «bad_range» 14 ∷
         when «no_tree» 16 ∷
-        short (leb (fs .«num_files») room) ∷
+        short (leb (fs .«num_files») room && fewEntries fs) ∷
         [])
         ⌝ }
 {
@@ -164,7 +167,7 @@ pub fn ask_file(
         false,
         bad_range,
         no_tree,
-        is_held(fs.num_files, room),
+        are_held(fs, is_held(fs.num_files, room)),
     )
 }
 
@@ -177,7 +180,7 @@ pub fn file_in(fs: FileStorage, index: FileIndex, held: bool) -> UsizeResult
     }
     match index.within(fs.num_files) {
         UsizeResult::Ok(k) => {
-            if held {
+            if are_held(fs, held) {
                 UsizeResult::Ok(k)
             } else {
                 UsizeResult::Err(Refusal::NoRoom)

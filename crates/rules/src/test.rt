@@ -6,8 +6,9 @@ ghost use Prim.Native.Nat.{_<_};
 ghost use lib.Dec.{ltb, leb};
 ghost use Rattle.tables.specs.Rows.{rowAt};
 ghost use Rattle.rules.specs.Bounds.{badLength, isNegative, isBelow, clampedOf, limit, maxPieces};
-ghost use Rattle.rules.specs.Questions.{numPieces, noTree};
+ghost use Rattle.rules.specs.Questions.{numPieces, noTree, badOffset, fewEntries, rowThere};
 use tables::FileStorage;
+use tables::ROW_WIDTH;
 use types::FileIndex;
 use types::PieceIndex;
 use types::UsizeResult;
@@ -24,6 +25,9 @@ const MAX_PIECES: u64 = 2147483647;
 
 pub const DEFAULT_BLOCK_SIZE: u64 = 16384;
 
+// The most files, and the most directories, of a set.
+pub const MAX_ENTRIES: usize = 65535;
+
 // Whether a piece length is out of range.
 pub fn is_bad_length(piece_length: u64) -> bool
     ensures { λ r. ⌜ r ≡ badLength «piece_length» ⌝ }
@@ -39,6 +43,30 @@ pub fn is_held(count: usize, room: usize) -> bool
     ensures { λ r. ⌜ r ≡ leb count room ⌝ }
 {
     count <= room
+}
+
+// Whether the set counts no more files and directories than a set may have.
+pub fn has_few_entries(fs: FileStorage) -> bool
+    ensures { λ r. ⌜ r ≡ fewEntries fs ⌝ }
+{
+    are_both(fs.num_files <= MAX_ENTRIES, fs.num_paths <= MAX_ENTRIES)
+}
+
+// Whether lent tables are long enough, which `held` says, and the set has no more files and directories than it may.
+pub fn are_held(fs: FileStorage, held: bool) -> bool
+    ensures { λ r. ⌜ r ≡ (held && fewEntries fs) ⌝ }
+{
+    if held {
+        return has_few_entries(fs);
+    }
+    false
+}
+
+// Whether row i is there.
+pub fn is_there(rows: &[u64], i: usize) -> bool
+    ensures { λ r. ⌜ r ≡ rowThere (now (rows .entry)) i ⌝ }
+{
+    i < rows.len() / ROW_WIDTH
 }
 
 // Whether both tests hold.
@@ -120,11 +148,14 @@ pub fn is_bad_range(offset: i64, negative: bool) -> bool
     MAX_FILE_OFFSET < clamped64(offset)
 }
 
-// Whether an offset is negative or not below the total.
+// Whether an offset is negative, past the limit or not below the total.
 pub fn is_bad_offset(fs: FileStorage, offset: i64) -> bool
-    ensures { λ r. ⌜ r ≡ (isNegative offset || leb (fs .«total_size») (clampedOf offset)) ⌝ }
+    ensures { λ r. ⌜ r ≡ badOffset fs offset .test ⌝ }
 {
     if is_negative64(offset) {
+        return true;
+    }
+    if MAX_FILE_OFFSET < clamped64(offset) {
         return true;
     }
     fs.total_size <= clamped64(offset)

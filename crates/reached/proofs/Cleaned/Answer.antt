@@ -16,6 +16,7 @@ use Rattle.tables.specs.Model.{Store}
 use Rattle.rules.specs.Bounds.{badLength}
 use Rattle.lookup.specs.Space.{space, linkCount, lacksSpace}
 use Rattle.lookup.specs.Lookup.{entriesOf}
+use Rattle.rules.specs.Questions.{fewEntries}
 use Rattle.links.specs.Judging.{judgingNumber}
 use Rattle.lists.specs.Lists.{cleared}
 use Rattle.cleaning.specs.Cleaning.{cleanedStore, textNeeded, Cleaned, cleanedTo, cleanStored}
@@ -25,8 +26,9 @@ use Rattle.sound.proofs.Added.Answer.{pass-one, neither}
 module _ (s : Store) (marks stage path : ℕ) where
   abbrev held : Bool
   held =
-      leb (s .fs .«num_files») (length (s .rows) / 8)
-      && (leb (s .fs .«num_paths») (length (s .dirs) / 2) && leb (s .fs .«text_len») (length (s .text)))
+      (leb (s .fs .«num_files») (length (s .rows) / 8)
+      && (leb (s .fs .«num_paths») (length (s .dirs) / 2) && leb (s .fs .«text_len») (length (s .text))))
+      && fewEntries (s .fs)
 
   abbrev lacks : Bool
   lacks = lacksSpace (entriesOf s) marks stage path
@@ -45,8 +47,10 @@ module _ (s : Store) (marks stage path : ℕ) where
         rw (
           le-leb (s .fs .«num_files») (length (s .rows) / 8) (omega (arith, ok .rows-hold)),
           le-leb (s .fs .«num_paths») (length (s .dirs) / 2) (omega (arith, ok .dirs-hold)),
+          le-leb (s .fs .«text_len») (length (s .text)) (ok .text-holds),
+          le-leb (s .fs .«num_files») 65535 (ok .few-files),
         )
-        (le-leb (s .fs .«text_len») (length (s .text)) (ok .text-holds))
+        (le-leb (s .fs .«num_paths») 65535 (ok .few-paths))
 
     pub judging-is : judgingNumber s marks stage path ≡ cond (lacksSpace (entriesOf s) marks stage path) 10 0
     judging-is =

@@ -1,13 +1,13 @@
 -- `answers::set::num_files` meets its contract.
-use Prim.Native.Nat.{_%_, _^_}
 use mathlib.Core.Path.{refl, _∙_}
-use mathlib.Core.Bool.{true}
+use mathlib.Core.Bool.{true, false}
+use native.Mathlib.Omega.{arith}
 use lib.IntN.{pos}
 use mir.Syntax.{w32}
 use mir.Val.{SFits}
 use mir.Facts.{toZ-ofZ}
 use borrow.Author.Needs.{needs}
-use Rattle.rules.proofs.Deciding.{set-value, set-refused}
+use Rattle.rules.proofs.Deciding.{set-value, set-refused, set-few, low-i32}
 use Rattle.answers.proofs.set.num_files.Statement.{statement}
 use Rattle.answers.proofs.set.num_files.Tie as tie
 
@@ -28,13 +28,14 @@ returns c =
     let a = c .before .before .before .before .args in
     let d = c .before .before .before .ask-set in
     let fits : SFits w32 (c .signed32 .result) = search needs in
-    set-value (a .fs) (pos (a .fs .«num_files» % 2 ^ 31)) true true (d .result) (d .ensures) refl (c .before .enum-told .given .1) _ (toZ-ofZ fits ∙ c .signed32 .ensures)
+    let l = set-few (a .fs) false true (d .ensures) (c .before .enum-told .given .1) .0 in
+    set-value (a .fs) (pos (a .fs .«num_files»)) true true (d .result) (d .ensures) refl (c .before .enum-told .given .1) _ (toZ-ofZ fits ∙ c .signed32 .ensures ∙ low-i32 (a .fs .«num_files») (omega (arith, l)))
 
 returns-2 : tie.Need-returns-2
 returns-2 c =
     let a = c .before .before .before .before .args in
     let d = c .before .before .before .ask-set in
-    set-refused (a .fs) (pos (a .fs .«num_files» % 2 ^ 31)) true true (d .result) (d .ensures) refl _ (c .before .e .given .1)
+    set-refused (a .fs) (pos (a .fs .«num_files»)) true true (d .result) (d .ensures) refl _ (c .before .e .given .1)
 
 pub num-files-spec : {M : Type 1} → statement M
 num-files-spec =

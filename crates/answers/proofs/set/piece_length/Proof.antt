@@ -6,6 +6,7 @@ use mir.Syntax.{w32}
 use mir.Val.{SFits}
 use mir.Facts.{toZ-ofZ}
 use borrow.Author.Needs.{needs}
+use Rattle.rules.specs.Questions.{fewEntries}
 use Rattle.rules.proofs.Deciding.{set-value, set-refused, set-length-good, low-i32}
 use Rattle.answers.proofs.set.piece_length.Statement.{statement}
 use Rattle.answers.proofs.set.piece_length.Tie as tie
@@ -27,7 +28,7 @@ returns c =
     let a = c .before .before .before .before .args in
     let d = c .before .before .before .ask-set in
     let fits : SFits w32 (c .signed32 .result) = search needs in
-    let l = set-length-good (a .fs) false true (d .ensures) (c .before .enum-told .given .1) in
+    let l = set-length-good (a .fs) false (fewEntries (a .fs)) (d .ensures) (c .before .enum-told .given .1) in
     set-value (a .fs) (pos (a .fs .«piece_length»)) true true (d .result) (d .ensures) refl (c .before .enum-told .given .1) _ (toZ-ofZ fits ∙ c .signed32 .ensures ∙ low-i32 (a .fs .«piece_length») l)
 
 returns-2 : tie.Need-returns-2

@@ -2,7 +2,7 @@
 use mathlib.Core.Bool.{_&&_}
 use borrow.Author.Needs.{needs}
 use Rattle.tables.specs.Rows.{rowAt, has}
-use Rattle.rules.specs.Questions.{rowsHeld, textHeld}
+use Rattle.rules.specs.Questions.{rowThere, rowsHeld, textHeld}
 use Rattle.rules.proofs.Deciding.{link-value, link-refused}
 use Rattle.answers.proofs.text.internal_symlink.Statement.{statement}
 use Rattle.answers.proofs.text.internal_symlink.Tie as tie
@@ -28,7 +28,7 @@ returns c =
     let h = c .before .before .before .before .before .before .are-held in
     let d = c .before .before .before .before .before .link-in in
     let k = c .before .before .before .k .given in
-    link-value (a .fs) (a .index .0) (λ k. has (rowAt (a .rows .now) k .flags) 16) (λ k. rowAt (a .rows .now) k .link) (h .result) (rowsHeld (a .fs) (a .rows .now) && textHeld (a .fs) (a .text .now)) (d .result) (d .ensures) (h .ensures) (k .0 .0) (k .1)
+    link-value (a .fs) (a .index .0) (rowThere (a .rows .now)) (λ k. has (rowAt (a .rows .now) k .flags) 16) (λ k. rowAt (a .rows .now) k .link) (h .result) (rowsHeld (a .fs) (a .rows .now) && textHeld (a .fs) (a .text .now)) (d .result) (d .ensures) (h .ensures) (k .0 .0) (k .1)
     _ (rw (c .before .row-at .ensures))
 
 returns-2 : tie.Need-returns-2
@@ -36,7 +36,7 @@ returns-2 c =
     let a = c .before .before .before .before .before .before .before .args in
     let h = c .before .before .before .before .are-held in
     let d = c .before .before .before .link-in in
-    link-refused (a .fs) (a .index .0) (λ k. has (rowAt (a .rows .now) k .flags) 16) (λ k. rowAt (a .rows .now) k .link) (h .result) (rowsHeld (a .fs) (a .rows .now) && textHeld (a .fs) (a .text .now)) (d .result) (d .ensures) (h .ensures) _ (c .before .e .given .1)
+    link-refused (a .fs) (a .index .0) (rowThere (a .rows .now)) (λ k. has (rowAt (a .rows .now) k .flags) 16) (λ k. rowAt (a .rows .now) k .link) (h .result) (rowsHeld (a .fs) (a .rows .now) && textHeld (a .fs) (a .text .now)) (d .result) (d .ensures) (h .ensures) _ (c .before .e .given .1)
 
 pub internal-symlink-spec : {M : Type 1} → statement M
 internal-symlink-spec =

@@ -1,18 +1,16 @@
 -- `compatible::compatible::is_held` meets its contract.
-use mathlib.Core.Path.{_∙_}
-use borrow.Author.Tests.{lt-leb, le-leb}
 use borrow.Author.Needs.{needs}
 use Rattle.compatible.proofs.compatible.is_held.Statement.{statement}
 use Rattle.compatible.proofs.compatible.is_held.Tie as tie
 
-returns : tie.Need-returns
-returns c = rw (lt-leb _ _ (c .if1 .taken))
+holds-names-requires : tie.Need-holds-names-requires
+holds-names-requires c κs = search needs
 
 are-held-requires : tie.Need-are-held-requires
 are-held-requires c κs = search needs
 
-returns-2 : tie.Need-returns-2
-returns-2 c = c .are-held .ensures ∙ rw (le-leb _ _ (c .before .if1 .left))
+returns : tie.Need-returns
+returns c = rw (c .before .holds-names .ensures) at (c .are-held .ensures)
 
 pub is-held-spec : {M : Type 1} → statement M
-is-held-spec = tie.close (tie.spec returns are-held-requires returns-2)
+is-held-spec = tie.close (tie.spec holds-names-requires are-held-requires returns)

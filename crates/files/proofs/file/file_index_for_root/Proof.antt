@@ -1,9 +1,10 @@
 -- `files::file::file_index_for_root` meets its contract.
-use mathlib.Core.Bool.{_&&_}
+use mathlib.Core.Bool.{false, _&&_}
 use borrow.Author.Needs.{needs}
 use mathlib.Core.Path.{_≡_, ap₂, _∙_}
 use Rattle.rules.specs.Questions.{rowsHeld, rootsHeld}
-use Rattle.rules.proofs.Deciding.{go, stop}
+use Rattle.rules.proofs.Deciding.{go, stop, set-few}
+use Rattle.files.proofs.Roots.{root-low}
 use Rattle.files.proofs.file.file_index_for_root.Statement.{statement}
 use Rattle.files.proofs.file.file_index_for_root.Tie as tie
 
@@ -33,7 +34,12 @@ enum-known-e : tie.Need-enum-known-e
 enum-known-e c = search needs
 
 returns : tie.Need-returns
-returns c = go _ (rw (held-of (c .before .before .before .before)) at (c .before .before .before .ask-set .ensures)) (c .before .enum-told .given .1) _ (c .find-root .ensures)
+returns c =
+    let a = c .before .before .before .before .before .before .before .before .before .args in
+    let d = c .before .before .before .ask-set in
+    let g = c .before .enum-told .given .1 in
+    go _ (rw (held-of (c .before .before .before .before)) at (d .ensures)) g _
+    (c .find-root .ensures ∙ root-low (a .fs .«num_files») (a .rows .now) (a .roots .now) (a .root .bytes) (set-few (a .fs) false (c .before .before .before .before .are-both .result) (d .ensures) g .0))
 
 returns-2 : tie.Need-returns-2
 returns-2 c = stop _ (rw (held-of (c .before .before .before .before)) at (c .before .before .before .ask-set .ensures)) _ (c .before .e .given .1)

@@ -1,7 +1,7 @@
 -- `files::file::file_piece_range_inclusive` meets its contract.
 use borrow.Author.Needs.{needs}
 use mathlib.Core.Bool.{false}
-use Rattle.files.proofs.Deciding.{file-known, file-counted}
+use Rattle.files.proofs.Deciding.{file-known, file-few}
 use Rattle.rules.proofs.Deciding.{go, stop}
 use Rattle.files.proofs.file.file_piece_range_inclusive.Statement.{statement}
 use Rattle.files.proofs.file.file_piece_range_inclusive.Tie as tie
@@ -22,7 +22,7 @@ inclusive-requires : tie.Need-inclusive-requires
 inclusive-requires c κs =
     let a = c .before .before .before .before .before .before .args in
     let k = file-known (a .fs) (a .index .0) (c .before .before .before .before .has-many .result) false false _ (c .before .before .before .ask-file .ensures) (c .before .enum-told .given .1) in
-    file-counted _ _ _ _ _ (c .before .before .before .before .has-many .ensures) k
+    file-few _ _ _ _ _ (c .before .before .before .before .has-many .ensures) k
 
 enum-known-e : tie.Need-enum-known-e
 enum-known-e c = search needs

@@ -28,7 +28,7 @@ module _ (n k : ℕ) (rows roots root : List ℕ) where
   missing h = let e : n - k ≡ 0 = omega arith in rw e
 
 abbrev Inv-loop : tie.InvT-loop
-Inv-loop rows roots n root k₀ k = (k ≤ n) × (rootFrom (n - k) k rows roots root ≡ rootFrom n 0 rows roots root)
+Inv-loop rows roots n root k₀ k = (k ≤ n) × (rootFrom (n - k) k rows roots (root .bytes) ≡ rootFrom n 0 rows roots (root .bytes))
 
 abbrev μ-loop : tie.MeasureT-loop
 μ-loop rows roots n root k₀ k = n - k
@@ -46,7 +46,7 @@ returns : tie.Need-returns Inv-loop μ-loop
 returns c =
     let a = c .before .before .before .before .before .before .before .args in
     let l = c .before .before .before .before .loop in
-    let e : rootFrom (a .n) 0 (a .rows .now) (a .roots .now) (a .root) ≡ pos (l .k) = sym (l .inv .1) ∙ found (a .n) (l .k) (a .rows .now) (a .roots .now) (a .root) (c .before .before .before .loop-test .taken) (sym (c .before .before .has-root-of .ensures) ∙ c .before .if1 .taken) in
+    let e : rootFrom (a .n) 0 (a .rows .now) (a .roots .now) (a .root .bytes) ≡ pos (l .k) = sym (l .inv .1) ∙ found (a .n) (l .k) (a .rows .now) (a .roots .now) (a .root .bytes) (c .before .before .before .loop-test .taken) (sym (c .before .before .has-root-of .ensures) ∙ c .before .if1 .taken) in
     c .new .ensures ∙ sym (ap low31 e)
 
 add-k : tie.Need-add-k Inv-loop μ-loop
@@ -59,7 +59,7 @@ loop-again : tie.Need-loop-again Inv-loop μ-loop
 loop-again c =
     let a = c .before .before .before .before .before .before .args in
     let l = c .before .before .before .loop in
-    (omega arith, turn (a .n) (l .k) (a .rows .now) (a .roots .now) (a .root) (c .before .before .loop-test .taken) (sym (c .before .has-root-of .ensures) ∙ c .if1 .left) ∙ l .inv .1)
+    (omega arith, turn (a .n) (l .k) (a .rows .now) (a .roots .now) (a .root .bytes) (c .before .before .loop-test .taken) (sym (c .before .has-root-of .ensures) ∙ c .if1 .left) ∙ l .inv .1)
 
 none-requires : tie.Need-none-requires Inv-loop μ-loop
 none-requires c κs = search needs
@@ -68,7 +68,7 @@ returns-2 : tie.Need-returns-2 Inv-loop μ-loop
 returns-2 c =
     let a = c .before .before .before .before .before .args in
     let l = c .before .before .loop in
-    c .none .ensures ∙ ap low31 (sym (missing (a .n) (l .k) (a .rows .now) (a .roots .now) (a .root) (c .before .loop-test .left)) ∙ l .inv .1)
+    c .none .ensures ∙ ap low31 (sym (missing (a .n) (l .k) (a .rows .now) (a .roots .now) (a .root .bytes) (c .before .loop-test .left)) ∙ l .inv .1)
 
 pub find-root-spec : {M : Type 1} → statement M
 find-root-spec =

@@ -18,8 +18,8 @@ use Rattle.files.specs.private.Deciding.{requestOf, bytesRules, position
 use Rattle.rules.proofs.Rules.{Passed, passed}
 use Rattle.files.proofs.Deciding.{low-whole, past-index, bytes-past}
 use Rattle.files.proofs.Requests.{placed}
-use Rattle.layout.proofs.Deciding.{counted}
-use Rattle.rules.proofs.Deciding.{below-is, offset-low, length-good, index-low}
+use Rattle.layout.proofs.Deciding.{few-pieces}
+use Rattle.rules.proofs.Deciding.{below-is, offset-low, length-good, index-low, held-few}
 use borrow.Author.Needs.{needs}
 use Rattle.files.proofs.file.map_file.Statement.{statement}
 use Rattle.files.proofs.file.map_file.Tie as tie
@@ -66,7 +66,7 @@ offset-of-requires c κs =
     let q = passes c in
     let k = below-is (a .fs .«num_files») (a .index .0) (not-false (isBelow (a .fs .«num_files») (a .index .0)) (q .1 .0)) in
     let r = length (a .rows .now) / 8 in
-    let h = leb-true (a .fs .«num_files») r (not-false (leb (a .fs .«num_files») r) (q .1 .1 .1 .1 .0)) in
+    let h = leb-true (a .fs .«num_files») r (held-few (a .fs) (leb (a .fs .«num_files») r) (q .1 .1 .1 .1 .0) .0) in
     omega (arith, number-is c, k, h)
 
 clamped64-requires : tie.Need-clamped64-requires
@@ -101,7 +101,7 @@ returns c =
     let e : requestOf (c .before .request-at .result) ≡ mapFile (a .fs) (a .rows .now) (clampedOf (a .index .0)) (clampedOf (a .offset)) (clampedOf (a .size)) = rw (c .before .before .before .before .offset-of .ensures, number-is (c .before .before .before .before .before), s, n) at (c .before .request-at .ensures) in
     let h = c .signed-request .ensures in
     let t = passes (c .before .before .before .before .before) in
-    let p = placed (a .fs) _ (clampedOf (a .size)) (mapFile (a .fs) (a .rows .now) (clampedOf (a .index .0)) (clampedOf (a .offset)) (clampedOf (a .size))) (counted (a .fs) (t .0) (t .1 .1 .0)) refl in
+    let p = placed (a .fs) _ (clampedOf (a .size)) (mapFile (a .fs) (a .rows .now) (clampedOf (a .index .0)) (clampedOf (a .offset)) (clampedOf (a .size))) (few-pieces (a .fs) (t .0) (t .1 .1 .0)) refl in
     let l : mapFile (a .fs) (a .rows .now) (clampedOf (a .index .0)) (clampedOf (a .offset)) (clampedOf (a .size)) .length ≤ 2147483647 = omega (arith, p .length, index-low (a .size) size-fits) in
     rw (answered (c .before .before .before .before .before))
     (ap value

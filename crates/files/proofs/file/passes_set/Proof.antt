@@ -28,9 +28,12 @@ returns-2 c = rw (sym (c .before .before .before .is-bad-length .ensures) ∙ c 
 is-held-requires : tie.Need-is-held-requires
 is-held-requires c κs = search needs
 
+are-held-requires : tie.Need-are-held-requires
+are-held-requires c κs = search needs
+
 returns-3 : tie.Need-returns-3
-returns-3 c = rw (sym (c .before .before .before .before .is-bad-length .ensures) ∙ c .before .before .before .if1 .left, sym (c .before .before .has-many .ensures) ∙ c .before .if2 .left)
-    (held _ _ (c .is-held .ensures))
+returns-3 c = rw (sym (c .before .before .before .before .before .is-bad-length .ensures) ∙ c .before .before .before .before .if1 .left, sym (c .before .before .before .has-many .ensures) ∙ c .before .before .if2 .left)
+    (held _ _ (rw (c .before .is-held .ensures) at (c .are-held .ensures)))
 
 pub passes-set-spec : {M : Type 1} → statement M
 passes-set-spec =
@@ -41,4 +44,5 @@ passes-set-spec =
     has-many-requires
     returns-2
     is-held-requires
+    are-held-requires
     returns-3)

@@ -23,8 +23,8 @@ range-of c =
     rw (toZ-ofZ offset-fits, n) at (c .is-bad-range .ensures)
 
 -- what the decision says, as the contract says it
-asked-is : (c : tie.After-first-refusal) → checkNumber (c .first-refusal .result) ≡ firstOf (bytesRules (c .before .before .before .before .before .before .before .args .fs) (c .before .before .before .before .before .before .before .args .index .0) (c .before .before .before .before .before .before .before .args .offset) (c .before .before .before .before .before .before .before .args .size) (c .before .before .before .before .before .before .before .args .room))
-asked-is c = rw (c .before .before .before .before .before .before .is-bad-length .ensures, c .before .before .before .before .before .is-no-file .ensures, c .before .before .before .before .has-many .ensures, range-of (c .before .before), c .before .is-held .ensures) at (c .first-refusal .ensures)
+asked-is : (c : tie.After-first-refusal) → checkNumber (c .first-refusal .result) ≡ firstOf (bytesRules (c .before .before .before .before .before .before .before .before .args .fs) (c .before .before .before .before .before .before .before .before .args .index .0) (c .before .before .before .before .before .before .before .before .args .offset) (c .before .before .before .before .before .before .before .before .args .size) (c .before .before .before .before .before .before .before .before .args .room))
+asked-is c = rw (c .before .before .before .before .before .before .before .is-bad-length .ensures, c .before .before .before .before .before .before .is-no-file .ensures, c .before .before .before .before .before .has-many .ensures, range-of (c .before .before .before), c .before .are-held .ensures, c .before .before .is-held .ensures) at (c .first-refusal .ensures)
 
 is-bad-length-requires : tie.Need-is-bad-length-requires
 is-bad-length-requires c κs = search needs
@@ -44,6 +44,9 @@ is-bad-range-requires c κs = search needs
 is-held-requires : tie.Need-is-held-requires
 is-held-requires c κs = search needs
 
+are-held-requires : tie.Need-are-held-requires
+are-held-requires c κs = search needs
+
 first-refusal-requires : tie.Need-first-refusal-requires
 first-refusal-requires c κs = search needs
 
@@ -56,7 +59,7 @@ enum-known-e c = search needs
 returns : tie.Need-returns
 returns c =
     let z = sym (asked-is (c .before .before)) ∙ ap checkNumber (c .enum-told .given .1) in
-    absurd (true≢false (rw z at (c .before .before .before .before .before .before .before .before .before .pre)))
+    absurd (true≢false (rw z at (c .before .before .before .before .before .before .before .before .before .before .pre)))
 
 returns-2 : tie.Need-returns-2
 returns-2 c =
@@ -73,6 +76,7 @@ refused-bytes-spec =
     is-negative32-requires
     is-bad-range-requires
     is-held-requires
+    are-held-requires
     first-refusal-requires
     enum-told
     enum-known-e

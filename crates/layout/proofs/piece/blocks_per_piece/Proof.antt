@@ -7,6 +7,7 @@ use mir.Facts.{toZ-ofZ}
 use mathlib.Core.Bool.{true, false}
 use Rattle.layout.specs.Pieces.{blocksIn}
 use Rattle.layout.proofs.Sizes.{blocks-low}
+use Rattle.rules.specs.Questions.{fewEntries}
 use Rattle.rules.proofs.Deciding.{go, stop, set-length-good, low-i32}
 use Rattle.layout.proofs.piece.blocks_per_piece.Statement.{statement}
 use Rattle.layout.proofs.piece.blocks_per_piece.Tie as tie
@@ -30,7 +31,7 @@ returns : tie.Need-returns
 returns c =
     let fits : SFits w32 (c .signed32 .result) = search needs in
     let n = c .before .before .before .before .before .args .fs .«piece_length» in
-    let l = set-length-good (c .before .before .before .before .before .args .fs) false true (c .before .before .before .before .ask-set .ensures) (c .before .before .enum-told .given .1) in
+    let l = set-length-good (c .before .before .before .before .before .args .fs) false (fewEntries (c .before .before .before .before .before .args .fs)) (c .before .before .before .before .ask-set .ensures) (c .before .before .enum-told .given .1) in
     go _ (c .before .before .before .before .ask-set .ensures) (c .before .before .enum-told .given .1) _
     (toZ-ofZ fits ∙ (rw (c .before .div-ceil .ensures) at (c .signed32 .ensures)) ∙ low-i32 (blocksIn n) (blocks-low n l))
 

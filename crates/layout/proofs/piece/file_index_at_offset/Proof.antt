@@ -1,10 +1,10 @@
 -- `layout::piece::file_index_at_offset` meets its contract.
 use borrow.Author.Needs.{needs}
-use mathlib.Core.Path.{_≡_}
+use mathlib.Core.Path.{_≡_, _∙_}
 use mir.Syntax.{w64}
 use mir.Val.{SFits}
 use mir.Facts.{toZ-ofZ}
-use Rattle.layout.proofs.Deciding.{set-held}
+use Rattle.layout.proofs.Deciding.{set-held, set-found}
 use Rattle.rules.proofs.Deciding.{go, stop}
 use Rattle.rules.specs.Bounds.{clampedOf}
 use Rattle.rules.specs.Questions.{badOffset}
@@ -45,7 +45,8 @@ returns c =
     let s : c .before .before .clamped64 .result ≡ clampedOf (a .offset) = rw z at (c .before .before .clamped64 .ensures) in
     let b : c .before .before .before .before .before .before .before .is-bad-offset .result ≡ badOffset (a .fs) (a .offset) .test = rw z at (c .before .before .before .before .before .before .before .is-bad-offset .ensures) in
     go _ (rw (b, c .before .before .before .before .before .before .is-held .ensures) at (c .before .before .before .before .before .ask-set .ensures)) (c .before .before .before .enum-told .given .1) _
-    (rw (c .before .find-near .ensures, s) at (c .new .ensures))
+    ((rw (c .before .find-near .ensures, s) at (c .new .ensures))
+    ∙ set-found (a .fs) (c .before .before .before .before .before .before .before .is-bad-offset .result) (c .before .before .before .before .before .before .is-held .result) (a .rows .now) (clampedOf (a .offset)) (c .before .before .before .before .before .ask-set .ensures) (c .before .before .before .enum-told .given .1))
 
 returns-2 : tie.Need-returns-2
 returns-2 c =

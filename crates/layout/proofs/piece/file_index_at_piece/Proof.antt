@@ -1,8 +1,9 @@
 -- `layout::piece::file_index_at_piece` meets its contract.
 use borrow.Author.Needs.{needs}
+use mathlib.Core.Path.{_∙_}
 use mathlib.Core.Bool.{false}
 use native.Mathlib.Omega.{arith}
-use Rattle.layout.proofs.Deciding.{piece-known, piece-held}
+use Rattle.layout.proofs.Deciding.{piece-known, piece-held, piece-found}
 use Rattle.rules.proofs.Deciding.{go, stop}
 use Rattle.layout.proofs.piece.file_index_at_piece.Statement.{statement}
 use Rattle.layout.proofs.piece.file_index_at_piece.Tie as tie
@@ -38,8 +39,11 @@ enum-known-e c = search needs
 
 returns : tie.Need-returns
 returns c =
+    let a = c .before .before .before .before .before .before .before .before .before .args in
+    let d = c .before .before .before .before .before .before .ask-piece in
     go _ (rw (c .before .before .before .before .before .before .before .is-held .ensures) at (c .before .before .before .before .before .before .ask-piece .ensures)) (c .before .before .before .before .enum-told .given .1) _
-    (rw (c .before .find .ensures, c .before .before .start-of .ensures, c .before .before .before .get .ensures) at (c .new .ensures))
+    ((rw (c .before .find .ensures, c .before .before .start-of .ensures, c .before .before .before .get .ensures) at (c .new .ensures))
+    ∙ piece-found (a .fs) (a .piece .0) false (c .before .before .before .before .before .before .before .is-held .result) (a .rows .now) _ (d .ensures) (c .before .before .before .before .enum-told .given .1))
 
 returns-2 : tie.Need-returns-2
 returns-2 c = stop _ (rw (c .before .before .before .before .is-held .ensures) at (c .before .before .before .ask-piece .ensures)) _ (c .before .e .given .1)

@@ -6,10 +6,11 @@ use Prim.Native.Nat.{_+_}
 use mir.Syntax.{w64}
 use mir.Val.{SFits}
 use mir.Facts.{toZ-ofZ}
+use mathlib.Core.Bool.{_&&_}
 use mathlib.Core.List.{[], _∷_}
 use Rattle.rules.specs.Rules.{firstOf}
 use Rattle.rules.specs.Bounds.{clampedOf, isNegative}
-use Rattle.rules.specs.Questions.{rowsHeld, badPieceLength, manyPieces, noPiece, badRange, short}
+use Rattle.rules.specs.Questions.{rowsHeld, badPieceLength, manyPieces, noPiece, badRange, short, fewEntries}
 use Rattle.layout.specs.Pieces.{startOf}
 use Rattle.rules.specs.Results.{checkNumber}
 use Rattle.layout.proofs.Deciding.{piece-known, piece-held, piece-range-good}
@@ -29,7 +30,7 @@ range-of c =
 
 decided : (c : tie.After-ask-piece)
     → checkNumber (c .ask-piece .result)
-    ≡ firstOf (badPieceLength (c .before .before .before .before .before .args .fs) ∷ manyPieces (c .before .before .before .before .before .args .fs) ∷ noPiece (c .before .before .before .before .before .args .fs) (c .before .before .before .before .before .args .piece .0) ∷ badRange (c .before .before .before .before .before .args .offset) (c .before .before .before .before .before .args .size) ∷ short (rowsHeld (c .before .before .before .before .before .args .fs) (c .before .before .before .before .before .args .rows .now)) ∷ [])
+    ≡ firstOf (badPieceLength (c .before .before .before .before .before .args .fs) ∷ manyPieces (c .before .before .before .before .before .args .fs) ∷ noPiece (c .before .before .before .before .before .args .fs) (c .before .before .before .before .before .args .piece .0) ∷ badRange (c .before .before .before .before .before .args .offset) (c .before .before .before .before .before .args .size) ∷ short (rowsHeld (c .before .before .before .before .before .args .fs) (c .before .before .before .before .before .args .rows .now) && fewEntries (c .before .before .before .before .before .args .fs)) ∷ [])
 decided c = rw (range-of (c .before .before), c .before .is-held .ensures) at (c .ask-piece .ensures)
 
 is-negative64-requires : tie.Need-is-negative64-requires

@@ -1,16 +1,16 @@
 -- `links::judge::is_held` meets its contract.
-use borrow.Author.Tests.{le-leb, lt-leb}
+use borrow.Author.Needs.{needs}
 use Rattle.links.proofs.judge.is_held.Statement.{statement}
 use Rattle.links.proofs.judge.is_held.Tie as tie
 
+holds-tables-requires : tie.Need-holds-tables-requires
+holds-tables-requires c κs = search needs
+
+are-held-requires : tie.Need-are-held-requires
+are-held-requires c κs = search needs
+
 returns : tie.Need-returns
-returns c = rw (lt-leb _ _ (c .if1 .taken))
-
-returns-2 : tie.Need-returns-2
-returns-2 c = rw (le-leb _ _ (c .before .before .if1 .left), lt-leb _ _ (c .if2 .taken))
-
-returns-3 : tie.Need-returns-3
-returns-3 c = rw (le-leb _ _ (c .before .before .before .if1 .left), le-leb _ _ (c .before .if2 .left))
+returns c = rw (c .before .holds-tables .ensures) at (c .are-held .ensures)
 
 pub is-held-spec : {M : Type 1} → statement M
-is-held-spec = tie.close (tie.spec returns returns-2 returns-3)
+is-held-spec = tie.close (tie.spec holds-tables-requires are-held-requires returns)

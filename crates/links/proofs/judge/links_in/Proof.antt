@@ -6,7 +6,7 @@ use mathlib.Core.List.{[]}
 use borrow.Author.Tests.{not-true, not-false}
 use Rattle.tables.specs.Model.{Store}
 use Rattle.rules.specs.Bounds.{badLength}
-use Rattle.rules.specs.Questions.{rowsHeld, dirsHeld, textHeld}
+use Rattle.rules.specs.Questions.{rowsHeld, dirsHeld, textHeld, fewEntries}
 use Rattle.lookup.specs.Lookup.{lent}
 use Rattle.lookup.proofs.Spaces.{count-rows}
 use Rattle.links.proofs.judge.links_in.Statement.{statement}
@@ -18,7 +18,7 @@ theSet c = lent (c .args .fs) (c .args .rows .now) (c .args .dirs .now) (c .args
 is-good : (c : tie.Else1) → badLength (c .before .before .before .before .before .args .fs .«piece_length») ≡ false
 is-good c = sym (c .before .is-bad-length .ensures) ∙ c .if1 .left
 
-is-whole : (c : tie.Else2) → (rowsHeld (c .before .before .before .before .before .before .before .args .fs) (c .before .before .before .before .before .before .before .args .rows .now) && (dirsHeld (c .before .before .before .before .before .before .before .args .fs) (c .before .before .before .before .before .before .before .args .dirs .now) && textHeld (c .before .before .before .before .before .before .before .args .fs) (c .before .before .before .before .before .before .before .args .text .now))) ≡ true
+is-whole : (c : tie.Else2) → ((rowsHeld (c .before .before .before .before .before .before .before .args .fs) (c .before .before .before .before .before .before .before .args .rows .now) && (dirsHeld (c .before .before .before .before .before .before .before .args .fs) (c .before .before .before .before .before .before .before .args .dirs .now) && textHeld (c .before .before .before .before .before .before .before .args .fs) (c .before .before .before .before .before .before .before .args .text .now))) && fewEntries (c .before .before .before .before .before .before .before .args .fs)) ≡ true
 is-whole c = sym (c .before .is-held .ensures) ∙ not-false _ (c .if2 .left)
 
 is-bad-length-requires : tie.Need-is-bad-length-requires
