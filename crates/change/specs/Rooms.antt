@@ -35,7 +35,7 @@ holdsIn fs rooms =
     leb (fs .«num_files») (filesRoom rooms)
     && (leb (fs .«num_paths») (dirsRoom rooms)
     && (leb (fs .«num_mtimes») (rooms .times)
-    && (leb (fs .«text_len») (rooms .text) && leb (fs .«size_on_disk») (fs .«total_size»))))
+    && leb (fs .«text_len») (rooms .text)))
 
 abbrev pub holds : Store → Bool
 holds s = holdsIn (s .fs) (roomsOf s)

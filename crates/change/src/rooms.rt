@@ -1,15 +1,14 @@
 // How much the lent tables hold, and whether that is what a set counts. Relies on `tables` and on the laws of
 // proofs/Held.antt.
 ghost use mathlib.Core.Path.{_≡_};
+ghost use lib.Dec.{leb};
 ghost use Rattle.change.specs.Rooms.{roomsIn, filesRoom, dirsRoom, holdsIn};
 use lists::min_usize;
+use rules::MAX_ENTRIES;
 use tables::DIR_WIDTH;
 use tables::FileStorage;
 use tables::ROOT_WIDTH;
 use tables::ROW_WIDTH;
-
-// The most files, and the most directories, of a set.
-const MAX_ENTRIES: usize = 65535;
 
 // How many files, directories, times and bytes of text the lent tables can hold.
 pub struct Rooms {
@@ -45,6 +44,13 @@ pub fn dirs_room(rooms: Rooms) -> usize
     min_usize(MAX_ENTRIES, rooms.directories)
 }
 
+// Whether the text area holds a set's used text.
+fn holds_text(fs: FileStorage, rooms: Rooms) -> bool
+    ensures { λ r. ⌜ r ≡ leb (fs .«text_len») (rooms .text) ⌝ }
+{
+    fs.text_len <= rooms.text
+}
+
 // Whether the lent tables hold what a set counts.
 pub fn holds(fs: FileStorage, rooms: Rooms) -> bool
     ensures { λ r. ⌜ r ≡ holdsIn fs rooms ⌝ }
@@ -58,8 +64,5 @@ pub fn holds(fs: FileStorage, rooms: Rooms) -> bool
     if rooms.times < fs.num_mtimes {
         return false;
     }
-    if rooms.text < fs.text_len {
-        return false;
-    }
-    fs.size_on_disk <= fs.total_size
+    holds_text(fs, rooms)
 }

@@ -1,6 +1,6 @@
 -- What an addition writes: the tables after it, word by word, for tables of any content. The decisions are
 -- those of Addition.antt on what the tables mean (`viewOf`); here stands where each text and row goes.
-use Prim.Native.Nat.{ℕ, _+_, _-_, max}
+use Prim.Native.Nat.{ℕ, _+_, _-_, _%_, _^_, max}
 use mathlib.Core.Bool.{Bool, false, cond, not, _&&_}
 use mathlib.Core.List.{List, [], _∷_, _++_}
 use lib.Dec.{eqb}
@@ -206,6 +206,10 @@ rootsAdded roots i (present root) = putRoot roots i root
 abbrev pub timesAdded : List ℤ → ℕ → ℕ → ℤ → List ℤ
 timesAdded times held i t = cond (isZero t) times (set (sets times held (replicate (i + 1 - held) (pos 0))) i t)
 
+-- the size on disk with what an addition adds, held in 64 bits; on tables in order the sum itself
+abbrev pub onDiskAdded : ℕ → ℕ → ℕ
+onDiskAdded disk size = (disk + size) % 2 ^ 64
+
 -- the set's record
 abbrev pub storageAdded : FileStorage → Model → Addition → FileStorage
 storageAdded fs m a =
@@ -219,7 +223,7 @@ storageAdded fs m a =
       name = cond (eqb (fs .«num_files») 0) (record { at = textKept fs; len = length (setText m a) }) (fs .name);
       «text_len» = textAfter fs m a;
       «total_size» = fs .«total_size» + sizeAdded a + padOf m a;
-      «size_on_disk» = fs .«size_on_disk» + cond (isPad (a .flags)) 0 (sizeAdded a);
+      «size_on_disk» = onDiskAdded (fs .«size_on_disk») (cond (isPad (a .flags)) 0 (sizeAdded a));
       trimmed = fs .trimmed;
     }
 

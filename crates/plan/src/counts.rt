@@ -2,10 +2,11 @@
 // small are in `Countable`.
 ghost use mathlib.Core.Path.{_≡_};
 ghost use mathlib.Core.Bool.{true, cond};
-ghost use Prim.Native.Nat.{_+_, _≤_, _<_, _^_, max};
+ghost use Prim.Native.Nat.{_+_, _≤_, _<_, max};
 ghost use lib.Dec.{eqb};
 ghost use Rattle.tables.specs.Model.{isPad};
 ghost use Rattle.rules.specs.Bounds.{maxEntries, maxLinks};
+ghost use Rattle.plan.specs.Write.{onDiskAdded};
 ghost use Rattle.plan.specs.private.Steps.{Countable, bitOf, rowFlags, countsOf, shortOf};
 use additions::Sizes;
 use change::Rooms;
@@ -26,9 +27,9 @@ pub(crate) struct Counts {
 }
 
 // What an addition adds to the counts: the flags that are given, whether its link text is kept, whether
-// it has no time, and whether it has a root.
+// it has no time, and whether it has a root. The flags are a word: four bytes would be put together in one.
 pub(crate) struct FileFacts {
-    pub flags: u8,
+    pub flags: u64,
     pub keeps_link: bool,
     pub untimed: bool,
     pub has_root: bool,
@@ -45,7 +46,7 @@ fn bit(on: bool, value: u64) -> u64
 pub(crate) fn row_flags(facts: FileFacts, outside: bool) -> u64
     ensures { λ r. ⌜ r ≡ rowFlags facts outside ⌝ }
 {
-    let flags = facts.flags as u64;
+    let flags = facts.flags;
     let keeps = facts.keeps_link;
     flags % SYMLINK_BIT
         + bit(keeps, flags / SYMLINK_BIT % 2 * SYMLINK_BIT)
@@ -81,16 +82,18 @@ fn times_after(held: usize, files: usize, untimed: bool) -> usize
     if held < files + 1 { files + 1 } else { held }
 }
 
-// The bytes on disk after an addition: a pad counts for none.
-fn disk_after(on_disk: u64, flags: u8, size: u64) -> u64
-    requires { ⌜ «on_disk» + size < 2 ^ 64 ⌝ }
-    ensures { λ r. ⌜ r ≡ «on_disk» + cond (isPad flags) 0 size ⌝ }
+// What an addition adds to the bytes on disk: a pad counts for none.
+fn on_disk(flags: u64, size: u64) -> u64
+    ensures { λ r. ⌜ r ≡ cond (isPad flags) 0 size ⌝ }
 {
-    if flags % 2 == 1 {
-        on_disk
-    } else {
-        on_disk + size
-    }
+    if flags % 2 == 1 { 0 } else { size }
+}
+
+// The bytes on disk after an addition; past 64 bits the sum begins anew.
+fn disk_after(disk: u64, flags: u64, size: u64) -> u64
+    ensures { λ r. ⌜ r ≡ onDiskAdded disk (cond (isPad flags) 0 size) ⌝ }
+{
+    std::num::wrapping_add_u64(disk, on_disk(flags, size))
 }
 
 // What the set counts after an addition.

@@ -339,7 +339,7 @@ fn facts_of(fs: FileStorage, file: FileInfo, link: &[u8]) -> FileFacts
 {
     let rooted = file.rooted;
     FileFacts {
-        flags: file.flags,
+        flags: file.flags as u64,
         keeps_link: additions::keeps_link(fs.num_symlinks, link),
         untimed: additions::is_zero(file.mtime),
         has_root: additions::is_here(rooted),

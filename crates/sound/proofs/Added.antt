@@ -24,11 +24,12 @@ use Rattle.lists.specs.Decimal.{decimal}
 use Rattle.tables.specs.declared.span.Span.{Span}
 use Rattle.tables.specs.Span.{slid}
 use Rattle.tables.specs.Rows.{has, rootAt, dirWords, dirsLowered}
-use Rattle.tables.specs.Model.{Optional, absent, present, presentIf, Directory, single, absolute, stored, File, Model, Store, fileOf, directoryText, viewOf}
+use Rattle.tables.specs.Model.{Optional, absent, present, presentIf, Directory, single, absolute, stored, isPad, File, Model, Store, fileOf, directoryText, viewOf}
 use Rattle.tables.proofs.Spans.{clip-same, length-slid}
 use Rattle.tables.proofs.Tabled.{length-tabled}
 use Rattle.additions.specs.Addition.{Addition, added, filesOf, sizeAdded, keeps, padOf, newName, directoryAdded, fileAdded, padAdded, padDirectory, flagsKept, isAmong, withDirectory, withDirectoryOf, directoriesAfter, isPresent, withTime}
-use Rattle.plan.specs.Write.{isOutside, textIfNew, newTextOf, setText, directoryNew, nameText, linkNew, padDirectoryNew, oldName, textKept, putDirIf, isNew, isNewDirectory, isNewPad, rootsAdded, storeAdded}
+use Rattle.plan.specs.Write.{isOutside, textIfNew, newTextOf, setText, directoryNew, nameText, linkNew, padDirectoryNew, oldName, textKept, putDirIf, isNew, isNewDirectory, isNewPad, rootsAdded, onDiskAdded, storageAdded, storeAdded}
+use Rattle.rules.specs.Bounds.{limit}
 use Rattle.plan.specs.Outcomes.{addingNumber}
 use Rattle.sound.specs.Sound.{setName, Sound}
 use Rattle.sound.proofs.Added.Answer.{Fits, fits}
@@ -112,6 +113,18 @@ model p v t f d h l z o b =
 same-model : {p p′ l l′ z z′ o o′ : ℕ} {v b b′ : Bool} {t t′ : List ℕ} {f f′ : List File} {d d′ : List (List ℕ)} {h h′ : List ℤ}
     → p ≡ p′ → t ≡ t′ → f ≡ f′ → d ≡ d′ → h ≡ h′ → l ≡ l′ → z ≡ z′ → o ≡ o′ → b ≡ b′ → model p v t f d h l z o b ≡ model p′ v t′ f′ d′ h′ l′ z′ o′ b′
 same-model ep et ef ed eh el ez eo eb = cc
+
+-- ---- the size on disk
+
+disk-held : (b : Bool) (disk size : ℕ) → disk + size ≤ limit → onDiskAdded disk (cond b 0 size) ≡ disk + cond b 0 size
+disk-held true disk size h = omega arith
+disk-held false disk size h = omega arith
+
+-- on tables in order 64 bits hold the size on disk after an addition: it is the sum itself
+pub disk-plain : (s : Store) (a : Addition) → Sound s → s .fs .«total_size» + sizeAdded a ≤ limit
+    → onDiskAdded (s .fs .«size_on_disk») (cond (isPad (a .flags)) 0 (sizeAdded a))
+    ≡ s .fs .«size_on_disk» + cond (isPad (a .flags)) 0 (sizeAdded a)
+disk-plain s a ok h = disk-held (isPad (a .flags)) (s .fs .«size_on_disk») (sizeAdded a) (omega (arith, ok .on-disk))
 
 module _ (s : Store) (m : Model) (a : Addition) (ok : Sound s) (is : viewOf s ≡ m) (fit : Fits s m a) (rooted : (r : List ℕ) → a .root ≡ present r → length r ≡ 32) where
   abbrev n : ℕ
@@ -280,8 +293,11 @@ module _ (s : Store) (m : Model) (a : Addition) (ok : Sound s) (is : viewOf s �
       sound-settled (stage5 s m a) _ _ _ _ sound5
       (times-fit (s .times) (s .fs .«num_mtimes») n (a .time) (ok .times-hold) times-room)
 
+  plain : storageAdded (s .fs) m a .«size_on_disk» ≡ s .fs .«size_on_disk» + cond (isPad (a .flags)) 0 (sizeAdded a)
+  plain = disk-plain s a ok (omega (arith, fit .limited, ap (λ (x : Model). x .total) is))
+
   sound-whole : Sound (storeAdded s m a)
-  sound-whole = rw (whole s m a dirs-count) sound6
+  sound-whole = rw (whole s m a dirs-count plain) sound6
 
   -- ---- what the tables mean
 
@@ -371,7 +387,7 @@ module _ (s : Store) (m : Model) (a : Addition) (ok : Sound s) (is : viewOf s �
 
   view-whole : viewOf (storeAdded s m a) ≡ added m a
   view-whole =
-      ap viewOf (whole s m a dirs-count)
+      ap viewOf (whole s m a dirs-count plain)
       ∙ same-model
       (ap (λ (x : Model). x .pieceLength) is)
       name-is
@@ -380,7 +396,7 @@ module _ (s : Store) (m : Model) (a : Addition) (ok : Sound s) (is : viewOf s �
       times-is
       (ap (λ (x : Model). x .links + cond (keeps m a) 1 0) is)
       (ap (λ (x : Model). x .total + sizeAdded a + padOf m a) is)
-      (sym (on-disk-is s m a dirs-count) ∙ ap (λ (x : Model). x .onDisk + cond (eqb (a .flags % 2) 1) 0 (sizeAdded a)) is)
+      (sym (on-disk-is s m a dirs-count plain) ∙ ap (λ (x : Model). x .onDisk + cond (eqb (a .flags % 2) 1) 0 (sizeAdded a)) is)
       (ap (λ (x : Model). x .trimmed) is)
 
 -- ---- the laws

@@ -9,7 +9,7 @@ use Rattle.additions.specs.Addition.{Addition, flagsKept, keepsLink, isZero}
 use Rattle.additions.specs.Addition.{padDirectory, withDirectoryOf, withDirectory, directoryAdded}
 use Rattle.additions.specs.private.Texts.{isHere, nameFrom, linkTextOf, directoryAt}
 use Rattle.plan.specs.Write.{directoryIndex, pathIndexOf, textIfNew, newTextOf, isNew, isNewDirectory}
-use Rattle.plan.specs.Write.{setText, nameText, linkNew, padDigits, oldName, textKept}
+use Rattle.plan.specs.Write.{setText, nameText, linkNew, padDigits, oldName, textKept, onDiskAdded}
 use mathlib.Core.Path.{_≡_}
 use mathlib.Core.List.{List, [], _∷_, _++_}
 use lib.Dec.{eqb, ltb}
@@ -95,7 +95,6 @@ pub record Countable (fs : FileStorage) (z : Sizes) (keeps : Bool) : Type 0 wher
   pub files : fs .«num_files» ≤ maxEntries
   pub links : keeps ≡ true → fs .«num_symlinks» < maxLinks
   pub total : fs .«total_size» + z .size + z .pad ≤ limit
-  pub disk : fs .«size_on_disk» ≤ fs .«total_size»
 
 abbrev pub countsOf : FileStorage → Sizes → FileFacts → Counts
 countsOf fs z f =
@@ -105,7 +104,7 @@ countsOf fs z f =
       «num_mtimes» = cond (f .untimed) (fs .«num_mtimes») (max (fs .«num_mtimes») (fs .«num_files» + 1));
       «file_end» = fs .«total_size» + z .size;
       «total_size» = fs .«total_size» + z .size + z .pad;
-      «size_on_disk» = fs .«size_on_disk» + cond (isPad (f .flags)) 0 (z .size);
+      «size_on_disk» = onDiskAdded (fs .«size_on_disk») (cond (isPad (f .flags)) 0 (z .size));
     }
 
 -- the tables have too few rows or times for these counts of files, directories and times

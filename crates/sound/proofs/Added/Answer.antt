@@ -26,9 +26,8 @@ module _ (s : Store) (ok : Sound s) where
         le-leb (s .fs .«num_files») (min 65535 (roomsOf s .files)) (omega (arith, ok .rows-hold, ok .roots-hold, ok .few-files)),
         le-leb (s .fs .«num_paths») (min 65535 (roomsOf s .directories)) (omega (arith, ok .dirs-hold, ok .few-paths)),
         le-leb (s .fs .«num_mtimes») (roomsOf s .times) (ok .times-hold),
-        le-leb (s .fs .«text_len») (roomsOf s .text) (ok .text-holds),
       )
-      (le-leb (s .fs .«size_on_disk») (s .fs .«total_size») (omega (arith, ok .on-disk)))
+      (le-leb (s .fs .«text_len») (roomsOf s .text) (ok .text-holds))
 
   pub adding-number : (a : Addition) → addingNumber s (viewOf s) a ≡ firstOf (addingRules (viewOf s) a (lacks (roomsOf s) (added (viewOf s) a) (textOf (added (viewOf s) a))))
   adding-number a =

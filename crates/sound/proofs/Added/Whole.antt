@@ -123,58 +123,60 @@ pad-four false ds e = at (isAmong padDirectory ds) refl
     at true q = let r : not true ≡ true = rw q at e in let z : _≡_ {A = ℕ} 0 1 = cc in absurd (omega arith)
     at false q = rw q
 
-module _ (s : Store) (m : Model) (a : Addition) (e : length (m .directories) ≡ s .fs .«num_paths») where
-  pub on-disk-is : s .fs .«size_on_disk» + cond (eqb (a .flags % 2) 1) 0 (sizeAdded a) ≡ stage6 s m a .fs .«size_on_disk»
-  on-disk-is =
-      let p : has (newFile m a .flags) 1 ≡ eqb (a .flags % 2) 1 =
-      flags-one (flagsKept (a .flags) (keeps m a)) (keeps m a) (isOutside (directoryAdded m a)) (isPresent (a .root)) (kept-small (a .flags) (keeps m a))
-      ∙ ap (λ (x : ℕ). eqb x 1) (kept-one (a .flags) (keeps m a)) in
-      rw p (omega arith)
+module _ (s : Store) (m : Model) (a : Addition) (e : length (m .directories) ≡ s .fs .«num_paths»)
+    (plain : storageAdded (s .fs) m a .«size_on_disk» ≡ s .fs .«size_on_disk» + cond (eqb (a .flags % 2) 1) 0 (sizeAdded a))
+  where
+    pub on-disk-is : s .fs .«size_on_disk» + cond (eqb (a .flags % 2) 1) 0 (sizeAdded a) ≡ stage6 s m a .fs .«size_on_disk»
+    on-disk-is =
+        let p : has (newFile m a .flags) 1 ≡ eqb (a .flags % 2) 1 =
+        flags-one (flagsKept (a .flags) (keeps m a)) (keeps m a) (isOutside (directoryAdded m a)) (isPresent (a .root)) (kept-small (a .flags) (keeps m a))
+        ∙ ap (λ (x : ℕ). eqb x 1) (kept-one (a .flags) (keeps m a)) in
+        rw p (omega arith)
 
-  pub paths-is : length (added m a .directories) ≡ stage6 s m a .fs .«num_paths»
-  paths-is =
-      omega (
-        arith,
-        count-place (directoryAdded m a) (m .directories),
-        count-pad (eqb (padOf m a) 0) padDirectory (withDirectoryOf (directoryAdded m a) (m .directories)),
-      )
+    pub paths-is : length (added m a .directories) ≡ stage6 s m a .fs .«num_paths»
+    paths-is =
+        omega (
+          arith,
+          count-place (directoryAdded m a) (m .directories),
+          count-pad (eqb (padOf m a) 0) padDirectory (withDirectoryOf (directoryAdded m a) (m .directories)),
+        )
 
-  dirs-is : storeAdded s m a .dirs ≡ stage6 s m a .dirs
-  dirs-is =
-      pad-dirs (isNewPad m a) (stage3 s m a .dirs) (length (withDirectoryOf (directoryAdded m a) (m .directories))) (stage3 s m a .fs .«num_paths») (stage3 s m a .fs .«text_len») (padDirectoryNew m a)
-      (omega (arith, count-place (directoryAdded m a) (m .directories)))
-      (pad-four (eqb (padOf m a) 0) (withDirectoryOf (directoryAdded m a) (m .directories)))
+    dirs-is : storeAdded s m a .dirs ≡ stage6 s m a .dirs
+    dirs-is =
+        pad-dirs (isNewPad m a) (stage3 s m a .dirs) (length (withDirectoryOf (directoryAdded m a) (m .directories))) (stage3 s m a .fs .«num_paths») (stage3 s m a .fs .«text_len») (padDirectoryNew m a)
+        (omega (arith, count-place (directoryAdded m a) (m .directories)))
+        (pad-four (eqb (padOf m a) 0) (withDirectoryOf (directoryAdded m a) (m .directories)))
 
-  text-is : storeAdded s m a .text ≡ stage6 s m a .text
-  text-is =
-      sets-joined (cond (eqb (s .fs .«num_files») 0) (slid (oldName (s .fs)) (s .fs .«text_len») (s .text)) (s .text)) (textKept (s .fs)) (newTexts m a)
+    text-is : storeAdded s m a .text ≡ stage6 s m a .text
+    text-is =
+        sets-joined (cond (eqb (s .fs .«num_files») 0) (slid (oldName (s .fs)) (s .fs .«text_len») (s .text)) (s .text)) (textKept (s .fs)) (newTexts m a)
 
-  -- the set's record by what is computed in another way
-  abbrev storage : ℕ → ℕ → ℕ → ℕ → FileStorage
-  storage files paths text disk =
-      record {
-        «piece_length» = s .fs .«piece_length»;
-        v2 = isV2 m a;
-        «num_files» = files;
-        «num_paths» = paths;
-        «num_symlinks» = s .fs .«num_symlinks» + cond (keeps m a) 1 0;
-        «num_mtimes» = heldAfter (isZero (a .time)) (s .fs .«num_mtimes») (s .fs .«num_files»);
-        name = cond (eqb (s .fs .«num_files») 0) (record { at = textKept (s .fs); len = length (setText m a) }) (s .fs .name);
-        «text_len» = text;
-        «total_size» = s .fs .«total_size» + sizeAdded a + padOf m a;
-        «size_on_disk» = disk;
-        trimmed = s .fs .trimmed;
-      }
+    -- the set's record by what is computed in another way
+    abbrev storage : ℕ → ℕ → ℕ → ℕ → FileStorage
+    storage files paths text disk =
+        record {
+          «piece_length» = s .fs .«piece_length»;
+          v2 = isV2 m a;
+          «num_files» = files;
+          «num_paths» = paths;
+          «num_symlinks» = s .fs .«num_symlinks» + cond (keeps m a) 1 0;
+          «num_mtimes» = heldAfter (isZero (a .time)) (s .fs .«num_mtimes») (s .fs .«num_files»);
+          name = cond (eqb (s .fs .«num_files») 0) (record { at = textKept (s .fs); len = length (setText m a) }) (s .fs .name);
+          «text_len» = text;
+          «total_size» = s .fs .«total_size» + sizeAdded a + padOf m a;
+          «size_on_disk» = disk;
+          trimmed = s .fs .trimmed;
+        }
 
-  same-storage : {f f′ p p′ t t′ d d′ : ℕ} → f ≡ f′ → p ≡ p′ → t ≡ t′ → d ≡ d′ → storage f p t d ≡ storage f′ p′ t′ d′
-  same-storage {f} {f′} {p} {p′} {t} {t′} {d} {d′} ef ep et ed =
-      ap (λ (x : ℕ). storage x p t d) ef
-      ∙ ap (λ (x : ℕ). storage f′ x t d) ep
-      ∙ ap (λ (x : ℕ). storage f′ p′ x d) et
-      ∙ ap (storage f′ p′ t′) ed
+    same-storage : {f f′ p p′ t t′ d d′ : ℕ} → f ≡ f′ → p ≡ p′ → t ≡ t′ → d ≡ d′ → storage f p t d ≡ storage f′ p′ t′ d′
+    same-storage {f} {f′} {p} {p′} {t} {t′} {d} {d′} ef ep et ed =
+        ap (λ (x : ℕ). storage x p t d) ef
+        ∙ ap (λ (x : ℕ). storage f′ x t d) ep
+        ∙ ap (λ (x : ℕ). storage f′ p′ x d) et
+        ∙ ap (storage f′ p′ t′) ed
 
-  fs-is : storageAdded (s .fs) m a ≡ stage6 s m a .fs
-  fs-is = same-storage (rows-count (eqb (padOf m a) 0) (s .fs .«num_files»)) paths-is (omega arith) on-disk-is
+    fs-is : storageAdded (s .fs) m a ≡ stage6 s m a .fs
+    fs-is = same-storage (rows-count (eqb (padOf m a) 0) (s .fs .«num_files»)) paths-is (omega arith) (plain ∙ on-disk-is)
 
-  pub whole : storeAdded s m a ≡ stage6 s m a
-  whole = same-store fs-is refl (always (eqb (padOf m a) 0) (rootsAdded (s .roots) (s .fs .«num_files») (a .root))) refl dirs-is text-is
+    pub whole : storeAdded s m a ≡ stage6 s m a
+    whole = same-store fs-is refl (always (eqb (padOf m a) 0) (rootsAdded (s .roots) (s .fs .«num_files») (a .root))) refl dirs-is text-is

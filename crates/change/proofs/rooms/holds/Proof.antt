@@ -27,15 +27,13 @@ returns-3 c =
     let a = c .before .before .before .before .before .before .before .before .before .args in
     rw (le-leb (a .fs .«num_files») (filesRoom (a .rooms)) (omega arith), le-leb (a .fs .«num_paths») (dirsRoom (a .rooms)) (omega arith), lt-leb (a .fs .«num_mtimes») (a .rooms .times) (c .if3 .taken))
 
+holds-text-requires : tie.Need-holds-text-requires
+holds-text-requires c κs = search needs
+
 returns-4 : tie.Need-returns-4
 returns-4 c =
-    let a = c .before .before .before .before .before .before .before .before .before .before .before .before .args in
-    rw (le-leb (a .fs .«num_files») (filesRoom (a .rooms)) (omega arith), le-leb (a .fs .«num_paths») (dirsRoom (a .rooms)) (omega arith), le-leb (a .fs .«num_mtimes») (a .rooms .times) (c .before .before .before .if3 .left), lt-leb (a .fs .«text_len») (a .rooms .text) (c .if4 .taken))
-
-returns-5 : tie.Need-returns-5
-returns-5 c =
-    let a = c .before .before .before .before .before .before .before .before .before .before .before .before .before .args in
-    rw (le-leb (a .fs .«num_files») (filesRoom (a .rooms)) (omega arith), le-leb (a .fs .«num_paths») (dirsRoom (a .rooms)) (omega arith), le-leb (a .fs .«num_mtimes») (a .rooms .times) (c .before .before .before .before .if3 .left), le-leb (a .fs .«text_len») (a .rooms .text) (c .before .if4 .left))
+    let a = c .before .before .before .before .before .before .before .before .before .before .args in
+    rw (le-leb (a .fs .«num_files») (filesRoom (a .rooms)) (omega arith), le-leb (a .fs .«num_paths») (dirsRoom (a .rooms)) (omega arith), le-leb (a .fs .«num_mtimes») (a .rooms .times) (c .before .if3 .left)) (c .holds-text .ensures)
 
 pub holds-spec : {M : Type 1} → statement M
 holds-spec =
@@ -46,5 +44,5 @@ holds-spec =
     dirs-room-requires
     returns-2
     returns-3
-    returns-4
-    returns-5)
+    holds-text-requires
+    returns-4)

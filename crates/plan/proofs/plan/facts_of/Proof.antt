@@ -15,6 +15,9 @@ same : {f : ℕ} {k k' u u' r r' : Bool} → k ≡ k' → u ≡ u' → r ≡ r'
     (record { flags = f; «keeps_link» = k'; untimed = u'; «has_root» = r' })
 same e f g = cc
 
+cast-t5 : tie.Need-cast-t5
+cast-t5 c = search needs
+
 keeps-link-requires : tie.Need-keeps-link-requires
 keeps-link-requires c κs = search needs
 
@@ -26,8 +29,8 @@ is-here-requires c κs = search needs
 
 returns : tie.Need-returns
 returns c =
-    let i = c .before .before .before .before .before .args .file in
+    let i = c .before .before .before .before .before .before .args .file in
     same (c .before .before .before .keeps-link .ensures) (c .before .is-zero .ensures ∙ ap isZero (toZ-ofZ {w = w64} {z = i .mtime} (record { sfits = c .before .before .struct-told .given .1 .1 .1 .0 .1 }))) (c .is-here .ensures)
 
 pub facts-of-spec : {M : Type 1} → statement M
-facts-of-spec = tie.close (tie.spec keeps-link-requires is-zero-requires is-here-requires returns)
+facts-of-spec = tie.close (tie.spec cast-t5 keeps-link-requires is-zero-requires is-here-requires returns)

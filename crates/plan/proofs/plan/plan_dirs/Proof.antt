@@ -54,7 +54,7 @@ counts-after-requires : tie.Need-counts-after-requires
 counts-after-requires c κs =
     let h = inside (c .before .before) in
     let a = c .before .before .before .before .before in
-    record { files = omega arith; links = a .pre .1 .1; total = a .pre .1 .0; disk = h .disk }
+    record { files = omega arith; links = a .pre .1 .1; total = a .pre .1 .0 }
 
 is-outside-requires : tie.Need-is-outside-requires
 is-outside-requires c κs = search needs
