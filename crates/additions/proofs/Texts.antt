@@ -8,8 +8,8 @@ use native.Mathlib.Omega.{arith}
 use native.Mathlib.Numerals.{add-one}
 use lib.Dec.{ltb, eqb}
 use lib.ListN.{length, getD, take, drop, length-append, drop-of-length-le, take-append-drop}
-use lib.Seq.{length-take-le, take-length, drop-cons, drop-drop, take-append-seam, take-append-le, drop-append-seam, drop-append-add}
-use borrow.Author.Tests.{lt-ltb, ne-eqb, not-true}
+use lib.Seq.{length-take-le, take-length, drop-cons, take-append-seam, take-append-le, drop-append-seam}
+use borrow.Author.Tests.{lt-ltb, eq-eqb, ne-eqb, not-true}
 use Rattle.lists.specs.Lists.{any, equal, partOf}
 use Rattle.path.specs.Split.{isSeparator, isEither, trimmedFrom, trimmed, hasParent, beforeLast, afterLast, beforeFirst, afterFirst, skipped, isComplete, rsplitBranch, rsplitLeaf, lsplitFirst, lsplitRest}
 use Rattle.path.specs.Join.{isEmpty}
@@ -22,9 +22,10 @@ use Rattle.tables.specs.Span.{textAt}
 use Rattle.tables.specs.Model.{Optional, absent, present}
 use Rattle.additions.specs.declared.parts.PathKind.{PathKind}
 use Rattle.additions.specs.declared.parts.PathKind.the-variants.{Single, Absolute, Inside, Outside}
+use Rattle.additions.specs.declared.parts.Place.{Place}
 use Rattle.additions.specs.declared.parts.PathParts.{PathParts}
 use Rattle.additions.specs.Addition.{setNameOf, nameAfter, withoutLeading, pathName, storedName, limitedName, badName, optionalOf}
-use Rattle.additions.specs.private.Texts.{isHere, nameFrom, setTextOf, textUnder, absoluteKind, PartsWithin}
+use Rattle.additions.specs.private.Texts.{isHere, nameFrom, setTextOf, textUnder, absoluteKind, PartsWithin, placeFor}
 use Rattle.additions.specs.Parts.{kindFor, noSpan, wholeSpan, leafSpan, firstSpan, setNameSpan, nameSpan, directorySpan, partsOf}
 use Rattle.additions.specs.private.Checks.{limitedLength, badBeside}
 
@@ -162,36 +163,40 @@ behind-ends (c ∷ t) = at (isSeparator c) (behind-ends t)
 skipped-ends : (l : List ℕ) → Ends (skipped l) l
 skipped-ends l = (take (cond (isComplete l) 1 0) l, sym (take-append-drop (cond (isComplete l) 1 0) l))
 
+ends-le : (x l : List ℕ) → Ends x l → length x ≤ length l
+ends-le x l w = omega (arith, ap length (w .1), length-append (w .0) x)
+
+directory-ends : (b : List ℕ) → Ends (withoutLeading (lsplitRest b)) b
+directory-ends b = ends-trans (unled-ends (lsplitRest b)) (ends-trans (behind-ends (skipped b)) (skipped-ends b))
+
 pub directory-read : (kind : PathKind) (path : List ℕ) → textAt path (directorySpan kind (rsplitBranch path)) ≡ textUnder kind (rsplitBranch path)
 directory-read Single path = refl
 directory-read Absolute path = refl
 directory-read Inside path =
     let b = branch-leads path in
     read-end path (rsplitBranch path) (withoutLeading (lsplitRest (rsplitBranch path))) (b .0) (b .1)
-    (ends-trans (unled-ends (lsplitRest (rsplitBranch path))) (ends-trans (behind-ends (skipped (rsplitBranch path))) (skipped-ends (rsplitBranch path))))
+    (directory-ends (rsplitBranch path))
 directory-read Outside path =
     let b = branch-leads path in
     ap (take (length (rsplitBranch path))) (b .1) ∙ take-append-seam (rsplitBranch path) (b .0)
 
 -- all parts of a path, each by the one before it
-module _ (files : ℕ) (old path branch called : List ℕ) where
-  pub parts-are : {leaf name set directory : Span} {kind : PathKind} {parent : Bool}
+module _ (files : ℕ) (old path called : List ℕ) where
+  pub parts-are : {leaf name set : Span} {place : Place} {parent : Bool}
       → leaf ≡ leafSpan path
       → name ≡ cond (isComplete path) (wholeSpan path) leaf
       → parent ≡ hasParent path
       → set ≡ setNameSpan files parent path
       → called ≡ textAt path set
-      → kind ≡ kindFor (cond (eqb files 0) called old) path
-      → directory ≡ directorySpan kind branch
-      → branch ≡ rsplitBranch path
-      → _≡_ {A = PathParts} (record { leaf = leaf; name = name; «set_name» = set; directory = directory; kind = kind; «has_parent» = parent })
+      → place ≡ placeFor (cond (eqb files 0) called old) path
+      → _≡_ {A = PathParts} (record { leaf = leaf; name = name; «set_name» = set; directory = place .directory; kind = place .kind; «has_parent» = parent })
       (partsOf files old path)
-  parts-are {leaf} {name} {set} {directory} {kind} {parent} el en ep es ec ek ed eb =
+  parts-are {leaf} {name} {set} {place} {parent} el en ep es ec ek =
       let s : set ≡ setNameSpan files (hasParent path) path = es ∙ ap (λ (b : Bool). setNameSpan files b path) ep in
-      let k : kind ≡ kindFor (nameAfter files old path) path =
-      ek ∙ ap (λ (l : List ℕ). kindFor l path) (named-after files path called old (ec ∙ ap (textAt path) s ∙ set-read files path)) in
-      let d : directory ≡ directorySpan (kindFor (nameAfter files old path) path) (rsplitBranch path) =
-      ed ∙ ap (directorySpan kind) eb ∙ ap (λ (x : PathKind). directorySpan x (rsplitBranch path)) k in
+      let l : place ≡ placeFor (nameAfter files old path) path =
+      ek ∙ ap (λ (x : List ℕ). placeFor x path) (named-after files path called old (ec ∙ ap (textAt path) s ∙ set-read files path)) in
+      let k : place .kind ≡ kindFor (nameAfter files old path) path = ap (λ (x : Place). x .kind) l in
+      let d : place .directory ≡ directorySpan (kindFor (nameAfter files old path) path) (rsplitBranch path) = ap (λ (x : Place). x .directory) l in
       let n : name ≡ nameSpan path = en ∙ ap (cond (isComplete path) (wholeSpan path)) el in
       same el n s d k ep
     where
@@ -200,33 +205,55 @@ module _ (files : ℕ) (old path branch called : List ℕ) where
           (record { leaf = a'; name = b'; «set_name» = c'; directory = d'; kind = k'; «has_parent» = p' })
       same e f g h i j = cc
 
--- and what lies behind its first part and the separator between them, a leading one skipped, is the rest
-rest-at : (q : List ℕ) → drop (length (beforeFirst q) + 1) q ≡ afterFirst q
-rest-at q = at (any isSeparator q) refl
+-- one place of the scan for a text's first separator: no separator, or one
+module _ (l : List ℕ) (i : ℕ) (h : i < length l) where
+  pub before-turn : (getD l i 0 ≡ 47 → ⊥) → length (beforeFirst (drop i l)) ≡ suc (length (beforeFirst (drop (i + 1) l)))
+  before-turn e = rw (add-one i, drop-cons l i 0 h, ne-eqb (getD l i 0) 47 e)
+
+  pub before-stop : getD l i 0 ≡ 47 → length (beforeFirst (drop i l)) ≡ 0
+  before-stop e = rw (drop-cons l i 0 h, eq-eqb (getD l i 0) 47 e)
+
+pub before-end : (l : List ℕ) (i : ℕ) → length l ≤ i → length (beforeFirst (drop i l)) ≡ 0
+before-end l i h = rw (drop-of-length-le l {i = i} h)
+
+-- what stands from the separators after a text's first part on is the rest without separators at its start
+unled-rest : (q : List ℕ) → withoutLeading (drop (length (beforeFirst q)) q) ≡ withoutLeading (afterFirst q)
+unled-rest q = at (any isSeparator q) refl
   where
-    at : (t : Bool) → any isSeparator q ≡ t → drop (length (beforeFirst q) + 1) q ≡ afterFirst q
+    at : (t : Bool) → any isSeparator q ≡ t → withoutLeading (drop (length (beforeFirst q)) q) ≡ withoutLeading (afterFirst q)
     at true e =
-        ap (drop (length (beforeFirst q) + 1)) (first-parts q e) ∙ drop-append-add (beforeFirst q) (47 ∷ afterFirst q) 1
+        ap withoutLeading (ap (drop (length (beforeFirst q))) (first-parts q e) ∙ drop-append-seam (beforeFirst q) (47 ∷ afterFirst q))
     at false e =
-        drop-of-length-le q {i = length (beforeFirst q) + 1} (omega (arith, ap length (first-all q e))) ∙ sym (rest-none q e)
+        ap withoutLeading (drop-of-length-le q {i = length (beforeFirst q)} (omega (arith, ap length (first-all q e))) ∙ sym (rest-none q e))
 
-module _ (p first : List ℕ) (e : first ≡ lsplitFirst p) where
-  pub rest-led : isComplete p ≡ true → drop (length first + 2) p ≡ lsplitRest p
-  rest-led h =
-      let n : length first + 2 ≡ 1 + (length first + 1) = omega arith in
-      let s : drop 1 p ≡ skipped p = rw h in
-      ap (λ (k : ℕ). drop k p) n
-      ∙ sym (drop-drop (length first + 1) 1 p)
-      ∙ ap (λ (l : List ℕ). drop (length l + 1) (drop 1 p)) e
-      ∙ ap (drop (length (lsplitFirst p) + 1)) s
-      ∙ rest-at (skipped p)
+skipped-plain : (b : List ℕ) → isComplete b ≡ false → skipped b ≡ b
+skipped-plain b h = rw h
 
-  pub rest-plain : isComplete p ≡ false → drop (length first + 1) p ≡ lsplitRest p
-  rest-plain h =
-      let s : p ≡ skipped p = rw h in
-      ap (λ (l : List ℕ). drop (length l + 1) p) e
-      ∙ ap (drop (length (lsplitFirst p) + 1)) s
-      ∙ rest-at (skipped p)
+-- a directory's text under the set's name
+pub inside-is : (b : List ℕ) (first at len : ℕ) → isComplete b ≡ false → first ≡ length (beforeFirst b)
+    → at ≡ length b - length (withoutLeading (drop first b)) → len ≡ length b - at
+    → _≡_ {A = Span} (record { at = at; len = len }) (directorySpan Inside b)
+inside-is b first at len h e d n =
+    let w : withoutLeading (drop first b) ≡ withoutLeading (lsplitRest b) =
+    ap (λ (k : ℕ). withoutLeading (drop k b)) e ∙ unled-rest b ∙ ap (λ (l : List ℕ). withoutLeading (afterFirst l)) (sym (skipped-plain b h)) in
+    let p : at ≡ length b - length (withoutLeading (lsplitRest b)) = d ∙ ap (λ (l : List ℕ). length b - length l) w in
+    let k : length (withoutLeading (lsplitRest b)) ≤ length b = ends-le (withoutLeading (lsplitRest b)) b (directory-ends b) in
+    same p (omega (arith, n, p, k))
+  where
+    same : {a a' m m' : ℕ} → a ≡ a' → m ≡ m' → _≡_ {A = Span} (record { at = a; len = m }) (record { at = a'; len = m' })
+    same f g = cc
+
+-- the first part of a branch that doesn't begin with a separator
+pub first-is : (b : List ℕ) (n : ℕ) → isComplete b ≡ false → n ≡ length (beforeFirst b) → take n b ≡ lsplitFirst b
+first-is b n h e = ap (λ (k : ℕ). take k b) e ∙ first-at b ∙ ap beforeFirst (sym (skipped-plain b h))
+
+-- the branch of a path that is not absolute
+pub branch-plain : (path : List ℕ) → isComplete path ≡ false → isComplete (rsplitBranch path) ≡ false
+branch-plain path h = at (rsplitBranch path) (branch-leads path .0) (branch-leads path .1)
+  where
+    at : (q s : List ℕ) → path ≡ q ++ s → isComplete q ≡ false
+    at [] s e = refl
+    at (c ∷ t) s e = sym (ap isComplete e) ∙ h
 
 -- a path with no separator of either kind, but for one at its end, is no longer than its leaf and that one
 no-either : (s b r : Bool) → cond (cond s true b) true r ≡ false → (s ≡ false) × (r ≡ false)
@@ -316,9 +343,6 @@ module _ (absolute : Bool) where
 
 -- ---- the parts lie within the path
 
-ends-le : (x l : List ℕ) → Ends x l → length x ≤ length l
-ends-le x l w = omega (arith, ap length (w .1), length-append (w .0) x)
-
 trimmed-le : (path : List ℕ) → length (trimmed isSeparator path) ≤ length path
 trimmed-le path =
     let w = trimmed-rest isSeparator path in
@@ -340,7 +364,7 @@ name-within path = at (isComplete path)
     at false =
         end-within (rsplitLeaf path) (trimmed isSeparator path) (length path) (leaf-ends (trimmed isSeparator path)) (trimmed-le path)
 
-before-le : (q : List ℕ) → length (beforeFirst q) ≤ length q
+pub before-le : (q : List ℕ) → length (beforeFirst q) ≤ length q
 before-le [] = omega arith
 before-le (c ∷ t) = at (isSeparator c) (before-le t)
   where
@@ -371,7 +395,7 @@ directory-within Single path = omega arith
 directory-within Absolute path = omega arith
 directory-within Inside path =
     end-within (withoutLeading (lsplitRest (rsplitBranch path))) (rsplitBranch path) (length path)
-    (ends-trans (unled-ends (lsplitRest (rsplitBranch path))) (ends-trans (behind-ends (skipped (rsplitBranch path))) (skipped-ends (rsplitBranch path))))
+    (directory-ends (rsplitBranch path))
     (branch-le path)
 directory-within Outside path = let h = branch-le path in omega (arith, h)
 

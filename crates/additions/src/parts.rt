@@ -1,15 +1,17 @@
 // The parts of a path, as spans in it. Relies on the splits of `path` and on the laws of proofs/Texts.antt.
 ghost use mathlib.Core.Path.{_≡_};
-ghost use mathlib.Core.Bool.{cond};
+ghost use mathlib.Core.Bool.{false, cond};
+ghost use Prim.Native.Nat.{_-_, _≤_};
 ghost use lib.Dec.{eqb};
-ghost use lib.ListN.{length};
+ghost use lib.ListN.{length, drop};
 ghost use Rattle.lists.specs.Lists.{equal};
-ghost use Rattle.path.specs.Split.{rsplitBranch, rsplitLeaf, lsplitFirst, lsplitRest, isComplete, hasParent};
+ghost use Rattle.path.specs.Split.{rsplitBranch, rsplitLeaf, beforeFirst, isComplete, hasParent};
 ghost use Rattle.tables.specs.Span.{textAt};
+ghost use Rattle.additions.specs.declared.parts.PathKind.the-variants.{Inside};
 ghost use Rattle.additions.specs.Addition.{withoutLeading};
 ghost use Rattle.additions.specs.Parts.{wholeSpan, leafSpan, firstSpan};
-ghost use Rattle.additions.specs.Parts.{setNameSpan, kindFor, directorySpan, partsOf};
-ghost use Rattle.additions.specs.private.Texts.{outsideKind, absoluteKind};
+ghost use Rattle.additions.specs.Parts.{setNameSpan, directorySpan, partsOf};
+ghost use Rattle.additions.specs.private.Texts.{outsideKind, absoluteKind, placeIn, placeFor};
 use tables::FileStorage;
 use tables::Span;
 
@@ -20,6 +22,12 @@ pub enum PathKind {
     Absolute,
     Inside,
     Outside,
+}
+
+// Where a file lies, and its directory's text, as a span in its path.
+pub(crate) struct Place {
+    pub kind: PathKind,
+    pub directory: Span,
 }
 
 // The parts of a path, as spans in it.
@@ -35,20 +43,6 @@ pub struct PathParts {
     pub kind: PathKind,
     // Whether it has a part above its leaf.
     pub has_parent: bool,
-}
-
-// A path without the separators at its start.
-fn strip_separators(path: &[u8]) -> &[u8]
-    ensures { λ r. ⌜ now r ≡ withoutLeading (now (path .entry)) ⌝ }
-{
-    let mut i = 0;
-    while i < path.len() {
-        if path[i] != b'/' {
-            return lists::part(path, i, path.len());
-        }
-        i += 1;
-    }
-    lists::part(path, i, path.len())
 }
 
 // The span of a path's last part.
@@ -141,65 +135,102 @@ fn is_named(part: &[u8], files: usize, set_name: &[u8], text: &[u8], name: Span)
     lists::same(part, tables::text_at(text, name))
 }
 
-// Where a file lies; `first` is the first part of the path's branch.
-fn kind_of(
+// How many bytes of a text stand before its first separator.
+fn first_length(text: &[u8]) -> usize
+    ensures { λ r. ⌜ r ≡ length (beforeFirst (now (text .entry))) ⌝ }
+{
+    let mut i = 0;
+    while i < text.len() {
+        if text[i] == b'/' {
+            return i;
+        }
+        i += 1;
+    }
+    i
+}
+
+// Where the separators of a text end that stand from `from` on.
+fn separators_end(text: &[u8], from: usize) -> usize
+    requires { ⌜ from ≤ length (now text) ⌝ }
+    ensures { λ r. ⌜
+        r ≡ length (now (text .entry)) - length (withoutLeading (drop from (now (text .entry))))
+        ⌝ }
+{
+    let mut i = from;
+    while i < text.len() {
+        if text[i] != b'/' {
+            return i;
+        }
+        i += 1;
+    }
+    i
+}
+
+// The directory's text under the set's name, as a span in the path's branch, whose first part has `first` bytes.
+fn inside_span(branch: &[u8], first: usize) -> Span
+    requires { ⌜ isComplete (now branch) ≡ false ⌝ }
+    requires { ⌜ first ≡ length (beforeFirst (now branch)) ⌝ }
+    ensures { λ r. ⌜ r ≡ directorySpan Inside (now (branch .entry)) ⌝ }
+{
+    let at = separators_end(branch, first);
+    Span {
+        at,
+        len: branch.len() - at,
+    }
+}
+
+// Where a file of that branch lies, whose path is not absolute.
+fn place_in(branch: &[u8], files: usize, set_name: &[u8], text: &[u8], name: Span) -> Place
+    requires { ⌜ isComplete (now branch) ≡ false ⌝ }
+    ensures { λ r. ⌜
+        r
+        ≡ placeIn (cond (eqb files 0) (now («set_name» .entry)) (textAt (now (text .entry)) name)) (now (branch .entry))
+        ⌝ }
+{
+    let n = first_length(branch);
+    if is_named(&branch[..n], files, set_name, text, name) {
+        return Place {
+            kind: PathKind::Inside,
+            directory: inside_span(branch, n),
+        };
+    }
+    Place {
+        kind: PathKind::Outside,
+        directory: Span {
+            at: 0,
+            len: branch.len(),
+        },
+    }
+}
+
+// Where a file lies.
+fn place_of(
     path: &[u8],
     branch: &[u8],
-    first: &[u8],
     files: usize,
     set_name: &[u8],
     text: &[u8],
     name: Span,
-) -> PathKind
+) -> Place
     requires { ⌜ now branch ≡ rsplitBranch (now path) ⌝ }
-    requires { ⌜ now first ≡ lsplitFirst (now branch) ⌝ }
     ensures { λ r. ⌜
-        r ≡ kindFor (cond (eqb files 0) (now («set_name» .entry)) (textAt (now (text .entry)) name)) (now (path .entry))
+        r
+        ≡ placeFor (cond (eqb files 0) (now («set_name» .entry)) (textAt (now (text .entry)) name)) (now (path .entry))
         ⌝ }
 {
     if path::is_complete(path) {
-        return PathKind::Absolute;
+        return Place {
+            kind: PathKind::Absolute,
+            directory: Span { at: 0, len: 0 },
+        };
     }
     if branch.len() == 0 {
-        return PathKind::Single;
+        return Place {
+            kind: PathKind::Single,
+            directory: Span { at: 0, len: 0 },
+        };
     }
-    if is_named(first, files, set_name, text, name) {
-        return PathKind::Inside;
-    }
-    PathKind::Outside
-}
-
-// What stands after a path's first separator, a leading one skipped. `first` stands before it.
-fn rest_after<'a>(path: &'a [u8], first: &[u8]) -> &'a [u8]
-    requires { ⌜ now first ≡ lsplitFirst (now path) ⌝ }
-    ensures { λ r. ⌜ now r ≡ lsplitRest (now (path .entry)) ⌝ }
-{
-    if path::is_complete(path) {
-        return lists::part(path, first.len() + 2, path.len());
-    }
-    lists::part(path, first.len() + 1, path.len())
-}
-
-// The directory's text, as a span in the path's branch, whose first part is `first`.
-fn directory_span(kind: PathKind, branch: &[u8], first: &[u8]) -> Span
-    requires { ⌜ now first ≡ lsplitFirst (now branch) ⌝ }
-    ensures { λ r. ⌜ r ≡ directorySpan kind (now (branch .entry)) ⌝ }
-{
-    match kind {
-        PathKind::Inside => {
-            let rest = strip_separators(rest_after(branch, first));
-            Span {
-                at: lists::saturating_sub_usize(branch.len(), rest.len()),
-                len: rest.len(),
-            }
-        }
-        PathKind::Outside => Span {
-            at: 0,
-            len: branch.len(),
-        },
-        PathKind::Single => Span { at: 0, len: 0 },
-        PathKind::Absolute => Span { at: 0, len: 0 },
-    }
+    place_in(branch, files, set_name, text, name)
 }
 
 // The parts of the path of a file that is added to a set, whose texts stand in `text`.
@@ -208,13 +239,13 @@ pub fn parts_of(fs: FileStorage, text: &[u8], path: &[u8]) -> PathParts
 {
     let leaf = leaf_span(path);
     let branch = branch_before(path, leaf);
-    let first = path::lsplit_path_first(branch);
     let has_parent = is_below(path, leaf.len);
     let set_name = set_name_span(fs.num_files, has_parent, path);
     let called = tables::text_at(path, set_name);
     let old = fs.name;
-    let kind = kind_of(path, branch, first, fs.num_files, called, text, old);
-    let directory = directory_span(kind, branch, first);
+    let place = place_of(path, branch, fs.num_files, called, text, old);
+    let kind = place.kind;
+    let directory = place.directory;
     let name = name_span(path, leaf);
     PathParts {
         leaf,

@@ -6,6 +6,7 @@ use mathlib.Core.List.{List, []}
 use lib.Dec.{eqb}
 use lib.IntN.{ℤ}
 use lib.Seq.{sets}
+use Rattle.lists.specs.Decimal.{decimal}
 use Rattle.types.specs.Refusals.{value, refused}
 use Rattle.tables.specs.declared.storage.FileStorage.{FileStorage}
 use Rattle.tables.specs.Rows.{putRow}
@@ -19,7 +20,7 @@ use Rattle.plan.specs.Write.{newTextOf, isNewDirectory, newTexts, directoryNew,
 use Rattle.plan.specs.private.Steps.{TextsOf}
 use Rattle.plan.specs.Plan.{planOf}
 use Rattle.plan.proofs.Joined.{sets-joined}
-use Rattle.storage.specs.private.Written.{renamed, textWritten, dirsWritten, rowsWritten}
+use Rattle.storage.specs.private.Written.{renamed, textBeforePad, textWritten, dirsBeforePad, dirsWritten, rowsWritten}
 
 -- ---- the text area
 
@@ -37,6 +38,16 @@ new-pad : (t u : Bool) (d : List ℕ) → cond (not t && not u) d [] ≡ cond t 
 new-pad true u d = refl
 new-pad false u d = new-text u d
 
+-- where there is no pad, none of its texts and rows has bytes
+pad-texts : (t u : Bool) (l d e : List ℕ) (i j : ℕ)
+    → cond t l (sets (sets l i (cond (not t && not u) d [])) j (cond t [] e)) ≡ sets (sets l i (cond (not t && not u) d [])) j (cond t [] e)
+pad-texts true u l d e i j = refl
+pad-texts false u l d e i j = refl
+
+pad-dirs : (t u : Bool) (l d : List ℕ) → cond t l (cond (not t && not u) d l) ≡ cond (not t && not u) d l
+pad-dirs true u l d = refl
+pad-dirs false u l d = refl
+
 module _ (s : Store) (m : Model) (a : Addition) where
   abbrev fs : FileStorage
   fs = s .fs
@@ -47,7 +58,10 @@ module _ (s : Store) (m : Model) (a : Addition) where
       let d : cond (isNewDirectory (directoryAdded m a) (m .directories)) dir [] ≡ directoryNew m a =
       subst (λ (p : Directory). cond (isNewDirectory p (m .directories)) dir [] ≡ newTextOf p (m .directories)) (t .dir-is) (new-dir kind dir (m .directories)) in
       let p : cond (isNewPad m a) padDirectory [] ≡ padDirectoryNew m a = new-pad (eqb (padOf m a) 0) (isAmong padDirectory (withDirectoryOf (directoryAdded m a) (m .directories))) padDirectory in
-      all (renamed (fs .«num_files») (oldName fs) (fs .«text_len») (s .text)) (t .set-is) d (t .name-is) (t .link-is) p
+      pad-texts (eqb (padOf m a) 0) (isAmong padDirectory (withDirectoryOf (directoryAdded m a) (m .directories)))
+      (textBeforePad (fs .«num_files») (fs .«text_len») (planOf fs m a) (s .text) x dir name link)
+      padDirectory (decimal (padOf m a)) (padDirectoryStart fs m a) (padNameStart fs m a)
+      ∙ all (renamed (fs .«num_files») (oldName fs) (fs .«text_len») (s .text)) (t .set-is) d (t .name-is) (t .link-is) p
       ∙ sym (sets-joined (renamed (fs .«num_files») (oldName fs) (fs .«text_len») (s .text)) (textKept fs) (newTexts m a))
     where
       all : (t : List ℕ) {c d n l p c' d' n' l' p' : List ℕ} → c ≡ c' → d ≡ d' → n ≡ n' → l ≡ l' → p ≡ p'
@@ -77,7 +91,10 @@ module _ (s : Store) (m : Model) (a : Addition) where
       at false = refl
 
   pub dirs-are : dirsWritten (fs .«num_files») (fs .«num_paths») (planOf fs m a) (s .dirs) ≡ dirsAdded s m a
-  dirs-are = refl
+  dirs-are =
+      pad-dirs (eqb (padOf m a) 0) (isAmong padDirectory (withDirectoryOf (directoryAdded m a) (m .directories)))
+      (dirsBeforePad (fs .«num_files») (fs .«num_paths») (planOf fs m a) (s .dirs))
+      _
 
 -- ---- the answer and all tables
 

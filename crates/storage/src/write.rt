@@ -8,16 +8,20 @@ ghost use lib.IntN.{pos};
 ghost use lib.ListN.{length, replicate};
 ghost use lib.Seq.{sets};
 ghost use Rattle.tables.specs.Span.{textAt};
+ghost use Rattle.tables.specs.Rows.{putRow};
 ghost use Rattle.rules.specs.Bounds.{maxEntries};
 ghost use Rattle.additions.specs.private.Texts.{nameFrom, linkTextOf, PartsWithin};
 ghost use Rattle.plan.specs.Write.{padDigits, rootsAdded, timesAdded};
 ghost use Rattle.additions.specs.Addition.{optionalOf};
-ghost use Rattle.storage.specs.private.Written.{renamed, textWritten, dirsRenamed};
-ghost use Rattle.storage.specs.private.Written.{dirWritten, dirsWritten, rowsWritten};
+ghost use Rattle.storage.specs.private.Written.{renamed, textBeforePad, padTextWritten, textWritten, dirsRenamed};
+ghost use Rattle.storage.specs.private.Written.{dirWritten, dirsBeforePad, padDirWritten, dirsWritten};
+ghost use Rattle.storage.specs.private.Written.{padRowWritten, rowsWritten};
 use additions::FileInfo;
 use plan::AddPlan;
 use plan::NewDir;
+use tables::FileEntry;
 use tables::Presence;
+use tables::Row;
 use tables::Sha256Hash;
 use tables::Span;
 
@@ -61,8 +65,8 @@ fn put_pad(text: &mut [u8], at: usize, pad: u64)
     }
 }
 
-// Writes the new texts: the set's name, the directory, the name, the link, the pad's directory and name. `own` is the
-// name that the path gives.
+// Writes the new texts but the pad's: the set's name, the directory, the name and the link. `own` is the name that the
+// path gives.
 fn write_text(
     text: &mut [u8],
     files: usize,
@@ -77,7 +81,7 @@ fn write_text(
 )
     ensures { λ _. ⌜
         now (text .exit)
-        ≡ textWritten files used plan (now (text .entry)) (now («set_name» .entry)) (now (dir .entry))
+        ≡ textBeforePad files used plan (now (text .entry)) (now («set_name» .entry)) (now (dir .entry))
         (nameFrom given (now (filename .entry)) (now (own .entry))) (now (link .entry))
         ⌝ }
 {
@@ -87,8 +91,6 @@ fn write_text(
     put_new(text, plan.dir.new, plan.dir.text.at, dir);
     put_name(text, plan.row.name.at, given, filename, own);
     lists::copy_after(text, plan.row.link.at, link);
-    put_new(text, plan.pad_dir.new, plan.pad_dir.text.at, b".pad");
-    put_pad(text, plan.pad_row.name.at, plan.pad_row.size);
 }
 
 // The bytes of a path that a span within it covers.
@@ -101,7 +103,7 @@ fn part_of(path: &[u8], s: Span) -> &[u8]
     &path[at..to]
 }
 
-// Writes the new texts of an addition, which stand in its path, its given name and its link text.
+// Writes the new texts of an addition but the pad's, which stand in its path, its given name and its link text.
 fn write_texts(
     text: &mut [u8],
     plan: AddPlan,
@@ -113,7 +115,7 @@ fn write_texts(
     requires { ⌜ PartsWithin (length (now path)) (plan .parts) ⌝ }
     ensures { λ _. ⌜
         now (text .exit)
-        ≡ textWritten (plan .before .«num_files») (plan .before .«text_len») plan (now (text .entry))
+        ≡ textBeforePad (plan .before .«num_files») (plan .before .«text_len») plan (now (text .entry))
         (textAt (now (path .entry)) (plan .parts .«set_name»))
         (textAt (now (path .entry)) (plan .parts .directory))
         (nameFrom given (now (filename .entry)) (textAt (now (path .entry)) (plan .parts .name)))
@@ -157,39 +159,38 @@ fn put_new_dir(dirs: &mut [u64], dir: NewDir)
     }
 }
 
-// Writes the directory rows: the file's, then the pad's.
+// Writes the file's directory row.
 fn write_dirs(dirs: &mut [u64], files: usize, n: usize, plan: AddPlan)
-    ensures { λ _. ⌜ now (dirs .exit) ≡ dirsWritten files n plan (now (dirs .entry)) ⌝ }
+    ensures { λ _. ⌜ now (dirs .exit) ≡ dirsBeforePad files n plan (now (dirs .entry)) ⌝ }
 {
     let old = plan.old;
     free_dirs(dirs, files, n, old);
     let dir = plan.dir;
     put_new_dir(dirs, dir);
-    let pad_dir = plan.pad_dir;
-    put_new_dir(dirs, pad_dir);
 }
 
-// Writes the file's row, and the pad's where there is one.
-fn write_rows(rows: &mut [u64], files: usize, plan: AddPlan)
-    requires { ⌜ files ≤ maxEntries ⌝ }
-    ensures { λ _. ⌜ now (rows .exit) ≡ rowsWritten files plan (now (rows .entry)) ⌝ }
+// Writes the file: its row, and its root where it is present.
+fn write_file(
+    rows: &mut [u64],
+    roots: &mut [u8],
+    i: usize,
+    row: Row,
+    presence: Presence,
+    root: Sha256Hash,
+)
+    ensures { λ _. ⌜ now (rows .exit) ≡ putRow (now (rows .entry)) i row ⌝ }
+    ensures { λ _. ⌜ now (roots .exit) ≡ rootsAdded (now (roots .entry)) i (optionalOf presence (root .bytes)) ⌝ }
 {
-    let row = plan.row;
-    tables::put_row(rows, files, row);
-    if 0 < plan.pad_row.size {
-        let pad_row = plan.pad_row;
-        tables::put_row(rows, files + 1, pad_row);
-    }
-}
-
-// Writes the root of file i, where it has one.
-fn write_root(roots: &mut [u8], i: usize, rooted: Presence, root: Sha256Hash)
-    ensures { λ _. ⌜ now (roots .exit) ≡ rootsAdded (now (roots .entry)) i (optionalOf rooted root) ⌝ }
-{
-    match rooted {
-        Presence::Present => tables::put_root(roots, i, root),
-        Presence::Absent => {}
-    }
+    tables::put_entry(
+        rows,
+        roots,
+        i,
+        FileEntry {
+            row,
+            presence,
+            root,
+        },
+    );
 }
 
 // Writes time 0 to the files from `from` up to, and without, `to`.
@@ -215,7 +216,24 @@ fn write_time(times: &mut [i64], held: usize, i: usize, time: i64)
     tables::put_time(times, i, time);
 }
 
-// Writes an addition by its plan: rows, root, time, directory rows and texts.
+// Writes the pad of an addition, where there is one: its row, which is all of its record, its directory and its texts.
+fn write_pad(rows: &mut [u64], dirs: &mut [u64], text: &mut [u8], files: usize, plan: AddPlan)
+    requires { ⌜ files ≤ maxEntries ⌝ }
+    ensures { λ _. ⌜ now (rows .exit) ≡ padRowWritten files plan (now (rows .entry)) ⌝ }
+    ensures { λ _. ⌜ now (dirs .exit) ≡ padDirWritten plan (now (dirs .entry)) ⌝ }
+    ensures { λ _. ⌜ now (text .exit) ≡ padTextWritten plan (now (text .entry)) ⌝ }
+{
+    if 0 < plan.pad_row.size {
+        let pad_row = plan.pad_row;
+        tables::put_row(rows, files + 1, pad_row);
+        let pad_dir = plan.pad_dir;
+        put_new_dir(dirs, pad_dir);
+        put_new(text, plan.pad_dir.new, plan.pad_dir.text.at, b".pad");
+        put_pad(text, plan.pad_row.name.at, plan.pad_row.size);
+    }
+}
+
+// Writes an addition by its plan: row, root, time, directory row and texts, and then the pad.
 pub(crate) fn write_all(
     rows: &mut [u64],
     roots: &mut [u8],
@@ -233,7 +251,7 @@ pub(crate) fn write_all(
     ensures { λ _. ⌜ now (rows .exit) ≡ rowsWritten (plan .before .«num_files») plan (now (rows .entry)) ⌝ }
     ensures { λ _. ⌜
         now (roots .exit)
-        ≡ rootsAdded (now (roots .entry)) (plan .before .«num_files») (optionalOf (file .rooted) (file .root))
+        ≡ rootsAdded (now (roots .entry)) (plan .before .«num_files») (optionalOf (file .rooted) (file .root .bytes))
         ⌝ }
     ensures { λ _. ⌜
         now (times .exit)
@@ -254,8 +272,8 @@ pub(crate) fn write_all(
     let given = file.given;
     let rooted = file.rooted;
     let root = file.root;
-    write_rows(rows, plan.before.num_files, plan);
-    write_root(roots, plan.before.num_files, rooted, root);
+    let row = plan.row;
+    write_file(rows, roots, plan.before.num_files, row, rooted, root);
     write_time(
         times,
         plan.before.num_mtimes,
@@ -264,4 +282,5 @@ pub(crate) fn write_all(
     );
     write_dirs(dirs, plan.before.num_files, plan.before.num_paths, plan);
     write_texts(text, plan, given, filename, path, symlink_path);
+    write_pad(rows, dirs, text, plan.before.num_files, plan);
 }

@@ -4,7 +4,8 @@ use mathlib.Core.Bool.{Bool, true, false, cond, not, _&&_}
 use mathlib.Core.List.{List, []}
 use Prim.Native.Nat.{ℕ, _+_, _≤_}
 use lib.Dec.{eqb}
-use Rattle.path.specs.Split.{lsplitRest}
+use Rattle.lists.specs.Lists.{equal}
+use Rattle.path.specs.Split.{rsplitBranch, lsplitFirst, lsplitRest}
 use Rattle.path.specs.Join.{isEmpty}
 use Rattle.tables.specs.declared.rows.Presence.{Presence}
 use Rattle.tables.specs.declared.rows.Presence.the-variants.{Absent, Present}
@@ -12,7 +13,9 @@ use Rattle.tables.specs.Model.{Directory, single, absolute, stored}
 use Rattle.additions.specs.declared.parts.PathKind.{PathKind}
 use Rattle.additions.specs.declared.parts.PathKind.the-variants.{Single, Absolute, Inside, Outside}
 use Rattle.additions.specs.declared.parts.PathParts.{PathParts}
+use Rattle.additions.specs.declared.parts.Place.{Place}
 use Rattle.additions.specs.Addition.{setNameOf, withoutLeading, keepsLink}
+use Rattle.additions.specs.Parts.{kindFor, directorySpan}
 
 abbrev pub isHere : Presence → Bool
 isHere Absent = false
@@ -61,3 +64,15 @@ pub record PartsWithin (n : ℕ) (p : PathParts) : Type 0 where
   pub set-name : p .«set_name» .at + p .«set_name» .len ≤ n
   pub directory : p .directory .at + p .directory .len ≤ n
   pub name : p .name .at + p .name .len ≤ n
+
+-- where a file lies under a set's name, by its path's branch, which is there and doesn't begin with a separator
+abbrev pub kindIn : List ℕ → List ℕ → PathKind
+kindIn name branch = cond (equal (lsplitFirst branch) name) Inside Outside
+
+abbrev pub placeIn : List ℕ → List ℕ → Place
+placeIn name branch = record { kind = kindIn name branch; directory = directorySpan (kindIn name branch) branch }
+
+-- the same by its path
+abbrev pub placeFor : List ℕ → List ℕ → Place
+placeFor name path =
+    record { kind = kindFor name path; directory = directorySpan (kindFor name path) (rsplitBranch path) }

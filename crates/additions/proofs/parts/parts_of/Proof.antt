@@ -13,11 +13,8 @@ leaf-span-requires c κs = search needs
 branch-before-requires : tie.Need-branch-before-requires
 branch-before-requires c κs = search needs
 
-lsplit-path-first-requires : tie.Need-lsplit-path-first-requires
-lsplit-path-first-requires c κs = search needs
-
 is-below-requires : tie.Need-is-below-requires
-is-below-requires c κs = ap (λ (s : Span). s .len) (c .before .before .leaf-span .ensures)
+is-below-requires c κs = ap (λ (s : Span). s .len) (c .before .leaf-span .ensures)
 
 set-name-span-requires : tie.Need-set-name-span-requires
 set-name-span-requires c κs = search needs
@@ -25,19 +22,16 @@ set-name-span-requires c κs = search needs
 text-at-requires : tie.Need-text-at-requires
 text-at-requires c κs = search needs
 
-kind-of-requires : tie.Need-kind-of-requires
-kind-of-requires c κs = search needs
-
-directory-span-requires : tie.Need-directory-span-requires
-directory-span-requires c κs = search needs
+place-of-requires : tie.Need-place-of-requires
+place-of-requires c κs = search needs
 
 name-span-requires : tie.Need-name-span-requires
 name-span-requires c κs = search needs
 
 returns : tie.Need-returns
 returns c =
-    let a = c .before .before .before .before .before .before .before .before .before .before .before .before .args in
-    parts-are (a .fs .«num_files») (textAt (a .text .now) (a .fs .name)) (a .path .now) (c .before .before .before .before .before .before .before .before .branch-before .result .now) (c .before .before .before .before .text-at .result .now) (c .before .before .before .before .before .before .before .before .before .leaf-span .ensures) (c .name-span .ensures) (c .before .before .before .before .before .before .is-below .ensures) (c .before .before .before .before .before .set-name-span .ensures) (c .before .before .before .before .text-at .ensures) (c .before .before .kind-of .ensures) (c .before .directory-span .ensures) (c .before .before .before .before .before .before .before .before .branch-before .ensures)
+    let a = c .before .before .before .before .before .before .before .before .before .before .before .args in
+    parts-are (a .fs .«num_files») (textAt (a .text .now) (a .fs .name)) (a .path .now) (c .before .before .before .before .text-at .result .now) (c .before .before .before .before .before .before .before .before .leaf-span .ensures) (c .name-span .ensures) (c .before .before .before .before .before .before .is-below .ensures) (c .before .before .before .before .before .set-name-span .ensures) (c .before .before .before .before .text-at .ensures) (c .before .before .place-of .ensures)
 
 pub parts-of-spec : {M : Type 1} → statement M
 parts-of-spec =
@@ -45,11 +39,9 @@ parts-of-spec =
     (tie.spec
     leaf-span-requires
     branch-before-requires
-    lsplit-path-first-requires
     is-below-requires
     set-name-span-requires
     text-at-requires
-    kind-of-requires
-    directory-span-requires
+    place-of-requires
     name-span-requires
     returns)

@@ -11,18 +11,13 @@ free-dirs-requires c κs = search needs
 put-new-dir-requires : tie.Need-put-new-dir-requires
 put-new-dir-requires c κs = search needs
 
-put-new-dir-requires-2 : tie.Need-put-new-dir-requires-2
-put-new-dir-requires-2 c κs = search needs
-
 same-length : tie.Need-same-length
 same-length c = search needs
 
 returns : tie.Need-returns
-returns c =
-    let p = c .before .before .before .before .before .before .before .before .before .before .before .before .before .before .before .before .args .plan in
-    c .before .before .put-new-dir2 .ensures ∙ ap (dirWritten (p .«pad_dir»)) (c .before .before .before .before .before .before .before .put-new-dir .ensures ∙ ap (dirWritten (p .dir)) (c .before .before .before .before .before .before .before .before .before .before .before .before .free-dirs .ensures))
+returns c = c .before .before .put-new-dir .ensures ∙ ap (dirWritten (c .before .before .before .before .before .before .before .before .before .before .before .args .plan .dir)) (c .before .before .before .before .before .before .before .free-dirs .ensures)
 
 pub write-dirs-spec : {M : Type 1} → statement M
 write-dirs-spec =
     tie.close
-    (tie.spec free-dirs-requires put-new-dir-requires put-new-dir-requires-2 same-length returns)
+    (tie.spec free-dirs-requires put-new-dir-requires same-length returns)

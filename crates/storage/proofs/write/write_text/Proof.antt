@@ -4,9 +4,7 @@ use mathlib.Core.Bool.{cond}
 use mathlib.Core.List.{List, []}
 use Prim.Native.Nat.{ℕ}
 use lib.Seq.{sets}
-use Rattle.additions.specs.Addition.{padDirectory}
 use Rattle.additions.specs.private.Texts.{nameFrom}
-use Rattle.plan.specs.Write.{padDigits}
 use borrow.Author.Needs.{needs}
 use Rattle.storage.proofs.write.write_text.Statement.{statement}
 use Rattle.storage.proofs.write.write_text.Tie as tie
@@ -26,33 +24,20 @@ put-name-requires c κs = search needs
 copy-after-requires-2 : tie.Need-copy-after-requires-2
 copy-after-requires-2 c κs = search needs
 
-slice-aggregate-put-new : tie.Need-slice-aggregate-put-new
-slice-aggregate-put-new c = search needs
-
-put-new-requires-2 : tie.Need-put-new-requires-2
-put-new-requires-2 c κs = search needs
-
-put-pad-requires : tie.Need-put-pad-requires
-put-pad-requires c κs = search needs
-
 same-length : tie.Need-same-length
 same-length c = search needs
 
 returns : tie.Need-returns
 returns c =
-    let a = c .before .before .before .before .before .before .before .before .before .before .before .before .before .before .before .before .before .before .before .before .before .before .before .before .before .before .before .before .before .before .before .before .before .before .before .before .args in
+    let a = c .before .before .before .before .before .before .before .before .before .before .before .before .before .before .before .before .before .before .before .before .before .before .before .before .before .before .before .args in
     let p = a .plan in
-    c .before .before .put-pad .ensures
-    ∙ ap (λ (l : List ℕ). sets l (p .«pad_row» .name .at) (padDigits (p .«pad_row» .size)))
-    (c .before .before .before .before .before .before .put-new2 .ensures
-    ∙ ap (λ (l : List ℕ). sets l (p .«pad_dir» .text .at) (cond (p .«pad_dir» .new) padDirectory []))
-    (c .before .before .before .before .before .before .before .before .before .before .before .copy-after2 .ensures
+    c .before .before .copy-after2 .ensures
     ∙ ap (λ (l : List ℕ). sets l (p .row .link .at) (a .link .now))
-    (c .before .before .before .before .before .before .before .before .before .before .before .before .before .before .before .put-name .ensures
+    (c .before .before .before .before .before .before .put-name .ensures
     ∙ ap (λ (l : List ℕ). sets l (p .row .name .at) (nameFrom (a .given) (a .filename .now) (a .own .now)))
-    (c .before .before .before .before .before .before .before .before .before .before .before .before .before .before .before .before .before .before .before .put-new .ensures
+    (c .before .before .before .before .before .before .before .before .before .before .put-new .ensures
     ∙ ap (λ (l : List ℕ). sets l (p .dir .text .at) (cond (p .dir .new) (a .dir .now) []))
-    (c .before .before .before .before .before .before .before .before .before .before .before .before .before .before .before .before .before .before .before .before .before .before .before .copy-after .ensures ∙ ap (λ (l : List ℕ). sets l (p .start) (a .set-name .now)) (c .before .before .before .before .before .before .before .before .before .before .before .before .before .before .before .before .before .before .before .before .before .before .before .before .before .before .before .free-name .ensures))))))
+    (c .before .before .before .before .before .before .before .before .before .before .before .before .before .before .copy-after .ensures ∙ ap (λ (l : List ℕ). sets l (p .start) (a .set-name .now)) (c .before .before .before .before .before .before .before .before .before .before .before .before .before .before .before .before .before .before .free-name .ensures))))
 
 pub write-text-spec : {M : Type 1} → statement M
 write-text-spec =
@@ -63,8 +48,5 @@ write-text-spec =
     put-new-requires
     put-name-requires
     copy-after-requires-2
-    slice-aggregate-put-new
-    put-new-requires-2
-    put-pad-requires
     same-length
     returns)

@@ -4,18 +4,18 @@ use mathlib.Core.List.{List}
 use Prim.Native.Nat.{ℕ}
 use Rattle.additions.specs.private.Texts.{nameFrom}
 use Rattle.plan.specs.declared.plan.AddPlan.{AddPlan}
-use Rattle.storage.specs.private.Written.{textWritten}
+use Rattle.storage.specs.private.Written.{textBeforePad}
 use borrow.Author.Needs.{needs}
 use Rattle.storage.proofs.write.write_texts.Statement.{statement}
 use Rattle.storage.proofs.write.write_texts.Tie as tie
 
 module _ (files used : ℕ) (p : AddPlan) (text : List ℕ) where
-  same : {x x' d d' n n' l l' : List ℕ} → x ≡ x' → d ≡ d' → n ≡ n' → l ≡ l' → textWritten files used p text x d n l ≡ textWritten files used p text x' d' n' l'
+  same : {x x' d d' n n' l l' : List ℕ} → x ≡ x' → d ≡ d' → n ≡ n' → l ≡ l' → textBeforePad files used p text x d n l ≡ textBeforePad files used p text x' d' n' l'
   same {x} {x'} {d} {d'} {n} {n'} {l} {l'} e f g h =
-      ap (λ (v : List ℕ). textWritten files used p text v d n l) e
-      ∙ ap (λ (v : List ℕ). textWritten files used p text x' v n l) f
-      ∙ ap (λ (v : List ℕ). textWritten files used p text x' d' v l) g
-      ∙ ap (λ (v : List ℕ). textWritten files used p text x' d' n' v) h
+      ap (λ (v : List ℕ). textBeforePad files used p text v d n l) e
+      ∙ ap (λ (v : List ℕ). textBeforePad files used p text x' v n l) f
+      ∙ ap (λ (v : List ℕ). textBeforePad files used p text x' d' v l) g
+      ∙ ap (λ (v : List ℕ). textBeforePad files used p text x' d' n' v) h
 
 part-of-requires : tie.Need-part-of-requires
 part-of-requires c κs = c .before .before .before .before .before .before .before .before .before .pre .set-name
