@@ -10,10 +10,10 @@ use Rattle.types.specs.Refusals.{value, refused}
 use Rattle.path.specs.Join.{Joined}
 use Rattle.tables.specs.declared.storage.FileStorage.{FileStorage}
 use Rattle.rules.specs.Bounds.{badLength, clampedOf, isBelow}
-use Rattle.rules.specs.Questions.{fileAnswer}
+use Rattle.rules.specs.Questions.{fewEntries, fileAnswer}
 use Rattle.rules.specs.Composed.{composedIf, composedFile}
 use Rattle.rules.proofs.Deciding.{denied}
-use Rattle.renames.proofs.Deciding.{asked-good, asked-there, asked-held, asked-own}
+use Rattle.renames.proofs.Deciding.{asked-good, asked-there, asked-held, asked-few, asked-own}
 use Rattle.rules.proofs.Rules.{both-true}
 
 module _ {A : Type 0} (fs : FileStorage) (z : ℤ) (held order : Bool) (f : ℕ → A) (t : ℕ → List ℕ) (buf : List ℕ) where
@@ -26,7 +26,7 @@ module _ {A : Type 0} (fs : FileStorage) (z : ℤ) (held order : Bool) (f : ℕ 
   pub path-refused : (m : ℕ) → refused m ≡ fileAnswer fs z (held && order) f
       → _≡_ {A = Joined} (record { says = refused m; buf = buf }) (composedFile fs z (held && order) t buf)
   path-refused m e =
-      let n : ℕ = cond bad 1 (cond missing 11 (cond (not (held && order)) 10 0)) in
+      let n : ℕ = cond bad 1 (cond missing 11 (cond (not ((held && order) && fewEntries fs)) 10 0)) in
       let d = denied n (f (clampedOf z)) (eqb n 0) m e in
       rw (d .0, d .1)
 
@@ -40,13 +40,16 @@ module _ {A : Type 0} (fs : FileStorage) (z : ℤ) (held order : Bool) (f : ℕ 
     all-held : (held && order) ≡ true
     all-held = asked-held fs z (held && order) f x e
 
+    few : fewEntries fs ≡ true
+    few = asked-few fs z (held && order) f x e
+
     pub path-asked : (order ≡ true) × (x ≡ f (clampedOf z))
     path-asked = (both-true held order all-held .1, asked-own fs z (held && order) f x e)
 
     pub path-text : (j : Joined) (text : List ℕ) → j ≡ composedIf 0 text buf → text ≡ t (clampedOf z) → j ≡ composedFile fs z (held && order) t buf
-    path-text j text h w = h ∙ rw (good, within, all-held, w)
+    path-text j text h w = h ∙ rw (good, within, all-held, few, w)
 
     pub path-own : (s : ℕ → List ℕ) (j : Joined) → j ≡ composedFile fs z held s buf → s (clampedOf z) ≡ t (clampedOf z) → j ≡ composedFile fs z (held && order) t buf
     path-own s j h w =
         let b = both-true held order all-held in
-        h ∙ rw (good, within, b .0, b .1, w)
+        h ∙ rw (good, within, few, b .0, b .1, w)

@@ -23,7 +23,7 @@ use Rattle.tables.specs.Rows.{rowAt}
 use Rattle.tables.specs.Model.{Optional, absent, present}
 use Rattle.rules.specs.Rules.{outcomeOf}
 use Rattle.rules.specs.Bounds.{badLength, clampedOf, isBelow}
-use Rattle.rules.specs.Questions.{fileAnswer, rowsHeld, textHeld}
+use Rattle.rules.specs.Questions.{fewEntries, fileAnswer, rowsHeld, textHeld}
 use Rattle.renames.specs.declared.rename.Rename.{Rename}
 use Rattle.renames.specs.declared.rename.RenamedFiles.{RenamedFiles}
 use Rattle.renames.specs.declared.rename.FindResult.{FindResult}
@@ -141,13 +141,15 @@ name-if text t own absent = refl
 name-if text t own (present r) = leaf-text t (r .name)
 
 -- a value that is known only in order
-in-order-only : {A : Type 0} (bad missing held o : Bool) (x y : A) → (o ≡ true → x ≡ y)
-    → outcomeOf (cond bad 1 (cond missing 11 (cond (not (held && o)) 10 0))) x ≡ outcomeOf (cond bad 1 (cond missing 11 (cond (not (held && o)) 10 0))) y
-in-order-only true missing held o x y h = refl
-in-order-only false true held o x y h = refl
-in-order-only false false true true x y h = ap value (h refl)
-in-order-only false false true false x y h = refl
-in-order-only false false false o x y h = refl
+in-order-only : {A : Type 0} (bad missing held o few : Bool) (x y : A) → (o ≡ true → x ≡ y)
+    → outcomeOf (cond bad 1 (cond missing 11 (cond (not ((held && o) && few)) 10 0))) x
+    ≡ outcomeOf (cond bad 1 (cond missing 11 (cond (not ((held && o) && few)) 10 0))) y
+in-order-only true missing held o few x y h = refl
+in-order-only false true held o few x y h = refl
+in-order-only false false true true true x y h = ap value (h refl)
+in-order-only false false true true false x y h = refl
+in-order-only false false true false few x y h = refl
+in-order-only false false false o few x y h = refl
 
 -- the name of a file as a text: the leaf of its rename in the list of renames, or its own
 pub name-said : (fs : FileStorage) (rows text : List ℕ) (rf : RenamedFiles) (e names : List ℕ) (z : ℤ)
@@ -160,7 +162,7 @@ name-said fs rows text rf e names z =
     let o = inOrder rf e names in
     let own = rowAt rows k .name in
     let f = renameFound rf e k in
-    let m : ℕ = cond (badLength (fs .«piece_length»)) 1 (cond (not (isBelow (fs .«num_files») z)) 11 (cond (not (held && o)) 10 0)) in
+    let m : ℕ = cond (badLength (fs .«piece_length»)) 1 (cond (not (isBelow (fs .«num_files») z)) 11 (cond (not ((held && o) && fewEntries fs)) 10 0)) in
     read-if (readName text names) (eqb m 0) m (nameSpan names own f)
-    ∙ in-order-only (badLength (fs .«piece_length»)) (not (isBelow (fs .«num_files») z)) held o (readName text names (nameSpan names own f)) (renamedName (renameFor k (renamesOf rf e names)) (textAt text own))
+    ∙ in-order-only (badLength (fs .«piece_length»)) (not (isBelow (fs .«num_files») z)) held o (fewEntries fs) (readName text names (nameSpan names own f)) (renamedName (renameFor k (renamesOf rf e names)) (textAt text own))
     (λ q. name-if text names own f ∙ ap (λ (x : Optional Renamed). renamedName x (textAt text own)) (sym (renamed-found rf e names k q)))

@@ -2,17 +2,17 @@
 -- proofs/Deciding.antt).
 use Prim.Native.Nat.{ℕ}
 use mathlib.Core.Path.{_≡_, refl, sym}
-use mathlib.Core.Bool.{Bool, true, false, not}
+use mathlib.Core.Bool.{Bool, true, false, not, _&&_}
 use mathlib.Core.List.{List, [], _∷_}
 use lib.Dec.{eqb}
 use lib.IntN.{ℤ}
 use borrow.Author.Tests.{eqb-true, not-false}
 use Rattle.types.specs.Refusals.{value}
 use Rattle.tables.specs.declared.storage.FileStorage.{FileStorage}
-use Rattle.rules.specs.Rules.{Rule, when, firstOf, outcomeOf}
+use Rattle.rules.specs.Rules.{Rule, firstOf, outcomeOf}
 use Rattle.rules.specs.Bounds.{badLength, clampedOf, isBelow}
-use Rattle.rules.proofs.Rules.{Numbered, Passed, passed}
-use Rattle.rules.specs.Questions.{fileAnswer}
+use Rattle.rules.proofs.Rules.{Numbered, Passed, passed, both-true}
+use Rattle.rules.specs.Questions.{badPieceLength, noFile, short, fewEntries, fileAnswer}
 use Rattle.rules.proofs.Deciding.{allowed}
 
 -- an answer that is a value: no test of a rule holds, and it is the one that is due
@@ -24,7 +24,7 @@ passes rs h x a e =
 -- the same of a question about a file
 module _ {A : Type 0} (fs : FileStorage) (z : ℤ) (held : Bool) (f : ℕ → A) (v : A) (h : value v ≡ fileAnswer fs z held f) where
   abbrev rules : List Rule
-  rules = when (badLength (fs .«piece_length»)) 1 ∷ when (not (isBelow (fs .«num_files») z)) 11 ∷ when (not held) 10 ∷ []
+  rules = badPieceLength fs ∷ noFile fs z ∷ short (held && fewEntries fs) ∷ []
 
   abbrev known : Passed rules × (v ≡ f (clampedOf z))
   known = passes rules refl v (f (clampedOf z)) h
@@ -35,8 +35,14 @@ module _ {A : Type 0} (fs : FileStorage) (z : ℤ) (held : Bool) (f : ℕ → A)
   pub asked-there : not (isBelow (fs .«num_files») z) ≡ false
   asked-there = known .0 .1 .0
 
+  abbrev both : (held ≡ true) × (fewEntries fs ≡ true)
+  both = both-true held (fewEntries fs) (not-false (held && fewEntries fs) (known .0 .1 .1 .0))
+
   pub asked-held : held ≡ true
-  asked-held = not-false held (known .0 .1 .1 .0)
+  asked-held = both .0
+
+  pub asked-few : fewEntries fs ≡ true
+  asked-few = both .1
 
   pub asked-own : v ≡ f (clampedOf z)
   asked-own = known .1

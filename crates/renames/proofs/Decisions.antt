@@ -17,9 +17,9 @@ use Rattle.tables.specs.declared.storage.FileStorage.{FileStorage}
 use Rattle.rules.specs.Rules.{when, firstOf, outcomeOf}
 use Rattle.rules.specs.Bounds.{badLength, clampedOf, isBelow}
 use Rattle.rules.proofs.Rules.{either-false, both-true}
-use Rattle.rules.specs.Questions.{fileAnswer}
+use Rattle.rules.specs.Questions.{fewEntries, fileAnswer}
 use Rattle.rules.proofs.Deciding.{allowed, denied}
-use Rattle.renames.proofs.Deciding.{passes, asked-good, asked-there, asked-own}
+use Rattle.renames.proofs.Deciding.{passes, asked-good, asked-there, asked-few, asked-own}
 use Rattle.renames.specs.declared.rename.RenamedFiles.{RenamedFiles}
 use Rattle.renames.specs.declared.slot.Slot.{Slot}
 use Rattle.renames.specs.Renames.{Renamed, RenamesChanged, orderedFrom, renamesOf, renamedTo, lacksRoom, inOrder, stateOf, wordsOf, textsOf, renameFile}
@@ -30,10 +30,11 @@ use Rattle.renames.proofs.Changes.{count-after, bytes-after}
 
 -- ---- what follows the set's refusals
 
-stops : {A : Type 0} (a b : Bool) (m i r : ℕ) (x : A) → refused m ≡ outcomeOf (cond a 1 (cond b 11 0)) i → refused m ≡ outcomeOf (cond a 1 (cond b 11 r)) x
-stops true b m i r x e = cc
-stops false true m i r x e = cc
-stops false false m i r x e = absurd (let z : _≡_ {A = ℕ} 0 1 = cc in omega arith)
+stops : {A : Type 0} (a b k : Bool) (m i r : ℕ) (x : A) → refused m ≡ outcomeOf (cond a 1 (cond b 11 (cond k 10 0))) i → refused m ≡ outcomeOf (cond a 1 (cond b 11 (cond k 10 r))) x
+stops true b k m i r x e = cc
+stops false true k m i r x e = cc
+stops false false true m i r x e = cc
+stops false false false m i r x e = absurd (let z : _≡_ {A = ℕ} 0 1 = cc in omega arith)
 
 module _ (fs : FileStorage) (rf : RenamedFiles) (e : List ℕ) (room : ℕ) (z : ℤ) (len : ℕ) where
   abbrev own : Slot
@@ -47,14 +48,14 @@ module _ (fs : FileStorage) (rf : RenamedFiles) (e : List ℕ) (room : ℕ) (z :
 
   pub slot-goes : (k : ℕ) → value k ≡ fileAnswer fs z true (λ k. k) → (o s : Bool) → inOrderIn rf e room ≡ o → isShort rf own (length e) room len ≡ s
       → outcomeOf (tests o s) own ≡ slotGiven fs rf e room z len
-  slot-goes k h o s p q = rw (asked-good fs z true (λ k. k) k h, asked-there fs z true (λ k. k) k h, p, q)
+  slot-goes k h o s p q = rw (asked-good fs z true (λ k. k) k h, asked-there fs z true (λ k. k) k h, asked-few fs z true (λ k. k) k h, p, q)
 
   pub slot-disorder : (k : ℕ) → value k ≡ fileAnswer fs z true (λ k. k) → inOrderIn rf e room ≡ false → refused 10 ≡ slotGiven fs rf e room z len
   slot-disorder k h p = slot-goes k h false (isShort rf own (length e) room len) p refl
 
   pub slot-stops : (m : ℕ) → refused m ≡ fileAnswer fs z true (λ k. k) → refused m ≡ slotGiven fs rf e room z len
   slot-stops m h =
-      stops (badLength (fs .«piece_length»)) (not (isBelow (fs .«num_files») z)) m (clampedOf z) (tests (inOrderIn rf e room) (isShort rf own (length e) room len)) own h
+      stops (badLength (fs .«piece_length»)) (not (isBelow (fs .«num_files») z)) (not (fewEntries fs)) m (clampedOf z) (tests (inOrderIn rf e room) (isShort rf own (length e) room len)) own h
 
 -- what tables in order hold
 pub order-in : (rf : RenamedFiles) (e : List ℕ) (room : ℕ) → inOrderIn rf e room ≡ true
@@ -64,15 +65,19 @@ order-in rf e room h =
     let b = both-true (leb (rf .«text_len») room) (orderedFrom (rf .«num_renames») 0 0 (rf .«text_len») e) (a .1) in
     (leb-true _ _ (a .0), leb-true _ _ (b .0), b .1)
 
--- ---- four refusals in a row
+-- ---- refusals in a row
 
 -- none of them: what is known
-pub four-passed : {A : Type 0} (a b o s : Bool) (p q : A) → value p ≡ outcomeOf (firstOf (when a 1 ∷ when b 11 ∷ when (not o) 10 ∷ when s 10 ∷ [])) q
-    → (eqb (firstOf (when a 1 ∷ when b 11 ∷ when (not o) 10 ∷ when s 10 ∷ [])) 0 ≡ true) × (o ≡ true) × (s ≡ false) × (p ≡ q)
-four-passed a b o s p q h =
-    let n = firstOf (when a 1 ∷ when b 11 ∷ when (not o) 10 ∷ when s 10 ∷ []) in
-    let t = passes (when a 1 ∷ when b 11 ∷ when (not o) 10 ∷ when s 10 ∷ []) refl p q h in
-    (allowed n q (eqb n 0) p h .0, not-false o (t .0 .1 .1 .0), t .0 .1 .1 .1 .0, t .1)
+pub five-passed : {A : Type 0} (a b l o s : Bool) (p q : A) → value p ≡ outcomeOf (firstOf (when a 1 ∷ when b 11 ∷ when (not l) 10 ∷ when (not o) 10 ∷ when s 10 ∷ [])) q
+    → (eqb (firstOf (when a 1 ∷ when b 11 ∷ when (not l) 10 ∷ when (not o) 10 ∷ when s 10 ∷ [])) 0 ≡ true) × (o ≡ true) × (s ≡ false) × (p ≡ q)
+five-passed a b l o s p q h =
+    let n = firstOf (when a 1 ∷ when b 11 ∷ when (not l) 10 ∷ when (not o) 10 ∷ when s 10 ∷ []) in
+    let t = passes (when a 1 ∷ when b 11 ∷ when (not l) 10 ∷ when (not o) 10 ∷ when s 10 ∷ []) refl p q h in
+    (allowed n q (eqb n 0) p h .0, not-false o (t .0 .1 .1 .1 .0), t .0 .1 .1 .1 .1 .0, t .1)
+
+pub five-held : {A : Type 0} (a b l o s : Bool) (p q : A) → value p ≡ outcomeOf (firstOf (when a 1 ∷ when b 11 ∷ when (not l) 10 ∷ when (not o) 10 ∷ when s 10 ∷ [])) q → l ≡ true
+five-held a b l o s p q h =
+    not-false l (passes (when a 1 ∷ when b 11 ∷ when (not l) 10 ∷ when (not o) 10 ∷ when s 10 ∷ []) refl p q h .0 .1 .1 .0)
 
 -- the last two, where the last is known only in order
 pub same-test : (o x y : Bool) → (o ≡ true → x ≡ y) → _≡_ {A = ℕ} (cond (not o) 10 (cond x 10 0)) (cond (not o) 10 (cond y 10 0))
@@ -108,7 +113,7 @@ module _ (fs : FileStorage) (rf : RenamedFiles) (e t : List ℕ) (z : ℤ) (name
   abbrev changeNumber : ℕ
   changeNumber =
       cond (badLength (fs .«piece_length»)) 1
-      (cond (not (isBelow (fs .«num_files») z)) 11 (cond (not (inOrder rf e t)) 10 (cond (lacksRoom after e t) 10 0)))
+      (cond (not (isBelow (fs .«num_files») z)) 11 (cond (not (fewEntries fs)) 10 (cond (not (inOrder rf e t)) 10 (cond (lacksRoom after e t) 10 0))))
 
   number-is : changeNumber ≡ slotNumber fs rf e (length t) z (length name)
   number-is =
@@ -117,7 +122,7 @@ module _ (fs : FileStorage) (rf : RenamedFiles) (e t : List ℕ) (z : ℤ) (name
   module _ (p : Slot) (h : value p ≡ slotGiven fs rf e (length t) z (length name)) where
     abbrev known : (eqb (slotNumber fs rf e (length t) z (length name)) 0 ≡ true) × (inOrderIn rf e (length t) ≡ true) × (isShort rf there (length e) (length t) (length name) ≡ false) × (p ≡ there)
     known =
-        four-passed (badLength (fs .«piece_length»)) (not (isBelow (fs .«num_files») z)) (inOrderIn rf e (length t)) (isShort rf there (length e) (length t) (length name)) p there h
+        five-passed (badLength (fs .«piece_length»)) (not (isBelow (fs .«num_files») z)) (fewEntries fs) (inOrderIn rf e (length t)) (isShort rf there (length e) (length t) (length name)) p there h
 
     pub slot-known : (orderedFrom (rf .«num_renames») 0 0 (rf .«text_len») e ≡ true) × (p ≡ there)
         × (rf .«num_renames» ≤ length e / 3) × (rf .«text_len» ≤ length t)

@@ -13,7 +13,7 @@ use Rattle.rules.specs.Bounds.{clampedOf, isBelow}
 use Rattle.renames.specs.Renames.{Renamed, textsOf, withRename}
 use Rattle.renames.specs.Imports.{Naming, namings, fullPath, imported}
 use Rattle.renames.specs.private.Importing.{isOf, isListed, renamesKept, renamesGiven, withAll, Fresh}
-use Rattle.renames.proofs.Rising.{Rises, Small, Side, below, same, above, side, rises-weaker, rises-with, with-before, with-same, with-behind}
+use Rattle.renames.proofs.Rising.{Rises, Side, below, same, above, side, rises-weaker, rises-with, with-before, with-same, with-behind}
 
 -- ---- one number more in the list
 
@@ -58,30 +58,22 @@ module _ (files : ℕ) (z : ℤ) (zs : List ℤ) where
   unlisted-other k b e h = true≢false (sym (listed-own k b h) ∙ e)
 
 -- lists of numbers that name the same
-kept-alike : (files : ℕ) (zs ys : List ℤ) (rs : List Renamed) → ((k : ℕ) → isListed files zs k ≡ isListed files ys k) → renamesKept files zs rs ≡ renamesKept files ys rs
+kept-alike : (files : ℕ) (zs ys : List ℤ) (rs : List Renamed) → ((k : ℕ) → isListed files zs k ≡ isListed files ys k) → renamesKept (isListed files zs) rs ≡ renamesKept (isListed files ys) rs
 kept-alike files zs ys [] h = refl
 kept-alike files zs ys (r ∷ rs) h = rw (h (r .file), kept-alike files zs ys rs h)
 
-kept-none : (files : ℕ) (rs : List Renamed) → renamesKept files [] rs ≡ rs
+kept-none : (files : ℕ) (rs : List Renamed) → renamesKept (isListed files []) rs ≡ rs
 kept-none files [] = refl
 kept-none files (r ∷ rs) = ap (λ (x : List Renamed). r ∷ x) (kept-none files rs)
 
 -- ---- the renames that stay are in order too
 
-pub rises-kept : (files : ℕ) (zs : List ℤ) (rs : List Renamed) (least : ℕ) → Rises least rs → Rises least (renamesKept files zs rs)
+pub rises-kept : (files : ℕ) (zs : List ℤ) (rs : List Renamed) (least : ℕ) → Rises least rs → Rises least (renamesKept (isListed files zs) rs)
 rises-kept files zs [] least a = tt
 rises-kept files zs (r ∷ rs) least a = at (isListed files zs (r .file)) (rises-kept files zs rs (r .file + 1) (a .1))
   where
-    at : (b : Bool) → Rises (r .file + 1) (renamesKept files zs rs) → Rises least (cond b (renamesKept files zs rs) (r ∷ renamesKept files zs rs))
-    at true ih = rises-weaker (renamesKept files zs rs) (r .file + 1) least (omega (arith, a .0)) ih
-    at false ih = (a .0, ih)
-
-pub small-kept : (files : ℕ) (zs : List ℤ) (rs : List Renamed) → Small rs → Small (renamesKept files zs rs)
-small-kept files zs [] a = tt
-small-kept files zs (r ∷ rs) a = at (isListed files zs (r .file)) (small-kept files zs rs (a .1))
-  where
-    at : (b : Bool) → Small (renamesKept files zs rs) → Small (cond b (renamesKept files zs rs) (r ∷ renamesKept files zs rs))
-    at true ih = ih
+    at : (b : Bool) → Rises (r .file + 1) (renamesKept (isListed files zs) rs) → Rises least (cond b (renamesKept (isListed files zs) rs) (r ∷ renamesKept (isListed files zs) rs))
+    at true ih = rises-weaker (renamesKept (isListed files zs) rs) (r .file + 1) least (omega (arith, a .0)) ih
     at false ih = (a .0, ih)
 
 with-first : (r : Renamed) (rs : List Renamed) → Rises (r .file + 1) rs → withRename r rs ≡ r ∷ rs
@@ -92,38 +84,38 @@ with-first r (x ∷ xs) a = with-before r x xs (omega (arith, a .0))
 
 module _ (files : ℕ) (zs : List ℤ) (r : Renamed) where
   -- of a file that the list names: it goes again
-  kept-named : isListed files zs (r .file) ≡ true → (rs : List Renamed) → renamesKept files zs (withRename r rs) ≡ renamesKept files zs rs
+  kept-named : isListed files zs (r .file) ≡ true → (rs : List Renamed) → renamesKept (isListed files zs) (withRename r rs) ≡ renamesKept (isListed files zs) rs
   kept-named h [] = rw h
   kept-named h (x ∷ xs) = step (side (r .file) (x .file)) (kept-named h xs)
     where
-      step : Side (r .file) (x .file) → renamesKept files zs (withRename r xs) ≡ renamesKept files zs xs → renamesKept files zs (withRename r (x ∷ xs)) ≡ renamesKept files zs (x ∷ xs)
+      step : Side (r .file) (x .file) → renamesKept (isListed files zs) (withRename r xs) ≡ renamesKept (isListed files zs) xs → renamesKept (isListed files zs) (withRename r (x ∷ xs)) ≡ renamesKept (isListed files zs) (x ∷ xs)
       step (below g) ih = rw (with-before r x xs g, h)
       step (same g) ih = rw (with-same r x xs g, h, ← g, h)
       step (above g) ih = rw (with-behind r x xs g, ih)
 
   -- of a file that the list does not name, but one number more names: it comes to those that stay
   module _ (z : ℤ) (here : isBelow files z ≡ true) (own : clampedOf z ≡ r .file) (new : isListed files zs (r .file) ≡ false) where
-    kept-above : (rs : List Renamed) → Rises (r .file + 1) rs → renamesKept files (z ∷ zs) rs ≡ renamesKept files zs rs
+    kept-above : (rs : List Renamed) → Rises (r .file + 1) rs → renamesKept (isListed files (z ∷ zs)) rs ≡ renamesKept (isListed files zs) rs
     kept-above [] a = refl
     kept-above (x ∷ xs) a =
         rw (listed-other files z zs (x .file) (λ q. omega (arith, a .0)), kept-above xs (rises-weaker xs (x .file + 1) (r .file + 1) (omega (arith, a .0)) (a .1)))
 
     -- those above the rename's file stand behind it
-    kept-first : (rs : List Renamed) → Rises (r .file + 1) rs → r ∷ renamesKept files zs rs ≡ withRename r (renamesKept files (z ∷ zs) rs)
-    kept-first rs a = rw (kept-above rs a) (sym (with-first r (renamesKept files zs rs) (rises-kept files zs rs (r .file + 1) a)))
+    kept-first : (rs : List Renamed) → Rises (r .file + 1) rs → r ∷ renamesKept (isListed files zs) rs ≡ withRename r (renamesKept (isListed files (z ∷ zs)) rs)
+    kept-first rs a = rw (kept-above rs a) (sym (with-first r (renamesKept (isListed files zs) rs) (rises-kept files zs rs (r .file + 1) a)))
 
-    kept-new : (rs : List Renamed) (least : ℕ) → Rises least rs → renamesKept files zs (withRename r rs) ≡ withRename r (renamesKept files (z ∷ zs) rs)
+    kept-new : (rs : List Renamed) (least : ℕ) → Rises least rs → renamesKept (isListed files zs) (withRename r rs) ≡ withRename r (renamesKept (isListed files (z ∷ zs)) rs)
     kept-new [] least a = rw new
     kept-new (x ∷ xs) least a = step (side (r .file) (x .file)) (kept-new xs (x .file + 1) (a .1))
       where
-        behind : (b : Bool) → x .file < r .file → renamesKept files zs (withRename r xs) ≡ withRename r (renamesKept files (z ∷ zs) xs)
-            → cond b (renamesKept files zs (withRename r xs)) (x ∷ renamesKept files zs (withRename r xs))
-            ≡ withRename r (cond b (renamesKept files (z ∷ zs) xs) (x ∷ renamesKept files (z ∷ zs) xs))
+        behind : (b : Bool) → x .file < r .file → renamesKept (isListed files zs) (withRename r xs) ≡ withRename r (renamesKept (isListed files (z ∷ zs)) xs)
+            → cond b (renamesKept (isListed files zs) (withRename r xs)) (x ∷ renamesKept (isListed files zs) (withRename r xs))
+            ≡ withRename r (cond b (renamesKept (isListed files (z ∷ zs)) xs) (x ∷ renamesKept (isListed files (z ∷ zs)) xs))
         behind true g ih = ih
-        behind false g ih = rw (with-behind r x (renamesKept files (z ∷ zs) xs) g) (ap (λ (l : List Renamed). x ∷ l) ih)
+        behind false g ih = rw (with-behind r x (renamesKept (isListed files (z ∷ zs)) xs) g) (ap (λ (l : List Renamed). x ∷ l) ih)
 
-        step : Side (r .file) (x .file) → renamesKept files zs (withRename r xs) ≡ withRename r (renamesKept files (z ∷ zs) xs)
-            → renamesKept files zs (withRename r (x ∷ xs)) ≡ withRename r (renamesKept files (z ∷ zs) (x ∷ xs))
+        step : Side (r .file) (x .file) → renamesKept (isListed files zs) (withRename r xs) ≡ withRename r (renamesKept (isListed files (z ∷ zs)) xs)
+            → renamesKept (isListed files zs) (withRename r (x ∷ xs)) ≡ withRename r (renamesKept (isListed files (z ∷ zs)) (x ∷ xs))
         step (below g) ih = rw (with-before r x xs g, new) (kept-first (x ∷ xs) (omega arith, a .1))
         step (same g) ih =
             rw (with-same r x xs g, new, listed-own files z zs (x .file) here (own ∙ g))
@@ -145,9 +137,9 @@ module _ (files : ℕ) (z : ℤ) (zs : List ℤ) (lengths t : List ℕ) (rs : Li
   abbrev rest : List Naming
   rest = namings zs (drop 1 lengths) (drop (getD lengths 0 0) t)
 
-  imported-turn : Rises 0 rs → ((l : List Renamed) → Rises 0 l → imported files rest l ≡ withAll after (renamesKept files zs l))
+  imported-turn : Rises 0 rs → ((l : List Renamed) → Rises 0 l → imported files rest l ≡ withAll after (renamesKept (isListed files zs) l))
       → (b c : Bool) → isBelow files z ≡ b → isListed files zs (clampedOf z) ≡ c
-      → imported files rest (cond b (withRename first rs) rs) ≡ withAll (cond (b && not c) (first ∷ after) after) (renamesKept files (z ∷ zs) rs)
+      → imported files rest (cond b (withRename first rs) rs) ≡ withAll (cond (b && not c) (first ∷ after) after) (renamesKept (isListed files (z ∷ zs)) rs)
   imported-turn a ih true true p q =
       ih (withRename first rs) (rises-with first rs 0 (omega arith) a)
       ∙ ap (withAll after) (kept-named files zs first q rs ∙ sym (kept-alike files (z ∷ zs) zs rs (λ k. listed-repeat files z zs k q)))
@@ -157,7 +149,7 @@ module _ (files : ℕ) (z : ℤ) (zs : List ℤ) (lengths t : List ℕ) (rs : Li
       ih rs a ∙ ap (withAll after) (sym (kept-alike files (z ∷ zs) zs rs (λ k. listed-past files z zs k p)))
 
 pub imported-is : (files : ℕ) (zs : List ℤ) (lengths t : List ℕ) (rs : List Renamed) → Rises 0 rs
-    → imported files (namings zs lengths t) rs ≡ withAll (renamesGiven files zs lengths t) (renamesKept files zs rs)
+    → imported files (namings zs lengths t) rs ≡ withAll (renamesGiven files zs lengths t) (renamesKept (isListed files zs) rs)
 imported-is files [] lengths t rs a = sym (kept-none files rs)
 imported-is files (z ∷ zs) lengths t rs a =
     imported-turn files z zs lengths t rs a (λ l b. imported-is files zs (drop 1 lengths) (drop (getD lengths 0 0) t) l b)
@@ -168,11 +160,11 @@ imported-is files (z ∷ zs) lengths t rs a =
 
 -- ---- how many there are
 
-pub fresh-kept : (files : ℕ) (zs : List ℤ) (rs : List Renamed) → Fresh files zs (renamesKept files zs rs)
+pub fresh-kept : (files : ℕ) (zs : List ℤ) (rs : List Renamed) → Fresh files zs (renamesKept (isListed files zs) rs)
 fresh-kept files zs [] = tt
 fresh-kept files zs (r ∷ rs) = at (isListed files zs (r .file)) refl (fresh-kept files zs rs)
   where
-    at : (b : Bool) → isListed files zs (r .file) ≡ b → Fresh files zs (renamesKept files zs rs) → Fresh files zs (cond b (renamesKept files zs rs) (r ∷ renamesKept files zs rs))
+    at : (b : Bool) → isListed files zs (r .file) ≡ b → Fresh files zs (renamesKept (isListed files zs) rs) → Fresh files zs (cond b (renamesKept (isListed files zs) rs) (r ∷ renamesKept (isListed files zs) rs))
     at true q ih = ih
     at false q ih = (q, ih)
 

@@ -21,7 +21,7 @@ mode-back FullPath = refl
 mode-back NoRootPath = refl
 mode-back AbsolutePath = refl
 
-mode-small : (m : RenameMode) → modeWord m ≤ 2
+pub mode-small : (m : RenameMode) → modeWord m ≤ 2
 mode-small FullPath = omega arith
 mode-small NoRootPath = omega arith
 mode-small AbsolutePath = omega arith
@@ -32,13 +32,13 @@ length-words (r ∷ rs) = omega (arith, length-words rs)
 
 -- the words of the first rename, and those behind it
 module _ (r : Renamed) (rs : List Renamed) (i : ℕ) (e post : List ℕ) (h : drop (i * 3) e ≡ wordsOf (r ∷ rs) ++ post) where
-  at-word : (j : ℕ) → getD e (i * 3 + j) 0 ≡ getD (wordsOf (r ∷ rs) ++ post) j 0
+  pub at-word : (j : ℕ) → getD e (i * 3 + j) 0 ≡ getD (wordsOf (r ∷ rs) ++ post) j 0
   at-word j = sym (getD-drop (i * 3) e j 0) ∙ ap (λ (x : List ℕ). getD x j 0) h
 
   word-file : getD e (i * 3) 0 ≡ r .file
   word-file = rw (add-zero (i * 3)) at (at-word 0)
 
-  words-rest : drop ((i + 1) * 3) e ≡ wordsOf rs ++ post
+  pub words-rest : drop ((i + 1) * 3) e ≡ wordsOf rs ++ post
   words-rest =
       let p : (i + 1) * 3 ≡ i * 3 + 3 = omega arith in
       rw p (sym (drop-drop 3 (i * 3) e) ∙ ap (drop 3) h)

@@ -14,4 +14,9 @@ pub mod Numbers
 pub mod Imported
 pub mod Keeping
 pub mod Giving
+pub mod Noting
+pub mod Merging
+pub mod Raising
+pub mod Merged
 pub mod Importing
+pub mod Lent

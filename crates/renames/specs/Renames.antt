@@ -3,7 +3,7 @@
 -- text; the texts stand in the entries' order in the text area, one after the other. It relies on the rules in order of
 -- `rules`.
 use Prim.Native.Nat.{ℕ, zero, suc, _+_, _-_, _*_, _/_}
-use mathlib.Core.Bool.{Bool, cond, not, _&&_, _||_}
+use mathlib.Core.Bool.{Bool, cond, _&&_, _||_}
 use mathlib.Core.List.{List, [], _∷_, _++_}
 use lib.Dec.{eqb, ltb, leb}
 use lib.IntN.{ℤ}
@@ -13,7 +13,8 @@ use Rattle.types.specs.Refusals.{Outcome, value, refused}
 use Rattle.path.specs.Split.{isComplete}
 use Rattle.tables.specs.declared.storage.FileStorage.{FileStorage}
 use Rattle.rules.specs.Rules.{when, firstOf}
-use Rattle.rules.specs.Bounds.{badLength, clampedOf, isBelow}
+use Rattle.rules.specs.Bounds.{clampedOf}
+use Rattle.rules.specs.Questions.{badPieceLength, noFile, short, fewEntries}
 use Rattle.renames.specs.declared.rename.RenameMode.{RenameMode}
 use Rattle.renames.specs.declared.rename.RenameMode.the-variants.{FullPath, NoRootPath, AbsolutePath}
 use Rattle.renames.specs.declared.rename.RenamedFiles.{RenamedFiles}
@@ -119,9 +120,10 @@ abbrev pub renameFile : FileStorage → RenamedFiles → List ℕ → List ℕ �
 renameFile fs rf entries text z name =
     renamesChangedIf
     (firstOf
-    (when (badLength (fs .«piece_length»)) 1 ∷
-    when (not (isBelow (fs .«num_files») z)) 11 ∷
-    when (not (inOrder rf entries text)) 10 ∷
+    (badPieceLength fs ∷
+    noFile fs z ∷
+    short (fewEntries fs) ∷
+    short (inOrder rf entries text) ∷
     when (lacksRoom (renamedTo z name (renamesOf rf entries text)) entries text) 10 ∷
     []))
     (renamedTo z name (renamesOf rf entries text))

@@ -2,3 +2,4 @@
 pub mod Slots
 pub mod Changing
 pub mod Importing
+pub mod Merging

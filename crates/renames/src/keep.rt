@@ -1,5 +1,5 @@
 // The renames that are kept when a list of names is imported: counting them, and moving them together in both
-// tables. Relies on listed.rt and splice.rt and on the laws of proofs/Keeping.antt.
+// tables. Relies on notes.rt and splice.rt and on the laws of proofs/Keeping.antt.
 ghost use mathlib.Core.Path.{_≡_};
 ghost use mathlib.Core.Bool.{cond};
 ghost use mathlib.Core.List.{[], _∷_};
@@ -10,7 +10,8 @@ ghost use Rattle.lists.specs.Lists.{partOf};
 ghost use Rattle.renames.specs.Renames.{renamesFrom, textsOf};
 ghost use Rattle.renames.specs.Finding.{bytesFrom};
 ghost use Rattle.renames.specs.private.Importing.{renamesKept, keptState, keptWords};
-use crate::listed::is_listed;
+ghost use Rattle.renames.specs.private.Merging.{isNoted};
+use crate::notes::is_noted;
 use crate::rename::RenamedFiles;
 use crate::splice::put_three;
 use tables::Span;
@@ -19,21 +20,21 @@ use tables::Span;
 pub(crate) fn count_kept(
     renames: RenamedFiles,
     entries: &[u64],
-    numbers: &[i32],
+    notes: &[u64],
     files: usize,
 ) -> RenamedFiles
     requires { ⌜
         (renames .«num_renames» * 3 ≤ length (now entries))
         × (bytesFrom (renames .«num_renames») 0 (now entries) < 2 ^ 64)
         ⌝ }
-    ensures { λ r. ⌜ r ≡ keptState files (now (numbers .entry)) renames (now (entries .entry)) ⌝ }
+    ensures { λ r. ⌜ r ≡ keptState (isNoted files (now (notes .entry))) renames (now (entries .entry)) ⌝ }
 {
     let n = renames.num_renames;
     let mut i = 0;
     let mut count = 0;
     let mut bytes: usize = 0;
     while i < n {
-        let stays = !is_listed(numbers, 0, files, lists::word(entries, i * 3));
+        let stays = !is_noted(notes, files, lists::word(entries, i * 3));
         let len = lists::word(entries, i * 3 + 2) as usize;
         i += 1;
         if stays {
@@ -48,7 +49,7 @@ pub(crate) fn count_kept(
 }
 
 // Moves entry i down to entry `to` if it stays, and gives the number of the next free entry.
-fn keep_entry(entries: &mut [u64], i: usize, to: usize, stays: bool) -> usize
+pub(crate) fn keep_entry(entries: &mut [u64], i: usize, to: usize, stays: bool) -> usize
     requires { ⌜ (to ≤ i) × (i * 3 + 3 ≤ length (now entries)) ⌝ }
     ensures { λ r. ⌜ r ≡ cond stays (to + 1) to ⌝ }
     ensures { λ _. ⌜
@@ -73,17 +74,17 @@ fn keep_entry(entries: &mut [u64], i: usize, to: usize, stays: bool) -> usize
 }
 
 // Moves the kept ones of the first n entries together.
-pub(crate) fn keep_entries(entries: &mut [u64], n: usize, numbers: &[i32], files: usize)
+pub(crate) fn keep_entries(entries: &mut [u64], n: usize, notes: &[u64], files: usize)
     requires { ⌜ n * 3 ≤ length (now entries) ⌝ }
     ensures { λ _. ⌜
         now (entries .exit)
-        ≡ sets (now (entries .entry)) 0 (keptWords files (now (numbers .entry)) n 0 (now (entries .entry)))
+        ≡ sets (now (entries .entry)) 0 (keptWords (isNoted files (now (notes .entry))) n 0 (now (entries .entry)))
         ⌝ }
 {
     let mut i = 0;
     let mut to = 0;
     while i < n {
-        let stays = !is_listed(numbers, 0, files, lists::word(entries, i * 3));
+        let stays = !is_noted(notes, files, lists::word(entries, i * 3));
         to = keep_entry(entries, i, to, stays);
         i += 1;
     }
@@ -91,7 +92,7 @@ pub(crate) fn keep_entries(entries: &mut [u64], n: usize, numbers: &[i32], files
 
 // Moves a text of `len` bytes from position `from` down to position `to` if it stays, and gives the position of
 // the next free byte.
-fn keep_text(text: &mut [u8], from: usize, len: usize, to: usize, stays: bool) -> usize
+pub(crate) fn keep_text(text: &mut [u8], from: usize, len: usize, to: usize, stays: bool) -> usize
     requires { ⌜ (to ≤ from) × (from + len ≤ length (now text)) ⌝ }
     ensures { λ r. ⌜ r ≡ cond stays (to + len) to ⌝ }
     ensures { λ _. ⌜
@@ -113,20 +114,21 @@ fn keep_text(text: &mut [u8], from: usize, len: usize, to: usize, stays: bool) -
 }
 
 // Moves the texts of the kept ones of the first n entries together.
-pub(crate) fn keep_texts(text: &mut [u8], entries: &[u64], n: usize, numbers: &[i32], files: usize)
+pub(crate) fn keep_texts(text: &mut [u8], entries: &[u64], n: usize, notes: &[u64], files: usize)
     requires { ⌜ (n * 3 ≤ length (now entries)) × (bytesFrom n 0 (now entries) ≤ length (now text)) ⌝ }
     ensures { λ _. ⌜
         now (text .exit)
         ≡ sets (now (text .entry)) 0
         (textsOf
-        (renamesKept files (now (numbers .entry)) (renamesFrom n 0 (now (entries .entry)) (now (text .entry)))))
+        (renamesKept (isNoted files (now (notes .entry)))
+        (renamesFrom n 0 (now (entries .entry)) (now (text .entry)))))
         ⌝ }
 {
     let mut i = 0;
     let mut from = 0;
     let mut to = 0;
     while i < n {
-        let stays = !is_listed(numbers, 0, files, lists::word(entries, i * 3));
+        let stays = !is_noted(notes, files, lists::word(entries, i * 3));
         let len = lists::word(entries, i * 3 + 2) as usize;
         to = keep_text(text, from, len, to, stays);
         from += len;

@@ -7,6 +7,8 @@ mod give;
 mod import;
 mod keep;
 mod listed;
+mod merge;
+mod notes;
 mod rename;
 mod slot;
 mod splice;

@@ -1,15 +1,42 @@
-// Which files a lent list of numbers names. Relies on `types` for signed numbers, and on the laws of `lists`
-// for scans.
+// Whether a lent list of names is whole, and its numbers. Relies on `types` for signed numbers, and on the laws of
+// `lists` for scans and sums.
 ghost use mathlib.Core.Path.{_≡_};
-ghost use Prim.Native.Nat.{_+_, _≤_, _<_};
+ghost use Prim.Native.Nat.{_≤_};
+ghost use lib.Dec.{leb};
 ghost use lib.IntN.{pos};
-ghost use lib.ListN.{length, getD, drop};
-ghost use Rattle.lists.specs.Lists.{any};
+ghost use lib.ListN.{getD, take};
+ghost use Rattle.lists.specs.Lists.{any, sum};
 ghost use Rattle.rules.specs.Bounds.{isNegative, clampedOf};
-ghost use Rattle.renames.specs.private.Importing.{isOf, isListed, counts};
+ghost use Rattle.renames.specs.Imports.{listHeld};
 use types::FileIndex;
 use types::Unsigned;
-use types::UsizeResult;
+
+// Whether the first n lengths sum to at most `room`.
+fn do_fit(lengths: &[u64], n: usize, room: usize) -> bool
+    ensures { λ r. ⌜ r ≡ leb (sum (take n (now (lengths .entry)))) room ⌝ }
+{
+    let mut i = 0;
+    let mut left = room;
+    while i < n {
+        let len = lists::word(lengths, i) as usize;
+        if left < len {
+            return false;
+        }
+        left -= len;
+        i += 1;
+    }
+    true
+}
+
+// Whether the list is whole: each number has a length, and the names have the bytes that these lengths say.
+pub(crate) fn is_list_held(numbers: &[i32], lengths: &[u64], names: &[u8]) -> bool
+    ensures { λ r. ⌜ r ≡ listHeld (now (numbers .entry)) (now (lengths .entry)) (now (names .entry)) ⌝ }
+{
+    if lengths.len() < numbers.len() {
+        return false;
+    }
+    do_fit(lengths, numbers.len(), names.len())
+}
 
 // Number i, 0 past the end.
 fn number_at(numbers: &[i32], i: usize) -> i32
@@ -46,50 +73,8 @@ pub(crate) fn has_negative(numbers: &[i32]) -> bool
 }
 
 // Number i as that of a file.
-fn index_at(numbers: &[i32], i: usize) -> FileIndex
+pub(crate) fn index_at(numbers: &[i32], i: usize) -> FileIndex
     ensures { λ r. ⌜ (r .0 ≡ getD (now (numbers .entry)) i (pos 0)) × (clampedOf (r .0) ≤ 2147483647) ⌝ }
 {
     FileIndex(number_at(numbers, i))
-}
-
-// Whether number i is that of `file`, one of `files` files.
-fn is_of(numbers: &[i32], i: usize, files: usize, file: u64) -> bool
-    ensures { λ r. ⌜ r ≡ isOf files file (getD (now (numbers .entry)) i (pos 0)) ⌝ }
-{
-    match index_at(numbers, i).within(files) {
-        UsizeResult::Ok(k) => k as u64 == file,
-        UsizeResult::Err(_) => false,
-    }
-}
-
-// Whether one of the numbers from `from` on is that of `file`, one of `files` files.
-pub(crate) fn is_listed(numbers: &[i32], from: usize, files: usize, file: u64) -> bool
-    ensures { λ r. ⌜ r ≡ isListed files (drop from (now (numbers .entry))) file ⌝ }
-{
-    let mut i = from;
-    while i < numbers.len() {
-        if is_of(numbers, i, files, file) {
-            return true;
-        }
-        i += 1;
-    }
-    false
-}
-
-// The file of number i, 0 where that is below 0.
-pub(crate) fn file_at(numbers: &[i32], i: usize) -> u64
-    ensures { λ r. ⌜ (r ≡ clampedOf (getD (now (numbers .entry)) i (pos 0))) × (r ≤ 2147483647) ⌝ }
-{
-    index_at(numbers, i).get() as u64
-}
-
-// Whether number i counts: it is that of one of `files` files, and no later number repeats it.
-pub(crate) fn does_count(numbers: &[i32], i: usize, files: usize) -> bool
-    requires { ⌜ i < length (now numbers) ⌝ }
-    ensures { λ r. ⌜ r ≡ counts files (getD (now (numbers .entry)) i (pos 0)) (drop (i + 1) (now (numbers .entry))) ⌝ }
-{
-    match index_at(numbers, i).within(files) {
-        UsizeResult::Ok(k) => !is_listed(numbers, i + 1, files, k as u64),
-        UsizeResult::Err(_) => false,
-    }
 }

@@ -52,7 +52,7 @@ pub(crate) fn bytes_of(entries: &[u64], n: usize) -> usize
 }
 
 // Whether entry i is one of n, and has the number `file`.
-fn is_named(entries: &[u64], n: usize, file: u64, i: usize) -> bool
+pub(crate) fn is_named(entries: &[u64], n: usize, file: u64, i: usize) -> bool
     requires { ⌜ n * 3 ≤ length (now entries) ⌝ }
     ensures { λ r. ⌜ r ≡ isNamed n file i (now (entries .entry)) ⌝ }
 {

@@ -9,7 +9,7 @@ ghost use Rattle.renames.specs.private.Slots.{spliced};
 use tables::Span;
 
 // Moves the bytes from `from` up to `used` up by `by` places, the last first.
-fn move_up(text: &mut [u8], used: usize, from: usize, by: usize)
+pub(crate) fn move_up(text: &mut [u8], used: usize, from: usize, by: usize)
     requires { ⌜ (from ≤ used) × (used + by ≤ length (now text)) ⌝ }
     ensures { λ _. ⌜
         now (text .exit) ≡ sets (now (text .entry)) (from + by) (drop from (take used (now (text .entry))))
@@ -54,17 +54,17 @@ pub(crate) fn replace_text(text: &mut [u8], used: usize, at: usize, old: usize, 
     lists::copy_after(text, at, new);
 }
 
-// Moves the words from `from` up to `used` up by three places, the last first.
-fn move_words(words: &mut [u64], used: usize, from: usize)
-    requires { ⌜ (from ≤ used) × (used + 3 ≤ length (now words)) ⌝ }
+// Moves the words from `from` up to `used` up by `by` places, the last first.
+pub(crate) fn move_words(words: &mut [u64], used: usize, from: usize, by: usize)
+    requires { ⌜ (from ≤ used) × (used + by ≤ length (now words)) ⌝ }
     ensures { λ _. ⌜
-        now (words .exit) ≡ sets (now (words .entry)) (from + 3) (drop from (take used (now (words .entry))))
+        now (words .exit) ≡ sets (now (words .entry)) (from + by) (drop from (take used (now (words .entry))))
         ⌝ }
 {
     let mut i = used;
     while from < i {
         i -= 1;
-        words[i + 3] = words[i];
+        words[i + by] = words[i];
     }
 }
 
@@ -86,7 +86,7 @@ fn make_room(words: &mut [u64], used: usize, at: usize, same: usize)
         ⌝ }
 {
     if same == 0 {
-        move_words(words, used, at);
+        move_words(words, used, at, 3);
     }
 }
 

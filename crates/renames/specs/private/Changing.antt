@@ -1,7 +1,7 @@
 -- The decision before a rename, on numbers: the slot of the rename, or the refusal. It relies on the slots of
 -- Slots.antt and on the order of Renames.antt.
 use Prim.Native.Nat.{ℕ, _+_, _-_, _/_}
-use mathlib.Core.Bool.{Bool, not, _||_}
+use mathlib.Core.Bool.{Bool, _||_}
 use mathlib.Core.List.{List, [], _∷_}
 use lib.Dec.{ltb}
 use lib.IntN.{ℤ}
@@ -9,7 +9,8 @@ use lib.ListN.{length}
 use Rattle.types.specs.Refusals.{numberOf, Outcome, value, refused}
 use Rattle.tables.specs.declared.storage.FileStorage.{FileStorage}
 use Rattle.rules.specs.Rules.{when, firstOf, outcomeOf}
-use Rattle.rules.specs.Bounds.{badLength, clampedOf, isBelow}
+use Rattle.rules.specs.Bounds.{clampedOf}
+use Rattle.rules.specs.Questions.{badPieceLength, noFile, short, fewEntries}
 use Rattle.renames.specs.declared.rename.RenameMode.{RenameMode}
 use Rattle.renames.specs.declared.rename.RenamedFiles.{RenamedFiles}
 use Rattle.renames.specs.declared.slot.Slot.{Slot}
@@ -30,9 +31,10 @@ isShort rf p words room len =
 abbrev pub slotNumber : FileStorage → RenamedFiles → List ℕ → ℕ → ℤ → ℕ → ℕ
 slotNumber fs rf entries room z len =
     firstOf
-    (when (badLength (fs .«piece_length»)) 1 ∷
-    when (not (isBelow (fs .«num_files») z)) 11 ∷
-    when (not (inOrderIn rf entries room)) 10 ∷
+    (badPieceLength fs ∷
+    noFile fs z ∷
+    short (fewEntries fs) ∷
+    short (inOrderIn rf entries room) ∷
     when (isShort rf (slotOf (rf .«num_renames») (clampedOf z) entries) (length entries) room len) 10 ∷
     [])
 

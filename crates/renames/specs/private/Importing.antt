@@ -1,18 +1,18 @@
--- How `import_filenames` goes: the renames that the list does not name are kept, and of each number's names the last is
--- given to them. The room is decided so, and both tables are written so, without a step that needs more room than the
--- result. It relies on Imports.antt for what is due.
+-- How `import_filenames` is decided: the renames that the list does not name are kept, and of each number's names the
+-- last is given to them. Merging.antt says how they come together. It relies on Imports.antt for what is due.
 use Prim.Native.Nat.{ℕ, zero, suc, _+_, _*_, _/_}
 use mathlib.Core.Bool.{Bool, false, cond, not, _&&_, _||_}
 use mathlib.Core.Path.{_≡_}
 use mathlib.Core.List.{List, [], _∷_}
 use lib.Dec.{eqb, ltb}
-use lib.IntN.{ℤ, pos}
+use lib.IntN.{ℤ}
 use lib.ListN.{length, getD, take, drop}
 use Rattle.types.specs.Refusals.{Outcome}
 use Rattle.lists.specs.Lists.{any}
 use Rattle.tables.specs.declared.storage.FileStorage.{FileStorage}
 use Rattle.rules.specs.Rules.{when, firstOf, outcomeOf}
-use Rattle.rules.specs.Bounds.{badLength, isNegative, clampedOf, isBelow}
+use Rattle.rules.specs.Bounds.{isNegative, clampedOf, isBelow}
+use Rattle.rules.specs.Questions.{badPieceLength, short}
 use Rattle.renames.specs.declared.rename.RenamedFiles.{RenamedFiles}
 use Rattle.renames.specs.Renames.{Renamed, withRename}
 use Rattle.renames.specs.Renames.{inOrderIn}
@@ -32,11 +32,10 @@ isListed files zs k = any (isOf files k) zs
 abbrev pub counts : ℕ → ℤ → List ℤ → Bool
 counts files z zs = isBelow files z && not (isListed files zs (clampedOf z))
 
--- the renames that are kept: those of files that the list does not name
-abbrev pub renamesKept : ℕ → List ℤ → List Renamed → List Renamed
-renamesKept files zs [] = []
-renamesKept files zs (r ∷ rs) =
-    cond (isListed files zs (r .file)) (renamesKept files zs rs) (r ∷ renamesKept files zs rs)
+-- the renames that are kept: those of files that are not named
+abbrev pub renamesKept : (ℕ → Bool) → List Renamed → List Renamed
+renamesKept named [] = []
+renamesKept named (r ∷ rs) = cond (named (r .file)) (renamesKept named rs) (r ∷ renamesKept named rs)
 
 -- the renames that the list gives
 abbrev pub renamesGiven : ℕ → List ℤ → List ℕ → List ℕ → List Renamed
@@ -52,18 +51,6 @@ abbrev pub withAll : List Renamed → List Renamed → List Renamed
 withAll [] rs = rs
 withAll (r ∷ xs) rs = withAll xs (withRename r rs)
 
--- renames with one name more, if its number counts
-abbrev pub withOne : ℕ → ℤ → List ℤ → List ℕ → List Renamed → List Renamed
-withOne files z zs name rs = cond (counts files z zs) (withRename (fullPath (record { file = z; name = name })) rs) rs
-
--- the renames that the first i numbers gave, with the name of number i put to them if the number counts
-abbrev pub withNumber : ℕ → List ℤ → ℕ → List ℕ → List Renamed → List Renamed
-withNumber files zs i name rs = withOne files (getD zs i (pos 0)) (drop (i + 1) zs) name rs
-
--- all names of the list put to renames
-abbrev pub withGiven : ℕ → List ℤ → List ℕ → List ℕ → List Renamed → List Renamed
-withGiven files zs lengths names rs = withAll (renamesGiven files zs lengths names) rs
-
 -- none of the renames is of a file that the list names
 abbrev pub Fresh : ℕ → List ℤ → List Renamed → Type 0
 Fresh files zs [] = Unit
@@ -72,33 +59,31 @@ Fresh files zs (r ∷ rs) = (isListed files zs (r .file) ≡ false) × Fresh fil
 -- ---- the entries
 
 -- of the n entries from entry i on those that are kept: their number, the bytes of their texts, and their words
-unfoldable pub keptCount : ℕ → List ℤ → ℕ → ℕ → List ℕ → ℕ
-keptCount files zs zero i entries = 0
-keptCount files zs (suc n) i entries =
-    cond (isListed files zs (getD entries (i * 3) 0)) 0 1 + keptCount files zs n (i + 1) entries
+unfoldable pub keptCount : (ℕ → Bool) → ℕ → ℕ → List ℕ → ℕ
+keptCount named zero i entries = 0
+keptCount named (suc n) i entries = cond (named (getD entries (i * 3) 0)) 0 1 + keptCount named n (i + 1) entries
 
-unfoldable pub keptBytes : ℕ → List ℤ → ℕ → ℕ → List ℕ → ℕ
-keptBytes files zs zero i entries = 0
-keptBytes files zs (suc n) i entries =
-    cond (isListed files zs (getD entries (i * 3) 0)) 0 (getD entries (i * 3 + 2) 0)
-    + keptBytes files zs n (i + 1) entries
+unfoldable pub keptBytes : (ℕ → Bool) → ℕ → ℕ → List ℕ → ℕ
+keptBytes named zero i entries = 0
+keptBytes named (suc n) i entries =
+    cond (named (getD entries (i * 3) 0)) 0 (getD entries (i * 3 + 2) 0) + keptBytes named n (i + 1) entries
 
-unfoldable pub keptWords : ℕ → List ℤ → ℕ → ℕ → List ℕ → List ℕ
-keptWords files zs zero i entries = []
-keptWords files zs (suc n) i entries =
-    cond (isListed files zs (getD entries (i * 3) 0)) (keptWords files zs n (i + 1) entries)
+unfoldable pub keptWords : (ℕ → Bool) → ℕ → ℕ → List ℕ → List ℕ
+keptWords named zero i entries = []
+keptWords named (suc n) i entries =
+    cond (named (getD entries (i * 3) 0)) (keptWords named n (i + 1) entries)
     (getD entries (i * 3) 0 ∷ getD entries (i * 3 + 1) 0 ∷ getD entries (i * 3 + 2) 0 ∷
-    keptWords files zs n (i + 1) entries)
+    keptWords named n (i + 1) entries)
 
 -- the record of those that are kept
-abbrev pub keptState : ℕ → List ℤ → RenamedFiles → List ℕ → RenamedFiles
-keptState files zs rf entries =
+abbrev pub keptState : (ℕ → Bool) → RenamedFiles → List ℕ → RenamedFiles
+keptState named rf entries =
     record {
-      «num_renames» = keptCount files zs (rf .«num_renames») 0 entries;
-      «text_len» = keptBytes files zs (rf .«num_renames») 0 entries;
+      «num_renames» = keptCount named (rf .«num_renames») 0 entries;
+      «text_len» = keptBytes named (rf .«num_renames») 0 entries;
     }
 
--- ---- the decision
+-- ---- the decision; `held` says whether the list is whole and the set has no more files and directories than it may
 
 -- `lacksRoom` where the renames that `stay` counts are kept and those that `come` counts are given
 abbrev pub isFull : ℕ → ℕ → RenamedFiles → RenamedFiles → Bool
@@ -106,16 +91,18 @@ isFull words room stay come =
     ltb (words / 3) (stay .«num_renames» + come .«num_renames»)
     || ltb room (stay .«text_len» + come .«text_len»)
 
-abbrev pub importNumber : FileStorage → RenamedFiles → List ℕ → ℕ → List ℤ → RenamedFiles → ℕ
-importNumber fs rf entries room zs come =
+abbrev pub importNumber : FileStorage → RenamedFiles → List ℕ → ℕ → List ℤ → Bool → RenamedFiles → ℕ
+importNumber fs rf entries room zs held come =
     firstOf
-    (when (badLength (fs .«piece_length»)) 1 ∷
+    (badPieceLength fs ∷
     when (any isNegative zs) 11 ∷
-    when (not (inOrderIn rf entries room)) 10 ∷
-    when (isFull (length entries) room (keptState (fs .«num_files») zs rf entries) come) 10 ∷
+    short held ∷
+    short (inOrderIn rf entries room) ∷
+    when (isFull (length entries) room (keptState (isListed (fs .«num_files») zs) rf entries) come) 10 ∷
     [])
 
 -- the record of those that are kept, or the refusal
-abbrev pub importAsked : FileStorage → RenamedFiles → List ℕ → ℕ → List ℤ → RenamedFiles → Outcome RenamedFiles
-importAsked fs rf entries room zs come =
-    outcomeOf (importNumber fs rf entries room zs come) (keptState (fs .«num_files») zs rf entries)
+abbrev pub importAsked :
+    FileStorage → RenamedFiles → List ℕ → ℕ → List ℤ → Bool → RenamedFiles → Outcome RenamedFiles
+importAsked fs rf entries room zs held come =
+    outcomeOf (importNumber fs rf entries room zs held come) (keptState (isListed (fs .«num_files») zs) rf entries)

@@ -15,32 +15,32 @@ use Rattle.renames.proofs.give.count_given.Statement.{statement}
 use Rattle.renames.proofs.give.count_given.Tie as tie
 
 abbrev Inv-loop : tie.InvT-loop
-Inv-loop numbers lengths names files i₀ at₀ count₀ bytes₀ i at count bytes = (i ≤ length numbers) × (at ≤ length names) × (count ≤ i) × (bytes ≤ at) × (count + length (givenFrom files numbers lengths names i at) ≡ length (renamesGiven files numbers lengths names)) × (bytes + length (textsOf (givenFrom files numbers lengths names i at)) ≡ length (textsOf (renamesGiven files numbers lengths names)))
+Inv-loop numbers lengths names files notes i₀ at₀ count₀ bytes₀ i at count bytes = (i ≤ length numbers) × (at ≤ length names) × (count ≤ i) × (bytes ≤ at) × (count + length (givenFrom files numbers lengths names i at) ≡ length (renamesGiven files numbers lengths names)) × (bytes + length (textsOf (givenFrom files numbers lengths names i at)) ≡ length (textsOf (renamesGiven files numbers lengths names)))
 
 abbrev μ-loop : tie.MeasureT-loop
-μ-loop numbers lengths names files i₀ at₀ count₀ bytes₀ i at count bytes = length numbers - i
+μ-loop numbers lengths names files notes i₀ at₀ count₀ bytes₀ i at count bytes = length numbers - i
 
 -- how long the name is
-name-is : (c : tie.After-part Inv-loop μ-loop) → let a = c .before .before .before .before .before .before .before .args in length (c .part .result .now) ≡ length (nameAt (a .files) (a .numbers .now) (a .lengths .now) (a .names .now) (c .before .before .before .before .loop .i) (c .before .before .before .before .loop .at))
-name-is c = ap length (c .part .ensures ∙ ap (partOf (c .before .before .before .before .before .before .before .args .names .now) (c .before .before .before .before .loop .at)) (c .before .word .ensures))
+name-is : (c : tie.After-part Inv-loop μ-loop) → let a = c .before .before .before .before .before .before .before .before .args in length (c .part .result .now) ≡ length (nameAt (a .files) (a .numbers .now) (a .lengths .now) (a .names .now) (c .before .before .before .before .loop .i) (c .before .before .before .before .loop .at))
+name-is c = ap length (c .part .ensures ∙ ap (partOf (c .before .before .before .before .before .before .before .before .args .names .now) (c .before .before .before .before .loop .at)) (c .before .word .ensures))
 
 -- where it ends
-ends : (c : tie.After-part Inv-loop μ-loop) → c .before .before .before .before .loop .at + length (c .part .result .now) ≤ length (c .before .before .before .before .before .before .before .args .names .now)
+ends : (c : tie.After-part Inv-loop μ-loop) → c .before .before .before .before .loop .at + length (c .part .result .now) ≤ length (c .before .before .before .before .before .before .before .before .args .names .now)
 ends c =
-    let a = c .before .before .before .before .before .before .before .args in
+    let a = c .before .before .before .before .before .before .before .before .args in
     rw (name-is c) (name-in (a .files) (a .numbers .now) (a .lengths .now) (a .names .now) (c .before .before .before .before .loop .i) (c .before .before .before .before .loop .at) (c .before .before .before .before .loop .inv .1))
 
 -- what the number adds
-adds : (c : tie.After-part Inv-loop μ-loop) → let a = c .before .before .before .before .before .before .before .args in let l = c .before .before .before .before .loop in let len = length (c .part .result .now) in let rest = givenFrom (a .files) (a .numbers .now) (a .lengths .now) (a .names .now) in (length (rest (l .i) (l .at)) ≡ cond (c .before .before .does-count .result) 1 0 + length (rest (l .i + 1) (l .at + len))) × (length (textsOf (rest (l .i) (l .at))) ≡ cond (c .before .before .does-count .result) len 0 + length (textsOf (rest (l .i + 1) (l .at + len))))
+adds : (c : tie.After-part Inv-loop μ-loop) → let a = c .before .before .before .before .before .before .before .before .args in let l = c .before .before .before .before .loop in let len = length (c .part .result .now) in let rest = givenFrom (a .files) (a .numbers .now) (a .lengths .now) (a .names .now) in (length (rest (l .i) (l .at)) ≡ cond (c .before .before .does-count .result) 1 0 + length (rest (l .i + 1) (l .at + len))) × (length (textsOf (rest (l .i) (l .at))) ≡ cond (c .before .before .does-count .result) len 0 + length (textsOf (rest (l .i + 1) (l .at + len))))
 adds c =
-    let a = c .before .before .before .before .before .before .before .args in
+    let a = c .before .before .before .before .before .before .before .before .args in
     given-more (a .files) (a .numbers .now) (a .lengths .now) (a .names .now) (c .before .before .before .before .loop .i) (c .before .before .before .before .loop .at) (length (c .part .result .now)) (c .before .before .does-count .result) (c .before .before .before .loop-test .taken) (c .before .before .does-count .ensures) (name-is c)
 
 loop-holds : tie.Need-loop-holds Inv-loop μ-loop
 loop-holds c = (omega arith, omega arith, omega arith, omega arith, rw zero-add, rw zero-add)
 
 does-count-requires : tie.Need-does-count-requires Inv-loop μ-loop
-does-count-requires c κs = search needs
+does-count-requires c κs = (c .loop-test .taken, c .before .before .before .before .before .pre)
 
 word-requires : tie.Need-word-requires Inv-loop μ-loop
 word-requires c κs = search needs
@@ -82,7 +82,7 @@ loop-again-2 c =
 
 returns : tie.Need-returns Inv-loop μ-loop
 returns c =
-    let a = c .before .before .before .before .args in
+    let a = c .before .before .before .before .before .args in
     let l = c .before .loop in
     let z = given-none (a .files) (a .numbers .now) (a .lengths .now) (a .names .now) (l .i) (l .at) (c .loop-test .left) in
     let p : l .count ≡ length (renamesGiven (a .files) (a .numbers .now) (a .lengths .now) (a .names .now)) = omega (arith, z .0, l .inv .4) in

@@ -8,27 +8,28 @@ use native.Mathlib.Omega.{arith}
 use borrow.Author.Needs.{needs}
 use lib.ListN.{length}
 use Rattle.renames.specs.Finding.{bytesFrom}
-use Rattle.renames.specs.private.Importing.{isListed, keptCount, keptBytes}
+use Rattle.renames.specs.private.Importing.{keptCount, keptBytes}
+use Rattle.renames.specs.private.Merging.{isNoted}
 use Rattle.renames.proofs.Keeping.{counted, count-end, size-end, kept-few, kept-short}
 use Rattle.renames.proofs.keep.count_kept.Statement.{statement}
 use Rattle.renames.proofs.keep.count_kept.Tie as tie
 
 abbrev Inv-loop : tie.InvT-loop
-Inv-loop entries numbers files n i₀ count₀ bytes₀ i count bytes = (i ≤ n) × (n * 3 ≤ length entries) × (bytesFrom n 0 entries < 2 ^ 64) × (count + keptCount files numbers (n - i) i entries ≡ keptCount files numbers n 0 entries) × (bytes + keptBytes files numbers (n - i) i entries ≡ keptBytes files numbers n 0 entries)
+Inv-loop entries notes files n i₀ count₀ bytes₀ i count bytes = (i ≤ n) × (n * 3 ≤ length entries) × (bytesFrom n 0 entries < 2 ^ 64) × (count + keptCount (isNoted files notes) (n - i) i entries ≡ keptCount (isNoted files notes) n 0 entries) × (bytes + keptBytes (isNoted files notes) (n - i) i entries ≡ keptBytes (isNoted files notes) n 0 entries)
 
 abbrev μ-loop : tie.MeasureT-loop
-μ-loop entries numbers files n i₀ count₀ bytes₀ i count bytes = n - i
+μ-loop entries notes files n i₀ count₀ bytes₀ i count bytes = n - i
 
 -- what the entry adds
-adds : (c : tie.After-word2 Inv-loop μ-loop) → let a = c .before .before .before .before .before .before .args in let n = a .renames .«num_renames» in let i = c .before .before .before .before .loop .i in (keptCount (a .files) (a .numbers .now) (n - i) i (a .entries .now) ≡ cond (not (c .before .is-listed .result)) 1 0 + keptCount (a .files) (a .numbers .now) (n - (i + 1)) (i + 1) (a .entries .now)) × (keptBytes (a .files) (a .numbers .now) (n - i) i (a .entries .now) ≡ cond (not (c .before .is-listed .result)) (c .word2 .result) 0 + keptBytes (a .files) (a .numbers .now) (n - (i + 1)) (i + 1) (a .entries .now))
+adds : (c : tie.After-word2 Inv-loop μ-loop) → let a = c .before .before .before .before .before .before .before .args in let n = a .renames .«num_renames» in let i = c .before .before .before .before .loop .i in (keptCount (isNoted (a .files) (a .notes .now)) (n - i) i (a .entries .now) ≡ cond (not (c .before .is-noted .result)) 1 0 + keptCount (isNoted (a .files) (a .notes .now)) (n - (i + 1)) (i + 1) (a .entries .now)) × (keptBytes (isNoted (a .files) (a .notes .now)) (n - i) i (a .entries .now) ≡ cond (not (c .before .is-noted .result)) (c .word2 .result) 0 + keptBytes (isNoted (a .files) (a .notes .now)) (n - (i + 1)) (i + 1) (a .entries .now))
 adds c =
-    let a = c .before .before .before .before .before .before .args in
-    counted (a .files) (a .numbers .now) (a .renames .«num_renames») (c .before .before .before .before .loop .i) (a .entries .now) (c .before .before .before .loop-test .taken) (not (c .before .is-listed .result)) (c .word2 .result) (ap not (c .before .is-listed .ensures ∙ ap (isListed (a .files) (a .numbers .now)) (c .before .before .word .ensures))) (c .word2 .ensures)
+    let a = c .before .before .before .before .before .before .before .args in
+    counted (isNoted (a .files) (a .notes .now)) (a .renames .«num_renames») (c .before .before .before .before .loop .i) (a .entries .now) (c .before .before .before .loop-test .taken) (not (c .before .is-noted .result)) (c .word2 .result) (ap not (c .before .is-noted .ensures ∙ ap (isNoted (a .files) (a .notes .now)) (c .before .before .word .ensures))) (c .word2 .ensures)
 
 loop-holds : tie.Need-loop-holds Inv-loop μ-loop
 loop-holds c =
-    let n = c .before .args .renames .«num_renames» in
-    (omega arith, c .before .pre .0, c .before .pre .1, rw (sub-zero n, zero-add), rw (sub-zero n, zero-add))
+    let n = c .before .before .args .renames .«num_renames» in
+    (omega arith, c .before .before .pre .0, c .before .before .pre .1, rw (sub-zero n, zero-add), rw (sub-zero n, zero-add))
 
 mul-word : tie.Need-mul-word Inv-loop μ-loop
 mul-word c = search needs
@@ -36,8 +37,8 @@ mul-word c = search needs
 word-requires : tie.Need-word-requires Inv-loop μ-loop
 word-requires c κs = search needs
 
-is-listed-requires : tie.Need-is-listed-requires Inv-loop μ-loop
-is-listed-requires c κs = search needs
+is-noted-requires : tie.Need-is-noted-requires Inv-loop μ-loop
+is-noted-requires c κs = search needs
 
 mul-word-2 : tie.Need-mul-word-2 Inv-loop μ-loop
 mul-word-2 c = search needs
@@ -53,15 +54,15 @@ add-i c = search needs
 
 add-count : tie.Need-add-count Inv-loop μ-loop
 add-count c =
-    let a = c .before .before .before .before .before .before .before .args in
+    let a = c .before .before .before .before .before .before .before .before .args in
     let k = adds (c .before) .0 in
-    record { fits = omega (arith, rw (c .if1 .taken) at k, c .before .before .before .before .before .loop .inv .3, kept-few (a .files) (a .numbers .now) (a .renames .«num_renames») 0 (a .entries .now)) }
+    record { fits = omega (arith, rw (c .if1 .taken) at k, c .before .before .before .before .before .loop .inv .3, kept-few (isNoted (a .files) (a .notes .now)) (a .renames .«num_renames») 0 (a .entries .now)) }
 
 add-bytes : tie.Need-add-bytes Inv-loop μ-loop
 add-bytes c =
-    let a = c .before .before .before .before .before .before .before .args in
+    let a = c .before .before .before .before .before .before .before .before .args in
     let k = adds (c .before) .1 in
-    record { fits = omega (arith, rw (c .if1 .taken) at k, c .before .before .before .before .before .loop .inv .4, kept-short (a .files) (a .numbers .now) (a .renames .«num_renames») 0 (a .entries .now)) }
+    record { fits = omega (arith, rw (c .if1 .taken) at k, c .before .before .before .before .before .loop .inv .4, kept-short (isNoted (a .files) (a .notes .now)) (a .renames .«num_renames») 0 (a .entries .now)) }
 
 loop-less : tie.Need-loop-less Inv-loop μ-loop
 loop-less c = search needs
@@ -85,12 +86,12 @@ loop-again-2 c =
 
 returns : tie.Need-returns Inv-loop μ-loop
 returns c =
-    let a = c .before .before .before .args in
+    let a = c .before .before .before .before .args in
     let l = c .before .loop in
-    let x = count-end (a .files) (a .numbers .now) (a .renames .«num_renames») (l .i) (a .entries .now) (c .loop-test .left) in
-    let y = size-end (a .files) (a .numbers .now) (a .renames .«num_renames») (l .i) (a .entries .now) (c .loop-test .left) in
-    let p : l .count ≡ keptCount (a .files) (a .numbers .now) (a .renames .«num_renames») 0 (a .entries .now) = omega (arith, x, l .inv .3) in
-    let q : l .bytes ≡ keptBytes (a .files) (a .numbers .now) (a .renames .«num_renames») 0 (a .entries .now) = omega (arith, y, l .inv .4) in
+    let x = count-end (isNoted (a .files) (a .notes .now)) (a .renames .«num_renames») (l .i) (a .entries .now) (c .loop-test .left) in
+    let y = size-end (isNoted (a .files) (a .notes .now)) (a .renames .«num_renames») (l .i) (a .entries .now) (c .loop-test .left) in
+    let p : l .count ≡ keptCount (isNoted (a .files) (a .notes .now)) (a .renames .«num_renames») 0 (a .entries .now) = omega (arith, x, l .inv .3) in
+    let q : l .bytes ≡ keptBytes (isNoted (a .files) (a .notes .now)) (a .renames .«num_renames») 0 (a .entries .now) = omega (arith, y, l .inv .4) in
     rw (p, q)
 
 pub count-kept-spec : {M : Type 1} → statement M
@@ -102,7 +103,7 @@ count-kept-spec =
     loop-holds
     mul-word
     word-requires
-    is-listed-requires
+    is-noted-requires
     mul-word-2
     add-word
     word-requires-2

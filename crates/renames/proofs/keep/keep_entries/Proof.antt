@@ -5,21 +5,21 @@ use mathlib.Core.Path.{_≡_, ap, _∙_}
 use mathlib.Core.Bool.{not}
 use native.Mathlib.Omega.{arith}
 use borrow.Author.Needs.{needs}
-use Rattle.renames.specs.private.Importing.{isListed}
+use Rattle.renames.specs.private.Merging.{isNoted}
 use Rattle.renames.proofs.Keeping.{Moved, moved-start, moved-turn, moved-end}
 use Rattle.renames.proofs.keep.keep_entries.Statement.{statement}
 use Rattle.renames.proofs.keep.keep_entries.Tie as tie
 
 abbrev Inv-loop : tie.InvT-loop
-Inv-loop entries₀ n numbers files i₀ to₀ entries i to = Moved files numbers n entries₀ entries i to
+Inv-loop entries₀ n notes files i₀ to₀ entries i to = Moved (isNoted files notes) n entries₀ entries i to
 
 abbrev μ-loop : tie.MeasureT-loop
-μ-loop entries₀ n numbers files i₀ to₀ entries i to = n - i
+μ-loop entries₀ n notes files i₀ to₀ entries i to = n - i
 
 loop-holds : tie.Need-loop-holds Inv-loop μ-loop
 loop-holds c =
-    let a = c .before .args in
-    moved-start (a .files) (a .numbers .now) (a .n) (a .entries .now) (c .before .pre)
+    let a = c .before .before .args in
+    moved-start (isNoted (a .files) (a .notes .now)) (a .n) (a .entries .now) (c .before .before .pre)
 
 mul-word : tie.Need-mul-word Inv-loop μ-loop
 mul-word c = search needs
@@ -27,8 +27,8 @@ mul-word c = search needs
 word-requires : tie.Need-word-requires Inv-loop μ-loop
 word-requires c κs = search needs
 
-is-listed-requires : tie.Need-is-listed-requires Inv-loop μ-loop
-is-listed-requires c κs = search needs
+is-noted-requires : tie.Need-is-noted-requires Inv-loop μ-loop
+is-noted-requires c κs = search needs
 
 keep-entry-requires : tie.Need-keep-entry-requires Inv-loop μ-loop
 keep-entry-requires c κs =
@@ -43,19 +43,19 @@ loop-less c = search needs
 
 loop-again : tie.Need-loop-again Inv-loop μ-loop
 loop-again c =
-    let a = c .before .before .before .before .before .before .before .before .before .before .args in
+    let a = c .before .before .before .before .before .before .before .before .before .before .before .args in
     let l = c .before .before .before .before .before .before .before .before .loop in
-    let stays : not (c .before .before .before .before .is-listed .result) ≡ not (isListed (a .files) (a .numbers .now) _) = ap not (c .before .before .before .before .is-listed .ensures ∙ ap (isListed (a .files) (a .numbers .now)) (c .before .before .before .before .before .word .ensures)) in
-    moved-turn (a .files) (a .numbers .now) (a .n) (a .entries .now) (l .entries) (c .before .before .keep-entry .last .0) (l .i) (l .to) (c .before .before .keep-entry .result) (not (c .before .before .before .before .is-listed .result)) (l .inv) (c .before .before .before .before .before .before .before .loop-test .taken) stays (c .before .before .keep-entry .ensures .1) (c .before .before .keep-entry .ensures .0)
+    let stays : not (c .before .before .before .before .is-noted .result) ≡ not (isNoted (a .files) (a .notes .now) _) = ap not (c .before .before .before .before .is-noted .ensures ∙ ap (isNoted (a .files) (a .notes .now)) (c .before .before .before .before .before .word .ensures)) in
+    moved-turn (isNoted (a .files) (a .notes .now)) (a .n) (a .entries .now) (l .entries) (c .before .before .keep-entry .last .0) (l .i) (l .to) (c .before .before .keep-entry .result) (not (c .before .before .before .before .is-noted .result)) (l .inv) (c .before .before .before .before .before .before .before .loop-test .taken) stays (c .before .before .keep-entry .ensures .1) (c .before .before .keep-entry .ensures .0)
 
 same-length : tie.Need-same-length Inv-loop μ-loop
 same-length c = search needs
 
 returns : tie.Need-returns Inv-loop μ-loop
 returns c =
-    let a = c .before .before .before .args in
+    let a = c .before .before .before .before .args in
     let l = c .before .loop in
-    moved-end (a .files) (a .numbers .now) (a .n) (a .entries .now) (l .entries) (l .i) (l .to) (l .inv) (c .loop-test .left)
+    moved-end (isNoted (a .files) (a .notes .now)) (a .n) (a .entries .now) (l .entries) (l .i) (l .to) (l .inv) (c .loop-test .left)
 
 pub keep-entries-spec : {M : Type 1} → statement M
 keep-entries-spec =
@@ -66,7 +66,7 @@ keep-entries-spec =
     loop-holds
     mul-word
     word-requires
-    is-listed-requires
+    is-noted-requires
     keep-entry-requires
     add-i
     loop-less

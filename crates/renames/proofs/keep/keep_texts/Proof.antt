@@ -6,21 +6,21 @@ use mathlib.Core.Bool.{not}
 use native.Mathlib.Omega.{arith}
 use borrow.Author.Needs.{needs}
 use lib.ListN.{length}
-use Rattle.renames.specs.private.Importing.{isListed}
+use Rattle.renames.specs.private.Merging.{isNoted}
 use Rattle.renames.proofs.Keeping.{Joined, joined-start, joined-in, joined-turn, joined-end}
 use Rattle.renames.proofs.keep.keep_texts.Statement.{statement}
 use Rattle.renames.proofs.keep.keep_texts.Tie as tie
 
 abbrev Inv-loop : tie.InvT-loop
-Inv-loop text₀ entries n numbers files i₀ from₀ to₀ text i from to = (n * 3 ≤ length entries) × Joined files numbers n entries text₀ text i from to
+Inv-loop text₀ entries n notes files i₀ from₀ to₀ text i from to = (n * 3 ≤ length entries) × Joined (isNoted files notes) n entries text₀ text i from to
 
 abbrev μ-loop : tie.MeasureT-loop
-μ-loop text₀ entries n numbers files i₀ from₀ to₀ text i from to = n - i
+μ-loop text₀ entries n notes files i₀ from₀ to₀ text i from to = n - i
 
 loop-holds : tie.Need-loop-holds Inv-loop μ-loop
 loop-holds c =
-    let a = c .before .before .args in
-    (c .before .before .pre .0, joined-start (a .files) (a .numbers .now) (a .n) (a .entries .now) (a .text .now) (c .before .before .pre .1))
+    let a = c .before .before .before .args in
+    (c .before .before .before .pre .0, joined-start (isNoted (a .files) (a .notes .now)) (a .n) (a .entries .now) (a .text .now) (c .before .before .before .pre .1))
 
 mul-word : tie.Need-mul-word Inv-loop μ-loop
 mul-word c = search needs
@@ -28,8 +28,8 @@ mul-word c = search needs
 word-requires : tie.Need-word-requires Inv-loop μ-loop
 word-requires c κs = search needs
 
-is-listed-requires : tie.Need-is-listed-requires Inv-loop μ-loop
-is-listed-requires c κs = search needs
+is-noted-requires : tie.Need-is-noted-requires Inv-loop μ-loop
+is-noted-requires c κs = search needs
 
 mul-word-2 : tie.Need-mul-word-2 Inv-loop μ-loop
 mul-word-2 c = search needs
@@ -42,15 +42,15 @@ word-requires-2 c κs = search needs
 
 keep-text-requires : tie.Need-keep-text-requires Inv-loop μ-loop
 keep-text-requires c κs =
-    let a = c .before .before .before .before .before .before .before .before .args in
+    let a = c .before .before .before .before .before .before .before .before .before .args in
     let l = c .before .before .before .before .before .loop in
-    (l .inv .1 .0, rw (c .before .word2 .ensures) (joined-in (a .files) (a .numbers .now) (a .n) (a .entries .now) (a .text .now) (l .text) (l .i) (l .from) (l .to) (l .inv .1) (c .before .before .before .before .loop-test .taken)))
+    (l .inv .1 .0, rw (c .before .word2 .ensures) (joined-in (isNoted (a .files) (a .notes .now)) (a .n) (a .entries .now) (a .text .now) (l .text) (l .i) (l .from) (l .to) (l .inv .1) (c .before .before .before .before .loop-test .taken)))
 
 add-from : tie.Need-add-from Inv-loop μ-loop
 add-from c =
-    let a = c .before .before .before .before .before .before .before .before .before .before .before .args in
+    let a = c .before .before .before .before .before .before .before .before .before .before .before .before .args in
     let l = c .before .before .before .before .before .before .before .before .loop in
-    let k = joined-in (a .files) (a .numbers .now) (a .n) (a .entries .now) (a .text .now) (l .text) (l .i) (l .from) (l .to) (l .inv .1) (c .before .before .before .before .before .before .before .loop-test .taken) in
+    let k = joined-in (isNoted (a .files) (a .notes .now)) (a .n) (a .entries .now) (a .text .now) (l .text) (l .i) (l .from) (l .to) (l .inv .1) (c .before .before .before .before .before .before .before .loop-test .taken) in
     record { fits = omega (arith, k, c .before .before .before .before .word2 .ensures) }
 
 add-i : tie.Need-add-i Inv-loop μ-loop
@@ -61,19 +61,19 @@ loop-less c = search needs
 
 loop-again : tie.Need-loop-again Inv-loop μ-loop
 loop-again c =
-    let a = c .before .before .before .before .before .before .before .before .before .before .before .args in
+    let a = c .before .before .before .before .before .before .before .before .before .before .before .before .args in
     let l = c .before .before .before .before .before .before .before .before .loop in
-    let stays : not (c .before .before .before .before .before .is-listed .result) ≡ not (isListed (a .files) (a .numbers .now) _) = ap not (c .before .before .before .before .before .is-listed .ensures ∙ ap (isListed (a .files) (a .numbers .now)) (c .before .before .before .before .before .before .word .ensures)) in
-    (l .inv .0, joined-turn (a .files) (a .numbers .now) (a .n) (a .entries .now) (a .text .now) (l .text) (c .before .before .keep-text .last .0) (l .i) (l .from) (l .to) (c .before .before .keep-text .result) (c .before .before .before .before .word2 .result) (not (c .before .before .before .before .before .is-listed .result)) (l .inv .1) (c .before .before .before .before .before .before .before .loop-test .taken) stays (c .before .before .before .before .word2 .ensures) (c .before .before .keep-text .ensures .1) (c .before .before .keep-text .ensures .0))
+    let stays : not (c .before .before .before .before .before .is-noted .result) ≡ not (isNoted (a .files) (a .notes .now) _) = ap not (c .before .before .before .before .before .is-noted .ensures ∙ ap (isNoted (a .files) (a .notes .now)) (c .before .before .before .before .before .before .word .ensures)) in
+    (l .inv .0, joined-turn (isNoted (a .files) (a .notes .now)) (a .n) (a .entries .now) (a .text .now) (l .text) (c .before .before .keep-text .last .0) (l .i) (l .from) (l .to) (c .before .before .keep-text .result) (c .before .before .before .before .word2 .result) (not (c .before .before .before .before .before .is-noted .result)) (l .inv .1) (c .before .before .before .before .before .before .before .loop-test .taken) stays (c .before .before .before .before .word2 .ensures) (c .before .before .keep-text .ensures .1) (c .before .before .keep-text .ensures .0))
 
 same-length : tie.Need-same-length Inv-loop μ-loop
 same-length c = search needs
 
 returns : tie.Need-returns Inv-loop μ-loop
 returns c =
-    let a = c .before .before .before .before .args in
+    let a = c .before .before .before .before .before .args in
     let l = c .before .loop in
-    joined-end (a .files) (a .numbers .now) (a .n) (a .entries .now) (a .text .now) (l .text) (l .i) (l .from) (l .to) (l .inv .1) (c .loop-test .left)
+    joined-end (isNoted (a .files) (a .notes .now)) (a .n) (a .entries .now) (a .text .now) (l .text) (l .i) (l .from) (l .to) (l .inv .1) (c .loop-test .left)
 
 pub keep-texts-spec : {M : Type 1} → statement M
 keep-texts-spec =
@@ -84,7 +84,7 @@ keep-texts-spec =
     loop-holds
     mul-word
     word-requires
-    is-listed-requires
+    is-noted-requires
     mul-word-2
     add-word
     word-requires-2

@@ -6,13 +6,13 @@ use Rattle.renames.proofs.splice.move_words.Statement.{statement}
 use Rattle.renames.proofs.splice.move_words.Tie as tie
 
 abbrev Inv-loop : tie.InvT-loop
-Inv-loop words₀ used from i₀ words i = Moving used from 3 words₀ words i
+Inv-loop words₀ used from by i₀ words i = Moving used from by words₀ words i
 
 abbrev μ-loop : tie.MeasureT-loop
-μ-loop words₀ used from i₀ words i = i
+μ-loop words₀ used from by i₀ words i = i
 
 loop-holds : tie.Need-loop-holds Inv-loop μ-loop
-loop-holds c = moving-start (c .args .used) (c .args .from) 3 (c .args .words .now) (c .pre .0) (c .pre .1)
+loop-holds c = moving-start (c .args .used) (c .args .from) (c .args .by) (c .args .words .now) (c .pre .0) (c .pre .1)
 
 sub-i : tie.Need-sub-i Inv-loop μ-loop
 sub-i c = search needs
@@ -39,7 +39,7 @@ loop-again : tie.Need-loop-again Inv-loop μ-loop
 loop-again c =
     let a = c .before .before .before .args in
     let l = c .before .before .loop in
-    moving-turn (a .used) (a .from) 3 (a .words .now) (l .words) (l .i) (l .inv) (c .before .loop-test .taken)
+    moving-turn (a .used) (a .from) (a .by) (a .words .now) (l .words) (l .i) (l .inv) (c .before .loop-test .taken)
 
 same-length : tie.Need-same-length Inv-loop μ-loop
 same-length c = c .before .loop .inv .3
@@ -48,7 +48,7 @@ returns : tie.Need-returns Inv-loop μ-loop
 returns c =
     let a = c .before .before .args in
     let l = c .before .loop in
-    moving-end (a .used) (a .from) 3 (a .words .now) (l .words) (l .i) (l .inv) (c .loop-test .left)
+    moving-end (a .used) (a .from) (a .by) (a .words .now) (l .words) (l .i) (l .inv) (c .loop-test .left)
 
 pub move-words-spec : {M : Type 1} → statement M
 move-words-spec =
