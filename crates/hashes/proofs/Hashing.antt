@@ -1,6 +1,7 @@
 -- Laws of a directory's beginnings and of their hashes. A running hash goes on from one separator to the next, and starts anew
 -- with each directory. They rely on the laws of `crc32c` about parts.
 --     scan-turn, scan-stop, scan-end, scan-within   the scan for the next separator
+--     begin-first, begin-next, begin-end            a directory's beginnings, one after the other
 --     hashes-first, hashes-next, hashes-end         a directory's hashes, one after the other; hash-next gives the next one,
 --                                                   hash-all the directory's own
 --     dirs-turn, dirs-end                           the directories, one after the other
@@ -85,17 +86,17 @@ module _ (d : List ℕ) (i k : ℕ) (e : k ≡ i + length (beforeFirst (drop i d
   pub scan-within : i ≤ length d → (i ≤ k) × (k ≤ length d)
   scan-within h = (omega arith, omega (arith, before-le (drop i d), length-drop i d))
 
-begin-first : (d : List ℕ) (k : ℕ) → 0 < length d → k ≡ 0 + length (beforeFirst (drop 0 d)) → beginnings d ≡ take k d ∷ beginningsBehind (take k d) (drop k d)
+pub begin-first : (d : List ℕ) (k : ℕ) → 0 < length d → k ≡ 0 + length (beforeFirst (drop 0 d)) → beginnings d ≡ take k d ∷ beginningsBehind (take k d) (drop k d)
 begin-first [] k h e = absurd (omega arith)
 begin-first (c ∷ t) k h e = from-place (c ∷ t) 0 k e
 
-begin-next : (d : List ℕ) (j k : ℕ) → j < length d → k ≡ (j + 1) + length (beforeFirst (drop (j + 1) d))
+pub begin-next : (d : List ℕ) (j k : ℕ) → j < length d → k ≡ (j + 1) + length (beforeFirst (drop (j + 1) d))
     → beginningsBehind (take j d) (drop j d) ≡ take k d ∷ beginningsBehind (take k d) (drop k d)
 begin-next d j k h e =
     let p = from-place d (j + 1) k e in
     rw (drop-cons d j 0 h, ← take-suc d j 0 h, ← add-one j) p
 
-begin-end : (d : List ℕ) (j : ℕ) → length d ≤ j → beginningsBehind (take j d) (drop j d) ≡ []
+pub begin-end : (d : List ℕ) (j : ℕ) → length d ≤ j → beginningsBehind (take j d) (drop j d) ≡ []
 begin-end d j h = rw (drop-of-length-le d {i = j} h)
 
 -- the hash of the first k bytes from that of the first j
@@ -124,8 +125,8 @@ pub hashes-end : (state : ℕ) (d : List ℕ) (j : ℕ) → length d ≤ j → h
 hashes-end state d j h = ap (map (λ (b : List ℕ). crcFrom state (map lower b))) (begin-end d j h)
 
 -- one directory, and those behind it; none left
-module _ (f : List ℕ → List ℕ) (n : ℕ) (g : ℕ → List ℕ) where
-  pub dirs-turn : (i : ℕ) (hs : List ℕ) → i < n → hs ≡ f (g i) → joinedLists (map f (drop i (tabled n g))) ≡ hs ++ joinedLists (map f (drop (i + 1) (tabled n g)))
+module _ {A : Type 0} (f : List ℕ → List A) (n : ℕ) (g : ℕ → List ℕ) where
+  pub dirs-turn : (i : ℕ) (hs : List A) → i < n → hs ≡ f (g i) → joinedLists (map f (drop i (tabled n g))) ≡ hs ++ joinedLists (map f (drop (i + 1) (tabled n g)))
   dirs-turn i hs h e =
       let k : i < length (tabled n g) = omega (arith, length-tabled n g) in
       rw (add-one i, drop-cons (tabled n g) i [] k, getD-tabled n g i [] h, e)

@@ -3,4 +3,5 @@
 pub mod Inserting
 pub mod Counting
 pub mod Hashing
+pub mod Filling
 pub mod Listing

@@ -16,7 +16,7 @@ use Rattle.rules.specs.Bounds.{badLength}
 use Rattle.rules.specs.declared.result.SpanResult.{SpanResult}
 use Rattle.rules.specs.declared.result.SpanResult.the-variants.{Ok, Err}
 use Rattle.rules.specs.Results.{spanSays}
-use Rattle.rules.specs.Questions.{heldAnswer, dirsHeld, textHeld}
+use Rattle.rules.specs.Questions.{heldAnswer, dirsHeld, textHeld, fewEntries}
 use Rattle.rules.proofs.Deciding.{allowed, denied}
 use Rattle.names.specs.Paths.{led, hashOf}
 use Rattle.hashes.specs.Hashes.{hashesOf, ascending, HashesListed, listed, allPathHashes}
@@ -80,15 +80,15 @@ module _ (fs : FileStorage) (dirs text out : List ℕ) (d : SpanResult) (p : spa
       out
       → o ≡ allPathHashes fs dirs text out
   listed-value s e state h o q =
-      let k = nameNumber (badLength (fs .«piece_length»)) (textHeld fs text) in
+      let k = nameNumber (badLength (fs .«piece_length»)) (textHeld fs text && fewEntries fs) in
       let v = allowed k (fs .name) (eqb k 0) s (ap spanSays (sym e) ∙ p) in
       let a : hashesWithin state dirs text (fs .«num_paths») ≡ hashesOf fs dirs text = rw (h, v .1) (all-within fs dirs text) in
-      (rw a at q) ∙ ap (λ (n : ℕ). listed n (ascending (hashesOf fs dirs text)) out) (named (badLength (fs .«piece_length»)) (dirsHeld fs dirs) (textHeld fs text) room (v .0))
+      (rw a at q) ∙ ap (λ (n : ℕ). listed n (ascending (hashesOf fs dirs text)) out) (named (badLength (fs .«piece_length»)) (dirsHeld fs dirs) (textHeld fs text && fewEntries fs) room (v .0))
 
   pub listed-refused : (x : Refusal) → d ≡ Err x → _≡_ {A = HashesListed} (record { says = refused (numberOf x); table = out }) (allPathHashes fs dirs text out)
   listed-refused x e =
-      let k = nameNumber (badLength (fs .«piece_length»)) (textHeld fs text) in
+      let k = nameNumber (badLength (fs .«piece_length»)) (textHeld fs text && fewEntries fs) in
       let v = denied k (fs .name) (eqb k 0) (numberOf x) (ap spanSays (sym e) ∙ p) in
-      let u = unnamed (badLength (fs .«piece_length»)) (dirsHeld fs dirs) (textHeld fs text) room (v .0) in
-      refused-is (allNumber (badLength (fs .«piece_length»)) (dirsHeld fs dirs) (textHeld fs text) room) (numberOf x) (ascending (hashesOf fs dirs text)) out (v .1 ∙ u)
+      let u = unnamed (badLength (fs .«piece_length»)) (dirsHeld fs dirs) (textHeld fs text && fewEntries fs) room (v .0) in
+      refused-is (allNumber (badLength (fs .«piece_length»)) (dirsHeld fs dirs) (textHeld fs text && fewEntries fs) room) (numberOf x) (ascending (hashesOf fs dirs text)) out (v .1 ∙ u)
       (rw u at (v .0))

@@ -16,7 +16,7 @@ use Rattle.tables.specs.Rows.{dirAt}
 use Rattle.tables.specs.Model.{tabled}
 use Rattle.rules.specs.Rules.{when, firstOf}
 use Rattle.rules.specs.Bounds.{badLength}
-use Rattle.rules.specs.Questions.{dirsHeld, textHeld}
+use Rattle.rules.specs.Questions.{dirsHeld, textHeld, fewEntries, short}
 use Rattle.names.specs.Paths.{led, hashOf}
 
 -- what stands before each separator of a directory, and the whole of it; `seen` are the bytes passed already
@@ -72,7 +72,8 @@ abbrev pub allPathHashes : FileStorage → List ℕ → List ℕ → List ℕ �
 allPathHashes fs dirs text out =
     listed
     (firstOf
-    (when (badLength (fs .«piece_length»)) 1 ∷ when (not (dirsHeld fs dirs && textHeld fs text)) 10 ∷
-    when (not (leb (length (ascending (hashesOf fs dirs text))) (length out))) 10 ∷ []))
+    (when (badLength (fs .«piece_length»)) 1 ∷
+    short (dirsHeld fs dirs && (textHeld fs text && fewEntries fs)) ∷
+    short (leb (length (ascending (hashesOf fs dirs text))) (length out)) ∷ []))
     (ascending (hashesOf fs dirs text))
     out

@@ -1,7 +1,7 @@
 // `all_path_hashes`, from file_storage.rs: the hashes of all directories and of what stands before their
 // separators, in order, each once. There is no work space: a pass over the directories puts the hashes
-// at or above a bound into a table, in order. It relies on `crc32c` for the running hash, on
-// `answers` for the refusals, and on the laws of proofs/Inserting.antt and proofs/Hashing.antt.
+// at or above a bound into a table of at most 8192 places, in order, and the next pass goes on behind them. It
+// relies on `crc32c` for the running hash, on `answers` for the refusals, and on the laws of proofs/.
 ghost use mathlib.Core.Bool.{_&&_};
 ghost use mathlib.Core.Path.{_≡_};
 ghost use mathlib.Core.List.{[], _∷_, map};
@@ -13,9 +13,11 @@ ghost use Rattle.lists.specs.Lists.{partOf};
 ghost use Rattle.path.specs.Split.{beforeFirst};
 ghost use Rattle.crc32c.specs.Crc.{crcFrom, lower};
 ghost use Rattle.names.specs.Paths.{led, hashOf};
-ghost use Rattle.hashes.specs.Hashes.{inserted, ascending, listedOf, allPathHashes};
-ghost use Rattle.hashes.specs.private.Gathering.{above, gathered, belowCount, Begun, TableHolds, hashesAfter};
-ghost use Rattle.hashes.specs.private.Gathering.{hashesWithin, ascendingWithin, hashesPut};
+ghost use Rattle.hashes.specs.Hashes.{beginnings, inserted, ascending, listedOf, allPathHashes};
+ghost use Rattle.hashes.specs.private.Gathering.{above, gathered, belowCount, Begun, TableHolds, WindowHolds};
+ghost use Rattle.hashes.specs.private.Gathering.{hashesAfter, hashesWithin, ascendingWithin, beginningsWithin};
+ghost use Rattle.hashes.specs.private.Gathering.{hashesPut};
+use lists::min_usize;
 use names::hash_led;
 use rules::SpanResult;
 use tables::FileStorage;
@@ -175,6 +177,52 @@ fn gather(
     kept.held
 }
 
+// Puts the hashes at or above `bound` into the places of `out` from `at` up to `end`: the least first, each once, as
+// many as there is room for. Gives their number.
+fn fill_window(
+    out: &mut [u32],
+    at: usize,
+    end: usize,
+    bound: u64,
+    state: u32,
+    dirs: &[u64],
+    text: &[u8],
+    count: usize,
+) -> usize
+    requires { ⌜ (at ≤ end) × (end ≤ length (now out)) ⌝ }
+    ensures { λ r. ⌜
+        WindowHolds (now (out .entry)) at (end - at)
+        (ascending (above bound (hashesWithin state (now (dirs .entry)) (now (text .entry)) count)))
+        (now (out .exit)) r
+        ⌝ }
+{
+    gather(&mut out[at..end], bound, state, dirs, text, count)
+}
+
+// Puts the hashes of the first `count` directories, after `state`, into `out`: the least first, each once, as many as
+// there is room for. Gives their number. Each window of 8192 places takes a pass, and the next one starts behind its
+// last hash.
+fn fill(out: &mut [u32], state: u32, dirs: &[u64], text: &[u8], count: usize) -> usize
+    ensures { λ r. ⌜
+        TableHolds (now (out .entry))
+        (ascending (above 0 (hashesWithin state (now (dirs .entry)) (now (text .entry)) count)))
+        (now (out .exit)) r
+        ⌝ }
+{
+    let mut at = 0;
+    let mut bound = 0;
+    while at < out.len() {
+        let end = at + min_usize(8192, out.len() - at);
+        let n = fill_window(out, at, end, bound, state, dirs, text, count);
+        if n < end - at {
+            return at + n;
+        }
+        bound = out[end - 1] as u64 + 1;
+        at = end;
+    }
+    at
+}
+
 // The hash of the set's name and a separator, of nothing where the name is empty.
 fn lead(name: &[u8]) -> u32
     ensures { λ r. ⌜ r ≡ hashOf (led (now (name .entry))) ⌝ }
@@ -208,12 +256,57 @@ fn has_room(
     n <= left
 }
 
-// The same with a table of 1024 places.
+// The same with a table of 8192 places.
 fn fits(room: usize, state: u32, dirs: &[u64], text: &[u8], count: usize) -> bool
     ensures { λ r. ⌜ r ≡ leb (length (ascendingWithin state (now (dirs .entry)) (now (text .entry)) count)) room ⌝ }
 {
-    let mut table = [0u32; 1024];
+    let mut table = [0u32; 8192];
     has_room(&mut table, room, state, dirs, text, count)
+}
+
+// The number of a directory's beginnings.
+fn beginning_count(d: &[u8]) -> usize
+    ensures { λ r. ⌜ r ≡ length (beginnings (now (d .entry))) ⌝ }
+{
+    if d.len() == 0 {
+        return 0;
+    }
+    let mut n = 1;
+    let mut end = next_separator(d, 0);
+    while end < d.len() {
+        n += 1;
+        end = next_separator(d, end + 1);
+    }
+    n
+}
+
+// Whether the first `count` directories have at most `room` beginnings, repeats included.
+fn repeats_fit(room: usize, dirs: &[u64], text: &[u8], count: usize) -> bool
+    ensures { λ r. ⌜ r ≡ leb (length (beginningsWithin (now (dirs .entry)) (now (text .entry)) count)) room ⌝ }
+{
+    let mut left = room;
+    let mut i = 0;
+    while i < count {
+        let place = tables::dir_at(dirs, i);
+        let n = beginning_count(tables::text_at(text, place));
+        if left < n {
+            return false;
+        }
+        left -= n;
+        i += 1;
+    }
+    true
+}
+
+// Whether a table of `room` places holds the hashes of the first `count` directories. Nothing is hashed where it has a
+// place for each beginning.
+fn all_fit(room: usize, state: u32, dirs: &[u64], text: &[u8], count: usize) -> bool
+    ensures { λ r. ⌜ r ≡ leb (length (ascendingWithin state (now (dirs .entry)) (now (text .entry)) count)) room ⌝ }
+{
+    if repeats_fit(room, dirs, text, count) {
+        return true;
+    }
+    fits(room, state, dirs, text, count)
 }
 
 // Puts the hashes of the first `count` directories, after `state`, into `out`, or refuses where a table is too short.
@@ -225,8 +318,8 @@ fn put_hashes(state: u32, dirs: &[u64], text: &[u8], count: usize, out: &mut [u3
     if dirs.len() / 2 < count {
         return UsizeResult::Err(Refusal::NoRoom);
     }
-    if fits(out.len(), state, dirs, text, count) {
-        return UsizeResult::Ok(gather(out, 0, state, dirs, text, count));
+    if all_fit(out.len(), state, dirs, text, count) {
+        return UsizeResult::Ok(fill(out, state, dirs, text, count));
     }
     UsizeResult::Err(Refusal::NoRoom)
 }

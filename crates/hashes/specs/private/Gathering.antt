@@ -44,6 +44,11 @@ pub record TableHolds (table xs after : List ℕ) (n : ℕ) : Type 0 where
   pub stored : after ≡ sets table 0 xs
   pub count : n ≡ min (length table) (length xs)
 
+-- `after` is the table with the numbers xs in its w places from `at` on, as many as these hold, and n counts them
+pub record WindowHolds (table : List ℕ) (at w : ℕ) (xs after : List ℕ) (n : ℕ) : Type 0 where
+  pub stored : after ≡ sets table at (take w xs)
+  pub count : n ≡ min w (length xs)
+
 -- the hashes of a directory's beginnings, from the hash of what stands before the directory
 abbrev pub hashesAfter : ℕ → List ℕ → List ℕ
 hashesAfter state d = map (λ (b : List ℕ). crcFrom state (map lower b)) (beginnings d)
@@ -51,6 +56,10 @@ hashesAfter state d = map (λ (b : List ℕ). crcFrom state (map lower b)) (begi
 -- those of the first n directories
 abbrev pub hashesWithin : ℕ → List ℕ → List ℕ → ℕ → List ℕ
 hashesWithin state dirs text n = joinedLists (map (hashesAfter state) (tabled n (λ i. textAt text (dirAt dirs i))))
+
+-- the beginnings of the first n directories, repeats included
+abbrev pub beginningsWithin : List ℕ → List ℕ → ℕ → List (List ℕ)
+beginningsWithin dirs text n = joinedLists (map beginnings (tabled n (λ i. textAt text (dirAt dirs i))))
 
 -- in order, each once
 abbrev pub ascendingWithin : ℕ → List ℕ → List ℕ → ℕ → List ℕ
