@@ -3,10 +3,9 @@
 use crate::inputs::{Input, PIECE_LENGTH};
 
 unsafe extern "C" {
-    /// A slice is a pointer and a length.
+    /// A slice is a pointer and a length; an array, which has its length in its type, is a pointer alone.
     fn niflathen_add_file(
-        state: *mut u64,
-        state_len: usize,
+        state: *mut [u64; 12],
         rows: *mut u64,
         rows_len: usize,
         roots: *mut u8,
@@ -28,13 +27,11 @@ unsafe extern "C" {
         symlink_path: *const u8,
         symlink_path_len: usize,
         rooted: u8,
-        root: *const u8,
-        root_len: usize,
+        root: *const [u8; 32],
     ) -> u32;
 
     fn niflathen_remove_tail_padding(
-        state: *mut u64,
-        state_len: usize,
+        state: *mut [u64; 12],
         rows: *mut u64,
         rows_len: usize,
         roots: *mut u8,
@@ -48,8 +45,7 @@ unsafe extern "C" {
     ) -> u32;
 
     fn niflathen_map_block(
-        state: *const u64,
-        state_len: usize,
+        state: *const [u64; 12],
         rows: *const u64,
         rows_len: usize,
         piece: i32,
@@ -64,8 +60,7 @@ unsafe extern "C" {
     ) -> i64;
 
     fn niflathen_map_block_slices(
-        state: *const u64,
-        state_len: usize,
+        state: *const [u64; 12],
         rows: *const u64,
         rows_len: usize,
         piece: i32,
@@ -75,15 +70,8 @@ unsafe extern "C" {
         out_len: usize,
     ) -> i64;
 
-    fn niflathen_file_index_at_offset(
-        state: *const u64,
-        state_len: usize,
-        rows: *const u64,
-        rows_len: usize,
-        offset: i64,
-    ) -> i64;
+    fn niflathen_file_index_at_offset(state: *const [u64; 12], rows: *const u64, rows_len: usize, offset: i64) -> i64;
 
-    /// A state of twelve words has its length in its type, so it is a pointer alone.
     fn niflathen_map_file(
         state: *const [u64; 12],
         rows: *const u64,
@@ -94,8 +82,7 @@ unsafe extern "C" {
     ) -> FileRequest;
 
     fn niflathen_map_files(
-        state: *const u64,
-        state_len: usize,
+        state: *const [u64; 12],
         rows: *const u64,
         rows_len: usize,
         files: *const i32,
@@ -114,7 +101,20 @@ pub struct Row {
     pub offset: u64,
     pub size: u64,
     pub name: (usize, usize),
+    pub link: (usize, usize),
     pub flags: u64,
+}
+
+/// The arguments of an addition.
+#[derive(Default)]
+pub struct Addition {
+    pub name: Option<Vec<u8>>,
+    pub path: Vec<u8>,
+    pub size: i64,
+    pub flags: u8,
+    pub time: i64,
+    pub link: Vec<u8>,
+    pub root: Option<[u8; 32]>,
 }
 
 /// A window of a file, as the port lays its `FileSlice`.
@@ -194,12 +194,11 @@ impl Set {
     /// Adds a file, and gives the number of the refusal, 0 for none.
     #[inline]
     pub fn add_file(&mut self, input: &Input) -> u32 {
-        let root: &[u8] = input.root.as_ref().map_or(&[], |root| root.as_bytes());
+        let root = input.root.as_ref().map_or(&[0; 32], |root| root.as_bytes());
         // SAFETY: each pointer and length are those of one slice, and slices that are written overlap with none.
         unsafe {
             niflathen_add_file(
-                self.state.as_mut_ptr(),
-                self.state.len(),
+                &mut self.state,
                 self.rows.as_mut_ptr(),
                 self.rows.len(),
                 self.roots.as_mut_ptr(),
@@ -221,8 +220,40 @@ impl Set {
                 [].as_ptr(),
                 0,
                 u8::from(input.root.is_some()),
-                root.as_ptr(),
-                root.len(),
+                root,
+            )
+        }
+    }
+
+    /// Adds a file with all that an addition has, and gives the number of the refusal, 0 for none.
+    pub fn add(&mut self, addition: &Addition) -> u32 {
+        let name = addition.name.as_deref().unwrap_or_default();
+        // SAFETY: as above.
+        unsafe {
+            niflathen_add_file(
+                &mut self.state,
+                self.rows.as_mut_ptr(),
+                self.rows.len(),
+                self.roots.as_mut_ptr(),
+                self.roots.len(),
+                self.times.as_mut_ptr(),
+                self.times.len(),
+                self.dirs.as_mut_ptr(),
+                self.dirs.len(),
+                self.text.as_mut_ptr(),
+                self.text.len(),
+                u8::from(addition.name.is_some()),
+                name.as_ptr(),
+                name.len(),
+                addition.path.as_ptr(),
+                addition.path.len(),
+                addition.size,
+                addition.flags,
+                addition.time,
+                addition.link.as_ptr(),
+                addition.link.len(),
+                u8::from(addition.root.is_some()),
+                addition.root.as_ref().unwrap_or(&[0; 32]),
             )
         }
     }
@@ -232,8 +263,7 @@ impl Set {
         // SAFETY: as above.
         unsafe {
             niflathen_remove_tail_padding(
-                self.state.as_mut_ptr(),
-                self.state.len(),
+                &mut self.state,
                 self.rows.as_mut_ptr(),
                 self.rows.len(),
                 self.roots.as_mut_ptr(),
@@ -254,8 +284,7 @@ impl Set {
         // SAFETY: as above.
         unsafe {
             niflathen_map_block(
-                self.state.as_ptr(),
-                self.state.len(),
+                &self.state,
                 self.rows.as_ptr(),
                 self.rows.len(),
                 piece,
@@ -277,8 +306,7 @@ impl Set {
         // SAFETY: as above, and a `Slice` lies as the port's `FileSlice` does.
         unsafe {
             niflathen_map_block_slices(
-                self.state.as_ptr(),
-                self.state.len(),
+                &self.state,
                 self.rows.as_ptr(),
                 self.rows.len(),
                 piece,
@@ -294,15 +322,7 @@ impl Set {
     #[inline]
     pub fn file_index_at_offset(&self, offset: i64) -> i64 {
         // SAFETY: as above.
-        unsafe {
-            niflathen_file_index_at_offset(
-                self.state.as_ptr(),
-                self.state.len(),
-                self.rows.as_ptr(),
-                self.rows.len(),
-                offset,
-            )
-        }
+        unsafe { niflathen_file_index_at_offset(&self.state, self.rows.as_ptr(), self.rows.len(), offset) }
     }
 
     /// Gives the request, or the number of the refusal.
@@ -319,8 +339,7 @@ impl Set {
         // SAFETY: as above.
         unsafe {
             niflathen_map_files(
-                self.state.as_ptr(),
-                self.state.len(),
+                &self.state,
                 self.rows.as_ptr(),
                 self.rows.len(),
                 files.as_ptr(),
@@ -333,6 +352,10 @@ impl Set {
                 answers.len(),
             )
         }
+    }
+
+    pub fn set_piece_length(&mut self, length: u64) {
+        self.state[0] = length;
     }
 
     pub fn v2(&self) -> bool {
@@ -361,7 +384,8 @@ impl Set {
 
     pub fn row(&self, i: usize) -> Row {
         let w = &self.rows[i * 8..i * 8 + 8];
-        Row { offset: w[0], size: w[1], name: (w[2] as usize, w[3] as usize), flags: w[7] }
+        let part = |i| (w[i] as usize, w[i + 1] as usize);
+        Row { offset: w[0], size: w[1], name: part(2), link: part(4), flags: w[7] }
     }
 
     pub fn root(&self, i: usize) -> &[u8] {

@@ -23,7 +23,8 @@ use types.Kit.{Given, ‵, raw, _⊛_, some, later, _$_, _∵_, !, qed, move, ke
 use denote.Laws.{Is, shows}
 use denote.Signed.{sint-makes}
 use denote.Builtin.{u64, i64}
-use denote.Ref.{RefT}
+use denote.Ref.{RefT, ShrRef, ptr-vals}
+use denote.Array.{Array}
 use denote.Slice.{sliceVal, ShrSlice, MutSlice, finally}
 use denote.Steps.{owned, peeks, heard, nothing}
 use denote.Struct.Laws as LL
@@ -64,14 +65,14 @@ module _ {M : Type 1} (𝓤 : URA M) (H : Heap 𝓤) (A : Atoms 𝓤) (W : Given
   -- the words x, lent for κ
   module _ (κ : Lft) (q : Share) (x : RefT (List ℕ)) where
     abbrev words : List Val
-    words = sliceVal (x .ptr) (length (x .now)) ∷ []
+    words = ptr-vals x
 
     abbrev pub to-storage : StorageAt 𝓤 H A mem run .Ghost
     to-storage = (((κ, tt), (q, tt), tt, (x, tt), (words, tt)), tt)
 
-    pub storage-goes : ent 𝓤 (sep 𝓤 (A .lft κ q) (sem 𝓤 H A (ShrSlice (named 0) κ u64 .own x words))) (StorageAt 𝓤 H A mem run .pre to-storage)
+    pub storage-goes : ent 𝓤 (sep 𝓤 (A .lft κ q) (sem 𝓤 H A (ShrRef (named 0) κ (Array u64 12) .own x words))) (StorageAt 𝓤 H A mem run .pre to-storage)
     storage-goes =
-        qed W (‵ (flft κ q) ∷ ‵ (ShrSlice (named 0) κ u64 .own x words) ∷ []) ∵
+        qed W (‵ (flft κ q) ∷ ‵ (ShrRef (named 0) κ (Array u64 12) .own x words) ∷ []) ∵
         nothing ! $ move ! (2 ∷ 0 ∷ []) $ fjoin ! $ nothing ! $ move ! (2 ∷ 0 ∷ []) $ join ! $ join ! $ frame ! $ done !
 
     storage-told : (r : FileStorage) → ent 𝓤 (ensured 𝓤 H A storage-at.ended (storage-at.clauses 𝓤 H A mem run) (κ, tt) (x, tt) tt r) (fact 𝓤 (r ≡ storageOf (x .now)))

@@ -1,27 +1,23 @@
--- A set's record as twelve words, for programs in other languages: piece length, v2 (0 or 1), files, directories, link
--- texts, times, the name's position and length, text held, total, size on disk, trimmed (0 or 1). It relies on the
--- record of `tables` and on what a change of `change` leaves.
+-- A set's record as twelve words, an array of that size, for programs in other languages: piece length, v2 (0 or 1),
+-- files, directories, link texts, times, the name's position and length, text held, total, size on disk, trimmed (0 or
+-- 1). It relies on the record of `tables` and on what a change of `change` leaves.
 use Prim.Native.Nat.{ℕ}
 use mathlib.Core.Bool.{Bool, true, false, cond, not}
 use mathlib.Core.List.{List, [], _∷_}
-use lib.Dec.{eqb, ltb}
+use lib.Dec.{eqb}
 use lib.IntN.{ℤ}
-use lib.ListN.{length, getD}
-use lib.Seq.{sets}
+use lib.ListN.{getD}
 use Rattle.types.specs.Refusals.{Outcome, value, refused}
 use Rattle.tables.specs.declared.storage.FileStorage.{FileStorage}
 use Rattle.tables.specs.declared.rows.Presence.{Presence}
 use Rattle.tables.specs.declared.rows.Presence.the-variants.{Absent, Present}
 use Rattle.tables.specs.Model.{Store, storeOf}
-use Rattle.storage.specs.Opening.{newStorage}
 use Rattle.change.specs.Changes.{Changed}
 
--- the set that the words hold; where there are fewer than twelve, one of piece length 0, which every change and every
--- question refuses by 1
+-- the set that the words hold
 abbrev pub storageOf : List ℕ → FileStorage
 storageOf w =
-    cond (ltb (length w) 12) (newStorage 0)
-    (record {
+    record {
       «piece_length» = getD w 0 0;
       v2 = not (eqb (getD w 1 0) 0);
       «num_files» = getD w 2 0;
@@ -33,13 +29,14 @@ storageOf w =
       «total_size» = getD w 9 0;
       «size_on_disk» = getD w 10 0;
       trimmed = not (eqb (getD w 11 0) 0);
-    })
+    }
 
 -- 1 for true, 0 for false
 abbrev pub bit : Bool → ℕ
 bit true = 1
 bit false = 0
 
+-- the words of a set's record
 abbrev pub wordsOf : FileStorage → List ℕ
 wordsOf fs =
     fs .«piece_length» ∷
@@ -55,10 +52,6 @@ wordsOf fs =
     fs .«size_on_disk» ∷
     bit (fs .trimmed) ∷
     []
-
--- the words with a set's record in them; where there are fewer than twelve, they stay as they are
-abbrev pub stateWith : FileStorage → List ℕ → List ℕ
-stateWith fs state = cond (ltb (length state) 12) state (sets state 0 (wordsOf fs))
 
 -- the set that a record's words and the tables hold
 abbrev pub storeAt : List ℕ → List ℕ → List ℕ → List ℤ → List ℕ → List ℕ → Store
@@ -83,7 +76,7 @@ numberReturned (value fs) = 0
 numberReturned (refused k) = k
 
 abbrev pub stateAfter : Outcome FileStorage → List ℕ → List ℕ
-stateAfter (value fs) state = stateWith fs state
+stateAfter (value fs) state = wordsOf fs
 stateAfter (refused k) state = state
 
 abbrev pub exported : List ℕ → Changed → Exported

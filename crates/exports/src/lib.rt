@@ -1,14 +1,13 @@
-// The C interface, for benchmarks and other languages: a set's record is twelve lent words. A change returns 0 or
-// document 01's number; questions.rt and slices.rt say what a question returns. An addition has 15 parameters and
-// can't have fewer in C: each table and each text is a slice of its own. Relies on `storage`, `trim`, `tables`,
-// `layout`, `files`, `blocks` and `mapping`.
+// The C interface, for benchmarks and other languages: a set's record is twelve lent words and a root 32 lent bytes,
+// arrays with their sizes in their types. A change returns 0 or document 01's number; questions.rt and slices.rt say
+// what a question returns. An addition has 15 parameters and can't have fewer in C: each table and each text is a slice
+// of its own. Relies on `storage`, `trim`, `tables`, `layout`, `files`, `blocks` and `mapping`.
 ghost use mathlib.Core.Path.{_≡_};
-ghost use Rattle.tables.specs.Rows.{rootAt};
 ghost use Rattle.change.specs.Changes.{storageSays};
 ghost use Rattle.additions.specs.Addition.{optionalOf};
 ghost use Rattle.plan.specs.Outcomes.{addStored};
 ghost use Rattle.trim.specs.Removal.{trimStored};
-ghost use Rattle.exports.specs.State.{Exported, exported, storageOf, storeAt, stateWith, bit, presenceOf};
+ghost use Rattle.exports.specs.State.{Exported, exported, storageOf, storeAt, wordsOf, bit, presenceOf};
 ghost use Rattle.exports.specs.State.{numberReturned, stateAfter};
 
 mod questions;
@@ -18,27 +17,19 @@ use additions::FileInfo;
 use change::StorageResult;
 use tables::FileStorage;
 use tables::Presence;
+use tables::Sha256Hash;
 use tables::Span;
 
-// The record that a set's words hold; where there are fewer than twelve, a record of no set.
-pub(crate) fn storage_at(state: &[u64]) -> FileStorage
+// A set's record, as words.
+pub type State = [u64; 12];
+
+// A root.
+pub type Root = [u8; 32];
+
+// The record that a set's words hold.
+pub(crate) fn storage_at(state: &State) -> FileStorage
     ensures { λ r. ⌜ r ≡ storageOf (now (state .entry)) ⌝ }
 {
-    if state.len() < 12 {
-        return FileStorage {
-            piece_length: 0,
-            v2: false,
-            num_files: 0,
-            num_paths: 0,
-            num_symlinks: 0,
-            num_mtimes: 0,
-            name: Span { at: 0, len: 0 },
-            text_len: 0,
-            total_size: 0,
-            size_on_disk: 0,
-            trimmed: false,
-        };
-    }
     FileStorage {
         piece_length: state[0],
         v2: state[1] != 0,
@@ -64,24 +55,24 @@ fn bit_of(on: bool) -> u64
     if on { 1 } else { 0 }
 }
 
-// Writes a set's record as its words; where there is room for fewer than twelve, none is written.
-fn put_state(state: &mut [u64], fs: FileStorage)
-    ensures { λ _. ⌜ now (state .exit) ≡ stateWith fs (now (state .entry)) ⌝ }
+// The words of a set's record.
+fn words_of(fs: FileStorage) -> State
+    ensures { λ r. ⌜ r ≡ wordsOf fs ⌝ }
 {
-    if 12 <= state.len() {
-        state[0] = fs.piece_length;
-        state[1] = bit_of(fs.v2);
-        state[2] = fs.num_files as u64;
-        state[3] = fs.num_paths as u64;
-        state[4] = fs.num_symlinks as u64;
-        state[5] = fs.num_mtimes as u64;
-        state[6] = fs.name.at as u64;
-        state[7] = fs.name.len as u64;
-        state[8] = fs.text_len as u64;
-        state[9] = fs.total_size;
-        state[10] = fs.size_on_disk;
-        state[11] = bit_of(fs.trimmed);
-    }
+    [
+        fs.piece_length,
+        bit_of(fs.v2),
+        fs.num_files as u64,
+        fs.num_paths as u64,
+        fs.num_symlinks as u64,
+        fs.num_mtimes as u64,
+        fs.name.at as u64,
+        fs.name.len as u64,
+        fs.text_len as u64,
+        fs.total_size,
+        fs.size_on_disk,
+        bit_of(fs.trimmed),
+    ]
 }
 
 // 0 is absent, any other number present.
@@ -95,23 +86,23 @@ fn presence_of(n: u8) -> Presence
 }
 
 // Writes the record that an answer holds, and gives the number of its refusal, 0 for none.
-fn put_answer(state: &mut [u64], answer: StorageResult) -> u32
+fn put_answer(state: &mut State, answer: StorageResult) -> u32
     ensures { λ r. ⌜ r ≡ numberReturned (storageSays answer) ⌝ }
     ensures { λ _. ⌜ now (state .exit) ≡ stateAfter (storageSays answer) (now (state .entry)) ⌝ }
 {
     match answer {
         StorageResult::Ok(fs) => {
-            put_state(state, fs);
+            *state = words_of(fs);
             0
         }
         StorageResult::Err(e) => types::number(e),
     }
 }
 
-// `storage::add_file`; `given` and `rooted` are 0 for none, and the root is the first 32 bytes of `root`.
+// `storage::add_file`; `given` and `rooted` are 0 for none.
 #[no_mangle]
 pub extern "C" fn niflathen_add_file(
-    state: &mut [u64],
+    state: &mut State,
     rows: &mut [u64],
     roots: &mut [u8],
     times: &mut [i64],
@@ -125,7 +116,7 @@ pub extern "C" fn niflathen_add_file(
     mtime: i64,
     symlink_path: &[u8],
     rooted: u8,
-    root: &[u8],
+    root: &Root,
 ) -> u32
     ensures { λ r. ⌜ _≡_ {A = Exported}
         (record {
@@ -148,16 +139,17 @@ pub extern "C" fn niflathen_add_file(
           flags = «file_flags»;
           time = mtime;
           link = now («symlink_path» .entry);
-          root = optionalOf (presenceOf rooted) (rootAt (now (root .entry)) 0);
+          root = optionalOf (presenceOf rooted) (now (root .entry));
         }))) ⌝ }
 {
+    let bytes = *root;
     let file = FileInfo {
         given: presence_of(given),
         size: file_size,
         flags: file_flags,
         mtime,
         rooted: presence_of(rooted),
-        root: tables::root_at(root, 0),
+        root: Sha256Hash { bytes },
     };
     let answer = storage::add_file(
         storage_at(state),
@@ -177,7 +169,7 @@ pub extern "C" fn niflathen_add_file(
 // `trim::remove_tail_padding`.
 #[no_mangle]
 pub extern "C" fn niflathen_remove_tail_padding(
-    state: &mut [u64],
+    state: &mut State,
     rows: &mut [u64],
     roots: &mut [u8],
     times: &mut [i64],

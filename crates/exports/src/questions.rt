@@ -11,6 +11,7 @@ ghost use Rattle.layout.specs.Given.{fileAtOffsetGiven};
 ghost use Rattle.exports.specs.State.{storageOf};
 ghost use Rattle.exports.specs.Layout.{countReturned, fileReturned, requestReturned};
 ghost use Rattle.exports.specs.Layout.{BlockReturned, blockReturned, ListReturned, listReturned};
+use crate::State;
 use crate::storage_at;
 use rules::FileResult;
 use rules::RequestResult;
@@ -84,7 +85,7 @@ fn request_returned(answer: RequestResult) -> FileRequest
 // `blocks::map_block_core`: the number of slices, or minus the number of the refusal.
 #[no_mangle]
 pub extern "C" fn niflathen_map_block(
-    state: &[u64],
+    state: &State,
     rows: &[u64],
     piece: i32,
     offset: i64,
@@ -118,17 +119,17 @@ pub extern "C" fn niflathen_map_block(
 
 // `layout::file_index_at_offset`: the file's number, or minus the number of the refusal.
 #[no_mangle]
-pub extern "C" fn niflathen_file_index_at_offset(state: &[u64], rows: &[u64], offset: i64) -> i64
+pub extern "C" fn niflathen_file_index_at_offset(state: &State, rows: &[u64], offset: i64) -> i64
     ensures { λ r. ⌜ r ≡
         fileReturned (fileAtOffsetGiven (storageOf (now (state .entry))) (now (rows .entry)) offset) ⌝ }
 {
     file_returned(layout::file_index_at_offset(storage_at(state), rows, offset))
 }
 
-// `files::map_file`. Words and answer have their sizes in their types, so arguments and answer go in registers.
+// `files::map_file`: the request, or the number of the refusal. Arguments and answer go in registers.
 #[no_mangle]
 pub extern "C" fn niflathen_map_file(
-    state: &[u64; 12],
+    state: &State,
     rows: &[u64],
     index: i32,
     offset: i64,
@@ -143,7 +144,7 @@ pub extern "C" fn niflathen_map_file(
 // `files::map_files`: the number of questions, or minus the number of the refusal.
 #[no_mangle]
 pub extern "C" fn niflathen_map_files(
-    state: &[u64],
+    state: &State,
     rows: &[u64],
     files: &[i32],
     offsets: &[i64],

@@ -4,6 +4,7 @@ ghost use mathlib.Core.Path.{_≡_};
 ghost use Rattle.mapping.specs.Table.{blockMapped};
 ghost use Rattle.exports.specs.State.{storageOf};
 ghost use Rattle.exports.specs.Layout.{SlicesReturned, slicesReturned};
+use crate::State;
 use crate::questions::count_returned;
 use crate::storage_at;
 use types::FileSlice;
@@ -12,7 +13,7 @@ use types::PieceIndex;
 // `mapping::map_block`: the number of slices, or minus the number of the refusal.
 #[no_mangle]
 pub extern "C" fn niflathen_map_block_slices(
-    state: &[u64],
+    state: &State,
     rows: &[u64],
     piece: i32,
     offset: i64,

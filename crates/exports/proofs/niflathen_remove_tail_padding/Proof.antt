@@ -50,11 +50,12 @@ same-length-4 c = search needs
 same-length-5 : tie.Need-same-length-5
 same-length-5 c = search needs
 
-same-length-6 : tie.Need-same-length-6
-same-length-6 c = search needs
-
 returns : tie.Need-returns
-returns c = answered (c .before .before .before .before .before .before .before .before .before .before .before .before .before .before .before .before .before .before .before .before .before .before .before .before .before .before .args .state .now) (c .before .before .put-answer .last .0) (c .before .before .put-answer .result) (left (c .before .before .before .before .before .before .before .before .before .before .before .before .before)) (trimmed (c .before .before .before .before .before .before .before .before .before .before .before .before .before .before .before .before .before .before .before .before .before .before .before .before .before .before) (storageOf (c .before .before .before .before .before .before .before .before .before .before .before .before .before .before .before .before .before .before .before .before .before .before .before .before .before .before .args .state .now))) (c .before .before .before .before .before .before .before .before .before .before .before .before .before .remove-tail-padding .ensures ∙ ap (trimmed (c .before .before .before .before .before .before .before .before .before .before .before .before .before .before .before .before .before .before .before .before .before .before .before .before .before .before)) (c .before .before .before .before .before .before .before .before .before .before .before .before .before .before .before .before .before .before .before .storage-at .ensures)) (c .before .before .put-answer .ensures .0) (c .before .before .put-answer .ensures .1)
+returns c =
+    let start = c .before .before .before .before .before .before .before .before .before .before .before .before .before .before .before .before .before .before .before .before .before .before .before in
+    let a = c .before .before .before .before .before .before .before .before .before .before .before in
+    answered (start .args .state .now) (c .put-answer .last .0) (c .put-answer .result) (left a) (trimmed start (storageOf (start .args .state .now)))
+    (a .remove-tail-padding .ensures ∙ ap (trimmed start) (c .before .before .before .before .before .before .before .before .before .before .before .before .before .before .before .before .before .storage-at .ensures)) (c .put-answer .ensures .0) (c .put-answer .ensures .1)
 
 pub niflathen-remove-tail-padding-spec : {M : Type 1} → statement M
 niflathen-remove-tail-padding-spec =
@@ -68,5 +69,4 @@ niflathen-remove-tail-padding-spec =
     same-length-3
     same-length-4
     same-length-5
-    same-length-6
     returns)

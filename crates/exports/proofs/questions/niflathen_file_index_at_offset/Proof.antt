@@ -18,7 +18,7 @@ file-returned-requires c κs = search needs
 
 returns : tie.Need-returns
 returns c =
-    let a = c .before .before .before .before .before .args in
+    let a = c .before .before .before .before .args in
     let r : SFits w64 (c .file-returned .result) = search needs in
     let o : SFits w64 (a .offset) = search needs in
     toZ-ofZ r ∙ (rw (c .before .file-index-at-offset .ensures, c .before .before .storage-at .ensures, toZ-ofZ o) at (c .file-returned .ensures))

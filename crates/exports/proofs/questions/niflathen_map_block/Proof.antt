@@ -51,7 +51,7 @@ same-length-3 c = search needs
 
 returns : tie.Need-returns
 returns c =
-    let s = c .before .before .before .before .before .before .before .before .before .before .before .before .before .before .before .before .before in
+    let s = c .before .before .before .before .before .before .before .before .before .before .before .before .before .before .before .before in
     let m = c .before .before .before .before .before .before .before in
     let r : SFits w64 (c .count-returned .result) = search needs in
     let p : SFits w32 (s .args .piece) = search needs in

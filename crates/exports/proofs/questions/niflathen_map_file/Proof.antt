@@ -17,7 +17,7 @@ request-returned-requires c κs = search needs
 
 returns : tie.Need-returns
 returns c =
-    let a = c .before .before .before .before .before .args in
+    let a = c .before .before .before .before .args in
     let i : SFits w32 (a .index) = search needs in
     let o : SFits w64 (a .offset) = search needs in
     let s : SFits w32 (a .size) = search needs in
