@@ -1,8 +1,8 @@
 -- The book agrees with the set over every list of calls, refused ones included, and every set that the calls lead to is one
 -- of those of which BEP 3, 47 and 52 are proved. Relies on Entries.antt, Rooted.antt and Lent.antt, and on the theorems of
--- `model`.
+-- `reached`.
 use mathlib.Core.Path.{_≡_, refl, sym, ap, subst, _∙_}
-use mathlib.Core.Bool.{Bool, true, false, cond, not}
+use mathlib.Core.Bool.{Bool, true, false, cond, not, false≢true}
 use mathlib.Core.List.{List, [], _∷_, map}
 use Prim.Native.Nat.{ℕ, _≤_, _<_}
 use native.Mathlib.Omega.{arith}
@@ -29,7 +29,7 @@ use Rattle.lookup.specs.Lookup.{lent, entriesOf}
 use Rattle.links.specs.Judging.{judgingNumber}
 use Rattle.cleaning.specs.Cleaning.{cleanedStore, textNeeded, Cleaned, cleanedTo, cleanStored}
 use Rattle.sound.specs.Sound.{Sound}
-use Rattle.sound.specs.Documents.{sizes, EndToEnd, OnDisk, Marked, OnPiece, Each, LinkEmpty}
+use Rattle.sound.specs.Documents.{sizes, EndToEnd, OnDisk, Marked, MadePad, OnPiece, Each, LinkEmpty}
 use Rattle.reached.specs.Reached.{Reached}
 use Rattle.reached.specs.Reached as reach
 use Rattle.sound.proofs.Common.{sum-tabled}
@@ -39,8 +39,8 @@ use Rattle.sound.proofs.Trimmed.{view-trimmed, sound-trimmed}
 use Rattle.reached.proofs.Cleaned.Answer.{work-enough}
 use Rattle.reached.proofs.Cleaned.{sound-cleaned, view-cleaned}
 use Rattle.reached.proofs.Cleaned.Lent.{cleaned-lent, needed-lent}
-use Rattle.reached.proofs.Documents.{end-to-end, on-disk, marked, on-piece}
-use Rattle.book.specs.Book.{Call, add, trim, clean, rename, «import», Made, Book, sizesOf, afterAddition, afterTrim, entry, book}
+use Rattle.reached.proofs.Documents.{end-to-end, on-disk, marked, pads-made, on-piece}
+use Rattle.book.specs.Book.{Call, add, trim, clean, rename, «import», Made, Book, sizesOf, afterAddition, afterTrim, entry, book, Untrimmed}
 use Rattle.book.specs.Book as books
 use Rattle.book.specs.Calls.{cameOf, storeAfter, call, cleanedBy, SameSet, Renames, Leads}
 use Rattle.book.specs.Calls as calls
@@ -145,7 +145,7 @@ module _ (n : ℕ) (s : Store) (e : opened (pos n) ≡ value (s .fs)) where
 
 -- ---- one call
 
-total-is : (s : Store) → Sound s → viewOf s .total ≡ sum (sizes (viewOf s))
+pub total-is : (s : Store) → Sound s → viewOf s .total ≡ sum (sizes (viewOf s))
 total-is s ok = ok .total ∙ sym (sum-tabled (λ (f : File). f .size) (s .fs .«num_files») (fileOf s))
 
 agrees-refused : {n : ℕ} {made : List Made} {s : Store} (k : Call) (i : ℕ) → Agrees n made s → Agrees n (record { call = k; came = books.refused i } ∷ made) s
@@ -272,6 +272,37 @@ reached (calls.renaming {made} {s} x c p e) = reached p
 reached (calls.importing {made} {s} xs c p e) = reached p
 reached (calls.lending {made} {s} {t} p same names) = subst Reached (sym (lent-view s t (agrees p .sound) same)) (reached p)
 
+-- where no trim was done, the record does not say that one was
+pub untrimmed : {n : ℕ} {made : List Made} {s : Store} {r : Renames} → Leads n made s r → Untrimmed made → viewOf s .trimmed ≡ false
+untrimmed {n} (calls.opening {s} h e z) u = ap (λ (m : Model). m .trimmed) (sym (opened-view n s e))
+untrimmed (calls.addition {made} {s} a c p e) u =
+    after-call (λ (m : Made) (t : Store). Untrimmed (m ∷ made) → viewOf t .trimmed ≡ false) (add a) (addingNumber s (viewOf s) a) s (storeAdded s (viewOf s) a)
+    (λ z w. untrimmed p (w .1))
+    (λ w. untrimmed p (w .1))
+    c
+    e
+    u
+untrimmed (calls.trim {made} {s} c p e) u =
+    after-call (λ (m : Made) (t : Store). Untrimmed (m ∷ made) → viewOf t .trimmed ≡ false) trim (trimNumber s) s (trimmedBy (tailPad (viewOf s .files)) s)
+    (λ z w. absurd (false≢true (sym (w .0))))
+    (λ w. untrimmed p (w .1))
+    c
+    e
+    u
+untrimmed (calls.cleaning {made} {s} marks stage path c p e) u =
+    after-clean (λ (m : Made) (t : Store). Untrimmed (m ∷ made) → viewOf t .trimmed ≡ false) s marks stage path
+    (λ z room w.
+    ap (λ (m : Model). m .trimmed) (view-cleaned s (agrees p .sound) (length stage) room (work-enough s (length marks) (length stage) (length path) z))
+    ∙ untrimmed p (w .1))
+    (λ k w. untrimmed p (w .1))
+    c
+    e
+    u
+untrimmed (calls.renaming x c p e) u = untrimmed p (u .1)
+untrimmed (calls.importing xs c p e) u = untrimmed p (u .1)
+untrimmed (calls.lending {made} {s} {t} p same names) u =
+    ap (λ (m : Model). m .trimmed) (lent-view s t (agrees p .sound) same) ∙ untrimmed p u
+
 module _ {n : ℕ} {made : List Made} {s : Store} {r : Renames} (p : Leads n made s r) where
   -- BEP 3
   pub set-end-to-end : EndToEnd (viewOf s)
@@ -284,6 +315,11 @@ module _ {n : ℕ} {made : List Made} {s : Store} {r : Renames} (p : Leads n mad
   pub set-marked : Each Marked (viewOf s .files)
   set-marked = marked (reached p)
 
-  -- BEP 52
-  pub set-on-piece : viewOf s .trimmed ≡ false → viewOf s .v2 ≡ true → Each LinkEmpty (viewOf s .files) → Each (OnPiece n) (viewOf s .files)
-  set-on-piece t v l = subst (λ (k : ℕ). Each (OnPiece k) (viewOf s .files)) (agrees p .lengths) (on-piece (reached p) t v l)
+  pub set-pads-made : Each (MadePad n) (viewOf s .files)
+  set-pads-made = subst (λ (k : ℕ). Each (MadePad k) (viewOf s .files)) (agrees p .lengths) (pads-made (reached p))
+
+  -- BEP 52: 'On an untrimmed v2 set whose links all have size 0, each nonempty file but the pads made here starts on a piece'
+  pub set-on-piece : Untrimmed made → book n made .v2 ≡ true → Each LinkEmpty (viewOf s .files) → Each (OnPiece n) (viewOf s .files)
+  set-on-piece u v l =
+      subst (λ (k : ℕ). Each (OnPiece k) (viewOf s .files)) (agrees p .lengths)
+      (on-piece (reached p) (untrimmed p u) (ap (λ (b : Book). b .v2) (agrees p .books) ∙ v) l)

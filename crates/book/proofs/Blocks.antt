@@ -14,9 +14,8 @@ use lib.Seq.{take-nil, drop-nil, take-append-seam, getD-append-seam, append-snoc
 use Rattle.lists.specs.Lists.{sum, partOf}
 use Rattle.lists.proofs.Parts.{take-clipped, part-append}
 use Rattle.lists.proofs.Sums.{sum-append}
-use Rattle.layout.specs.Mapping.{Slice, before}
-use Rattle.book.specs.Slices.{slice, bytesIn, oneIf, meetsFrom, meets, endToEnd, contentOf}
-use Rattle.book.proofs.Walks.{walk, before-by, walk-skip}
+use Rattle.book.specs.Slices.{Slice, slice, bytesIn, oneIf, meetsFrom, meets, endToEnd, contentOf}
+use Rattle.book.proofs.Walks.{before, walk, before-by, walk-skip}
 
 -- ---- bytes and number
 

@@ -10,9 +10,9 @@ use lib.ListN.{replicate, length-replicate}
 use Rattle.lists.specs.Lists.{sum}
 use Rattle.types.specs.declared.index.FileSlice.{FileSlice}
 use Rattle.tables.specs.Model.{Store}
-use Rattle.mapping.specs.Table.{Filled, recordOf, blockMapped}
+use Rattle.mapping.specs.Table.{Filled, blockMapped}
 use Rattle.book.specs.Slices.{slice, meets}
-use Rattle.book.specs.Demand.{MapCall, Cut}
+use Rattle.book.specs.Demand.{MapCall, recordOf, Cut}
 
 -- a cut: the blocks' sizes, none of them 0
 abbrev pub Nonempty : List ℕ → Type 0

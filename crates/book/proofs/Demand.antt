@@ -5,7 +5,7 @@
 --     block-answered, back-answered     else what they answer
 --     block-is, demand-of               one block, and demand 3
 use mathlib.Core.Path.{_≡_, refl, sym, ap, ap₂, _∙_, subst}
-use mathlib.Core.Bool.{true, false}
+use mathlib.Core.Bool.{true, false, _&&_}
 use mathlib.Core.List.{List, [], _∷_, _++_, map}
 use Prim.Native.Nat.{ℕ, _+_, _-_, _*_, _/_, _%_, _≤_, _<_, min}
 use native.Mathlib.Nat.{div-add-mod', mod-lt}
@@ -26,22 +26,24 @@ use Rattle.tables.specs.Rows.{rowAt}
 use Rattle.tables.specs.Model.{File, Store, viewOf}
 use Rattle.rules.specs.Rules.{Rule, firstOf}
 use Rattle.rules.specs.Bounds.{badLength, limit}
-use Rattle.rules.specs.Questions.{rowsHeld, badPieceLength, manyPieces, noPiece, noFile, badRange, short}
+use Rattle.rules.specs.Questions.{rowsHeld, badPieceLength, manyPieces, noPiece, noFile, badRange, short, fewEntries}
 use Rattle.sound.specs.Sound.{Sound}
 use Rattle.rules.specs.Results.{SignedRequest}
-use Rattle.layout.specs.Mapping.{Slice, blockOf}
-use Rattle.mapping.specs.Table.{Filled, filled, recordOf, blockMapped}
+use Rattle.layout.specs.Mapping.{blockOf}
+use Rattle.layout.specs.Mapping as layout
+use Rattle.mapping.specs.Table.{Filled, filled, blockMapped}
+use Rattle.mapping.specs.Table as mapping
 use Rattle.files.specs.Given.{fileMapped}
 use Rattle.rules.proofs.Rules.{Passed}
-use Rattle.book.specs.Slices.{joined, bytesIn, meets}
-use Rattle.book.specs.Demand.{MapCall, counted, sliceOf, slicesGiven, ValidCall, Cut, Back, Block, Blocks, allSlicesGiven, Demand3}
+use Rattle.book.specs.Slices.{Slice, joined, bytesIn, meets}
+use Rattle.book.specs.Demand.{MapCall, counted, sliceOf, recordOf, slicesGiven, ValidCall, Cut, Back, Block, Blocks, allSlicesGiven, Demand3}
 use Rattle.book.proofs.Walks.{walk, walk-ascends, cut, join-blocks}
 use Rattle.book.proofs.Blocks.{walk-bytes, walk-meets, Lies, Lie, lies-at, walk-lie, walk-content}
-use Rattle.book.proofs.Tables.{Holds, held-in-order, slices-are, records-are}
+use Rattle.book.proofs.Tables.{Holds, held-in-order, asSlice, slices-are, records-are, slices-back}
 
 -- ---- refusals that do not apply
 
-first-none : (rs : List Rule) → Passed rs → firstOf rs ≡ 0
+pub first-none : (rs : List Rule) → Passed rs → firstOf rs ≡ 0
 first-none [] p = refl
 first-none (r ∷ rs) (e, p) = rw e (first-none rs p)
 
@@ -49,19 +51,21 @@ length-good : (n : ℕ) → 0 < n → n ≤ 2147483647 → badLength n ≡ false
 length-good n h k = rw (le-ltb n 1 h, le-ltb 2147483647 n k)
 
 module _ {n : ℕ} {xs : List ℕ} {fs : FileStorage} {rows : List ℕ} (h : Holds n xs fs rows) where
-  is-open : badPieceLength fs .test ≡ false
+  pub is-open : badPieceLength fs .test ≡ false
   is-open = rw (h .long) (length-good n (h .some) (h .signed))
 
-  all-held : short (rowsHeld fs rows) .test ≡ false
+  pub all-held : short (rowsHeld fs rows && fewEntries fs) .test ≡ false
   all-held =
       let e : leb (length xs) (length rows / 8) ≡ true = le-leb (length xs) (length rows / 8) (omega (arith, h .held)) in
-      rw (h .count, e)
+      let f : leb (length xs) 65535 ≡ true = le-leb (length xs) 65535 (h .few) in
+      let p : leb (fs .«num_paths») 65535 ≡ true = le-leb (fs .«num_paths») 65535 (h .few-paths) in
+      rw (h .count, e, f, p)
 
   low-place : (o : ℕ) → o ≤ limit → (m : ℕ) → badRange (pos o) (pos m) .test ≡ false
   low-place o k m = le-ltb limit o k
 
   -- a file that is there
-  file-there : (k : ℕ) → k < length xs → noFile fs (pos k) .test ≡ false
+  pub file-there : (k : ℕ) → k < length xs → noFile fs (pos k) .test ≡ false
   file-there k l = rw (h .count, lt-ltb k (length xs) l)
 
   -- ---- too many pieces
@@ -79,10 +83,10 @@ module _ {n : ℕ} {xs : List ℕ} {fs : FileStorage} {rows : List ℕ} (h : Hol
   -- ---- as many pieces as can be numbered
 
   module _ (few : ceiling (sum xs) n ≤ 2147483647) where
-    not-many : manyPieces fs .test ≡ false
+    pub not-many : manyPieces fs .test ≡ false
     not-many = rw (h .long, h .total) (le-ltb 2147483647 (ceiling (sum xs) n) few)
 
-    piece-there : (p o : ℕ) → p * n + o < sum xs → noPiece fs (pos p) .test ≡ false
+    pub piece-there : (p o : ℕ) → p * n + o < sum xs → noPiece fs (pos p) .test ≡ false
     piece-there p o l = rw (h .long, h .total, lt-ltb p (ceiling (sum xs) n) (ceiling-above (sum xs) n (h .some) p (omega arith)))
 
     -- a block with a place for each of its slices
@@ -90,26 +94,19 @@ module _ {n : ℕ} {xs : List ℕ} {fs : FileStorage} {rows : List ℕ} (h : Hol
         → _≡_ {A = Filled} (blockMapped fs rows (pos p) (pos o) (pos m) out)
         (record { says = value (meets xs (p * n + o) m); table = sets out 0 (map recordOf (walk 0 xs (p * n + o) m)) })
     block-answered p o m out l room =
-        let e : blockOf fs rows (pos p) (pos o) (pos m) ≡ walk 0 xs (p * n + o) m = rw (h .long) (slices-are h (p * n + o) m) in
-        let d = walk-meets xs (p * n + o) m in
-        let places : short (leb (length (walk 0 xs (p * n + o) m)) (length out)) .test ≡ false =
-        rw (d, le-leb (meets xs (p * n + o) m) (length out) room) in
+        let b : List layout.Slice = blockOf fs rows (pos p) (pos o) (pos m) in
+        let e : map asSlice b ≡ walk 0 xs (p * n + o) m = rw (h .long) (slices-are h (p * n + o) m) in
+        let d : length b ≡ meets xs (p * n + o) m = sym (length-map b asSlice) ∙ ap length e ∙ walk-meets xs (p * n + o) m in
+        let recorded : map mapping.recordOf b ≡ map recordOf (walk 0 xs (p * n + o) m) =
+        records-are xs (p * n + o) b (h .few) (subst (Lie xs (p * n + o)) (sym e) (walk-lie xs (p * n + o) m)) ∙ ap (map recordOf) e in
+        let places : short (leb (length b) (length out)) .test ≡ false = rw (d, le-leb (meets xs (p * n + o) m) (length out) room) in
         let none =
         first-none
-        (badPieceLength fs ∷ manyPieces fs ∷ noPiece fs (pos p) ∷ badRange (pos o) (pos m) ∷ short (rowsHeld fs rows) ∷
-        short (leb (length (walk 0 xs (p * n + o) m)) (length out)) ∷ [])
+        (badPieceLength fs ∷ manyPieces fs ∷ noPiece fs (pos p) ∷ badRange (pos o) (pos m) ∷ short (rowsHeld fs rows && fewEntries fs) ∷
+        short (leb (length b) (length out)) ∷ [])
         (is-open, (not-many, (piece-there p o l, (low-place o (omega (arith, h .limited)) m, (all-held, (places, tt)))))) in
-        ap
-        (λ (b : List Slice).
-        filled
-        (firstOf
-        (badPieceLength fs ∷ manyPieces fs ∷ noPiece fs (pos p) ∷ badRange (pos o) (pos m) ∷ short (rowsHeld fs rows) ∷
-        short (leb (length b) (length out)) ∷ []))
-        b
-        out)
-        e ∙
-        ap (λ (k : ℕ). filled k (walk 0 xs (p * n + o) m) out) none ∙
-        ap (λ (k : ℕ). record { says = value k; table = sets out 0 (map recordOf (walk 0 xs (p * n + o) m)) }) d
+        ap (λ (k : ℕ). filled k b out) none ∙
+        ap₂ (λ (k : ℕ) (r : List FileSlice). record { says = value k; table = sets out 0 r }) d recorded
 
     -- a request for a byte of the set that lies in a file that is there
     back-answered : (t : ℕ) (p : Slice) → Lies xs t p → (m : ℕ)
@@ -123,7 +120,7 @@ module _ {n : ℕ} {xs : List ℕ} {fs : FileStorage} {rows : List ℕ} (h : Hol
         let c = lt-leb (sum xs) t l in
         let none =
         first-none
-        (badPieceLength fs ∷ noFile fs (pos (p .file)) ∷ manyPieces fs ∷ badRange (pos (p .offset)) (pos m) ∷ short (rowsHeld fs rows) ∷ [])
+        (badPieceLength fs ∷ noFile fs (pos (p .file)) ∷ manyPieces fs ∷ badRange (pos (p .offset)) (pos m) ∷ short (rowsHeld fs rows && fewEntries fs) ∷ [])
         (is-open, (file-there (p .file) (w .known), (not-many, (low-place (p .offset) (omega (arith, h .limited, w .within)) m, (all-held, tt))))) in
         rw (none, e, h .total, h .long, c)
 
@@ -147,7 +144,7 @@ module _ {n : ℕ} {xs : List ℕ} (s : Store) (h : Holds n xs (s .fs) (s .rows)
       ap (λ (f : Filled). map sliceOf (take (counted (f .says)) (f .table))) (call-is t q a l) ∙
       ap (λ (k : ℕ). map sliceOf (take k (sets (q .lent) 0 r))) d ∙
       ap (map sliceOf) (part-sets r (q .lent) 0 (omega (arith, d, a .room))) ∙
-      records-are xs t (walk 0 xs t (q .size)) (h .few) (walk-lie xs t (q .size))
+      slices-back (walk 0 xs t (q .size))
 
   plain-is : (t : ℕ) (q : MapCall) → ValidCall n xs s t q → t + q .size ≤ sum xs → take (counted (q .says)) (q .left) ≡ map recordOf (slicesGiven q)
   plain-is t q a l =

@@ -7,13 +7,16 @@ use Prim.Native.Nat.{ℕ, zero, suc, _+_, _-_, _%_, _≤_, _<_}
 use native.Mathlib.Nat.{mod-lt}
 use native.Mathlib.Omega.{arith}
 use lib.Dec.{eqb, ltb}
+use lib.IntN.{ℤ, pos, negsuc}
 use lib.ListN.{length, take, drop}
 use borrow.Author.Tests.{eqb-true, eqb-false, eq-eqb, ne-eqb, lt-ltb}
 use native.Mathlib.Numerals.{add-one}
 use Rattle.lists.specs.Lists.{sum}
+use Rattle.rules.specs.Bounds.{clampedOf}
 use Rattle.path.specs.Join.{isEmpty}
 use Rattle.tables.specs.Model.{Optional, absent, present, File, Model}
-use Rattle.additions.specs.Addition.{Addition, added, fileAdded, padAdded, padTo, padAfter, padOf, sizeAdded, flagsKept, keeps, isPresent, isV2}
+use Rattle.additions.specs.Addition.{Addition, added, fileAdded, padAdded, padTo, padAfter, padOf, sizeAdded, flagsKept, keeps, isPresent, isV2, decides, filesOf}
+use Rattle.additions.specs.Addition as additions
 use Rattle.trim.specs.Trim.{tailPad, sizeAt, beginningAt, trimmedIf, trimmedOf}
 use Rattle.additions.proofs.Rules.{pad-none, pad-some}
 use Rattle.links.specs.Clean.{cleanedOf}
@@ -22,7 +25,7 @@ use Rattle.sound.specs.Documents.{sizes}
 use Rattle.sound.proofs.Files.{sum-zero}
 use Rattle.reached.proofs.Cleaned.Files.{clean-map-same}
 use Rattle.sound.proofs.Trimmed.Tail.{flagsAt, Last, tail-pad, NoTailPad, bare, other, no-tail-pad}
-use Rattle.book.specs.Book.{Came, done, refused, rename, «import», Row, Book, sizesOf, bytesOf, hasLink, versionAfter, rowFor, filling, linksAfter, afterAddition, trimmedRows, afterTrim, entry}
+use Rattle.book.specs.Book.{Came, done, refused, rename, «import», Row, Book, sizesOf, bytesOf, natural, sizeGiven, hasLink, isGiven, isPlain, isOpen, versionAfter, rowFor, filling, linksAfter, afterAddition, trimmedRows, afterTrim, entry}
 
 -- ---- what the book keeps of a set
 
@@ -52,7 +55,7 @@ empty-link : (l : List ℕ) → isEmpty l ≡ not (ltb 0 (length l))
 empty-link [] = refl
 empty-link (c ∷ l) = rw (lt-ltb 0 (suc (length l)) (omega arith))
 
-held-link : (l : List ℕ) → not (isEmpty l) ≡ ltb 0 (length l)
+pub held-link : (l : List ℕ) → not (isEmpty l) ≡ ltb 0 (length l)
 held-link [] = refl
 held-link (c ∷ l) = rw (lt-ltb 0 (suc (length l)) (omega arith))
 
@@ -60,6 +63,18 @@ held-link (c ∷ l) = rw (lt-ltb 0 (suc (length l)) (omega arith))
 marked-kept : (flags : ℕ) (keeps : Bool) → flagsKept flags keeps % 2 ≡ flags % 2
 marked-kept flags true = omega arith
 marked-kept flags false = omega arith
+
+-- a size and a root, by the book's words
+pub natural-is : (z : ℤ) → clampedOf z ≡ natural z
+natural-is (pos n) = refl
+natural-is (negsuc n) = refl
+
+pub given-is : (o : Optional (List ℕ)) → isPresent o ≡ isGiven o
+given-is absent = refl
+given-is (present xs) = refl
+
+pub plain-is : (a : Addition) → decides (sizeAdded a) (a .link) ≡ isPlain a
+plain-is a = ap₂ (λ (n : ℕ) (b : Bool). (ltb 0 n && b)) (natural-is (a .size)) (empty-link (a .link))
 
 -- the pad that follows is the row that fills up
 pad-rows : (n : ℕ) (v2 : Bool) (o t : ℕ) → 0 < n → rowsOf (padAdded o (padAfter v2 n t)) ≡ filling n v2 t
@@ -73,19 +88,31 @@ pad-rows n true o t h = at (eqb (t % n) 0) refl
         let k : eqb (n - t % n) 0 ≡ false = ne-eqb (n - t % n) 0 (λ q. omega arith) in
         rw (← pad-some n t h (eqb-false (t % n) 0 e), k)
 
+pad-bytes : (o n : ℕ) → bytesOf (rowsOf (padAdded o n)) ≡ n
+pad-bytes o n = at (eqb n 0) refl
+  where
+    at : (b : Bool) → eqb n 0 ≡ b → bytesOf (rowsOf (padAdded o n)) ≡ n
+    at true e = rw e (sym (eqb-true n 0 e))
+    at false e = rw e (omega arith)
+
 link-counted : (b : Bool) (n : ℕ) → n + cond b 1 0 ≡ cond b (n + 1) n
 link-counted true n = refl
 link-counted false n = omega arith
 
 module _ (m : Model) (a : Addition) (total : m .total ≡ sum (sizes m)) where
-  bytes-is : m .total ≡ bytesOf (rowsOf (m .files))
+  pub bytes-is : m .total ≡ bytesOf (rowsOf (m .files))
   bytes-is = total ∙ ap sum (sym (sizes-rows (m .files)))
 
-  version-is : isV2 m a ≡ versionAfter (bookOf m) a
+  pub bytes-with : m .total + sizeAdded a ≡ bytesOf (rowsOf (m .files)) + sizeGiven a
+  bytes-with = ap₂ (λ (t n : ℕ). t + n) bytes-is (natural-is (a .size))
+
+  pub open-is : additions.isOpen (m .total) (m .links) (filesOf m) ≡ isOpen (bookOf m)
+  open-is = ap₂ (λ (t k : ℕ). (eqb t 0 || eqb (m .links) k)) bytes-is (sym (length-rows (m .files)))
+
+  pub version-is : isV2 m a ≡ versionAfter (bookOf m) a
   version-is =
-      ap₂ (λ (d o : Bool). cond (d && o) (isPresent (a .root)) (m .v2))
-      (ap (_&&_ (ltb 0 (sizeAdded a))) (empty-link (a .link)))
-      (ap₂ (λ (t k : ℕ). (eqb t 0 || eqb (m .links) k)) bytes-is (sym (length-rows (m .files))))
+      ap₂ (λ (d o : Bool). cond (d && o) (isPresent (a .root)) (m .v2)) (plain-is a) open-is
+      ∙ ap (λ (b : Bool). cond (isPlain a && isOpen (bookOf m)) b (m .v2)) (given-is (a .root))
 
   links-is : added m a .links ≡ linksAfter (bookOf m) a
   links-is =
@@ -99,12 +126,20 @@ module _ (m : Model) (a : Addition) (total : m .total ≡ sum (sizes m)) where
         ∙ ap₂ (λ (r : Row) (l : List Row). rowsOf (m .files) ++ (r ∷ l)) file pad
       where
         file : rowOf (fileAdded m a) ≡ rowFor a
-        file = ap (λ (n : ℕ). record { size = sizeAdded a; marked = eqb n 1 }) (marked-kept (a .flags) (keeps m a))
+        file =
+            ap₂ (λ (k n : ℕ). record { size = k; marked = eqb n 1 }) (natural-is (a .size)) (marked-kept (a .flags) (keeps m a))
 
-        pad : rowsOf (padAdded (m .total + sizeAdded a) (padOf m a)) ≡ filling (m .pieceLength) (versionAfter (bookOf m) a) (bytesOf (rowsOf (m .files)) + sizeAdded a)
+        pad : rowsOf (padAdded (m .total + sizeAdded a) (padOf m a)) ≡ filling (m .pieceLength) (versionAfter (bookOf m) a) (bytesOf (rowsOf (m .files)) + sizeGiven a)
         pad =
             pad-rows (m .pieceLength) (isV2 m a) (m .total + sizeAdded a) (m .total + sizeAdded a) some
-            ∙ ap₂ (λ (v : Bool) (t : ℕ). filling (m .pieceLength) v (t + sizeAdded a)) version-is bytes-is
+            ∙ ap₂ (λ (v : Bool) (t : ℕ). filling (m .pieceLength) v t) version-is bytes-with
+
+    -- the pad's size is that of the row that fills up
+    pub pad-is : padOf m a ≡ bytesOf (filling (m .pieceLength) (versionAfter (bookOf m) a) (bytesOf (rowsOf (m .files)) + sizeGiven a))
+    pad-is =
+        sym (pad-bytes (m .total + sizeAdded a) (padOf m a))
+        ∙ ap bytesOf (pad-rows (m .pieceLength) (isV2 m a) (m .total + sizeAdded a) (m .total + sizeAdded a) some)
+        ∙ ap₂ (λ (v : Bool) (t : ℕ). bytesOf (filling (m .pieceLength) v t)) version-is bytes-with
 
     pub book-added : bookOf (added m a) ≡ afterAddition (bookOf m) a
     book-added = same-book version-is rows-is links-is

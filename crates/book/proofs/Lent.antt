@@ -1,6 +1,6 @@
 -- Other tables that hold the same set as tables in order are in order too, and mean the same: every row, place and text
 -- that the set uses reads alike in both, and nothing else is read. Relies on the laws of reading in `lists` and `tables`, and
--- on those of `model` for tables that hold what others hold.
+-- on those of `sound` for tables that hold what others hold.
 --     lent-sound, lent-view       in order, and the same meaning
 --     same-self, same-through     a lending of the same tables, and two lendings in a row
 --     longer                      tables that begin with tables in order hold the same set

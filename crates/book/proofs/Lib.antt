@@ -12,6 +12,7 @@ pub mod Lent
 pub mod Agree
 pub mod Runs
 pub mod Named
+pub mod Refusals
 pub mod Example
 pub mod Says
 pub mod Theorem

@@ -18,6 +18,7 @@ use Rattle.tables.specs.Model.{Store, fileOf, viewOf}
 use Rattle.tables.proofs.Tabled.{length-tabled}
 use Rattle.rules.specs.Rules.{Rule, when, firstOf}
 use Rattle.rules.specs.Bounds.{badLength, isBelow, clampedOf}
+use Rattle.rules.specs.Questions.{fewEntries}
 use Rattle.renames.specs.Renames.{Renamed, renamesOf, orderedFrom, inOrder, withRename, renamedTo, lacksRoom, stateOf, wordsOf, textsOf}
 use Rattle.renames.specs.Renames as renames
 use Rattle.renames.specs.Imports.{Naming, fullPath, imported, hasNegative}
@@ -32,7 +33,7 @@ use Rattle.book.specs.Book as books
 use Rattle.book.proofs.Entries.{length-rows}
 use Rattle.book.proofs.Lent.{as-long, getD-below}
 use Rattle.book.proofs.Agree.{agrees}
-use Rattle.book.proofs.Runs.{renaming, importing, answerOf, cameBy, renameNumber, importNumber, good}
+use Rattle.book.proofs.Runs.{renaming, importing, answerOf, cameBy, renameNumber, importNumber, good, few}
 
 abbrev Ordered : Renames → Type 0
 Ordered r = inOrder (r .rf) (r .entries) (r .text) ≡ true
@@ -126,7 +127,8 @@ names-in-order (calls.renaming {made} {s} {r} x c p e) =
     (λ z.
     let a = pass-one (badLength (s .fs .«piece_length»)) 0 _ z in
     let b = pass-one (not (isBelow (s .fs .«num_files») (x .file))) 10 _ (a .1) in
-    let d = pass-one (not (inOrder (r .rf) (r .entries) (r .text))) 9 _ (b .1) in
+    let i = pass-one (not (fewEntries (s .fs))) 9 _ (b .1) in
+    let d = pass-one (not (inOrder (r .rf) (r .entries) (r .text))) 9 _ (i .1) in
     let g = pass-one (lacksRoom (renamedTo (x .file) (x .name) (list r o)) (r .entries) (r .text)) 9 _ (d .1) in
     (rises-with _ (list r o) 0 (omega arith) (rises r o), small-with _ (list r o) (small-index (s .fs .«num_files») (x .file) (agrees p .sound .few-files) (not-not _ (b .0))) (small r o), g .0))
     c
@@ -137,7 +139,8 @@ names-in-order (calls.importing {made} {s} {r} xs c p e) =
     (λ z.
     let a = pass-one (badLength (s .fs .«piece_length»)) 0 _ z in
     let b = pass-one (hasNegative xs) 10 _ (a .1) in
-    let d = pass-one (not (inOrder (r .rf) (r .entries) (r .text))) 9 _ (b .1) in
+    let i = pass-one (not (fewEntries (s .fs))) 9 _ (b .1) in
+    let d = pass-one (not (inOrder (r .rf) (r .entries) (r .text))) 9 _ (i .1) in
     let g = pass-one (lacksRoom (imported (s .fs .«num_files») xs (list r o)) (r .entries) (r .text)) 9 _ (d .1) in
     (rises-imported (s .fs .«num_files») xs (list r o) (rises r o), small-imported (s .fs .«num_files») (agrees p .sound .few-files) xs (list r o) (small r o), g .0))
     c
@@ -176,10 +179,10 @@ module _ {n : ℕ} {made : List Made} {s : Store} {r : Renames} (p : Leads n mad
       []
 
   rename-number : (x : Naming) → renameNumber s r x ≡ firstOf (renameRefusals x)
-  rename-number x = rw (good p, names-in-order p, files-are)
+  rename-number x = rw (good p, few p, names-in-order p, files-are)
 
   import-number : (xs : List Naming) → importNumber s r xs ≡ firstOf (importRefusals xs)
-  import-number xs = rw (good p, names-in-order p, files-are)
+  import-number xs = rw (good p, few p, names-in-order p, files-are)
 
   pub rename-answer : (x : Naming) → answerOf s r (renaming x) .came ≡ cameBy (firstOf (renameRefusals x))
   rename-answer x = came-names (renameNumber s r x) (renamedTo (x .file) (x .name) held) (r .entries) (r .text) ∙ ap cameBy (rename-number x)

@@ -1,6 +1,6 @@
 -- An addition may be given a root of any length, where tables hold 32 bytes a root: the set after it is the one that the
 -- same addition with the 32 bytes then held leads to, and the book does not see the difference. Relies on the laws of
--- additions in `model`.
+-- additions in `sound`.
 use mathlib.Core.Path.{_≡_, refl, sym, ap, _∙_}
 use mathlib.Core.Logic.{_⊎_, inl, inr}
 use mathlib.Core.Bool.{Bool, true, false, cond, not, _||_}

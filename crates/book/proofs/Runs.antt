@@ -1,7 +1,7 @@
 -- The relation of calls is not empty: on every store each call that it knows has exactly one outcome and store after it,
 -- from every newly opened set, whatever its tables hold, every list of calls has a run, a refused call can be made again on
 -- longer tables, and after every list of calls an addition is refused as document 01's table says. Relies on the
--- definitions, on Agree.antt and on Lent.antt, and on `model` for what an addition and a cleaning answer.
+-- definitions, on Agree.antt and on Lent.antt, and on `sound` and `reached` for what an addition and a cleaning answer.
 use mathlib.Core.Path.{_≡_, refl, sym, ap, ap₂, subst, _∙_}
 use mathlib.Core.Bool.{Bool, true, false, cond, not}
 use mathlib.Core.List.{List, [], _∷_, _++_, map}
@@ -10,12 +10,13 @@ use native.Mathlib.Omega.{arith}
 use lib.Dec.{eqb, ltb}
 use lib.IntN.{pos}
 use lib.ListN.{length, take, drop}
-use borrow.Author.Tests.{ne-eqb, le-ltb}
+use borrow.Author.Tests.{ne-eqb, le-ltb, le-leb}
 use Rattle.types.specs.Refusals.{value}
 use Rattle.types.specs.Refusals as outcomes
 use Rattle.tables.specs.Model.{Store, viewOf}
 use Rattle.rules.specs.Rules.{Rule, when, firstOf}
 use Rattle.rules.specs.Bounds.{badLength, isBelow}
+use Rattle.rules.specs.Questions.{fewEntries}
 use Rattle.additions.specs.Addition.{Addition, added, addingRules, lacks, textOf}
 use Rattle.trim.specs.Trim.{tailPad}
 use Rattle.storage.specs.Opening.{newStorage, opened}
@@ -214,6 +215,7 @@ renameNumber s r x =
     firstOf
     (when (badLength (s .fs .«piece_length»)) 1 ∷
     when (not (isBelow (s .fs .«num_files») (x .file))) 11 ∷
+    when (not (fewEntries (s .fs))) 10 ∷
     when (not (inOrder (r .rf) (r .entries) (r .text))) 10 ∷
     when (lacksRoom (renamedTo (x .file) (x .name) (renamesOf (r .rf) (r .entries) (r .text))) (r .entries) (r .text)) 10 ∷ [])
 
@@ -222,6 +224,7 @@ importNumber s r xs =
     firstOf
     (when (badLength (s .fs .«piece_length»)) 1 ∷
     when (hasNegative xs) 11 ∷
+    when (not (fewEntries (s .fs))) 10 ∷
     when (not (inOrder (r .rf) (r .entries) (r .text))) 10 ∷
     when (lacksRoom (imported (s .fs .«num_files») xs (renamesOf (r .rf) (r .entries) (r .text))) (r .entries) (r .text)) 10 ∷ [])
 
@@ -300,6 +303,12 @@ came-if k s t = at (eqb k 0)
 module _ {n : ℕ} {made : List Made} {s : Store} {r : Renames} (p : Leads n made s r) where
   pub good : badLength (s .fs .«piece_length») ≡ false
   good = let g = agrees p in rw (g .lengths, le-ltb n 1 (g .some)) (le-ltb 2147483647 n (g .short))
+
+  -- there are no more files and directories than there may be
+  pub few : fewEntries (s .fs) ≡ true
+  few =
+      let g = agrees p .sound in
+      rw (le-leb (s .fs .«num_files») 65535 (g .few-files), le-leb (s .fs .«num_paths») 65535 (g .few-paths))
 
   -- an addition is refused by the first row that holds, with its number, and done where none does
   pub add-answer : (a : Addition) → answerOf s r (adding a) .came ≡ cameBy (firstOf (addRefusals s a))

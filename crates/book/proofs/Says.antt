@@ -15,6 +15,7 @@ use denote.Triple.Entry.{Args, Res}
 use denote.Triple.Clauses
 use borrow.Fn.Kinds as kinds
 use mathlib.Core.Path.{_≡_, refl, sym, ap, _∙_}
+use mathlib.Core.Bool.{true}
 use mathlib.Core.List.{List, [], _∷_}
 use Prim.Native.Nat.{ℕ, _≤_}
 use lib.IntN.{ℤ, pos}
@@ -31,7 +32,8 @@ use Rattle.cleaning.specs.Cleaning.{Cleaned, cleanStored}
 use Rattle.renames.specs.Renames.{renameFile}
 use Rattle.renames.specs.Renames as renames
 use Rattle.renames.specs.Results.{renamesSays}
-use Rattle.renames.specs.Imports.{Naming, namings, importFilenames}
+use Rattle.renames.specs.Imports.{Naming, namings, listHeld, importFilenames, importLent}
+use Rattle.renames.proofs.Lent.{lent-held}
 use Rattle.rules.specs.Results.{requestSays}
 use Rattle.files.specs.Given.{fileMapped}
 use Rattle.mapping.specs.Table.{Filled, blockMapped}
@@ -179,7 +181,7 @@ module _ (κs : Lifetimes.Lfts 3) (a : World.ArgsD rename_file.signature κs) (r
       calls.renaming named renamedBy l
       (rename-says p ∙ ap (λ (fs : FileStorage). renameFile fs (a .1 .0) (now (a .1 .1 .0)) (now (a .1 .1 .1 .0)) (named .file) (named .name)) e)
 
--- ---- `import_filenames`, likewise
+-- ---- `import_filenames`, likewise, on a list that is lent whole
 
 module _ (κs : Lifetimes.Lfts 5) (a : World.ArgsD import_filenames.signature κs) (r : World.ResD import_filenames.signature κs) (s : Clauses.AtExit (kinds.endedOf 5 import-kinds.ps import-kinds.r) κs) where
   abbrev pub allNamed : List Naming
@@ -188,16 +190,23 @@ module _ (κs : Lifetimes.Lfts 5) (a : World.ArgsD import_filenames.signature κ
   abbrev pub importedBy : renames.RenamesChanged
   importedBy = record { says = renamesSays r; entries = now (s .1 .1 .0); text = now (s .1 .1 .1 .0) }
 
-  pub import-says : import-reads.Learnt κs a r s → importedBy ≡ importFilenames (a .0) (a .1 .0) (now (a .1 .1 .0)) (now (a .1 .1 .1 .0)) allNamed
-  import-says p = p
+  pub import-lent-says : import-reads.Learnt κs a r s → importedBy ≡ importLent (a .0) (a .1 .0) (now (a .1 .1 .0)) (now (a .1 .1 .1 .0)) (now (a .1 .1 .1 .1 .0)) (now (a .1 .1 .1 .1 .1 .0)) (now (a .1 .1 .1 .1 .1 .1 .0))
+  import-lent-says p = p
 
-  abbrev pub importedFrom : Renames
-  importedFrom = record { rf = a .1 .0; entries = now (a .1 .1 .0); text = now (a .1 .1 .1 .0) }
+  -- each number has its length, and the names have the bytes that the lengths say (every list of pairs can be lent so: `renames`,
+  -- proofs/Lent.antt, `lent-whole` and `lent-pairs`)
+  module _ (whole : listHeld (now (a .1 .1 .1 .1 .0)) (now (a .1 .1 .1 .1 .1 .0)) (now (a .1 .1 .1 .1 .1 .1 .0)) ≡ true) where
+    pub import-says : import-reads.Learnt κs a r s → importedBy ≡ importFilenames (a .0) (a .1 .0) (now (a .1 .1 .0)) (now (a .1 .1 .1 .0)) allNamed
+    import-says p =
+        import-lent-says p ∙ lent-held (a .0) (a .1 .0) (now (a .1 .1 .0)) (now (a .1 .1 .1 .0)) (now (a .1 .1 .1 .1 .0)) (now (a .1 .1 .1 .1 .1 .0)) (now (a .1 .1 .1 .1 .1 .1 .0)) whole
 
-  pub import-leads : {n : ℕ} {made : List Made} {t : Store} → a .0 ≡ t .fs → Leads n made t importedFrom → import-reads.Learnt κs a r s → Leads n (record { call = book.«import» allNamed; came = cameOf (renamesSays r) } ∷ made) t (renamesAfter importedFrom importedBy)
-  import-leads e l p =
-      calls.importing allNamed importedBy l
-      (import-says p ∙ ap (λ (fs : FileStorage). importFilenames fs (a .1 .0) (now (a .1 .1 .0)) (now (a .1 .1 .1 .0)) allNamed) e)
+    abbrev pub importedFrom : Renames
+    importedFrom = record { rf = a .1 .0; entries = now (a .1 .1 .0); text = now (a .1 .1 .1 .0) }
+
+    pub import-leads : {n : ℕ} {made : List Made} {t : Store} → a .0 ≡ t .fs → Leads n made t importedFrom → import-reads.Learnt κs a r s → Leads n (record { call = book.«import» allNamed; came = cameOf (renamesSays r) } ∷ made) t (renamesAfter importedFrom importedBy)
+    import-leads e l p =
+        calls.importing allNamed importedBy l
+        (import-says p ∙ ap (λ (fs : FileStorage). importFilenames fs (a .1 .0) (now (a .1 .1 .0)) (now (a .1 .1 .1 .0)) allNamed) e)
 
 -- ---- `map_file`
 

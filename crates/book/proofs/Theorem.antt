@@ -1,6 +1,7 @@
 -- Demand 3 of document 01: for every list of calls and every cut of the set's bytes into blocks. It relies on the book's
 -- agreement with the set (Agree.antt) and on demand 3 of a set in order (Demand.antt).
 --     demand-3            the demand
+--     holds               the tables hold the book's rows
 --     demand-3-many       over 2147483647 pieces, where both mappings are refused by 13
 use mathlib.Core.Path.{_≡_}
 use mathlib.Core.List.{List}
@@ -32,7 +33,7 @@ demand-3 n made s r qs p few a =
     demand-of n (sizesOf (book n made .rows)) s qs (g .sound) (g .lengths) (g .some) (g .short) (sizes-agree p) few a
 
 -- the tables hold the book's rows
-holds : {n : ℕ} {made : List Made} {s : Store} {r : Renames} → Leads n made s r → Holds n (sizesOf (book n made .rows)) (s .fs) (s .rows)
+pub holds : {n : ℕ} {made : List Made} {s : Store} {r : Renames} → Leads n made s r → Holds n (sizesOf (book n made .rows)) (s .fs) (s .rows)
 holds {n} {made} {s} p =
     let g = agrees p in
     held-in-order n (sizesOf (book n made .rows)) s (g .sound) (g .lengths) (g .some) (g .short) (sizes-agree p)

@@ -14,8 +14,11 @@ use native.Mathlib.Decide.{decLe, decLt}
 use lib.Dec.{eqb}
 use borrow.Author.Tests.{eqb-true, eqb-false, eq-eqb, ne-eqb}
 use Rattle.lists.specs.Lists.{sum}
-use Rattle.layout.specs.Mapping.{Slice, before}
-use Rattle.book.specs.Slices.{slice, joinedTo, joined, wholeFrom, wholeFiles, AscendingFrom}
+use Rattle.book.specs.Slices.{Slice, slice, joinedTo, joined, wholeFrom, wholeFiles, AscendingFrom}
+
+-- a slice in front of others, where it is not empty
+abbrev pub before : Slice → List Slice → List Slice
+before p rest = cond (eqb (p .size) 0) rest (p ∷ rest)
 
 -- the files from number f on: s bytes are skipped, then n are taken
 abbrev pub walk : ℕ → List ℕ → ℕ → ℕ → List Slice

@@ -1,20 +1,20 @@
 -- Document 01, 'The book of demand 3'. The book 'is fed the calls' arguments, no table of the set among them, and which
 -- calls were refused'. Nothing here speaks of the port's tables or of its model. Of the port it relies on the records
--- of the calls' arguments (`Addition` of `additions`, `Naming` of `renames`), on `clampedOf` of `rules`, a signed size
--- as a natural number, and on `isPresent` of `additions`, whether an argument is given; besides, on the sums and tests
--- of `lists` and `rules`.
+-- of the calls' arguments alone: `Addition` of `additions`, whose given name and root are each an `Optional` of
+-- `tables`, and `Naming` of `renames`; besides, on `sum` of `lists`, which adds a list up.
 --
--- Names from elsewhere: `cond t a b` is a where t is true, else b; `eqb`, `ltb` and `leb` test =, < and ≤; `a - b` is 0
--- where b is larger. `isPresent` tests that an optional argument is given; `clampedOf` is an integer, 0 where it is
--- negative; `sum` adds a list up.
+-- Names from elsewhere: `cond t a b` is a where t is true, else b; `eqb` and `ltb` test = and <; `a - b` is 0 where b
+-- is larger. The integer n is `pos n`, and −(n + 1) is `negsuc n`.
 use Prim.Native.Nat.{ℕ, _+_, _-_, _%_}
+use mathlib.Core.Path.{_≡_}
 use mathlib.Core.Bool.{Bool, true, false, cond, not, _&&_, _||_}
 use mathlib.Core.List.{List, [], _∷_, _++_, map}
 use lib.Dec.{eqb, ltb}
+use lib.IntN.{ℤ, pos, negsuc}
 use lib.ListN.{length}
 use Rattle.lists.specs.Lists.{sum}
-use Rattle.rules.specs.Bounds.{clampedOf}
-use Rattle.additions.specs.Addition.{Addition, isPresent}
+use Rattle.tables.specs.Model.{Optional, absent, present}
+use Rattle.additions.specs.Addition.{Addition}
 use Rattle.renames.specs.Imports.{Naming}
 
 -- a call, by its arguments
@@ -56,22 +56,39 @@ bytesOf rs = sum (sizesOf rs)
 abbrev pub blank : ℕ → Book
 blank n = record { pieceLength = n; v2 = false; rows = []; links = 0 }
 
+-- an integer that is not negative; a negative size is refused, so what stands for it is free
+abbrev pub natural : ℤ → ℕ
+natural (pos n) = n
+natural (negsuc n) = 0
+
+abbrev pub sizeGiven : Addition → ℕ
+sizeGiven a = natural (a .size)
+
 abbrev pub hasLink : Addition → Bool
 hasLink a = ltb 0 (length (a .link))
 
--- 'a nonempty file without link text, while the sizes sum to 0 or there are as many link texts as rows'
-abbrev pub fixes : Book → Addition → Bool
-fixes b a =
-    (ltb 0 (clampedOf (a .size)) && not (hasLink a))
-    && (eqb (bytesOf (b .rows)) 0 || eqb (b .links) (length (b .rows)))
+abbrev pub isGiven : Optional (List ℕ) → Bool
+isGiven absent = false
+isGiven (present xs) = true
+
+abbrev pub hasRoot : Addition → Bool
+hasRoot a = isGiven (a .root)
+
+-- 'a nonempty file without link text'
+abbrev pub isPlain : Addition → Bool
+isPlain a = ltb 0 (sizeGiven a) && not (hasLink a)
+
+-- 'while the sizes sum to 0 or there are as many link texts as rows'
+abbrev pub isOpen : Book → Bool
+isOpen b = eqb (bytesOf (b .rows)) 0 || eqb (b .links) (length (b .rows))
 
 -- 'sets v2 if it has a root, else v1'
 abbrev pub versionAfter : Book → Addition → Bool
-versionAfter b a = cond (fixes b a) (isPresent (a .root)) (b .v2)
+versionAfter b a = cond (isPlain a && isOpen b) (hasRoot a) (b .v2)
 
 -- 'A row of the file's size follows, marked if flag 1 is given'
 abbrev pub rowFor : Addition → Row
-rowFor a = record { size = clampedOf (a .size); marked = eqb (a .flags % 2) 1 }
+rowFor a = record { size = sizeGiven a; marked = eqb (a .flags % 2) 1 }
 
 -- 'In v2, if the sum is then no multiple of the piece length, a marked row fills it up to the next'
 abbrev pub filling : ℕ → Bool → ℕ → List Row
@@ -88,7 +105,7 @@ afterAddition b a =
       v2 = versionAfter b a;
       rows =
           b .rows
-          ++ (rowFor a ∷ filling (b .pieceLength) (versionAfter b a) (bytesOf (b .rows) + clampedOf (a .size)));
+          ++ (rowFor a ∷ filling (b .pieceLength) (versionAfter b a) (bytesOf (b .rows) + sizeGiven a));
       links = linksAfter b a;
     }
 
@@ -114,3 +131,16 @@ entry b («import» ns) done = b
 abbrev pub book : ℕ → List Made → Book
 book n [] = blank n
 book n (m ∷ ms) = entry (book n ms) (m .call) (m .came)
+
+-- BEP 52, 'On an untrimmed v2 set': no trim was done
+abbrev pub isTrim : Call → Came → Bool
+isTrim c (refused k) = false
+isTrim (add a) done = false
+isTrim trim done = true
+isTrim clean done = false
+isTrim (rename n) done = false
+isTrim («import» ns) done = false
+
+abbrev pub Untrimmed : List Made → Type 0
+Untrimmed [] = Unit {0}
+Untrimmed (m ∷ ms) = (isTrim (m .call) (m .came) ≡ false) × Untrimmed ms

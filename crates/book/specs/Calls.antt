@@ -1,7 +1,8 @@
 -- Which calls, with which outcomes, lead from a newly opened set to which tables: 'Each call gets the set and renames
--- as the last one left them'. It relies on the port: a step's premise is what the called function ensures. `opened`,
--- `addStored`, `trimStored`, `cleanStored`, `renameFile` and `importFilenames` are the definitions that the contracts
--- of `storage`, `trim`, `cleaning` and `renames` cite, so a refused call is a step like any other.
+-- as the last one left them'. The premises are the port's promises: a step's is what the called function ensures, on
+-- the set's record and tables (`Store` of `tables`) and on those of the renames (`RenamedFiles` of `renames`).
+-- `opened`, `addStored`, `trimStored`, `cleanStored`, `renameFile` and `importFilenames` are the definitions that the
+-- contracts of `storage`, `trim`, `cleaning` and `renames` cite, so a refused call is a step like any other.
 --
 -- Names from elsewhere: `value a` is an answer, `refused k` a refusal by number k; `pos n` is the integer n; `take n`
 -- is the first n elements. The tables are those of `Store` (tables, specs/Model.antt): rows, roots, times, directories

@@ -1,11 +1,11 @@
--- Demand 3: what is asked of the set that a list of calls led to, and what must hold of the answers. It relies on the
--- port: a question's premise is what `map_block` and `map_file` ensure (`blockMapped` of `mapping`, `fileMapped` of
--- `files`). What must hold is said by Slices.antt, by `clampedOf` of `rules`, which reads the numbers of a table's
--- record, and by `recordOf` of `mapping`, the record of a slice.
+-- Demand 3: what is asked of the set that a list of calls led to, and what must hold of the answers. The premises are
+-- the port's promises: `ValidCall.call` is what `map_block` ensures (`blockMapped` of `mapping`), and `Right.back` asks
+-- of whatever `map_file` ensures (`fileMapped` of `files`). What must hold is said by Slices.antt and by the records of
+-- the answers: `FileSlice` and `Outcome` of `types`, `SignedRequest` of `rules`.
 --
--- Names from elsewhere: `pos n` is the integer n. `getD xs i d` is element i of xs, d past its end; `take n` and `drop
--- n` are the first n elements and the rest; `partOf xs at n` is the n elements from position `at` on; `value a` is an
--- answer, `refused k` a refusal by number k.
+-- Names from elsewhere: `pos n` is the integer n, and `natural` reads it back (Book.antt). `take n` and `drop n` are
+-- the first n elements and the rest; `partOf xs at n` is the n elements from position `at` on; `value a` is an answer,
+-- `refused k` a refusal by number k.
 use Prim.Native.Nat.{ℕ, _+_, _*_, _≤_, _<_}
 use mathlib.Core.Path.{_≡_}
 use mathlib.Core.List.{List, [], _∷_, _++_, map}
@@ -15,12 +15,12 @@ use Rattle.lists.specs.Lists.{sum, partOf}
 use Rattle.types.specs.Refusals.{Outcome, value, refused}
 use Rattle.types.specs.declared.index.FileSlice.{FileSlice}
 use Rattle.tables.specs.Model.{Store}
-use Rattle.rules.specs.Bounds.{clampedOf}
 use Rattle.rules.specs.Results.{SignedRequest}
-use Rattle.layout.specs.Mapping.{Slice}
 use Rattle.files.specs.Given.{fileMapped}
-use Rattle.mapping.specs.Table.{Filled, recordOf, blockMapped}
-use Rattle.book.specs.Slices.{slice, joined, wholeFiles, bytesIn, AscendingFrom, meets, endToEnd, contentOf}
+use Rattle.mapping.specs.Table.{Filled, blockMapped}
+use Rattle.book.specs.Book.{natural}
+use Rattle.book.specs.Slices.{Slice, slice, joined, wholeFiles, bytesIn, AscendingFrom, meets, endToEnd}
+use Rattle.book.specs.Slices.{contentOf}
 
 -- a call of `map_block`: its arguments, the table lent to it, its answer, and the table that it left
 pub record MapCall : Type 0 where
@@ -36,8 +36,12 @@ abbrev pub counted : Outcome ℕ → ℕ
 counted (value n) = n
 counted (refused k) = 0
 
+-- the slice that a record of the table says, and the record of a slice
 abbrev pub sliceOf : FileSlice → Slice
-sliceOf p = slice (clampedOf (p .«file_index» .0)) (clampedOf (p .offset)) (clampedOf (p .size))
+sliceOf p = slice (natural (p .«file_index» .0)) (natural (p .offset)) (natural (p .size))
+
+abbrev pub recordOf : Slice → FileSlice
+recordOf p = record { «file_index» = record { 0 = pos (p .file) }; offset = pos (p .offset); size = pos (p .size) }
 
 -- the slices that a call returned: the first `counted` records of the table
 abbrev pub slicesGiven : MapCall → List Slice

@@ -1,6 +1,5 @@
 -- Slices of files that lie end to end (BEP 3): joined slices, the slices that hold each file once and in full, and the
--- bytes that slices stand for. The files are given by their sizes. Of the port it relies on the record of a slice in
--- `layout` alone.
+-- bytes that slices stand for. The files are given by their sizes. Of the port it relies on `partOf` of `lists` alone.
 --
 -- Names from elsewhere: `cond t a b` is a where t is true, else b; `eqb`, `ltb` and `leb` test =, < and ≤; `a - b` is 0
 -- where b is larger. `getD xs i d` is element i of xs, d past its end; `take n` and `drop n` are the first n elements
@@ -11,7 +10,12 @@ use mathlib.Core.List.{List, [], _∷_, _++_}
 use lib.Dec.{eqb}
 use lib.ListN.{getD}
 use Rattle.lists.specs.Lists.{partOf}
-use Rattle.layout.specs.Mapping.{Slice}
+
+-- a part of a file: the file's number, where in the file the part begins, and its size
+pub record Slice : Type 0 where
+  pub file : ℕ
+  pub offset : ℕ
+  pub size : ℕ
 
 abbrev pub slice : ℕ → ℕ → ℕ → Slice
 slice f o n = record { file = f; offset = o; size = n }

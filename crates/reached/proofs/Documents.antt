@@ -3,20 +3,21 @@
 use mathlib.Core.Path.{_≡_, refl, sym, ap, subst, _∙_}
 use mathlib.Core.Bool.{Bool, true, false, cond, false≢true, _&&_, _||_}
 use mathlib.Core.List.{List, [], _∷_, _++_, map, map-append, map-map}
-use Prim.Native.Nat.{ℕ, zero, suc, _+_, _-_, _*_, _/_, _%_, _≤_}
+use Prim.Native.Nat.{ℕ, zero, suc, _+_, _-_, _*_, _/_, _%_, _≤_, _<_}
 use native.Mathlib.Omega.{arith}
 use lib.Dec.{eqb}
 use native.Mathlib.Nat.{zero-add, zero-mod, div-add-mod, add-mod-mod, mod-lt, mul-suc, mul-mod-right}
 use lib.ListN.{length, getD, take, drop, List·getD-eq-default}
 use lib.Seq.{getD-drop}
-use borrow.Author.Tests.{eqb-true, eq-eqb}
+use borrow.Author.Tests.{eqb-true, eqb-false, eq-eqb}
 use Rattle.lists.specs.Lists.{sum}
+use Rattle.lists.specs.Decimal.{decimal}
 use Rattle.lists.proofs.Sums.{sum-append}
 use Rattle.tables.specs.Model.{Optional, absent, present, presentIf, File, isPad, Model}
 use Rattle.additions.specs.Addition.{Addition, added, fileAdded, padAdded, padOf, sizeAdded, flagsKept, keeps, isPresent, filesOf, isV2, isOpen, decides, padTo, padAfter}
 use Rattle.trim.specs.Trim.{tailPad, sizeAt, beginningAt, withoutFile, trimmedIf}
 use Rattle.links.specs.Clean.{cleanedOf}
-use Rattle.sound.specs.Documents.{sizes, EndToEnd, sizeOnDisk, OnDisk, Marked, OnPiece, Each, none, more, LinkEmpty}
+use Rattle.sound.specs.Documents.{sizes, EndToEnd, sizeOnDisk, OnDisk, Marked, PadMade, MadePad, OnPiece, Each, none, more, LinkEmpty}
 use Rattle.reached.specs.Reached.{Reached, opened, addition, trim, cleaning}
 use Rattle.rules.proofs.Rules.{both-true}
 use Rattle.sound.proofs.Trimmed.Tail.{flagsAt, Last, TailPad, tail-pad}
@@ -209,6 +210,82 @@ marked (trim {m} r) = at (tailPad (m .files)) (marked r)
         each-append (each-take f e) (each-map (beginningAt o) (begin-marked o) (each-drop (f + 1) e))
 marked (cleaning {m} r) = each-map (cleanedIn m) (clean-marked m) (marked r)
 
+-- a pad ends on a piece
+pad-ends : (n t : ℕ) → 1 ≤ n → (t + padTo n t) % n ≡ 0
+pad-ends n t h =
+    let q : t + (n - t % n) ≡ n * suc (t / n) = omega (arith, div-add-mod t n, mod-lt t {m = n} h, mul-suc n (t / n)) in
+    add-mod-mod t (n - t % n) n ∙ rw q (mul-mod-right n (suc (t / n)))
+
+-- a pad made is nonempty and shorter than a piece, ends on a piece, lies in `.pad`, is named by its size, and has flag 1 alone
+pad-made : (n : ℕ) (v2 : Bool) (o : ℕ) → 1 ≤ n → Each (MadePad n) (padAdded o (padAfter v2 n o))
+pad-made n false o h = none
+pad-made n true o h = at (eqb (padTo n o) 0) refl
+  where
+    at : (b : Bool) → eqb (padTo n o) 0 ≡ b → Each (MadePad n) (padAdded o (padTo n o))
+    at true e = rw e none
+    at false e =
+        rw e
+        (more
+        (λ made.
+        record {
+          nonempty = positive (padTo n o) (eqb-false (padTo n o) 0 e);
+          shorter = mod-lt (n - o % n) {m = n} h;
+          ends = pad-ends n o h;
+          directory = refl;
+          name = refl;
+          flags = refl;
+        })
+        none)
+      where
+        positive : (k : ℕ) → (k ≡ 0 → ⊥) → 0 < k
+        positive zero f = absurd (f refl)
+        positive (suc k) f = omega arith
+
+-- none of the files behind the pad that a trim removes was made, because they are empty
+begin-made : (n o : ℕ) (fs : List File) → sum (sizesOf fs) ≡ 0 → Each (MadePad n) fs → Each (MadePad n) (map (beginningAt o) fs)
+begin-made n o [] z none = none
+begin-made n o (f ∷ fs) z (more p ps) =
+    more (λ made. let q = p made .nonempty in absurd (omega arith)) (begin-made n o fs (omega arith) ps)
+
+clean-made : (m : Model) (n : ℕ) (f : File) → MadePad n f → MadePad n (cleanedIn m f)
+clean-made m n f p made =
+    let q = p (sym (clean-same m (λ (g : File). g .made) (λ l g. refl) f) ∙ made) in
+    let e = clean-same m (λ (g : File). g .size) (λ l g. refl) f in
+    record {
+      nonempty = omega (arith, q .nonempty);
+      shorter = omega (arith, q .shorter);
+      ends = clean-same m (λ (g : File). (g .offset + g .size) % n) (λ l g. refl) f ∙ q .ends;
+      directory = clean-same m (λ (g : File). g .directory) (λ l g. refl) f ∙ q .directory;
+      name = clean-same m (λ (g : File). g .name) (λ l g. refl) f ∙ q .name ∙ ap decimal (sym e);
+      flags = clean-same m (λ (g : File). g .flags) (λ l g. refl) f ∙ q .flags;
+    }
+
+-- a set has a piece length, which no call changes
+long : {m : Model} → Reached m → 1 ≤ m .pieceLength
+long (opened n h k) = h
+long (addition r rooms a p) = long r
+long (trim {m} r) = at (tailPad (m .files)) (long r)
+  where
+    at : (o : Optional ℕ) → 1 ≤ m .pieceLength → 1 ≤ trimmedIf o m .pieceLength
+    at absent h = h
+    at (present f) h = h
+long (cleaning r) = long r
+
+pub pads-made : {m : Model} → Reached m → Each (MadePad (m .pieceLength)) (m .files)
+pads-made (opened n h k) = none
+pads-made (addition {m} r rooms a p) =
+    each-append (pads-made r)
+    (more (λ made. absurd (false≢true made)) (pad-made (m .pieceLength) (isV2 m a) (m .total + sizeAdded a) (long r)))
+pads-made (trim {m} r) = at (tailPad (m .files)) refl (pads-made r)
+  where
+    at : (o : Optional ℕ) → tailPad (m .files) ≡ o → Each (MadePad (m .pieceLength)) (m .files) → Each (MadePad (trimmedIf o m .pieceLength)) (trimmedIf o m .files)
+    at absent q e = e
+    at (present f) q e =
+        let o = m .total - sizeAt f (m .files) in
+        each-append (each-take f e)
+        (begin-made (m .pieceLength) o (drop (f + 1) (m .files)) (rest-none (m .files) f (tail-pad (m .files) f q .last)) (each-drop (f + 1) e))
+pads-made (cleaning {m} r) = each-map (cleanedIn m) (clean-made m (m .pieceLength)) (pads-made r)
+
 -- ---- BEP 52
 
 -- how many files have link text
@@ -250,12 +327,6 @@ empty-on-piece n f e made some = absurd (omega arith)
 all-empty : (n : ℕ) (fs : List File) → sum (sizesOf fs) ≡ 0 → Each (OnPiece n) fs
 all-empty n [] h = none
 all-empty n (f ∷ fs) h = let e : f .size ≡ 0 = omega arith in more (empty-on-piece n f e) (all-empty n fs (omega arith))
-
--- a pad ends on a piece
-pad-ends : (n t : ℕ) → 1 ≤ n → (t + padTo n t) % n ≡ 0
-pad-ends n t h =
-    let q : t + (n - t % n) ≡ n * suc (t / n) = omega (arith, div-add-mod t n, mod-lt t {m = n} h, mul-suc n (t / n)) in
-    add-mod-mod t (n - t % n) n ∙ rw q (mul-mod-right n (suc (t / n)))
 
 kept-link : (b : Bool) (l : List ℕ) → _≡_ {A = ℕ} (cond (isPresent (presentIf b l)) 1 0) (cond b 1 0)
 kept-link true l = refl

@@ -1,12 +1,14 @@
 -- What the public documents say of a set, on the model: BEP 3 of the layout, BEP 47 of padding files, BEP 52 of pieces.
--- They are demands on the files' offsets, sizes and flags; they rely on the model of `tables`.
-use Prim.Native.Nat.{ℕ, _%_, _<_}
+-- They are demands on the files' offsets, sizes, names, directories and flags; they rely on the model of `tables` and
+-- on the decimal digits of `lists`.
+use Prim.Native.Nat.{ℕ, _+_, _%_, _<_}
 use mathlib.Core.Path.{_≡_}
 use mathlib.Core.Bool.{true, false, cond}
 use mathlib.Core.List.{List, [], _∷_, map}
 use lib.ListN.{length, getD, take}
 use Rattle.lists.specs.Lists.{sum}
-use Rattle.tables.specs.Model.{File, isPad, Model}
+use Rattle.lists.specs.Decimal.{decimal}
+use Rattle.tables.specs.Model.{File, stored, isPad, Model}
 use Rattle.additions.specs.Addition.{isPresent}
 
 abbrev pub sizes : Model → List ℕ
@@ -28,6 +30,21 @@ OnDisk m = m .onDisk ≡ sum (map sizeOnDisk (m .files))
 -- BEP 47: every pad that an addition made is marked
 abbrev pub Marked : File → Type 0
 Marked f = f .made ≡ true → isPad (f .flags) ≡ true
+
+-- BEP 47: 'when the total is no multiple of the piece length, a pad follows: directory `.pad`, name the pad's size in
+-- decimal digits'. It fills the piece up, and its flags are 1 alone, the pad's
+pub record PadMade (pieceLength : ℕ) (f : File) : Type 0 where
+  pub nonempty : 0 < f .size
+  pub shorter : f .size < pieceLength
+  pub ends : (f .offset + f .size) % pieceLength ≡ 0
+  -- 46, 112, 97, 100 are the bytes of `.pad`, which stands inside the set's name
+  pub directory : f .directory ≡ stored (46 ∷ 112 ∷ 97 ∷ 100 ∷ []) false
+  pub name : f .name ≡ decimal (f .size)
+  pub flags : f .flags ≡ 1
+
+-- every pad that an addition made is such a pad
+abbrev pub MadePad : ℕ → File → Type 0
+MadePad pieceLength f = f .made ≡ true → PadMade pieceLength f
 
 -- BEP 52: 'each nonempty file but the pads made here starts on a piece'
 abbrev pub OnPiece : ℕ → File → Type 0
