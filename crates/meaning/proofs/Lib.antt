@@ -1,0 +1,5 @@
+-- What the layout answers mean, proved: numbers of pieces, the answers on tables that hold files of given sizes, and the same
+-- for every list of calls.
+pub mod Numbers
+pub mod Tables
+pub mod Answers

@@ -1,0 +1,2 @@
+-- What the layout answers mean.
+pub mod Layout
