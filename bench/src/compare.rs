@@ -25,6 +25,19 @@ pub fn compare(rust: &FileStorage, port: &Set) {
     }
 }
 
+/// The flags that an addition gives, and the link texts held.
+pub fn compare_links(rust: &FileStorage, port: &Set) {
+    for i in 0..port.num_files() {
+        let (file, row) = (FileIndex(i as i32), port.row(i));
+        assert_eq!(u64::from(rust.file_flags(file).bits()), row.flags & 15, "flags of file {i}");
+        let holds = row.flags & 16 != 0;
+        assert_eq!(!rust.symlink(file).is_empty(), holds, "whether file {i} holds a link text");
+        if holds {
+            assert_eq!(rust.internal_symlink(file), port.part(row.link.0, row.link.1), "link text of file {i}");
+        }
+    }
+}
+
 /// The number of files and both totals.
 fn counts(rust: &FileStorage, port: &Set) {
     assert_eq!(rust.num_files() as usize, port.num_files(), "number of files");

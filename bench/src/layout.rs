@@ -71,24 +71,26 @@ struct Sets {
     offsets: Vec<i64>,
 }
 
-/// Both sets with so many files, compared, and questions about them.
-fn sets(files: usize) -> Sets {
+/// Both sets with so many files and that piece length, compared, and questions about them.
+fn sets(files: usize, length: i32) -> Sets {
     let inputs = layout_inputs(files);
     let text = inputs.iter().map(|i| i.path.len()).sum::<usize>() + 64;
     let mut rust = rust_sets(1, files, false).remove(0);
     let mut port = Set::new(files, 1, text);
+    rust.set_piece_length(length);
+    port.set_piece_length(length as u64);
     for input in &inputs {
         add_rust(&mut rust, input);
         add_port(&mut port, input);
     }
     rust.set_num_pieces(calc_num_pieces(&rust));
     compare::compare(&rust, &port);
-    let (blocks, places, offsets) = questions(&inputs);
+    let (blocks, places, offsets) = questions(&inputs, i64::from(length));
     Sets { rust, port, blocks, places, offsets }
 }
 
 /// Random blocks, places in files, and offsets.
-fn questions(inputs: &[Input]) -> (Vec<Block>, Vec<Place>, Vec<i64>) {
+fn questions(inputs: &[Input], length: i64) -> (Vec<Block>, Vec<Place>, Vec<i64>) {
     let total: i64 = inputs.iter().map(|i| i.size).sum();
     let mut random = Random::new();
     let mut below = |n: i64| (random.next() % n as u64) as i64;
@@ -97,7 +99,6 @@ fn questions(inputs: &[Input]) -> (Vec<Block>, Vec<Place>, Vec<i64>) {
     let mut offsets = Vec::new();
     for _ in 0..QUESTIONS {
         let at = below((total + BLOCK - 1) / BLOCK) * BLOCK;
-        let length = i64::from(PIECE_LENGTH);
         blocks.push(Block { piece: (at / length) as i32, offset: at % length });
         let file = below(inputs.len() as i64);
         places.push(Place { file: file as i32, offset: below(inputs[file as usize].size + 1) });
@@ -240,8 +241,8 @@ fn measure_blocks(question: &str, sets: &Sets, port: impl FnMut(&Block)) {
 }
 
 /// Both sets of each size, whose answers are compared, and tables for the slices of a block.
-fn checked() -> (Vec<Sets>, Columns, Vec<Slice>) {
-    let sets: Vec<Sets> = FILES.iter().map(|&files| sets(files)).collect();
+fn checked(length: i32) -> (Vec<Sets>, Columns, Vec<Slice>) {
+    let sets: Vec<Sets> = FILES.iter().map(|&files| sets(files, length)).collect();
     let mut columns = Columns::new(BLOCK as usize);
     let mut slices = vec![Slice::default(); BLOCK as usize];
     for s in &sets {
@@ -251,16 +252,17 @@ fn checked() -> (Vec<Sets>, Columns, Vec<Slice>) {
     (sets, columns, slices)
 }
 
-/// Compares all answers.
+/// Compares all answers, with a piece length that is a power of two and with one that is not.
 pub fn check() {
-    checked();
+    checked(PIECE_LENGTH);
+    checked(PIECE_LENGTH - 1);
 }
 
-/// Prints the table.
-pub fn table() {
+/// Prints the table, for sets of that piece length.
+pub fn table(length: i32) {
     println!("| question | files | Rust | Rust, called | port | port / Rust | port / called |");
     println!("|---|---:|---:|---:|---:|---:|---:|");
-    let (sets, mut columns, mut slices) = checked();
+    let (sets, mut columns, mut slices) = checked(length);
     for s in &sets {
         measure_blocks("`map_block`", s, |b| {
             _ = black_box(s.port.map_block_slices(b.piece, b.offset, BLOCK, &mut slices));

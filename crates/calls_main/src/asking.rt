@@ -28,6 +28,7 @@ pub(crate) fn answer(
         return questions::on_no_set(line);
     }
     let p = set.parts;
+    let lent = set.lent;
     questions::on_set(
         line,
         set.fs,
@@ -39,5 +40,6 @@ pub(crate) fn answer(
         set.held,
         places::words_at(rows, p.entries),
         places::bytes_at(text, p.area),
+        lent,
     )
 }

@@ -21,6 +21,7 @@ use crate::words;
 use additions::FileInfo;
 use change::StorageResult;
 use tables::FileStorage;
+use tables::Sha256Hash;
 
 // Makes the change of a set that a line says.
 pub(crate) fn make(
@@ -97,14 +98,14 @@ fn add_read(
 ) -> StorageResult {
     let given = words.given;
     let rooted = words.rooted;
-    let root = words.root;
+    let bytes = words.root;
     let file = FileInfo {
         given,
         size: words.size,
         flags: words.flags,
         mtime: words.time,
         rooted,
-        root,
+        root: Sha256Hash { bytes },
     };
     storage::add_file(
         fs,

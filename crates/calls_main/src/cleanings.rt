@@ -3,21 +3,27 @@
 use crate::changes;
 use crate::places;
 use crate::places::Dirs;
+use crate::places::Place;
 use crate::places::Places;
 use crate::places::Rows;
 use crate::places::Texts;
 use crate::sets::Made;
 use crate::sets::Set;
+use crate::sets::Work;
 use change::StorageResult;
 use tables::FileStorage;
 
 // `clean`.
 pub(crate) fn clean(set: Set, rows: &mut Rows, dirs: &mut Dirs, text: &mut Texts) -> Made {
-    let made = changes::outcome(set, clean_in_small(set.fs, set.parts, rows, dirs, text));
+    let made = changes::outcome(
+        set,
+        clean_in_small(set.fs, set.parts, set.work, rows, dirs, text),
+    );
     match made {
-        Made::Refused(_) => {
-            changes::outcome(set, clean_in_large(set.fs, set.parts, rows, dirs, text))
-        }
+        Made::Refused(_) => changes::outcome(
+            set,
+            clean_in_large(set.fs, set.parts, set.work, rows, dirs, text),
+        ),
         _ => made,
     }
 }
@@ -26,6 +32,7 @@ pub(crate) fn clean(set: Set, rows: &mut Rows, dirs: &mut Dirs, text: &mut Texts
 fn clean_in_small(
     fs: FileStorage,
     parts: Places,
+    work: Work,
     rows: &mut Rows,
     dirs: &mut Dirs,
     text: &mut Texts,
@@ -36,6 +43,7 @@ fn clean_in_small(
     clean_with(
         fs,
         parts,
+        work,
         rows,
         dirs,
         text,
@@ -49,6 +57,7 @@ fn clean_in_small(
 fn clean_in_large(
     fs: FileStorage,
     parts: Places,
+    work: Work,
     rows: &mut Rows,
     dirs: &mut Dirs,
     text: &mut Texts,
@@ -59,6 +68,7 @@ fn clean_in_large(
     clean_with(
         fs,
         parts,
+        work,
         rows,
         dirs,
         text,
@@ -68,10 +78,11 @@ fn clean_in_large(
     )
 }
 
-// A cleaning with the work space that is lent.
+// A cleaning with as much of the work space as the set is lent.
 fn clean_with(
     fs: FileStorage,
     parts: Places,
+    work: Work,
     rows: &mut [u64],
     dirs: &mut [u64],
     text: &mut [u8],
@@ -84,10 +95,20 @@ fn clean_with(
         places::words_of(rows, parts.rows),
         places::words_of(dirs, parts.dirs),
         places::bytes_of(text, parts.text),
-        marks,
-        stage,
-        path,
+        places::bytes_of(marks, first(work.marks)),
+        places::bytes_of(stage, first(work.sum)),
+        places::bytes_of(path, first(twice(work.sum))),
     )
+}
+
+// The first n places of a table.
+fn first(n: usize) -> Place {
+    Place { start: 0, count: n }
+}
+
+// Twice a sum that the program has room for.
+fn twice(sum: usize) -> usize {
+    lists::min_usize(sum, 1311232) * 2
 }
 
 // A stage for 256 links in directories of 4096 bytes, and as many bytes of texts as a set can hold.

@@ -6,8 +6,10 @@ use crate::places;
 use crate::places::Places;
 use crate::sets;
 use crate::sets::Made;
+use crate::sets::Work;
 use crate::words;
 use change::StorageResult;
+use questions::Lent;
 use script::I32Word;
 use script::U64Word;
 
@@ -18,12 +20,18 @@ struct Named {
     places: usize,
 }
 
+// The rooms that a line names: how many words name one, whether all are in form, and what they say.
+struct Rooms {
+    named: usize,
+    is_formed: bool,
+    parts: Places,
+    lent: Lent,
+    work: Work,
+}
+
 // Makes the change of the sets that a line says, where `at` is the place of the one that is spoken of.
 pub(crate) fn make(line: &[u8], at: usize) -> Made {
-    match words::form_of(
-        b"open LENGTH [files=N] [dirs=N] [text=N], use N, reset",
-        line,
-    ) {
+    match words::form_of(b"open LENGTH ROOM .., use N, reset", line) {
         0 => open(line, at),
         1 => turn_to(line),
         2 => Made::Reset,
@@ -31,45 +39,89 @@ pub(crate) fn make(line: &[u8], at: usize) -> Made {
     }
 }
 
-// `open LENGTH [files=N] [dirs=N] [text=N]`. Where a line names no room, a set has the most that it can have.
+// `open LENGTH` and a word for each kind of room that is named, in any order. Where a line names no room, a set has the
+// most that it can have.
 fn open(line: &[u8], at: usize) -> Made {
     let I32Word::Is(piece_length) = words::i32_at(line, 1) else {
         return Made::NoCall;
     };
-    let files = room_of(line, b"files=", 256);
-    let dirs = room_of(line, b"dirs=", 256);
-    let text = room_of(line, b"text=", 262144);
-    let most = 2 + one(files.is_named) + one(dirs.is_named) + one(text.is_named);
-    if words::has(line, most) {
+    let rooms = rooms_in(line, at);
+    if words::has(line, lists::min_usize(rooms.named, 10) + 2) {
         return Made::NoCall;
     }
-    if !are_formed(files.is_formed, dirs.is_formed, text.is_formed) {
+    if !rooms.is_formed {
         return Made::NoCall;
     }
-    opened(
-        piece_length,
-        places::of_set(at, files.places, dirs.places, text.places),
-    )
+    let parts = rooms.parts;
+    let lent = rooms.lent;
+    let work = rooms.work;
+    opened(piece_length, parts, lent, work)
 }
 
 // A new set in place of the one that is spoken of, where its piece length is in range.
-fn opened(piece_length: i32, parts: Places) -> Made {
+fn opened(piece_length: i32, parts: Places, lent: Lent, work: Work) -> Made {
     match storage::open(piece_length) {
-        StorageResult::Ok(fs) => Made::Changed(sets::opened(parts, fs)),
+        StorageResult::Ok(fs) => Made::Changed(sets::opened(parts, lent, work, fs)),
         StorageResult::Err(refusal) => Made::Refused(refusal),
     }
 }
 
-// A kind of room by its name, with `=` after it. Three words may name room; of one kind the first counts.
+// The rooms that a line names, of the set at a place.
+fn rooms_in(line: &[u8], at: usize) -> Rooms {
+    let files = room_of(line, b"files=", 256);
+    let dirs = room_of(line, b"dirs=", 256);
+    let text = room_of(line, b"text=", 262144);
+    let renames = room_of(line, b"renames=", 256);
+    let names = room_of(line, b"names=", 65536);
+    let output = room_of(line, b"output=", 262144);
+    let slices = room_of(line, b"slices=", 1024);
+    let hashes = room_of(line, b"hashes=", 262400);
+    let marks = room_of(line, b"marks=", 256);
+    let sum = room_of(line, b"sum=", 1311232);
+    let in_tables = are_formed(files.is_formed, dirs.is_formed, text.is_formed);
+    let in_renames = are_formed(in_tables, renames.is_formed, names.is_formed);
+    let in_answers = are_formed(output.is_formed, slices.is_formed, hashes.is_formed);
+    let in_work = are_formed(in_answers, marks.is_formed, sum.is_formed);
+    Rooms {
+        named: one(files.is_named)
+            + one(dirs.is_named)
+            + one(text.is_named)
+            + one(renames.is_named)
+            + one(names.is_named)
+            + one(output.is_named)
+            + one(slices.is_named)
+            + one(hashes.is_named)
+            + one(marks.is_named)
+            + one(sum.is_named),
+        is_formed: are_formed(in_renames, in_work, true),
+        parts: places::of_set(
+            at,
+            files.places,
+            dirs.places,
+            text.places,
+            renames.places,
+            names.places,
+        ),
+        lent: Lent {
+            output: output.places,
+            slices: slices.places,
+            hashes: hashes.places,
+        },
+        work: Work {
+            marks: marks.places,
+            sum: sum.places,
+        },
+    }
+}
+
+// A kind of room by its name, with `=` after it. Ten words may name room; of one kind the first counts.
 fn room_of(line: &[u8], name: &[u8], most: usize) -> Named {
-    if names(line, 2, name) {
-        return counted(line, 2, name, most);
-    }
-    if names(line, 3, name) {
-        return counted(line, 3, name, most);
-    }
-    if names(line, 4, name) {
-        return counted(line, 4, name, most);
+    let mut number = 2;
+    while number < 12 {
+        if names(line, number, name) {
+            return counted(line, number, name, most);
+        }
+        number += 1;
     }
     Named {
         is_named: false,

@@ -96,9 +96,16 @@ pub(crate) fn bytes_of(table: &mut [u8], place: Place) -> &mut [u8] {
     &mut table[from..to]
 }
 
-// The parts of the set at a place, with room for that many files, directories and bytes of text. Its renames have
-// 256 entries of three words, and 65536 bytes.
-pub(crate) fn of_set(place: usize, files: usize, dirs: usize, text: usize) -> Places {
+// The parts of the set at a place, with room for that many files, directories and bytes of text; its renames have room
+// for that many entries of three words, and bytes of names.
+pub(crate) fn of_set(
+    place: usize,
+    files: usize,
+    dirs: usize,
+    text: usize,
+    renames: usize,
+    names: usize,
+) -> Places {
     let at = place % 4;
     let most = min_usize(files, 256);
     Places {
@@ -124,11 +131,11 @@ pub(crate) fn of_set(place: usize, files: usize, dirs: usize, text: usize) -> Pl
         },
         entries: Place {
             start: 8192 + at * 768,
-            count: 768,
+            count: min_usize(renames, 256) * 3,
         },
         area: Place {
             start: 1048576 + at * 65536,
-            count: 65536,
+            count: min_usize(names, 65536),
         },
     }
 }

@@ -2,17 +2,27 @@
 // them, and a set's parts say what of these it is lent. Relies on `tables` and `renames` for the records.
 use crate::places;
 use crate::places::Places;
+use questions::Lent;
 use renames::RenamedFiles;
 use tables::FileStorage;
 use tables::Span;
 use types::Refusal;
 
-// A set: whether it was opened, its parts of the tables, its record, and that of its renames.
+// A set: whether it was opened, its parts of the tables, its record, that of its renames, and what its questions and
+// its cleanings are lent.
 pub(crate) struct Set {
     pub is_open: bool,
     pub parts: Places,
     pub fs: FileStorage,
     pub held: RenamedFiles,
+    pub lent: Lent,
+    pub work: Work,
+}
+
+// The work space of a cleaning: the marks, and the sum over the links for which it has room.
+pub(crate) struct Work {
+    pub marks: usize,
+    pub sum: usize,
 }
 
 // The sets, and the place of the one that is spoken of.
@@ -56,9 +66,15 @@ pub(crate) fn closed() -> Set {
     };
     Set {
         is_open: false,
-        parts: places::of_set(0, 0, 0, 0),
+        parts: places::of_set(0, 0, 0, 0, 0, 0),
         fs: fs,
         held: no_renames(),
+        lent: Lent {
+            output: 0,
+            slices: 0,
+            hashes: 0,
+        },
+        work: Work { marks: 0, sum: 0 },
     }
 }
 
@@ -70,13 +86,15 @@ fn no_renames() -> RenamedFiles {
     }
 }
 
-// A set that is opened with its parts of the tables.
-pub(crate) fn opened(parts: Places, fs: FileStorage) -> Set {
+// A set that is opened with its parts of the tables, and what its questions and its cleanings are lent.
+pub(crate) fn opened(parts: Places, lent: Lent, work: Work, fs: FileStorage) -> Set {
     Set {
         is_open: true,
         parts: parts,
         fs: fs,
         held: no_renames(),
+        lent: lent,
+        work: work,
     }
 }
 

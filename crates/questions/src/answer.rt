@@ -1,5 +1,6 @@
 // The answer to a line that is a question: the module that has the line's form gives it. Relies on the modules of the
 // questions.
+use crate::Lent;
 use crate::file_paths;
 use crate::file_rows;
 use crate::layouts;
@@ -9,7 +10,8 @@ use crate::whole_set;
 use renames::RenamedFiles;
 use tables::FileStorage;
 
-// Answers a question on a set, or on none; `entries` and `area` are the tables of the set's renames.
+// Answers a question on a set, or on none; `entries` and `area` are the tables of the set's renames, and an answer is
+// lent as many places as `lent` says.
 pub fn on_set(
     line: &[u8],
     fs: FileStorage,
@@ -21,20 +23,21 @@ pub fn on_set(
     held: RenamedFiles,
     entries: &[u64],
     area: &[u8],
+    lent: Lent,
 ) {
     if whole_set::answer(line, fs, dirs, text) {
         return;
     }
-    if file_rows::answer(line, fs, rows, roots, times, dirs, text) {
+    if file_rows::answer(line, fs, rows, roots, times, dirs, text, lent.output) {
         return;
     }
-    if layouts::answer(line, fs, rows, roots) {
+    if layouts::answer(line, fs, rows, roots, lent.slices) {
         return;
     }
-    if file_paths::answer(line, fs, rows, dirs, text) {
+    if file_paths::answer(line, fs, rows, dirs, text, lent) {
         return;
     }
-    if renamed_files::answer(line, fs, rows, dirs, text, held, entries, area) {
+    if renamed_files::answer(line, fs, rows, dirs, text, held, entries, area, lent.output) {
         return;
     }
     on_no_set(line)

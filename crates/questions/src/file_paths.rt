@@ -1,5 +1,7 @@
 // Questions on whole paths and their hashes. Relies on `names` and `hashes`, on `script` and on `replies`.
+use crate::Lent;
 use crate::file_words;
+use crate::first_bytes;
 use crate::room;
 use tables::FileStorage;
 use types::FileIndex;
@@ -11,21 +13,30 @@ pub(crate) fn answer(
     rows: &[u64],
     dirs: &[u64],
     text: &[u8],
+    lent: Lent,
 ) -> bool {
     match script::form_of(
         b"file_path I :SAVE, file_path_hash I :SAVE, all_path_hashes",
         line,
     ) {
-        0 => on_path(line, false, fs, rows, dirs, text),
-        1 => on_path(line, true, fs, rows, dirs, text),
-        2 => all_path_hashes(fs, dirs, text),
+        0 => on_path(line, false, fs, rows, dirs, text, lent.output),
+        1 => on_path(line, true, fs, rows, dirs, text, lent.output),
+        2 => all_path_hashes(fs, dirs, text, lent.hashes),
         _ => return false,
     }
     true
 }
 
 // Answers a question on the path of a file below the path that a line gives: the path, or its hash.
-fn on_path(line: &[u8], is_hash: bool, fs: FileStorage, rows: &[u64], dirs: &[u64], text: &[u8]) {
+fn on_path(
+    line: &[u8],
+    is_hash: bool,
+    fs: FileStorage,
+    rows: &[u64],
+    dirs: &[u64],
+    text: &[u8],
+    output: usize,
+) {
     let mut buffer = io::large_buffer();
     let words = file_words::read(line, &mut buffer);
     if !words.is_formed {
@@ -36,7 +47,7 @@ fn on_path(line: &[u8], is_hash: bool, fs: FileStorage, rows: &[u64], dirs: &[u6
     if is_hash {
         return replies::hash(names::file_path_hash(fs, rows, dirs, text, index, save));
     }
-    file_path(index, save, fs, rows, dirs, text)
+    file_path(index, save, fs, rows, dirs, text, output)
 }
 
 // Composes the path of a file.
@@ -47,17 +58,32 @@ fn file_path(
     rows: &[u64],
     dirs: &[u64],
     text: &[u8],
+    output: usize,
 ) {
     let mut joined = room();
-    let result = names::file_path(fs, rows, dirs, text, index, save, &mut joined);
+    let result = names::file_path(
+        fs,
+        rows,
+        dirs,
+        text,
+        index,
+        save,
+        first_bytes(&mut joined, output),
+    );
     replies::composed(result, &joined)
 }
 
 // `all_path_hashes`. A set has no more of them than directories and bytes of text.
-fn all_path_hashes(fs: FileStorage, dirs: &[u64], text: &[u8]) {
+fn all_path_hashes(fs: FileStorage, dirs: &[u64], text: &[u8], places: usize) {
     let mut hashes = hash_room();
-    let result = hashes::all_path_hashes(fs, dirs, text, &mut hashes);
+    let result = hashes::all_path_hashes(fs, dirs, text, first_hashes(&mut hashes, places));
     replies::hashes(result, &hashes)
+}
+
+// The first n places for hashes, or as many as there are.
+fn first_hashes(table: &mut [u32], n: usize) -> &mut [u32] {
+    let to = lists::min_usize(n, table.len());
+    &mut table[0..to]
 }
 
 // Room for all hashes.

@@ -1,4 +1,5 @@
 // Questions on what a file's row holds. Relies on `answers`, on `script` and on `replies`.
+use crate::first_bytes;
 use crate::room;
 use script::I32Word;
 use tables::FileStorage;
@@ -13,6 +14,7 @@ pub(crate) fn answer(
     times: &[i64],
     dirs: &[u64],
     text: &[u8],
+    output: usize,
 ) -> bool {
     let I32Word::Is(n) = script::to_i32(script::word(line, 1)) else {
         return false;
@@ -20,7 +22,7 @@ pub(crate) fn answer(
     if on_row(line, FileIndex(n), fs, rows, roots, times) {
         return true;
     }
-    on_text(line, FileIndex(n), fs, rows, dirs, text)
+    on_text(line, FileIndex(n), fs, rows, dirs, text, output)
 }
 
 // Answers a question on the numbers of a row; an arm stands for each form, in their order.
@@ -55,6 +57,7 @@ fn on_text(
     rows: &[u64],
     dirs: &[u64],
     text: &[u8],
+    output: usize,
 ) -> bool {
     match script::form_of(
         b"file_name I, internal_symlink I, internal_file_path I, symlink I",
@@ -62,23 +65,37 @@ fn on_text(
     ) {
         0 => replies::text(answers::file_name(fs, rows, text, index), text),
         1 => replies::text(answers::internal_symlink(fs, rows, text, index), text),
-        2 => internal_file_path(index, fs, rows, dirs, text),
-        3 => symlink(index, fs, rows, text),
+        2 => internal_file_path(index, fs, rows, dirs, text, output),
+        3 => symlink(index, fs, rows, text, output),
         _ => return false,
     }
     true
 }
 
 // `internal_file_path I`.
-fn internal_file_path(index: FileIndex, fs: FileStorage, rows: &[u64], dirs: &[u64], text: &[u8]) {
+fn internal_file_path(
+    index: FileIndex,
+    fs: FileStorage,
+    rows: &[u64],
+    dirs: &[u64],
+    text: &[u8],
+    output: usize,
+) {
     let mut joined = room();
-    let result = answers::internal_file_path(fs, rows, dirs, text, index, &mut joined);
+    let result = answers::internal_file_path(
+        fs,
+        rows,
+        dirs,
+        text,
+        index,
+        first_bytes(&mut joined, output),
+    );
     replies::composed(result, &joined)
 }
 
 // `symlink I`.
-fn symlink(index: FileIndex, fs: FileStorage, rows: &[u64], text: &[u8]) {
+fn symlink(index: FileIndex, fs: FileStorage, rows: &[u64], text: &[u8], output: usize) {
     let mut joined = room();
-    let result = answers::symlink(fs, rows, text, index, &mut joined);
+    let result = answers::symlink(fs, rows, text, index, first_bytes(&mut joined, output));
     replies::composed(result, &joined)
 }

@@ -2,6 +2,7 @@
 use script::I32Word;
 use script::I64Word;
 use tables::FileStorage;
+use tables::Sha256Hash;
 use types::FileIndex;
 use types::PieceIndex;
 
@@ -9,7 +10,13 @@ use types::PieceIndex;
 type Column = [u64; 1024];
 
 // Answers a line that has one of this module's forms, and says whether it has.
-pub(crate) fn answer(line: &[u8], fs: FileStorage, rows: &[u64], hashes: &[u8]) -> bool {
+pub(crate) fn answer(
+    line: &[u8],
+    fs: FileStorage,
+    rows: &[u64],
+    hashes: &[u8],
+    slices: usize,
+) -> bool {
     if on_number(line, fs, rows) {
         return true;
     }
@@ -19,7 +26,7 @@ pub(crate) fn answer(line: &[u8], fs: FileStorage, rows: &[u64], hashes: &[u8]) 
         0 => at_offset(line, fs, rows),
         1 => for_root(line, fs, rows, hashes),
         2 => map_file(line, fs, rows),
-        3 => map_block(line, fs, rows),
+        3 => map_block(line, fs, rows, slices),
         _ => return false,
     }
     true
@@ -97,8 +104,8 @@ fn for_root(line: &[u8], fs: FileStorage, rows: &[u64], hashes: &[u8]) {
     if !word.is_formed {
         return replies::bad_call();
     }
-    let root = word.root;
-    replies::file(files::file_index_for_root(fs, rows, hashes, root))
+    let bytes = word.root;
+    replies::file(files::file_index_for_root(fs, rows, hashes, Sha256Hash { bytes }))
 }
 
 // `map_file I OFFSET SIZE`.
@@ -116,7 +123,7 @@ fn map_file(line: &[u8], fs: FileStorage, rows: &[u64]) {
 }
 
 // `map_block PIECE OFFSET SIZE`.
-fn map_block(line: &[u8], fs: FileStorage, rows: &[u64]) {
+fn map_block(line: &[u8], fs: FileStorage, rows: &[u64], slices: usize) {
     let I32Word::Is(n) = script::to_i32(script::word(line, 1)) else {
         return replies::bad_call();
     };
@@ -126,11 +133,11 @@ fn map_block(line: &[u8], fs: FileStorage, rows: &[u64]) {
     let I64Word::Is(size) = script::to_i64(script::word(line, 3)) else {
         return replies::bad_call();
     };
-    map(PieceIndex(n), offset, size, fs, rows)
+    map(PieceIndex(n), offset, size, fs, rows, slices)
 }
 
 // Maps a block, and writes the slices.
-fn map(piece: PieceIndex, offset: i64, size: i64, fs: FileStorage, rows: &[u64]) {
+fn map(piece: PieceIndex, offset: i64, size: i64, fs: FileStorage, rows: &[u64], slices: usize) {
     let mut files = column();
     let mut offsets = column();
     let mut sizes = column();
@@ -140,11 +147,17 @@ fn map(piece: PieceIndex, offset: i64, size: i64, fs: FileStorage, rows: &[u64])
         piece,
         offset,
         size,
-        &mut files,
-        &mut offsets,
-        &mut sizes,
+        first_words(&mut files, slices),
+        first_words(&mut offsets, slices),
+        first_words(&mut sizes, slices),
     );
     replies::slices(result, &files, &offsets, &sizes)
+}
+
+// The first n words of a table, or as many as there are.
+fn first_words(table: &mut [u64], n: usize) -> &mut [u64] {
+    let to = lists::min_usize(n, table.len());
+    &mut table[0..to]
 }
 
 // Room for a column of slices.

@@ -1,5 +1,6 @@
 // Questions on a set through its renames, and the export of these. Relies on `renamed`, on `script` and on `replies`.
 use crate::file_words;
+use crate::first_bytes;
 use crate::room;
 use renamed::FileNameResult;
 use renames::RenamedFiles;
@@ -18,6 +19,7 @@ pub(crate) fn answer(
     held: RenamedFiles,
     entries: &[u64],
     area: &[u8],
+    output: usize,
 ) -> bool {
     match script::form_of(
         b"renamed_name I, renamed_absolute I, renamed_path I :SAVE, export",
@@ -25,7 +27,7 @@ pub(crate) fn answer(
     ) {
         0 => name(line, fs, rows, text, held, entries, area),
         1 => absolute(line, fs, rows, held, entries, area),
-        2 => path(line, fs, rows, dirs, text, held, entries, area),
+        2 => path(line, fs, rows, dirs, text, held, entries, area, output),
         3 => replies::export(held, entries, area),
         _ => return false,
     }
@@ -77,6 +79,7 @@ fn path(
     held: RenamedFiles,
     entries: &[u64],
     area: &[u8],
+    output: usize,
 ) {
     let mut buffer = io::large_buffer();
     let words = file_words::read(line, &mut buffer);
@@ -94,6 +97,7 @@ fn path(
         held,
         entries,
         area,
+        output,
     )
 }
 
@@ -108,6 +112,7 @@ fn composed(
     held: RenamedFiles,
     entries: &[u64],
     area: &[u8],
+    output: usize,
 ) {
     let mut joined = room();
     let result = renamed::file_path(
@@ -120,7 +125,7 @@ fn composed(
         area,
         index,
         save,
-        &mut joined,
+        first_bytes(&mut joined, output),
     );
     replies::composed(result, &joined)
 }

@@ -9,13 +9,18 @@ pub(crate) fn answer(line: &[u8], fs: FileStorage, dirs: &[u64], text: &[u8]) ->
     on_files(line, fs, dirs, text)
 }
 
-// Answers a question on pieces; an arm stands for each form, in their order.
+// Answers a question on pieces and ranges; an arm stands for each form, in their order.
 fn on_pieces(line: &[u8], fs: FileStorage) -> bool {
-    match script::form_of(b"piece_length, num_pieces, blocks_per_piece, v2", line) {
+    let forms =
+        b"piece_length, num_pieces, last_piece, piece_range, file_range, blocks_per_piece, v2";
+    match script::form_of(forms, line) {
         0 => replies::short(answers::piece_length(fs)),
         1 => replies::short(layout::num_pieces(fs)),
-        2 => replies::short(layout::blocks_per_piece(fs)),
-        3 => replies::boolean(answers::v2(fs)),
+        2 => replies::piece(layout::last_piece(fs)),
+        3 => replies::pieces(layout::piece_range(fs)),
+        4 => replies::files(layout::file_range(fs)),
+        5 => replies::short(layout::blocks_per_piece(fs)),
+        6 => replies::boolean(answers::v2(fs)),
         _ => return false,
     }
     true

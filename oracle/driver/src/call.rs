@@ -30,7 +30,7 @@ pub fn answer(call: &Call, sets: &mut Sets) -> Option<Answer> {
         Call::Combine(left, right) => bytes(&combine_path(left, right)),
         Call::Crc(bytes) => number(crc32c(bytes)),
         Call::Width(leaves) => width(*leaves),
-        Call::Open(piece_length, room) => sets.open(*piece_length, *room),
+        Call::Open(piece_length, room, lent) => sets.open(*piece_length, *room, *lent),
         Call::Use(place) => sets.turn_to(*place),
         Call::Reset => sets.reset(),
         Call::Add(addition) => sets.current()?.add(addition),

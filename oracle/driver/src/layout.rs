@@ -1,7 +1,7 @@
 //! Layout answers: pieces, files at offsets and pieces, trees, and both mappings. The refusals are read from document
-//! 01's table and tested in its order, 11, 13, 12, 14, 16, before the Rust is asked; what is lent for slices is never
-//! short here, so 10 is not among them. Where document 01 says that the Rust overflows or loses high bits, the exact
-//! number of blocks is counted here.
+//! 01's table and tested in its order, 11, 13, 12, 14, 16, before the Rust is asked; 10 of `map_block` is tested after,
+//! by the number of its slices. Where document 01 says that the Rust overflows or loses high bits, the exact number of
+//! blocks is counted here.
 
 use bitdaemon_common::{FileIndex, IndexRange, PeerRequest, PieceIndex, Sha256Hash};
 use bitdaemon_core::file_storage::{FileSlice, FileStorage, file_piece_range_exclusive, file_piece_range_inclusive};
@@ -22,6 +22,9 @@ const MOST_ROUNDED: i32 = 2_147_467_264;
 /// A question on the layout of a set.
 pub enum LayoutQuestion {
     NumPieces,
+    LastPiece,
+    PieceRange,
+    FileRange,
     BlocksPerPiece,
     FileIndexAtOffset(i64),
     FileIndexForRoot([u8; 32]),
@@ -61,6 +64,18 @@ pub fn on_layout(set: &Set, question: &LayoutQuestion) -> Answer {
             test_count(files)?;
             number(files.num_pieces())
         }
+        LayoutQuestion::LastPiece => {
+            test_count(files)?;
+            number(files.last_piece().0)
+        }
+        LayoutQuestion::PieceRange => {
+            test_count(files)?;
+            pieces(files.piece_range())
+        }
+        LayoutQuestion::FileRange => {
+            let range = files.file_range();
+            numbers([range.begin.0, range.end.0])
+        }
         LayoutQuestion::BlocksPerPiece => {
             let length = files.piece_length();
             if length > MOST_ROUNDED { number(blocks(length.into())) } else { number(files.blocks_per_piece()) }
@@ -77,7 +92,7 @@ pub fn on_layout(set: &Set, question: &LayoutQuestion) -> Answer {
         }
         LayoutQuestion::OnPiece(ref question, piece) => on_piece(files, question, piece),
         LayoutQuestion::OnFile(ref question, file) => on_row(files, question, file),
-        LayoutQuestion::MapBlock(piece, offset, size) => map_block(files, piece, offset, size),
+        LayoutQuestion::MapBlock(piece, offset, size) => map_block(set, piece, offset, size),
         LayoutQuestion::MapFile(file, offset, size) => map_file(files, file, offset, size),
     }
 }
@@ -145,11 +160,15 @@ fn on_row(files: &FileStorage, question: &RowQuestion, file: FileIndex) -> Answe
     }
 }
 
-fn map_block(files: &FileStorage, piece: PieceIndex, offset: i64, size: i64) -> Answer {
+fn map_block(set: &Set, piece: PieceIndex, offset: i64, size: i64) -> Answer {
+    let files = &set.files;
     test_count(files)?;
     test_piece(files, piece)?;
     test_range(offset, size)?;
     let slices = files.map_block(piece, offset, size);
+    if slices.len() > set.lent.slices {
+        return Err(Refusal::NoRoom);
+    }
     let mut values = vec![Value::Number(slices.len() as i128)];
     values
         .extend(slices.iter().map(|&FileSlice { file_index, offset, size }| Value::Slice(file_index.0, offset, size)));

@@ -15,7 +15,7 @@ mod words;
 pub use answer::Refusal;
 pub use bitdaemon_common::FileIndex;
 pub use layout::piece_count;
-pub use set::{Addition, Room, Set, USUAL_ROOM};
+pub use set::{Addition, Room, Set, USUAL_LENT, USUAL_ROOM};
 pub use sets::{SETS, Sets};
 
 /// Writes the answer to a line behind `text`; a line of blanks and a comment have none.

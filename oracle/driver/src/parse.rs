@@ -4,7 +4,7 @@ use bitdaemon_common::{FileIndex, PieceIndex};
 
 use crate::layout::{LayoutQuestion, PieceQuestion, RowQuestion};
 use crate::questions::{FileQuestion, PathQuestion, SetQuestion};
-use crate::set::{Addition, Room, USUAL_ROOM};
+use crate::set::{Addition, Lent, Room, USUAL_LENT, USUAL_ROOM};
 use crate::sets::SETS;
 use crate::words::{Words, number};
 
@@ -20,7 +20,7 @@ pub enum Call {
     Combine(Vec<u8>, Vec<u8>),
     Crc(Vec<u8>),
     Width(usize),
-    Open(i32, Room),
+    Open(i32, Room, Lent),
     Use(usize),
     Reset,
     Add(Addition),
@@ -57,7 +57,7 @@ pub fn call(line: &[u8]) -> Option<Call> {
         b"combine" => Call::Combine(words.string()?, words.string()?),
         b"crc" => Call::Crc(words.string()?),
         b"width" => Call::Width(words.number()?),
-        b"open" => Call::Open(words.number()?, room(&mut words)?),
+        b"open" => opening(&mut words)?,
         b"use" => Call::Use(place(&mut words)?),
         b"reset" => Call::Reset,
         b"add" => Call::Add(addition(&mut words)?),
@@ -143,6 +143,9 @@ fn layout_question(name: &[u8], words: &mut Words) -> Option<LayoutQuestion> {
     }
     Some(match name {
         b"num_pieces" => LayoutQuestion::NumPieces,
+        b"last_piece" => LayoutQuestion::LastPiece,
+        b"piece_range" => LayoutQuestion::PieceRange,
+        b"file_range" => LayoutQuestion::FileRange,
         b"blocks_per_piece" => LayoutQuestion::BlocksPerPiece,
         b"file_index_at_offset" => LayoutQuestion::FileIndexAtOffset(words.number()?),
         b"file_index_for_root" => LayoutQuestion::FileIndexForRoot(words.root()?),
@@ -178,26 +181,35 @@ fn row_question(name: &[u8]) -> Option<RowQuestion> {
     })
 }
 
-/// The rest of a line `open LENGTH`: each kind of room at most once, in any order.
-fn room(words: &mut Words) -> Option<Room> {
-    let (mut files, mut directories, mut text) = (None, None, None);
+/// The call of a line `open LENGTH`: each kind of room at most once, in any order.
+fn opening(words: &mut Words) -> Option<Call> {
+    const KINDS: [&[u8]; 10] =
+        [b"files", b"dirs", b"text", b"renames", b"names", b"output", b"slices", b"hashes", b"marks", b"sum"];
+    let piece_length = words.number()?;
+    let mut named = [None; KINDS.len()];
     while let Some(word) = words.next() {
         let sign = word.iter().position(|&c| c == b'=')?;
-        let place = match &word[..sign] {
-            b"files" => &mut files,
-            b"dirs" => &mut directories,
-            b"text" => &mut text,
-            _ => return None,
-        };
-        if place.replace(number(&word[sign + 1..])?).is_some() {
+        let kind = KINDS.iter().position(|&name| name == &word[..sign])?;
+        if named[kind].replace(number(&word[sign + 1..])?).is_some() {
             return None;
         }
     }
-    Some(Room {
+    let [files, directories, text, renames, names, output, slices, hashes, marks, sum] = named;
+    let room = Room {
         files: files.unwrap_or(USUAL_ROOM.files),
         directories: directories.unwrap_or(USUAL_ROOM.directories),
         text: text.unwrap_or(USUAL_ROOM.text),
-    })
+    };
+    let lent = Lent {
+        renames: renames.unwrap_or(USUAL_LENT.renames),
+        names: names.unwrap_or(USUAL_LENT.names),
+        output: output.unwrap_or(USUAL_LENT.output),
+        slices: slices.unwrap_or(USUAL_LENT.slices),
+        hashes: hashes.unwrap_or(USUAL_LENT.hashes),
+        marks: marks.unwrap_or(USUAL_LENT.marks),
+        sum: sum.unwrap_or(USUAL_LENT.sum),
+    };
+    Some(Call::Open(piece_length, room, lent))
 }
 
 /// The rest of a line `import`: pairs of a file and a name, or none.

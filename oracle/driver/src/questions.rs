@@ -70,6 +70,9 @@ fn all_path_hashes(set: &Set) -> Answer {
     set.files.all_path_hashes(&mut table);
     let mut hashes: Vec<u32> = table.into_iter().collect();
     hashes.sort_unstable();
+    if hashes.len() > set.lent.hashes {
+        return Err(Refusal::NoRoom);
+    }
     Ok(hashes.into_iter().map(|hash| Value::Number(hash.into())).collect())
 }
 
@@ -98,8 +101,8 @@ pub fn on_file(set: &Set, question: &FileQuestion, file: FileIndex) -> Answer {
         FileQuestion::Mtime => number(files.mtime(file)),
         FileQuestion::Root => one(Value::Root(*files.root(file).as_bytes())),
         FileQuestion::FileAbsolutePath => boolean(files.file_absolute_path(file)),
-        FileQuestion::InternalFilePath => bytes(&files.internal_file_path(file)),
-        FileQuestion::Symlink => bytes(&files.symlink(file)),
+        FileQuestion::InternalFilePath => composed(set, &files.internal_file_path(file)),
+        FileQuestion::Symlink => composed(set, &files.symlink(file)),
         FileQuestion::InternalSymlink => bytes(set.link_text(file).ok_or(Refusal::NoLinkText)?),
         FileQuestion::RenamedName => bytes(set.renames.file_name(files, file)),
         FileQuestion::RenamedAbsolute => boolean(set.renames.file_absolute_path(files, file)),
@@ -110,8 +113,13 @@ pub fn on_file(set: &Set, question: &FileQuestion, file: FileIndex) -> Answer {
 pub fn on_path(set: &Set, question: &PathQuestion, file: FileIndex, save: &[u8]) -> Answer {
     test_file(&set.files, file)?;
     match question {
-        PathQuestion::FilePath => bytes(&set.files.file_path(file, save)),
+        PathQuestion::FilePath => composed(set, &set.files.file_path(file, save)),
         PathQuestion::FilePathHash => number(set.files.file_path_hash(file, save)),
-        PathQuestion::RenamedPath => bytes(&set.renames.file_path(&set.files, file, save)),
+        PathQuestion::RenamedPath => composed(set, &set.renames.file_path(&set.files, file, save)),
     }
+}
+
+/// A text that is written to what the set is lent for it, which is 10 if that is shorter.
+fn composed(set: &Set, text: &[u8]) -> Answer {
+    if text.len() > set.lent.output { Err(Refusal::NoRoom) } else { bytes(text) }
 }

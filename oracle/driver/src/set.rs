@@ -16,10 +16,6 @@ use crate::layout::test_file;
 /// The most files or directories, from document 01's table.
 const MOST_ROWS: usize = 65535;
 
-/// The most renames of a set, and the most bytes of their texts.
-const MOST_RENAMES: usize = 256;
-const MOST_RENAME_BYTES: usize = 65536;
-
 /// Numbers of files, directories and bytes of text: those that a set has, or that its tables have places for.
 #[derive(Clone, Copy)]
 pub struct Room {
@@ -30,6 +26,30 @@ pub struct Room {
 
 /// The room that a set has where none is named.
 pub const USUAL_ROOM: Room = Room { files: 256, directories: 256, text: 262_144 };
+
+/// What is lent besides: places for renames and bytes of their texts, bytes for a composed text, places for slices and
+/// for hashes, and for a cleaning the marks and the sum over the links for which the work space has room.
+#[derive(Clone, Copy)]
+pub struct Lent {
+    pub renames: usize,
+    pub names: usize,
+    pub output: usize,
+    pub slices: usize,
+    pub hashes: usize,
+    pub marks: usize,
+    pub sum: usize,
+}
+
+/// What is lent where nothing is named.
+pub const USUAL_LENT: Lent = Lent {
+    renames: 256,
+    names: 65536,
+    output: usize::MAX,
+    slices: usize::MAX,
+    hashes: usize::MAX,
+    marks: usize::MAX,
+    sum: usize::MAX,
+};
 
 /// The arguments of an addition.
 #[derive(Clone)]
@@ -54,6 +74,7 @@ enum Change {
 pub struct Set {
     pub files: FileStorage,
     pub renames: RenamedFiles,
+    pub lent: Lent,
     holds_link: Vec<bool>,
     room: Room,
     changes: Vec<Change>,
@@ -61,15 +82,15 @@ pub struct Set {
 
 impl Set {
     /// A set without files, if its piece length is in range.
-    pub fn open(piece_length: i32, room: Room) -> Result<Self, Refusal> {
-        if piece_length < 1 { Err(Refusal::PieceLength) } else { Ok(Self::empty(piece_length, room)) }
+    pub fn open(piece_length: i32, room: Room, lent: Lent) -> Result<Self, Refusal> {
+        if piece_length < 1 { Err(Refusal::PieceLength) } else { Ok(Self::empty(piece_length, room, lent)) }
     }
 
-    fn empty(piece_length: i32, room: Room) -> Self {
+    fn empty(piece_length: i32, room: Room, lent: Lent) -> Self {
         let mut files = FileStorage::new();
         files.set_piece_length(piece_length);
         let mut set =
-            Self { files, renames: RenamedFiles::default(), holds_link: Vec::new(), room, changes: Vec::new() };
+            Self { files, renames: RenamedFiles::default(), lent, holds_link: Vec::new(), room, changes: Vec::new() };
         set.count_pieces();
         set
     }
@@ -99,8 +120,12 @@ impl Set {
         done()
     }
 
-    /// Cleans the links, if the texts held afterwards have room.
+    /// Cleans the links, if the work space has room for them, and the texts held afterwards have room.
     pub fn clean(&mut self) -> Answer {
+        let (marks, sum) = self.work_space();
+        if marks > self.lent.marks || sum > self.lent.sum {
+            return Err(Refusal::NoRoom);
+        }
         self.files.sanitize_symlinks();
         if self.is_beyond_room() {
             let renames = mem::take(&mut self.renames);
@@ -134,7 +159,7 @@ impl Set {
     /// Takes the renames, unless their tables have no room: 10.
     fn keep_renames(&mut self, renames: RenamedFiles) -> Answer {
         let texts = renames.export_filenames(&self.files);
-        if texts.len() > MOST_RENAMES || texts.values().map(Vec::len).sum::<usize>() > MOST_RENAME_BYTES {
+        if texts.len() > self.lent.renames || texts.values().map(Vec::len).sum::<usize>() > self.lent.names {
             return Err(Refusal::NoRoom);
         }
         self.renames = renames;
@@ -143,7 +168,7 @@ impl Set {
 
     /// The set that the changes make, without what a refused call left behind.
     fn built_again(&self) -> Self {
-        let mut set = Self::empty(self.files.piece_length(), self.room);
+        let mut set = Self::empty(self.files.piece_length(), self.room, self.lent);
         for change in &self.changes {
             let made = match change {
                 Change::Add(addition) => set.add(addition),
@@ -163,6 +188,21 @@ impl Set {
     /// The link text that a file holds, if it holds one.
     pub fn link_text(&self, file: FileIndex) -> Option<&[u8]> {
         self.holds_link[file.get()].then(|| self.files.internal_symlink(file))
+    }
+
+    /// The flagged links, and the sum over them of directory length, text length and 2.
+    pub fn work_space(&self) -> (usize, usize) {
+        let is_flagged = |file: &FileIndex| self.files.file_flags(*file).contains(FileFlags::SYMLINK);
+        let links: Vec<FileIndex> = self.places().filter(is_flagged).collect();
+        let one = |&file: &FileIndex| self.directory_length(file) + self.link_text(file).map_or(0, <[u8]>::len) + 2;
+        (links.len(), links.iter().map(one).sum())
+    }
+
+    /// The length of a file's directory, which the Rust doesn't give: by its internal path, so not that of a directory
+    /// `.` or of one with a separator at its end. Scripts that name a work space have none of these.
+    fn directory_length(&self, file: FileIndex) -> usize {
+        let (path, name) = (self.files.internal_file_path(file), self.files.file_name(file));
+        if path == name { 0 } else { path.len() - name.len() - 1 }
     }
 
     /// How many files, directories and bytes of text the set has now.

@@ -1,7 +1,7 @@
 //! The four sets of a script, and which of them is spoken of.
 
 use crate::answer::{Answer, done};
-use crate::set::{Room, Set};
+use crate::set::{Lent, Room, Set};
 
 /// How many sets a script has.
 pub const SETS: usize = 4;
@@ -15,8 +15,8 @@ pub struct Sets {
 
 impl Sets {
     /// Puts a new set in place of the one that is spoken of.
-    pub fn open(&mut self, piece_length: i32, room: Room) -> Answer {
-        self.all[self.current] = Some(Set::open(piece_length, room)?);
+    pub fn open(&mut self, piece_length: i32, room: Room, lent: Lent) -> Answer {
+        self.all[self.current] = Some(Set::open(piece_length, room, lent)?);
         done()
     }
 

@@ -92,6 +92,7 @@ pub fn scenes(script: &mut Script, random: &mut Random, sets: &mut Sets) -> io::
 /// As many cleanings as wanted, most of them the first of their set.
 pub fn random(script: &mut Script, random: &mut Random, count: usize) -> io::Result<()> {
     let mut sets = Sets::default();
+    spaces(script, random, &mut sets, count / 5)?;
     let mut left = count;
     while left > 0 {
         let taste = Taste::new(random);
@@ -118,6 +119,36 @@ pub fn random(script: &mut Script, random: &mut Random, count: usize) -> io::Res
                 layout_questions::some(script, random, current(&mut sets), 2, 20)?;
             }
         }
+    }
+    Ok(())
+}
+
+/// Sets of links, as many as wanted, each cleaned with about the work space that it needs: marks and sum, one less and
+/// one more. No directory is `.` or ends with a separator.
+pub fn spaces(script: &mut Script, random: &mut Random, sets: &mut Sets, count: usize) -> io::Result<()> {
+    const DIRECTORIES: [&str; 4] = ["", "x/", "x/y/", "long/"];
+    for _ in 0..count {
+        let mut lines = vec![plain(b"s/x/f", 3, 0, b"")];
+        for i in 0..1 + random.below(4) {
+            let path = format!("s/{}{i}", random.one_of(&DIRECTORIES));
+            lines.push(plain(
+                path.as_bytes(),
+                0,
+                random.one_of(&[8, 8, 0]),
+                random.one_of::<&[u8]>(&[b"x/f", b"f", b"/etc"]),
+            ));
+        }
+        play(sets, b"open 10");
+        for line in &lines {
+            play(sets, line);
+        }
+        let (marks, sum) = current(sets).work_space();
+        let mut near = |n: usize| (n + random.below(3)).saturating_sub(1);
+        let opening = format!("open 10 marks={} sum={}", near(marks), near(sum));
+        ask(script, sets, opening.as_bytes())?;
+        lines.iter().try_for_each(|line| ask(script, sets, line).map(drop))?;
+        ask(script, sets, b"clean")?;
+        texts(script, current(sets).files.num_files())?;
     }
     Ok(())
 }

@@ -70,7 +70,11 @@ pub fn random(script: &mut Script, random: &mut Random, count: usize) -> io::Res
         let length = if random.once_in(3) { 1 + random.below(12) as i32 } else { random.one_of(&LENGTHS) };
         let taste = Taste::new(random);
         let changes = if random.once_in(50) { 120 } else { 1 + random.below(9) };
-        open(script, &mut sets, length)?;
+        if random.once_in(4) {
+            ask(script, &mut sets, format!("open {length} slices={}", random.below(5)).as_bytes())?;
+        } else {
+            open(script, &mut sets, length)?;
+        }
         for i in 0..changes {
             let line = taste.change(random, current(&mut sets), i);
             ask(script, &mut sets, &line)?;

@@ -8,7 +8,7 @@ use crate::random::Random;
 use crate::script::{Script, Word};
 
 /// The questions that take no number.
-const PLAIN: [&str; 2] = ["num_pieces", "blocks_per_piece"];
+const PLAIN: [&str; 5] = ["num_pieces", "last_piece", "piece_range", "file_range", "blocks_per_piece"];
 
 /// The questions on one piece.
 const ON_PIECE: [&str; 5] =

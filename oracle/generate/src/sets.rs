@@ -22,6 +22,9 @@ const LENGTHS: [i32; 12] = [1, 2, 3, 7, 10, 10, 15, 255, 16384, 16384, 65536, i3
 /// The words by which room is named.
 const KINDS: [&str; 3] = ["files", "dirs", "text"];
 
+/// The words by which little is lent to renames and to answers, each with a number that few sets need.
+const LENT: [(&str, usize); 5] = [("renames", 5), ("names", 30), ("output", 40), ("slices", 5), ("hashes", 8)];
+
 /// A set to be built: its piece length, its changes, and what it has after each where there is room for all.
 struct Plan {
     piece_length: i32,
@@ -182,7 +185,8 @@ impl Plan {
         plan
     }
 
-    /// The line that opens the set: with the usual room, or with what a late step needs, or one less or more.
+    /// The line that opens the set: with the usual room, or with what a late step needs, or one less or more; at times
+    /// little is lent to its renames and its answers.
     fn opening(&self, random: &mut Random) -> Vec<u8> {
         let mut line = call("open", &[Word::Number(self.piece_length.into())]);
         if self.changes.len() > 20 || random.once_in(3) {
@@ -194,6 +198,11 @@ impl Plan {
                 let need = numbers(&self.needs[step])[kind];
                 let room = (need + random.below(3)).saturating_sub(1).min(most);
                 line.extend_from_slice(format!(" {name}={room}").as_bytes());
+            }
+        }
+        for (name, most) in LENT {
+            if random.once_in(6) {
+                line.extend_from_slice(format!(" {name}={}", random.below(most)).as_bytes());
             }
         }
         line

@@ -1,7 +1,7 @@
 //! The listing of document 01, made from a set of the Rust. Its form is read here from the document's words; the
 //! set, its refusals and its answers are the driver's.
 
-use driver::{Addition, Room, Set};
+use driver::{Addition, Room, Set, USUAL_LENT};
 
 /// 'It has places for 400 files (pads included), 400 directories and 65536 text bytes.'
 const ROOM: Room = Room { files: 400, directories: 400, text: 65_536 };
@@ -30,7 +30,7 @@ fn listed(input: &[u8]) -> Result<Set, (u32, usize)> {
     }
     let (first, rest) = lines.split_first().ok_or((17, 1))?;
     let length = piece_length(first).ok_or((17, 1))?;
-    let mut set = Set::open(length, ROOM).map_err(|refusal| (refusal as u32, 1))?;
+    let mut set = Set::open(length, ROOM, USUAL_LENT).map_err(|refusal| (refusal as u32, 1))?;
     for (place, line) in rest.iter().enumerate() {
         let addition = file(line).ok_or((17, place + 2))?;
         set.add(&addition).map_err(|refusal| (refusal as u32, place + 2))?;

@@ -1,0 +1,258 @@
+//! Additions with given names, link texts and flags, layout questions, and refused calls, on both sides: what is refused is compared by
+//! document 01's number, and what is built by its rows. 2, 6 and 7, where the Rust has assertions, and 1 and 10
+//! to 14, where it has no counterpart, are those that document 01's words ask for.
+
+use bitdaemon_common::{FileIndex, PieceIndex, Sha256Hash};
+use bitdaemon_core::Error;
+use bitdaemon_core::error::TorrentError;
+use bitdaemon_core::file_storage::{FileFlags, FileStorage, calc_num_pieces};
+use bitdaemon_core::path::{has_parent_path, is_complete};
+
+use crate::compare;
+use crate::inputs::{PIECE_LENGTH, Random};
+use crate::port::{Addition, Columns, Set, Slice};
+
+/// How many sets are built, and how many additions each is given at most.
+const SETS: usize = 3000;
+const ADDITIONS: u64 = 10;
+
+const LIMIT: i64 = FileStorage::MAX_FILE_OFFSET;
+
+const PATHS: [&[u8]; 14] = [
+    b"s/a",
+    b"s/b",
+    b"s/x/a",
+    b"s/x/y/b",
+    b"s//c",
+    b"t/a",
+    b"a",
+    b"/abs/a",
+    b"s/",
+    b"",
+    b"s\\a",
+    b".",
+    b"s/.pad/7",
+    b"s/x/",
+];
+
+const NAMES: [&[u8]; 5] = [b"", b"n", b"m/n", b"/n", b"."];
+
+const LINKS: [&[u8]; 5] = [b"a", b"x/a", b"/etc", b"..", b"."];
+
+/// Plays random sets on both sides, and asks the port what is refused.
+pub fn check() {
+    let mut random = Random::new();
+    for _ in 0..SETS {
+        play(&mut random);
+    }
+    refusals();
+}
+
+fn one_of<T: Copy>(random: &mut Random, all: &[T]) -> T {
+    all[(random.next() % all.len() as u64) as usize]
+}
+
+fn once_in(random: &mut Random, n: u64) -> bool {
+    random.next() % n == 0
+}
+
+/// A random addition; at times its name has 4095 or 4096 bytes, or its size is at a limit.
+fn addition(random: &mut Random, rooted: u64, total: i64) -> Addition {
+    let length = i64::from(PIECE_LENGTH);
+    let sizes = [0, 0, 1, 7, length, length + 1, LIMIT, LIMIT + 1, LIMIT - total, LIMIT - total + 1, -1, i64::MIN];
+    let usual = if once_in(random, 8) { sizes.len() } else { 6 };
+    let long = vec![b'n'; one_of(random, &[4095, 4096])];
+    let mut path = one_of(random, &PATHS).to_vec();
+    let mut name = once_in(random, 5).then(|| one_of(random, &NAMES).to_vec());
+    if once_in(random, 30) {
+        path = [b"s/", long.as_slice()].concat();
+    } else if once_in(random, 30) {
+        name = Some(long);
+    }
+    Addition {
+        name,
+        path,
+        size: one_of(random, &sizes[..usual]),
+        flags: if once_in(random, 3) { random.next() as u8 } else { 0 },
+        time: if once_in(random, 4) { random.next() as i64 } else { 0 },
+        link: if once_in(random, 4) { one_of(random, &LINKS).to_vec() } else { Vec::new() },
+        root: once_in(random, rooted).then(|| [random.next() as u8; 32]),
+    }
+}
+
+/// One set: each addition on both sides, then the trim.
+fn play(random: &mut Random) {
+    let mut rust = FileStorage::new();
+    rust.set_piece_length(PIECE_LENGTH);
+    let mut port = Set::new(64, 64, 65536);
+    let rooted = one_of(random, &[1, 1, 2, 1000]);
+    for _ in 0..1 + random.next() % ADDITIONS {
+        let addition = addition(random, rooted, rust.total_size());
+        let mut after = rust.clone();
+        let refusal = add(&mut after, &addition);
+        assert_eq!(port.add(&addition), refusal, "the number of the refusal");
+        if refusal == 0 {
+            rust = after;
+        }
+        rust.set_num_pieces(calc_num_pieces(&rust));
+        compare::compare(&rust, &port);
+        compare::compare_links(&rust, &port);
+        ask(random, &rust, &port);
+    }
+    compare::compare_trimmed(&mut rust, &mut port);
+}
+
+/// Random blocks, into columns and into records that may be too short, random places of files, and random offsets.
+fn ask(random: &mut Random, rust: &FileStorage, port: &Set) {
+    let (length, total) = (i64::from(PIECE_LENGTH), rust.total_size());
+    let count = (total + length - 1) / length;
+    let near = [-1, 0, 1, 7, length - 1, length, length + 1, total - 1, total, total + 1, LIMIT, LIMIT + 1];
+    for _ in 0..4 {
+        let piece = one_of(random, &[-1, 0, 0, 1, count - 1, count]).clamp(-1, i32::MAX.into()) as i32;
+        let (offset, size) = (one_of(random, &near), one_of(random, &near));
+        let places = (random.next() % 5) as usize;
+        let answer = block_refusal(count, piece, offset, size).unwrap_or_else(|| {
+            let slices = rust.map_block(PieceIndex(piece), offset, size);
+            if slices.len() > places { -10 } else { slices.len() as i64 }
+        });
+        let mut columns = Columns::new(places);
+        assert_eq!(port.map_block(piece, offset, size, &mut columns), answer, "`map_block`");
+        let untouched = Slice { file: -7, offset: -7, size: -7 };
+        let mut records = vec![untouched; places];
+        assert_eq!(port.map_block_slices(piece, offset, size, &mut records), answer, "`map_block`, records");
+        let filled = answer.max(0) as usize;
+        if filled > 0 {
+            for (i, slice) in rust.map_block(PieceIndex(piece), offset, size).into_iter().enumerate() {
+                let wanted = (slice.file_index.0, slice.offset, slice.size);
+                assert_eq!((records[i].file, records[i].offset, records[i].size), wanted, "record {i}");
+                let column = (wanted.0 as u64, wanted.1 as u64, wanted.2 as u64);
+                assert_eq!(columns.slice(i), column, "slice {i}");
+            }
+        }
+        for record in &records[filled..] {
+            assert_eq!((record.file, record.offset, record.size), (-7, -7, -7), "a record that is not asked for");
+        }
+        ask_file(random, rust, port, offset, size);
+        let file = if (0..total).contains(&offset) { rust.file_index_at_offset(offset).0.into() } else { -14 };
+        assert_eq!(port.file_index_at_offset(offset), file, "file at an offset");
+    }
+}
+
+/// Document 01's number for a block, negated, in the table's order, if it is refused before any slice is made.
+fn block_refusal(count: i64, piece: i32, offset: i64, size: i64) -> Option<i64> {
+    if count > i32::MAX.into() {
+        Some(-13)
+    } else if !(0..count).contains(&piece.into()) {
+        Some(-12)
+    } else if offset < 0 || size < 0 || offset > LIMIT {
+        Some(-14)
+    } else {
+        None
+    }
+}
+
+/// `map_file` of a random file, or of none.
+fn ask_file(random: &mut Random, rust: &FileStorage, port: &Set, offset: i64, size: i64) {
+    let size = size.clamp(-1, i32::MAX.into()) as i32;
+    let files = rust.num_files();
+    let file = one_of(random, &[-1, 0, files / 2, files - 1, files]);
+    let count = (rust.total_size() + i64::from(PIECE_LENGTH) - 1) / i64::from(PIECE_LENGTH);
+    let given = port.map_file(file, offset, size);
+    let wanted = if !(0..files).contains(&file) {
+        (11, 0, 0, 0)
+    } else if count > i32::MAX.into() {
+        (13, 0, 0, 0)
+    } else if offset < 0 || size < 0 || offset > LIMIT {
+        (14, 0, 0, 0)
+    } else {
+        let request = rust.map_file(FileIndex(file), offset, size);
+        (0, request.piece.0, request.start, request.length)
+    };
+    assert_eq!((given.refusal, given.piece, given.start, given.length), wanted, "`map_file`");
+}
+
+/// An addition by the Rust, and its number in document 01's order; a set of another number may be in any state.
+fn add(set: &mut FileStorage, addition: &Addition) -> u32 {
+    if addition.size < 0 {
+        return 2;
+    }
+    let named = name_refusal(set, addition);
+    let total = set.total_size();
+    let root = addition.root.map(|bytes| Sha256Hash::from_bytes(&bytes).expect("32 bytes"));
+    let answer = set.add_file(
+        addition.name.as_deref(),
+        &addition.path,
+        addition.size,
+        FileFlags::from_bits(addition.flags),
+        addition.time,
+        &addition.link,
+        root,
+    );
+    match answer {
+        Err(Error::FileTooLarge) => 3,
+        Err(Error::Torrent(TorrentError::TorrentInvalidLength)) if total + addition.size > LIMIT => 4,
+        Err(Error::FilenameTooLong) => 5,
+        _ if named != 0 => named,
+        Err(Error::Torrent(TorrentError::TorrentMissingPiecesRoot)) => 8,
+        Err(Error::Torrent(TorrentError::TorrentInconsistentFiles)) => 9,
+        Err(Error::Torrent(TorrentError::TorrentInvalidLength)) => 4,
+        Err(other) => unreachable!("add_file has no such error: {other:?}"),
+        Ok(()) => 0,
+    }
+}
+
+/// 6 or 7, where the Rust has assertions, or 0.
+fn name_refusal(set: &FileStorage, addition: &Addition) -> u32 {
+    let name = addition.name.as_deref().unwrap_or_default();
+    if is_complete(name) || !name.is_empty() && is_complete(&addition.path) {
+        6
+    } else if set.num_files() > 0 && !has_parent_path(&addition.path) {
+        7
+    } else {
+        0
+    }
+}
+
+/// The refusals of the layout questions, of a set without a piece length, and of tables that are too short.
+fn refusals() {
+    let plain = |path: &[u8], size| Addition { path: path.to_vec(), size, ..Addition::default() };
+    let mut set = Set::new(2, 2, 16);
+    assert_eq!(set.add(&plain(b"s/a", 7)), 0);
+    assert_eq!(set.add(&plain(b"s/b", i64::from(PIECE_LENGTH))), 0);
+    assert_eq!(set.add(&plain(b"s/c", 1)), 10, "a third file");
+    let mut columns = Columns::new(1);
+    let mut slices = [Slice::default(); 1];
+    for (piece, offset, size, number) in [
+        (0, 0, 7, 1),
+        (0, 0, 8, -10),
+        (-1, 0, 1, -12),
+        (2, 0, 1, -12),
+        (0, -1, 1, -14),
+        (0, 0, -1, -14),
+        (0, LIMIT + 1, 1, -14),
+        (2, -1, 1, -12),
+    ] {
+        assert_eq!(set.map_block(piece, offset, size, &mut columns), number, "`map_block`");
+        assert_eq!(set.map_block_slices(piece, offset, size, &mut slices), number, "`map_block`, records");
+    }
+    for (file, offset, size, number) in [(0, 0, 1, 0), (-1, 0, 1, 11), (2, -1, 1, 11), (1, -1, 1, 14), (1, 0, -1, 14)] {
+        assert_eq!(set.map_file(file, offset, size).refusal, number, "`map_file`");
+    }
+    let total = set.total_size() as i64;
+    for (offset, number) in [(0, 0), (total - 1, 1), (total, -14), (-1, -14)] {
+        assert_eq!(set.file_index_at_offset(offset), number, "`file_index_at_offset`");
+    }
+    let mut many = Set::new(1, 1, 8);
+    many.set_piece_length(1);
+    assert_eq!(many.add(&plain(b"s/a", 1 << 31)), 0);
+    assert_eq!(many.map_block(0, 0, 1, &mut columns), -13, "too many pieces");
+    assert_eq!(many.map_block_slices(0, 0, 1, &mut slices), -13, "too many pieces");
+    assert_eq!(many.map_file(0, 0, 1).refusal, 13, "too many pieces");
+    let mut short = Set::new(2, 2, 3);
+    assert_eq!(short.add(&plain(b"s/abc", 1)), 10, "four bytes of text");
+    assert_eq!(short.add(&plain(b"s/ab", 1)), 0, "three bytes of text");
+    set.set_piece_length(0);
+    assert_eq!(set.add(&plain(b"s/d", 1)), 1, "no piece length");
+    assert_eq!(set.remove_tail_padding(), 1, "no piece length");
+    assert_eq!(set.map_file(0, 0, 1).refusal, 1, "no piece length");
+}
