@@ -2,10 +2,12 @@
 -- order of `rules`.
 --     file-known, file-few            the file is one of the set's, and the set's pieces can be counted
 --     past-held, past-index, bytes-past   a negative number's file is past the end of every set that a table holds
+--     position-range                      the tests of a question, where there is such a file
+--     last-known                          the last test holds where one does and none before it
 --     rules-apart                         a question about bytes of a file is answered where the set and the question pass
 use Prim.Native.Nat.{ℕ, suc, _-_, _%_, _^_, _≤_, _<_}
 use mathlib.Core.Path.{_≡_, refl, sym, ap, _∙_}
-use mathlib.Core.Bool.{Bool, true, false, true≢false, _&&_}
+use mathlib.Core.Bool.{Bool, true, false, not, true≢false, _&&_}
 use mathlib.Core.List.{[], _∷_}
 use native.Mathlib.Omega.{arith}
 use lib.Dec.{eqb, ltb, leb}
@@ -81,6 +83,13 @@ rules-apart false false false true false = refl
 rules-apart false false false false true = refl
 rules-apart false false false false false = refl
 
+-- where a test holds and none before the last does, the last holds
+pub last-known : (a b c d h : Bool) → a ≡ false → b ≡ false → c ≡ false → d ≡ false
+    → eqb (firstOf (when a 1 ∷ when b 11 ∷ when c 13 ∷ when d 14 ∷ short h ∷ [])) 0 ≡ false
+    → 10 ≡ firstOf (when a 1 ∷ when b 11 ∷ when c 13 ∷ when d 14 ∷ short h ∷ [])
+last-known a b c d true p q r s e = absurd (true≢false (rw (p, q, r, s) at e))
+last-known a b c d false p q r s e = rw (p, q, r, s)
+
 -- a negative number's file is past the end of every set that a table holds
 past-held : (z : ℤ) (n : ℕ) → SFits w32 z → n < 2 ^ 63 → ltb (ofZ w64 z) n ≡ isBelow n z
 past-held (pos k) n f h = refl
@@ -91,6 +100,16 @@ past-held (negsuc k) n f h =
 pub past-index : (z : ℤ) (n : ℕ) → isBelow n z ≡ true → ofZ w64 z ≡ clampedOf z
 past-index (pos k) n e = refl
 past-index (negsuc k) n e = absurd (true≢false (sym e))
+
+-- where there is such a file, its question passes unless the range is bad
+pub position-range : (fs : FileStorage) (z offset size : ℤ) → noFile fs z .test ≡ false
+    → eqb (firstOf (positionRules fs (pos (ofZ w64 z)) offset size)) 0 ≡ not (badRange offset size .test)
+position-range fs (pos k) offset size h = rw h (by (badRange offset size .test))
+  where
+    by : (b : Bool) → eqb (firstOf (when b 14 ∷ [])) 0 ≡ not b
+    by true = refl
+    by false = refl
+position-range fs (negsuc k) offset size h = absurd (true≢false h)
 
 -- a question is answered where the set passes its tests and the question its own, by the number counted round
 pub bytes-past : (fs : FileStorage) (z offset size : ℤ) (room : ℕ) → SFits w32 z → room < 2 ^ 63

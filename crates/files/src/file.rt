@@ -2,7 +2,7 @@
 // signed numbers and on `rules`: each decides its refusals first.
 ghost use mathlib.Core.Path.{_≡_};
 ghost use mathlib.Core.Bool.{false, not};
-ghost use Prim.Native.Nat.{_+_, _*_, _/_, _%_, _^_, _<_};
+ghost use Prim.Native.Nat.{_+_, _*_, _/_, _%_, _^_, _<_, _≤_};
 ghost use lib.Dec.{eqb};
 ghost use lib.IntN.{pos};
 ghost use lib.ListN.{length};
@@ -11,7 +11,7 @@ ghost use Rattle.lists.specs.Lists.{equal};
 ghost use Rattle.tables.specs.Rows.{rowAt};
 ghost use Rattle.merkle.specs.Width.{hasTree};
 ghost use Rattle.rules.specs.Rules.{firstOf};
-ghost use Rattle.rules.specs.Questions.{rowThere};
+ghost use Rattle.rules.specs.Questions.{rowThere, noFile, badRange};
 ghost use Rattle.answers.specs.Answers.{rootOf};
 ghost use Rattle.rules.specs.Results.{i32Says, i64Says, pieceSays, fileSays};
 ghost use Rattle.rules.specs.Results.{rangeNumbers, pieceRangeSays, numberRangeSays, requestSays};
@@ -43,7 +43,6 @@ use rules::are_held;
 use rules::ask_file;
 use rules::ask_set;
 use rules::count_pieces;
-use rules::first_refusal;
 use rules::has_many;
 use rules::is_bad_length;
 use rules::is_bad_range;
@@ -411,18 +410,17 @@ pub fn file_index_for_root(
     }
 }
 
-// A request in signed numbers.
+// A request in signed numbers, which hold it.
 fn signed_request(r: UnsignedRequest) -> PeerRequest
+    requires { ⌜ (r .piece ≤ 2147483647) × (r .start ≤ 2147483647) × (r .length ≤ 2147483647) ⌝ }
     ensures { λ q. ⌜
-        (q .piece .0 ≡ pos (r .piece % 2 ^ 31)) ×
-        (q .start ≡ pos (r .start % 2 ^ 31)) ×
-        (q .length ≡ pos (r .length % 2 ^ 31))
+        (q .piece .0 ≡ pos (r .piece)) × (q .start ≡ pos (r .start)) × (q .length ≡ pos (r .length))
         ⌝ }
 {
     PeerRequest {
-        piece: PieceIndex::new(r.piece),
-        start: types::signed32(r.start),
-        length: types::signed32(r.length),
+        piece: PieceIndex(r.piece as i32),
+        start: r.start as i32,
+        length: r.length as i32,
     }
 }
 
@@ -457,23 +455,35 @@ fn passes_position(fs: FileStorage, k: usize, offset: i64, size: i32) -> bool
     false
 }
 
-// The refusal of a question about bytes of a file that does not pass; `Go` is never reached.
-fn refused_bytes(fs: FileStorage, index: FileIndex, offset: i64, size: i32, room: usize) -> Refusal
-    requires { ⌜ eqb (firstOf (bytesRules fs (index .0) offset size room)) 0 ≡ false ⌝ }
+// The refusal of a question about bytes of a file that does not pass: 10 where no test before it holds. `in_place` says
+// whether the file, the offset and the size pass theirs. So `map_file` is small, and its compiler takes it into loops.
+fn refused_bytes(
+    fs: FileStorage,
+    index: FileIndex,
+    offset: i64,
+    size: i32,
+    room: usize,
+    in_place: bool,
+) -> Refusal
+    requires { ⌜
+        (eqb (firstOf (bytesRules fs (index .0) offset size room)) 0 ≡ false)
+        × (noFile fs (index .0) .test ≡ false → «in_place» ≡ not (badRange offset size .test))
+        ⌝ }
     ensures { λ r. ⌜ numberOf r ≡ firstOf (bytesRules fs (index .0) offset size room) ⌝ }
 {
-    match first_refusal(
-        is_bad_length(fs.piece_length),
-        is_no_file(fs, index),
-        has_many(fs),
-        false,
-        is_bad_range(offset, is_negative32(size)),
-        false,
-        are_held(fs, is_held(fs.num_files, room)),
-    ) {
-        Check::Go => Refusal::NoRoom,
-        Check::Stop(e) => e,
+    if is_bad_length(fs.piece_length) {
+        return Refusal::InvalidPieceLength;
     }
+    if is_no_file(fs, index) {
+        return Refusal::NoSuchFile;
+    }
+    if has_many(fs) {
+        return Refusal::TooManyPieces;
+    }
+    if in_place {
+        return Refusal::NoRoom;
+    }
+    Refusal::OutOfRange
 }
 
 // Where bytes of a file lie: the piece, the start in it, and how many of them the set has. It does not stop at the
@@ -490,14 +500,15 @@ pub fn map_file(
 {
     let k = file_or_past(index);
     let fit = passes_set(fs, rows.len() / 8);
-    if are_both(fit, passes_position(fs, k, offset, size)) {
+    let in_place = passes_position(fs, k, offset, size);
+    if are_both(fit, in_place) {
         return RequestResult::Ok(signed_request(request_at(
             fs,
             offset_of(rows, k) + clamped64(offset),
             clamped32(size),
         )));
     }
-    RequestResult::Err(refused_bytes(fs, index, offset, size, rows.len() / 8))
+    RequestResult::Err(refused_bytes(fs, index, offset, size, rows.len() / 8, in_place))
 }
 
 // The pieces that lie wholly in a file.

@@ -16,7 +16,7 @@ use Rattle.rules.specs.Bounds.{clampedOf, isBelow}
 use Rattle.files.specs.Request.{Request, mapFile}
 use Rattle.files.specs.private.Deciding.{requestOf, bytesRules, positionRules}
 use Rattle.rules.proofs.Rules.{Passed, passed}
-use Rattle.files.proofs.Deciding.{low-whole, past-index, bytes-past}
+use Rattle.files.proofs.Deciding.{past-index, position-range, bytes-past}
 use Rattle.files.proofs.Requests.{placed}
 use Rattle.layout.proofs.Deciding.{few-pieces}
 use Rattle.rules.proofs.Deciding.{below-is, offset-low, length-good, index-low, held-few}
@@ -88,27 +88,35 @@ request-at-requires c κs =
     let g = length-good (c .before .before .before .before .before .before .before .before .before .args .fs .«piece_length») (passes (c .before .before .before) .0) in
     g .0
 
+-- the request that the code makes is the one that is due, and signed numbers hold it
+request-is : (c : tie.After-request-at) → let a = c .before .before .before .before .before .before .before .before .before .before .args in requestOf (c .request-at .result) ≡ mapFile (a .fs) (a .rows .now) (clampedOf (a .index .0)) (clampedOf (a .offset)) (clampedOf (a .size))
+request-is c =
+    let a = c .before .before .before .before .before .before .before .before .before .before .args in
+    let offset-fits : SFits w64 (a .offset) = search needs in
+    let size-fits : SFits w32 (a .size) = search needs in
+    let s : c .before .before .clamped64 .result ≡ clampedOf (a .offset) = rw (toZ-ofZ offset-fits) at (c .before .before .clamped64 .ensures) in
+    let n : c .before .clamped32 .result ≡ clampedOf (a .size) = rw (toZ-ofZ size-fits) at (c .before .clamped32 .ensures) in
+    rw (c .before .before .before .offset-of .ensures, number-is (c .before .before .before .before), s, n) at (c .request-at .ensures)
+
 signed-request-requires : tie.Need-signed-request-requires
-signed-request-requires c κs = search needs
+signed-request-requires c κs =
+    let a = c .before .before .before .before .before .before .before .before .before .before .args in
+    let size-fits : SFits w32 (a .size) = search needs in
+    let t = passes (c .before .before .before .before) in
+    let e = request-is c in
+    let p = placed (a .fs) _ (clampedOf (a .size)) (mapFile (a .fs) (a .rows .now) (clampedOf (a .index .0)) (clampedOf (a .offset)) (clampedOf (a .size))) (few-pieces (a .fs) (t .0) (t .1 .1 .0)) refl in
+    (omega (arith, ap (λ (r : Request). r .piece) e, p .piece), omega (arith, ap (λ (r : Request). r .start) e, p .start), omega (arith, ap (λ (r : Request). r .length) e, p .length, index-low (a .size) size-fits))
 
 returns : tie.Need-returns
 returns c =
-    let a = c .before .before .before .before .before .before .before .before .before .before .before .args in
-    let offset-fits : SFits w64 (a .offset) = search needs in
-    let size-fits : SFits w32 (a .size) = search needs in
-    let s : c .before .before .before .clamped64 .result ≡ clampedOf (a .offset) = rw (toZ-ofZ offset-fits) at (c .before .before .before .clamped64 .ensures) in
-    let n : c .before .before .clamped32 .result ≡ clampedOf (a .size) = rw (toZ-ofZ size-fits) at (c .before .before .clamped32 .ensures) in
-    let e : requestOf (c .before .request-at .result) ≡ mapFile (a .fs) (a .rows .now) (clampedOf (a .index .0)) (clampedOf (a .offset)) (clampedOf (a .size)) = rw (c .before .before .before .before .offset-of .ensures, number-is (c .before .before .before .before .before), s, n) at (c .before .request-at .ensures) in
     let h = c .signed-request .ensures in
-    let t = passes (c .before .before .before .before .before) in
-    let p = placed (a .fs) _ (clampedOf (a .size)) (mapFile (a .fs) (a .rows .now) (clampedOf (a .index .0)) (clampedOf (a .offset)) (clampedOf (a .size))) (few-pieces (a .fs) (t .0) (t .1 .1 .0)) refl in
-    let l : mapFile (a .fs) (a .rows .now) (clampedOf (a .index .0)) (clampedOf (a .offset)) (clampedOf (a .size)) .length ≤ 2147483647 = omega (arith, p .length, index-low (a .size) size-fits) in
+    let e = request-is (c .before) in
     rw (answered (c .before .before .before .before .before))
     (ap value
     (cc (
-      low-whole (h .0) (ap (λ (r : Request). r .piece) e) (p .piece),
-      low-whole (h .1) (ap (λ (r : Request). r .start) e) (p .start),
-      low-whole (h .2) (ap (λ (r : Request). r .length) e) l,
+      h .0 ∙ ap (λ (r : Request). pos (r .piece)) e,
+      h .1 ∙ ap (λ (r : Request). pos (r .start)) e,
+      h .2 ∙ ap (λ (r : Request). pos (r .length)) e,
     )))
 
 -- where the question is not answered, a refusal's test holds
@@ -120,7 +128,8 @@ refused-bytes-requires c κs =
     let a = c .before .before .before .before .before .before .args in
     let o : SFits w64 (a .offset) = search needs in
     let s : SFits w32 (a .size) = search needs in
-    rw (toZ-ofZ o, toZ-ofZ s) (refused-is c)
+    let q : c .before .before .passes-position .result ≡ eqb (firstOf (positionRules (a .fs) (pos (ofZ w64 (a .index .0))) (a .offset) (a .size))) 0 = rw (c .before .before .before .before .file-or-past .ensures, toZ-ofZ o, toZ-ofZ s) at (c .before .before .passes-position .ensures) in
+    (rw (toZ-ofZ o, toZ-ofZ s) (refused-is c), λ h. rw (toZ-ofZ o, toZ-ofZ s) (q ∙ position-range (a .fs) (a .index .0) (a .offset) (a .size) h))
 
 returns-2 : tie.Need-returns-2
 returns-2 c =

@@ -1,84 +1,76 @@
--- `files::file::refused_bytes` meets its contract.
-use mathlib.Core.Path.{_≡_, sym, ap, _∙_}
-use mathlib.Core.Bool.{true≢false}
-use mir.Syntax.{w32, w64}
-use mir.Val.{SFits}
-use mir.Facts.{toZ-ofZ}
-use Rattle.rules.specs.Bounds.{isNegative}
-use Rattle.rules.specs.Rules.{firstOf}
-use Rattle.rules.specs.Questions.{badRange}
-use Rattle.rules.specs.Results.{checkNumber}
-use Rattle.files.specs.private.Deciding.{bytesRules}
+-- `files::file::refused_bytes` meets its contract: at each test those before it did not hold.
+use mathlib.Core.Path.{_≡_, sym, _∙_}
+use mathlib.Core.Bool.{true, false, _&&_}
+use lib.Dec.{leb}
+use borrow.Author.Tests.{not-true, not-false}
+use Rattle.rules.specs.Questions.{badPieceLength, noFile, manyPieces, badRange, fewEntries}
+use Rattle.files.proofs.Deciding.{last-known}
 use borrow.Author.Needs.{needs}
 use Rattle.files.proofs.file.refused_bytes.Statement.{statement}
 use Rattle.files.proofs.file.refused_bytes.Tie as tie
 
--- whether the range is bad, as the contract says it
-range-of : (c : tie.After-is-bad-range) → c .is-bad-range .result ≡ badRange (c .before .before .before .before .before .args .offset) (c .before .before .before .before .before .args .size) .test
-range-of c =
-    let a = c .before .before .before .before .before .args in
-    let offset-fits : SFits w64 (a .offset) = search needs in
-    let size-fits : SFits w32 (a .size) = search needs in
-    let n : c .before .is-negative32 .result ≡ isNegative (a .size) = rw (toZ-ofZ size-fits) at (c .before .is-negative32 .ensures) in
-    rw (toZ-ofZ offset-fits, n) at (c .is-bad-range .ensures)
+-- no test held up to here: the piece length, the file, the number of pieces
+good : (c : tie.Else1) → badPieceLength (c .before .before .args .fs) .test ≡ false
+good c = sym (c .before .is-bad-length .ensures) ∙ c .if1 .left
 
--- what the decision says, as the contract says it
-asked-is : (c : tie.After-first-refusal) → checkNumber (c .first-refusal .result) ≡ firstOf (bytesRules (c .before .before .before .before .before .before .before .before .args .fs) (c .before .before .before .before .before .before .before .before .args .index .0) (c .before .before .before .before .before .before .before .before .args .offset) (c .before .before .before .before .before .before .before .before .args .size) (c .before .before .before .before .before .before .before .before .args .room))
-asked-is c = rw (c .before .before .before .before .before .before .before .is-bad-length .ensures, c .before .before .before .before .before .before .is-no-file .ensures, c .before .before .before .before .before .has-many .ensures, range-of (c .before .before .before), c .before .are-held .ensures, c .before .before .is-held .ensures) at (c .first-refusal .ensures)
+there : (c : tie.Else2) → noFile (c .before .before .before .before .args .fs) (c .before .before .before .before .args .index .0) .test ≡ false
+there c = sym (c .before .is-no-file .ensures) ∙ c .if2 .left
+
+few : (c : tie.Else3) → manyPieces (c .before .before .before .before .before .before .args .fs) .test ≡ false
+few c = sym (c .before .has-many .ensures) ∙ c .if3 .left
 
 is-bad-length-requires : tie.Need-is-bad-length-requires
 is-bad-length-requires c κs = search needs
 
+returns : tie.Need-returns
+returns c =
+    let t : badPieceLength (c .before .before .args .fs) .test ≡ true = sym (c .before .is-bad-length .ensures) ∙ c .if1 .taken in
+    rw t
+
 is-no-file-requires : tie.Need-is-no-file-requires
 is-no-file-requires c κs = search needs
+
+returns-2 : tie.Need-returns-2
+returns-2 c =
+    let a = c .before .before .before .before .args in
+    let t : noFile (a .fs) (a .index .0) .test ≡ true = sym (c .before .is-no-file .ensures) ∙ c .if2 .taken in
+    rw (good (c .before .before), t)
 
 has-many-requires : tie.Need-has-many-requires
 has-many-requires c κs = search needs
 
-is-negative32-requires : tie.Need-is-negative32-requires
-is-negative32-requires c κs = search needs
+returns-3 : tie.Need-returns-3
+returns-3 c =
+    let a = c .before .before .before .before .before .before .args in
+    let t : manyPieces (a .fs) .test ≡ true = sym (c .before .has-many .ensures) ∙ c .if3 .taken in
+    rw (good (c .before .before .before .before), there (c .before .before), t)
 
-is-bad-range-requires : tie.Need-is-bad-range-requires
-is-bad-range-requires c κs = search needs
+returns-4 : tie.Need-returns-4
+returns-4 c =
+    let a = c .before .before .before .before .before .before .before .args in
+    let h = c .before .before .before .before .before .before .before .pre in
+    let f = there (c .before .before .before) in
+    let t : badRange (a .offset) (a .size) .test ≡ false = not-true _ (sym (h .1 f) ∙ c .if4 .taken) in
+    last-known (badPieceLength (a .fs) .test) (noFile (a .fs) (a .index .0) .test) (manyPieces (a .fs) .test) (badRange (a .offset) (a .size) .test) (leb (a .fs .«num_files») (a .room) && fewEntries (a .fs))
+    (good (c .before .before .before .before .before)) f (few (c .before)) t (h .0)
 
-is-held-requires : tie.Need-is-held-requires
-is-held-requires c κs = search needs
-
-are-held-requires : tie.Need-are-held-requires
-are-held-requires c κs = search needs
-
-first-refusal-requires : tie.Need-first-refusal-requires
-first-refusal-requires c κs = search needs
-
-enum-told : tie.Need-enum-told
-enum-told c = search needs
-
-enum-known-e : tie.Need-enum-known-e
-enum-known-e c = search needs
-
-returns : tie.Need-returns
-returns c =
-    let z = sym (asked-is (c .before .before)) ∙ ap checkNumber (c .enum-told .given .1) in
-    absurd (true≢false (rw z at (c .before .before .before .before .before .before .before .before .before .before .pre)))
-
-returns-2 : tie.Need-returns-2
-returns-2 c =
-    let e = c .before .e .given in
-    sym (ap checkNumber (e .1)) ∙ asked-is (c .before .before .before)
+returns-5 : tie.Need-returns-5
+returns-5 c =
+    let a = c .before .before .before .before .before .before .before .args in
+    let h = c .before .before .before .before .before .before .before .pre in
+    let f = there (c .before .before .before) in
+    let t : badRange (a .offset) (a .size) .test ≡ true = not-false _ (sym (h .1 f) ∙ c .if4 .left) in
+    rw (good (c .before .before .before .before .before), f, few (c .before), t)
 
 pub refused-bytes-spec : {M : Type 1} → statement M
 refused-bytes-spec =
     tie.close
     (tie.spec
     is-bad-length-requires
-    is-no-file-requires
-    has-many-requires
-    is-negative32-requires
-    is-bad-range-requires
-    is-held-requires
-    are-held-requires
-    first-refusal-requires
-    enum-told
-    enum-known-e
     returns
-    returns-2)
+    is-no-file-requires
+    returns-2
+    has-many-requires
+    returns-3
+    returns-4
+    returns-5)
