@@ -1,6 +1,6 @@
 -- What each plain answer gives, with its refusals in the order of document 01, 'Refusals, by place': 1 for every set,
--- then 11, 15, and 10 where a lent table is too short or the set counts over 65535 files or directories. It relies on the lists of refusals of `rules` and on the values
--- of Answers.antt.
+-- then 11, 15, and 10 where a lent table is too short or the set counts over 65535 files or directories. It relies on
+-- the lists of refusals of `rules` and on the values of Answers.antt.
 use Prim.Native.Nat.{ℕ, _%_, _^_}
 use mathlib.Core.Bool.{Bool, _&&_}
 use mathlib.Core.List.{List}

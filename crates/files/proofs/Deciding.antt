@@ -3,7 +3,7 @@
 --     file-known, file-few            the file is one of the set's, and the set's pieces can be counted
 --     past-held, past-index, bytes-past   a negative number's file is past the end of every set that a table holds
 --     position-range                      the tests of a question, where there is such a file
---     last-known                          the last test holds where one does and none before it
+--     last-known                          the refusal of a question that does not pass
 --     rules-apart                         a question about bytes of a file is answered where the set and the question pass
 use Prim.Native.Nat.{ℕ, suc, _-_, _%_, _^_, _≤_, _<_}
 use mathlib.Core.Path.{_≡_, refl, sym, ap, _∙_}
@@ -83,12 +83,17 @@ rules-apart false false false true false = refl
 rules-apart false false false false true = refl
 rules-apart false false false false false = refl
 
--- where a test holds and none before the last does, the last holds
-pub last-known : (a b c d h : Bool) → a ≡ false → b ≡ false → c ≡ false → d ≡ false
+-- the refusal of a question that does not pass: one test is known where there is such a file, and the last holds where
+-- none before it does
+pub last-known : (a b c d h p : Bool) → (b ≡ false → p ≡ not d)
     → eqb (firstOf (when a 1 ∷ when b 11 ∷ when c 13 ∷ when d 14 ∷ short h ∷ [])) 0 ≡ false
-    → 10 ≡ firstOf (when a 1 ∷ when b 11 ∷ when c 13 ∷ when d 14 ∷ short h ∷ [])
-last-known a b c d true p q r s e = absurd (true≢false (rw (p, q, r, s) at e))
-last-known a b c d false p q r s e = rw (p, q, r, s)
+    → firstOf (when a 1 ∷ when b 11 ∷ when c 13 ∷ when (not p) 14 ∷ short false ∷ []) ≡ firstOf (when a 1 ∷ when b 11 ∷ when c 13 ∷ when d 14 ∷ short h ∷ [])
+last-known true b c d h p q e = refl
+last-known false true c d h p q e = refl
+last-known false false true d h p q e = refl
+last-known false false false true h p q e = rw (q refl)
+last-known false false false false true p q e = absurd (true≢false e)
+last-known false false false false false p q e = rw (q refl)
 
 -- a negative number's file is past the end of every set that a table holds
 past-held : (z : ℤ) (n : ℕ) → SFits w32 z → n < 2 ^ 63 → ltb (ofZ w64 z) n ≡ isBelow n z

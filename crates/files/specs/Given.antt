@@ -53,7 +53,8 @@ filePieceRangeGiven fs rows z =
 abbrev pub fileNumBlocksGiven : FileStorage → List ℕ → ℤ → Outcome ℤ
 fileNumBlocksGiven fs rows z =
     answered
-    (badPieceLength fs ∷ noFile fs z ∷ noTree fs (rowAt rows (clampedOf z)) ∷ short (rowsHeld fs rows && fewEntries fs) ∷ [])
+    (badPieceLength fs ∷ noFile fs z ∷ noTree fs (rowAt rows (clampedOf z)) ∷
+    short (rowsHeld fs rows && fewEntries fs) ∷ [])
     (pos (blocksOf rows (clampedOf z)))
 
 -- 'node of a file with 0 or over 1073741823 leaves'; `there` says whether the file's row is there
@@ -86,5 +87,7 @@ fileForRootGiven fs rows roots root =
 
 abbrev pub fileMapped : FileStorage → List ℕ → ℤ → ℤ → ℤ → Outcome SignedRequest
 fileMapped fs rows z offset size =
-    answered (badPieceLength fs ∷ noFile fs z ∷ manyPieces fs ∷ badRange offset size ∷ short (rowsHeld fs rows && fewEntries fs) ∷ [])
+    answered
+    (badPieceLength fs ∷ noFile fs z ∷ manyPieces fs ∷ badRange offset size ∷
+    short (rowsHeld fs rows && fewEntries fs) ∷ [])
     (asSigned (mapFile fs rows (clampedOf z) (clampedOf offset) (clampedOf size)))

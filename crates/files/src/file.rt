@@ -2,6 +2,7 @@
 // signed numbers and on `rules`: each decides its refusals first.
 ghost use mathlib.Core.Path.{_≡_};
 ghost use mathlib.Core.Bool.{false, not};
+ghost use mathlib.Core.List.{[], _∷_};
 ghost use Prim.Native.Nat.{_+_, _*_, _/_, _%_, _^_, _<_, _≤_};
 ghost use lib.Dec.{eqb};
 ghost use lib.IntN.{pos};
@@ -10,8 +11,8 @@ ghost use Rattle.types.specs.Refusals.{numberOf, usizeSays};
 ghost use Rattle.lists.specs.Lists.{equal};
 ghost use Rattle.tables.specs.Rows.{rowAt};
 ghost use Rattle.merkle.specs.Width.{hasTree};
-ghost use Rattle.rules.specs.Rules.{firstOf};
-ghost use Rattle.rules.specs.Questions.{rowThere, noFile, badRange};
+ghost use Rattle.rules.specs.Rules.{when, firstOf};
+ghost use Rattle.rules.specs.Questions.{rowThere, badPieceLength, noFile, manyPieces, short};
 ghost use Rattle.answers.specs.Answers.{rootOf};
 ghost use Rattle.rules.specs.Results.{i32Says, i64Says, pieceSays, fileSays};
 ghost use Rattle.rules.specs.Results.{rangeNumbers, pieceRangeSays, numberRangeSays, requestSays};
@@ -21,7 +22,7 @@ ghost use Rattle.files.specs.Given.{fileNumPiecesGiven, filePieceRangeGi
 ghost use Rattle.files.specs.Given.{noNode, nodeGiven, firstPieceNodeGiven, firstBlockNodeGiven};
 ghost use Rattle.files.specs.Given.{fileForRootGiven, fileMapped};
 ghost use Rattle.layout.specs.private.Deciding.{FewPieces};
-ghost use Rattle.files.specs.private.Deciding.{requestOf, bytesRules, setRules, positionRules};
+ghost use Rattle.files.specs.private.Deciding.{requestOf, setRules, positionRules};
 ghost use Rattle.files.specs.Files.{lastQuotient, low31, afterQuotient, lastPiece, piecesOf, blocksOf, rootFrom};
 ghost use Rattle.files.specs.Files.{positionOf, exclusiveBegin, endOrBegin, exclusiveEnd};
 ghost use Rattle.files.specs.Files.{exclusiveRange, inclusiveRange};
@@ -457,19 +458,12 @@ fn passes_position(fs: FileStorage, k: usize, offset: i64, size: i32) -> bool
 
 // The refusal of a question about bytes of a file that does not pass: 10 where no test before it holds. `in_place` says
 // whether the file, the offset and the size pass theirs. So `map_file` is small, and its compiler takes it into loops.
-fn refused_bytes(
-    fs: FileStorage,
-    index: FileIndex,
-    offset: i64,
-    size: i32,
-    room: usize,
-    in_place: bool,
-) -> Refusal
-    requires { ⌜
-        (eqb (firstOf (bytesRules fs (index .0) offset size room)) 0 ≡ false)
-        × (noFile fs (index .0) .test ≡ false → «in_place» ≡ not (badRange offset size .test))
+fn refused_bytes(fs: FileStorage, index: FileIndex, in_place: bool) -> Refusal
+    ensures { λ r. ⌜
+        numberOf r
+        ≡ firstOf
+        (badPieceLength fs ∷ noFile fs (index .0) ∷ manyPieces fs ∷ when (not «in_place») 14 ∷ short false ∷ [])
         ⌝ }
-    ensures { λ r. ⌜ numberOf r ≡ firstOf (bytesRules fs (index .0) offset size room) ⌝ }
 {
     if is_bad_length(fs.piece_length) {
         return Refusal::InvalidPieceLength;
@@ -508,7 +502,7 @@ pub fn map_file(
             clamped32(size),
         )));
     }
-    RequestResult::Err(refused_bytes(fs, index, offset, size, rows.len() / 8, in_place))
+    RequestResult::Err(refused_bytes(fs, index, in_place))
 }
 
 // The pieces that lie wholly in a file.

@@ -24,7 +24,8 @@ lastPieceGiven fs = answered (badPieceLength fs ∷ manyPieces fs ∷ short (few
 
 abbrev pub pieceRangeGiven : FileStorage → Outcome Range
 pieceRangeGiven fs =
-    answered (badPieceLength fs ∷ manyPieces fs ∷ short (fewEntries fs) ∷ []) (record { begin = pos 0; end = pos (numPieces fs) })
+    answered (badPieceLength fs ∷ manyPieces fs ∷ short (fewEntries fs) ∷ [])
+    (record { begin = pos 0; end = pos (numPieces fs) })
 
 abbrev pub fileRangeGiven : FileStorage → Outcome Range
 fileRangeGiven fs =

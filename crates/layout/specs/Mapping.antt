@@ -53,7 +53,8 @@ blockOf fs rows z offset size = slicesOf fs rows (startOf fs (clampedOf z) + cla
 -- `map_block`'s refusals, in order, in front of the last, which is for room
 abbrev pub blockRules : FileStorage → List ℕ → ℤ → ℤ → ℤ → List Rule → List Rule
 blockRules fs rows z offset size last =
-    badPieceLength fs ∷ manyPieces fs ∷ noPiece fs z ∷ badRange offset size ∷ short (rowsHeld fs rows && fewEntries fs) ∷ last
+    badPieceLength fs ∷ manyPieces fs ∷ noPiece fs z ∷ badRange offset size ∷
+    short (rowsHeld fs rows && fewEntries fs) ∷ last
 
 -- the columns of slices
 abbrev pub filesOf : List Slice → List ℕ

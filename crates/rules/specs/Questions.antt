@@ -108,7 +108,8 @@ directoryAnswer fs i held a = answered (badPieceLength fs ∷ noDirectory fs i �
 
 -- an answer about file z, by its number
 abbrev pub fileAnswer : {A : Type 0} → FileStorage → ℤ → Bool → (ℕ → A) → Outcome A
-fileAnswer fs z held a = answered (badPieceLength fs ∷ noFile fs z ∷ short (held && fewEntries fs) ∷ []) (a (clampedOf z))
+fileAnswer fs z held a =
+    answered (badPieceLength fs ∷ noFile fs z ∷ short (held && fewEntries fs) ∷ []) (a (clampedOf z))
 
 -- an answer about piece z, by its number
 abbrev pub pieceAnswer : {A : Type 0} → FileStorage → ℤ → Bool → (ℕ → A) → Outcome A

@@ -7,7 +7,8 @@ ghost use lib.Dec.{leb};
 ghost use Rattle.types.specs.Refusals.{usizeSays};
 ghost use Rattle.rules.specs.Rules.{when, firstOf};
 ghost use Rattle.rules.specs.Results.{checkNumber};
-ghost use Rattle.rules.specs.Questions.{badPieceLength, noFile, noDirectory, manyPieces, noPiece, short, fewEntries};
+ghost use Rattle.rules.specs.Questions.{badPieceLength, noFile, noDirectory, manyPieces, noPiece};
+ghost use Rattle.rules.specs.Questions.{short, fewEntries};
 ghost use Rattle.rules.specs.Questions.{fileAnswer};
 use crate::test::are_held;
 use crate::test::has_few_entries;
@@ -77,7 +78,9 @@ pub fn first_refusal(
 
 // Decides a question about the set as a whole, or about an offset in it.
 pub fn ask_set(fs: FileStorage, bad_range: bool, held: bool) -> Check
-    ensures { λ r. ⌜ checkNumber r ≡ firstOf (badPieceLength fs ∷ when «bad_range» 14 ∷ short (held && fewEntries fs) ∷ []) ⌝ }
+    ensures { λ r. ⌜
+        checkNumber r ≡ firstOf (badPieceLength fs ∷ when «bad_range» 14 ∷ short (held && fewEntries fs) ∷ [])
+        ⌝ }
 {
     first_refusal(
         is_bad_length(fs.piece_length),
@@ -92,7 +95,9 @@ pub fn ask_set(fs: FileStorage, bad_range: bool, held: bool) -> Check
 
 // Decides a question about directory i.
 pub fn ask_directory(fs: FileStorage, i: usize, held: bool) -> Check
-    ensures { λ r. ⌜ checkNumber r ≡ firstOf (badPieceLength fs ∷ noDirectory fs i ∷ short (held && fewEntries fs) ∷ []) ⌝ }
+    ensures { λ r. ⌜
+        checkNumber r ≡ firstOf (badPieceLength fs ∷ noDirectory fs i ∷ short (held && fewEntries fs) ∷ [])
+        ⌝ }
 {
     first_refusal(
         is_bad_length(fs.piece_length),
@@ -125,7 +130,12 @@ pub fn ask_piece(fs: FileStorage, piece: PieceIndex, bad_range: bool, held: bool
     ensures { λ r. ⌜
         checkNumber r
         ≡ firstOf
-        (badPieceLength fs ∷ manyPieces fs ∷ noPiece fs (piece .0) ∷ when «bad_range» 14 ∷ short (held && fewEntries fs) ∷ [])
+        (badPieceLength fs ∷
+        manyPieces fs ∷
+        noPiece fs (piece .0) ∷
+        when «bad_range» 14 ∷
+        short (held && fewEntries fs) ∷
+        [])
         ⌝ }
 {
     first_refusal(

@@ -31,8 +31,9 @@ OnDisk m = m .onDisk ≡ sum (map sizeOnDisk (m .files))
 abbrev pub Marked : File → Type 0
 Marked f = f .made ≡ true → isPad (f .flags) ≡ true
 
--- BEP 47: 'when the total is no multiple of the piece length, a pad follows: directory `.pad`, name the pad's size in
--- decimal digits'. It fills the piece up, and its flags are 1 alone, the pad's
+-- BEP 47: a padding file stands for bytes that fill up to a boundary, and its usual path is `.pad` and then its size in
+-- decimal digits. So is each pad that an addition makes (document 01: 'directory `.pad`, name the pad's size in decimal
+-- digits'); its flags are 1 alone, the pad's
 pub record PadMade (pieceLength : ℕ) (f : File) : Type 0 where
   pub nonempty : 0 < f .size
   pub shorter : f .size < pieceLength

@@ -1,6 +1,6 @@
 -- `files::file::map_file` meets its contract.
 use mathlib.Core.Path.{_≡_, refl, sym, ap, _∙_}
-use mathlib.Core.Bool.{true, false}
+use mathlib.Core.Bool.{true, false, _&&_}
 use native.Mathlib.Omega.{arith}
 use Prim.Native.Nat.{_/_, _^_, _≤_, _<_}
 use lib.Dec.{eqb, leb}
@@ -16,9 +16,10 @@ use Rattle.rules.specs.Bounds.{clampedOf, isBelow}
 use Rattle.files.specs.Request.{Request, mapFile}
 use Rattle.files.specs.private.Deciding.{requestOf, bytesRules, positionRules}
 use Rattle.rules.proofs.Rules.{Passed, passed}
-use Rattle.files.proofs.Deciding.{past-index, position-range, bytes-past}
+use Rattle.files.proofs.Deciding.{past-index, position-range, last-known, bytes-past}
 use Rattle.files.proofs.Requests.{placed}
 use Rattle.layout.proofs.Deciding.{few-pieces}
+use Rattle.rules.specs.Questions.{badPieceLength, noFile, manyPieces, badRange, fewEntries}
 use Rattle.rules.proofs.Deciding.{below-is, offset-low, length-good, index-low, held-few}
 use borrow.Author.Needs.{needs}
 use Rattle.files.proofs.file.map_file.Statement.{statement}
@@ -124,19 +125,17 @@ refused-is : (c : tie.Else1) → eqb (firstOf (bytesRules (c .before .before .be
 refused-is c = sym (answered-is (c .before)) ∙ c .if1 .left
 
 refused-bytes-requires : tie.Need-refused-bytes-requires
-refused-bytes-requires c κs =
-    let a = c .before .before .before .before .before .before .args in
-    let o : SFits w64 (a .offset) = search needs in
-    let s : SFits w32 (a .size) = search needs in
-    let q : c .before .before .passes-position .result ≡ eqb (firstOf (positionRules (a .fs) (pos (ofZ w64 (a .index .0))) (a .offset) (a .size))) 0 = rw (c .before .before .before .before .file-or-past .ensures, toZ-ofZ o, toZ-ofZ s) at (c .before .before .passes-position .ensures) in
-    (rw (toZ-ofZ o, toZ-ofZ s) (refused-is c), λ h. rw (toZ-ofZ o, toZ-ofZ s) (q ∙ position-range (a .fs) (a .index .0) (a .offset) (a .size) h))
+refused-bytes-requires c κs = search needs
 
 returns-2 : tie.Need-returns-2
 returns-2 c =
     let a = c .before .before .before .before .before .before .before .args in
     let o : SFits w64 (a .offset) = search needs in
     let s : SFits w32 (a .size) = search needs in
-    rw (refused-is (c .before)) (ap refused (rw (toZ-ofZ o, toZ-ofZ s) at (c .refused-bytes .ensures)))
+    let e = refused-is (c .before) in
+    let q : c .before .before .before .passes-position .result ≡ eqb (firstOf (positionRules (a .fs) (pos (ofZ w64 (a .index .0))) (a .offset) (a .size))) 0 = rw (c .before .before .before .before .before .file-or-past .ensures, toZ-ofZ o, toZ-ofZ s) at (c .before .before .before .passes-position .ensures) in
+    let l = last-known (badPieceLength (a .fs) .test) (noFile (a .fs) (a .index .0) .test) (manyPieces (a .fs) .test) (badRange (a .offset) (a .size) .test) (leb (a .fs .«num_files») (length (a .rows .now) / 8) && fewEntries (a .fs)) _ (λ h. q ∙ position-range (a .fs) (a .index .0) (a .offset) (a .size) h) e in
+    rw e (ap refused (c .refused-bytes .ensures ∙ l))
 
 pub map-file-spec : {M : Type 1} → statement M
 map-file-spec =

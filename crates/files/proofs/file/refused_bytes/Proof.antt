@@ -1,10 +1,7 @@
 -- `files::file::refused_bytes` meets its contract: at each test those before it did not hold.
 use mathlib.Core.Path.{_≡_, sym, _∙_}
-use mathlib.Core.Bool.{true, false, _&&_}
-use lib.Dec.{leb}
-use borrow.Author.Tests.{not-true, not-false}
-use Rattle.rules.specs.Questions.{badPieceLength, noFile, manyPieces, badRange, fewEntries}
-use Rattle.files.proofs.Deciding.{last-known}
+use mathlib.Core.Bool.{true, false}
+use Rattle.rules.specs.Questions.{badPieceLength, noFile, manyPieces}
 use borrow.Author.Needs.{needs}
 use Rattle.files.proofs.file.refused_bytes.Statement.{statement}
 use Rattle.files.proofs.file.refused_bytes.Tie as tie
@@ -46,21 +43,10 @@ returns-3 c =
     rw (good (c .before .before .before .before), there (c .before .before), t)
 
 returns-4 : tie.Need-returns-4
-returns-4 c =
-    let a = c .before .before .before .before .before .before .before .args in
-    let h = c .before .before .before .before .before .before .before .pre in
-    let f = there (c .before .before .before) in
-    let t : badRange (a .offset) (a .size) .test ≡ false = not-true _ (sym (h .1 f) ∙ c .if4 .taken) in
-    last-known (badPieceLength (a .fs) .test) (noFile (a .fs) (a .index .0) .test) (manyPieces (a .fs) .test) (badRange (a .offset) (a .size) .test) (leb (a .fs .«num_files») (a .room) && fewEntries (a .fs))
-    (good (c .before .before .before .before .before)) f (few (c .before)) t (h .0)
+returns-4 c = rw (good (c .before .before .before .before .before), there (c .before .before .before), few (c .before), c .if4 .taken)
 
 returns-5 : tie.Need-returns-5
-returns-5 c =
-    let a = c .before .before .before .before .before .before .before .args in
-    let h = c .before .before .before .before .before .before .before .pre in
-    let f = there (c .before .before .before) in
-    let t : badRange (a .offset) (a .size) .test ≡ true = not-false _ (sym (h .1 f) ∙ c .if4 .left) in
-    rw (good (c .before .before .before .before .before), f, few (c .before), t)
+returns-5 c = rw (good (c .before .before .before .before .before), there (c .before .before .before), few (c .before), c .if4 .left)
 
 pub refused-bytes-spec : {M : Type 1} → statement M
 refused-bytes-spec =
