@@ -20,7 +20,7 @@ use Rattle.additions.specs.Addition as additions
 use Rattle.trim.specs.Trim.{tailPad, sizeAt, beginningAt, trimmedIf, trimmedOf}
 use Rattle.additions.proofs.Rules.{pad-none, pad-some}
 use Rattle.links.specs.Clean.{cleanedOf}
-use Rattle.renames.specs.Imports.{Naming}
+use Rattle.imports.specs.Imports.{Naming}
 use Rattle.sound.specs.Documents.{sizes}
 use Rattle.sound.proofs.Files.{sum-zero}
 use Rattle.reached.proofs.Cleaned.Files.{clean-map-same}

@@ -17,7 +17,7 @@ use Rattle.storage.specs.Opening.{newStorage}
 use Rattle.plan.specs.Write.{directoryIndexFrom}
 use Rattle.links.specs.Clean.{step, walk}
 use Rattle.renames.specs.Renames.{renamesFrom, orderedFrom}
-use Rattle.renames.specs.Imports.{Naming}
+use Rattle.imports.specs.Imports.{Naming}
 use Rattle.book.specs.Book.{Came, done, refused, Made, book}
 use Rattle.book.specs.Calls.{Renames, noEntries, Leads}
 use Rattle.book.specs.Calls as calls

@@ -21,7 +21,7 @@ use Rattle.rules.specs.Bounds.{badLength, isBelow, clampedOf}
 use Rattle.rules.specs.Questions.{fewEntries}
 use Rattle.renames.specs.Renames.{Renamed, renamesOf, orderedFrom, inOrder, withRename, renamedTo, lacksRoom, stateOf, wordsOf, textsOf}
 use Rattle.renames.specs.Renames as renames
-use Rattle.renames.specs.Imports.{Naming, fullPath, imported, hasNegative}
+use Rattle.imports.specs.Imports.{Naming, fullPath, imported, hasNegative}
 use Rattle.renames.proofs.Rising.{Rises, Small, rises-read, small-read, rises-with, small-with}
 use Rattle.renames.proofs.Decisions.{order-in}
 use Rattle.renames.proofs.Kept.{kept-order}

@@ -27,7 +27,7 @@ use Rattle.lookup.specs.Lookup.{entriesOf}
 use Rattle.links.specs.Clean.{cleanedOf}
 use Rattle.cleaning.specs.Cleaning.{Cleaned}
 use Rattle.renames.specs.Renames as renames
-use Rattle.renames.specs.Imports.{Naming, imported}
+use Rattle.imports.specs.Imports.{Naming, imported}
 use Rattle.sound.specs.Documents.{sizes}
 use Rattle.book.specs.Book.{Came, done, refused, Made, Book, book, add, isPlain, isOpen, hasRoot}
 use Rattle.book.specs.Refusals.{isNegative, bytesWith, bytesPadded, nameTested, badName, mustAgree, addingTable, hasRow, renamingTable, importingTable, tableFor, Says, AsTabled}

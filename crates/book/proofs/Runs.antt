@@ -33,7 +33,7 @@ use Rattle.cleaning.specs.Cleaning.{cleanedStore, Cleaned, cleanedTo, cleanStor
 use lib.Seq.{sets}
 use Rattle.renames.specs.Renames.{Renamed, inOrder, lacksRoom, renameFile, renamedTo, renamesOf, stateOf, wordsOf, textsOf}
 use Rattle.renames.specs.Renames as renames
-use Rattle.renames.specs.Imports.{Naming, hasNegative, imported, importFilenames}
+use Rattle.imports.specs.Imports.{Naming, hasNegative, imported, importFilenames}
 use Rattle.sound.proofs.Added.Answer.{sound-holds, adding-number}
 use Rattle.reached.proofs.Cleaned.Answer.{judging-is, space-enough}
 use Rattle.reached.proofs.Cleaned.{needed-is}

@@ -32,8 +32,8 @@ use Rattle.cleaning.specs.Cleaning.{Cleaned, cleanStored}
 use Rattle.renames.specs.Renames.{renameFile}
 use Rattle.renames.specs.Renames as renames
 use Rattle.renames.specs.Results.{renamesSays}
-use Rattle.renames.specs.Imports.{Naming, namings, listHeld, importFilenames, importLent}
-use Rattle.renames.proofs.Lent.{lent-held}
+use Rattle.imports.specs.Imports.{Naming, namings, listHeld, importFilenames, importLent}
+use Rattle.imports.proofs.Lent.{lent-held}
 use Rattle.rules.specs.Results.{requestSays}
 use Rattle.files.specs.Given.{fileMapped}
 use Rattle.mapping.specs.Table.{Filled, blockMapped}
@@ -53,9 +53,9 @@ use Rattle.cleaning.proofs.sanitize_symlinks.Reads as clean-reads
 use Rattle.renames.proofs.rename_file
 use Rattle.renames.proofs.rename_file.Kinds as rename-kinds
 use Rattle.renames.proofs.rename_file.Reads as rename-reads
-use Rattle.renames.proofs.import_filenames
-use Rattle.renames.proofs.import_filenames.Kinds as import-kinds
-use Rattle.renames.proofs.import_filenames.Reads as import-reads
+use Rattle.imports.proofs.import_filenames
+use Rattle.imports.proofs.import_filenames.Kinds as import-kinds
+use Rattle.imports.proofs.import_filenames.Reads as import-reads
 use Rattle.files.proofs.map_file
 use Rattle.files.proofs.map_file.Kinds as map-kinds
 use Rattle.files.proofs.map_file.Reads as map-reads

@@ -15,7 +15,7 @@ use lib.ListN.{length}
 use Rattle.lists.specs.Lists.{sum}
 use Rattle.tables.specs.Model.{Optional, absent, present}
 use Rattle.additions.specs.Addition.{Addition}
-use Rattle.renames.specs.Imports.{Naming}
+use Rattle.imports.specs.Imports.{Naming}
 
 -- a call, by its arguments
 pub data Call : Type 0 where

@@ -26,7 +26,7 @@ use Rattle.cleaning.specs.Cleaning.{Cleaned, cleanStored}
 use Rattle.renames.specs.declared.rename.RenamedFiles.{RenamedFiles}
 use Rattle.renames.specs.Renames.{renameFile}
 use Rattle.renames.specs.Renames as renames
-use Rattle.renames.specs.Imports.{Naming, importFilenames}
+use Rattle.imports.specs.Imports.{Naming, importFilenames}
 use Rattle.book.specs.Book.{Call, Came, Made}
 use Rattle.book.specs.Book as book
 

@@ -19,7 +19,7 @@ use Rattle.path.specs.Split.{rsplitLeaf, isComplete, hasParent}
 use Rattle.tables.specs.Model.{Optional, absent, present}
 use Rattle.rules.specs.Rules.{Rule, when, firstOf}
 use Rattle.additions.specs.Addition.{Addition}
-use Rattle.renames.specs.Imports.{Naming}
+use Rattle.imports.specs.Imports.{Naming}
 use Rattle.book.specs.Book.{Call, add, trim, clean, rename, «import», Came, done, refused, Made, Book, book}
 use Rattle.book.specs.Book.{bytesOf, sizeGiven, hasRoot, isPlain, isOpen, versionAfter, filling}
 

@@ -62,7 +62,7 @@ fn import_read(
     rows: &mut [u64],
     text: &mut [u8],
 ) -> RenamesResult {
-    renames::import_filenames(
+    imports::import_filenames(
         fs,
         held,
         places::words_of(rows, parts.entries),

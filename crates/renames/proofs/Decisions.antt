@@ -75,10 +75,6 @@ five-passed a b l o s p q h =
     let t = passes (when a 1 ∷ when b 11 ∷ when (not l) 10 ∷ when (not o) 10 ∷ when s 10 ∷ []) refl p q h in
     (allowed n q (eqb n 0) p h .0, not-false o (t .0 .1 .1 .1 .0), t .0 .1 .1 .1 .1 .0, t .1)
 
-pub five-held : {A : Type 0} (a b l o s : Bool) (p q : A) → value p ≡ outcomeOf (firstOf (when a 1 ∷ when b 11 ∷ when (not l) 10 ∷ when (not o) 10 ∷ when s 10 ∷ [])) q → l ≡ true
-five-held a b l o s p q h =
-    not-false l (passes (when a 1 ∷ when b 11 ∷ when (not l) 10 ∷ when (not o) 10 ∷ when s 10 ∷ []) refl p q h .0 .1 .1 .0)
-
 -- the last two, where the last is known only in order
 pub same-test : (o x y : Bool) → (o ≡ true → x ≡ y) → _≡_ {A = ℕ} (cond (not o) 10 (cond x 10 0)) (cond (not o) 10 (cond y 10 0))
 same-test true x y h = rw (h refl)

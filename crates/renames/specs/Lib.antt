@@ -2,5 +2,4 @@
 pub mod Renames
 pub mod Results
 pub mod Finding
-pub mod Imports
 pub mod private

@@ -1,5 +1,3 @@
 -- Definitions that only private functions cite.
 pub mod Slots
 pub mod Changing
-pub mod Importing
-pub mod Merging

@@ -48,7 +48,7 @@ fn are_in_order(entries: &[u64], n: usize, len: usize) -> bool
 }
 
 // Whether the lent tables hold what the record counts, in order; `room` is the length of the text area.
-pub(crate) fn is_in_order(renames: RenamedFiles, entries: &[u64], room: usize) -> bool
+pub fn is_in_order(renames: RenamedFiles, entries: &[u64], room: usize) -> bool
     ensures { λ r. ⌜ r ≡ inOrderIn renames (now (entries .entry)) room ⌝ }
 {
     if entries.len() / 3 < renames.num_renames {

@@ -3,23 +3,21 @@
 mod change;
 mod check;
 mod find;
-mod give;
-mod import;
-mod keep;
-mod listed;
-mod merge;
-mod notes;
 mod rename;
 mod slot;
 mod splice;
 
 pub use change::rename_file;
+pub use check::is_in_order;
 pub use find::export_filename;
 pub use find::find_rename;
-pub use import::import_filenames;
 pub use rename::FindResult;
 pub use rename::Rename;
 pub use rename::RenameMode;
 pub use rename::RenameResult;
 pub use rename::RenamedFiles;
 pub use rename::RenamesResult;
+pub use slot::is_named;
+pub use splice::move_up;
+pub use splice::move_words;
+pub use splice::put_three;

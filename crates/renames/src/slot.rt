@@ -2,7 +2,7 @@
 // `lists` and on the laws of proofs/Slots.antt.
 ghost use mathlib.Core.Path.{_≡_};
 ghost use Prim.Native.Nat.{_*_, _≤_, _<_, _^_};
-ghost use lib.ListN.{length};
+ghost use lib.ListN.{length, getD};
 ghost use Rattle.renames.specs.Finding.{belowFrom, bytesFrom, isNamed};
 ghost use Rattle.renames.specs.private.Slots.{slotAt, slotOf};
 use types::Refusal;
@@ -51,13 +51,22 @@ pub(crate) fn bytes_of(entries: &[u64], n: usize) -> usize
     sum
 }
 
+// The number of entry i, 0 past the end.
+fn number_at(entries: &[u64], i: usize) -> u64
+    ensures { λ r. ⌜ r ≡ getD (now (entries .entry)) (i * 3) 0 ⌝ }
+{
+    if entries.len() <= i {
+        return 0;
+    }
+    lists::word(entries, i * 3)
+}
+
 // Whether entry i is one of n, and has the number `file`.
-pub(crate) fn is_named(entries: &[u64], n: usize, file: u64, i: usize) -> bool
-    requires { ⌜ n * 3 ≤ length (now entries) ⌝ }
+pub fn is_named(entries: &[u64], n: usize, file: u64, i: usize) -> bool
     ensures { λ r. ⌜ r ≡ isNamed n file i (now (entries .entry)) ⌝ }
 {
     if i < n {
-        return lists::word(entries, i * 3) == file;
+        return number_at(entries, i) == file;
     }
     false
 }

@@ -6,16 +6,17 @@ ghost use Prim.Native.Nat.{_+_, _-_, _*_, _≤_};
 ghost use lib.ListN.{length, take, drop};
 ghost use lib.Seq.{sets};
 ghost use Rattle.renames.specs.private.Slots.{spliced};
+use lists::min_usize;
+use lists::saturating_sub_usize;
 use tables::Span;
 
-// Moves the bytes from `from` up to `used` up by `by` places, the last first.
-pub(crate) fn move_up(text: &mut [u8], used: usize, from: usize, by: usize)
-    requires { ⌜ (from ≤ used) × (used + by ≤ length (now text)) ⌝ }
+// Moves the bytes from `from` up to `used` up by `by` places, the last first; what falls past the end is dropped.
+pub fn move_up(text: &mut [u8], used: usize, from: usize, by: usize)
     ensures { λ _. ⌜
         now (text .exit) ≡ sets (now (text .entry)) (from + by) (drop from (take used (now (text .entry))))
         ⌝ }
 {
-    let mut i = used;
+    let mut i = min_usize(used, saturating_sub_usize(text.len(), by));
     while from < i {
         i -= 1;
         text[i + by] = text[i];
@@ -54,25 +55,26 @@ pub(crate) fn replace_text(text: &mut [u8], used: usize, at: usize, old: usize, 
     lists::copy_after(text, at, new);
 }
 
-// Moves the words from `from` up to `used` up by `by` places, the last first.
-pub(crate) fn move_words(words: &mut [u64], used: usize, from: usize, by: usize)
-    requires { ⌜ (from ≤ used) × (used + by ≤ length (now words)) ⌝ }
+// Moves the words from `from` up to `used` up by `by` places, the last first; what falls past the end is dropped.
+pub fn move_words(words: &mut [u64], used: usize, from: usize, by: usize)
     ensures { λ _. ⌜
         now (words .exit) ≡ sets (now (words .entry)) (from + by) (drop from (take used (now (words .entry))))
         ⌝ }
 {
-    let mut i = used;
+    let mut i = min_usize(used, saturating_sub_usize(words.len(), by));
     while from < i {
         i -= 1;
         words[i + by] = words[i];
     }
 }
 
-// Writes three words from place `at` on.
-pub(crate) fn put_three(words: &mut [u64], at: usize, first: u64, second: u64, third: u64)
-    requires { ⌜ at + 3 ≤ length (now words) ⌝ }
+// Writes three words from place `at` on, nothing past the end.
+pub fn put_three(words: &mut [u64], at: usize, first: u64, second: u64, third: u64)
     ensures { λ _. ⌜ now (words .exit) ≡ sets (now (words .entry)) at (first ∷ second ∷ third ∷ []) ⌝ }
 {
+    if words.len() <= at {
+        return;
+    }
     lists::put_word(words, at, first);
     lists::put_word(words, at + 1, second);
     lists::put_word(words, at + 2, third);

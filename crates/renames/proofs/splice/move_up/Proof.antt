@@ -11,8 +11,16 @@ Inv-loop text₀ used from by i₀ text i = Moving used from by text₀ text i
 abbrev μ-loop : tie.MeasureT-loop
 μ-loop text₀ used from by i₀ text i = i
 
+saturating-sub-usize-requires : tie.Need-saturating-sub-usize-requires Inv-loop μ-loop
+saturating-sub-usize-requires c κs = search needs
+
+min-usize-requires : tie.Need-min-usize-requires Inv-loop μ-loop
+min-usize-requires c κs = search needs
+
 loop-holds : tie.Need-loop-holds Inv-loop μ-loop
-loop-holds c = moving-start (c .args .used) (c .args .from) (c .args .by) (c .args .text .now) (c .pre .0) (c .pre .1)
+loop-holds c =
+    let a = c .before .before .before .args in
+    rw (c .min-usize .ensures, c .before .saturating-sub-usize .ensures) (moving-start (a .used) (a .from) (a .by) (a .text .now))
 
 sub-i : tie.Need-sub-i Inv-loop μ-loop
 sub-i c = search needs
@@ -31,16 +39,16 @@ loop-less c = search needs
 
 loop-again : tie.Need-loop-again Inv-loop μ-loop
 loop-again c =
-    let a = c .before .before .before .args in
+    let a = c .before .before .before .before .before .before .args in
     let l = c .before .before .loop in
     moving-turn (a .used) (a .from) (a .by) (a .text .now) (l .text) (l .i) (l .inv) (c .before .loop-test .taken)
 
 same-length : tie.Need-same-length Inv-loop μ-loop
-same-length c = c .before .loop .inv .3
+same-length c = c .before .loop .inv .1
 
 returns : tie.Need-returns Inv-loop μ-loop
 returns c =
-    let a = c .before .before .args in
+    let a = c .before .before .before .before .before .args in
     let l = c .before .loop in
     moving-end (a .used) (a .from) (a .by) (a .text .now) (l .text) (l .i) (l .inv) (c .loop-test .left)
 
@@ -50,6 +58,8 @@ move-up-spec =
     (tie.spec
     Inv-loop
     μ-loop
+    saturating-sub-usize-requires
+    min-usize-requires
     loop-holds
     sub-i
     slice-read-text
