@@ -1,20 +1,21 @@
--- Laws of the tests on parts of paths: a scan of a directory against a path, and a join compared part by part. They rely on
--- the kit's laws of lists and the laws of `path` and `lists`.
-use Prim.Native.Nat.{ℕ, _+_, _<_, _≤_}
-use mathlib.Core.Path.{_≡_, refl, sym, _∙_}
+-- Laws of the tests on parts of paths: a scan of a directory against a path, a join compared part by part, and a name
+-- at a path's end. They rely on the kit's laws of lists and the laws of `path` and `lists`.
+use Prim.Native.Nat.{ℕ, _+_, _-_, _<_, _≤_}
+use mathlib.Core.Path.{_≡_, refl, sym, ap, _∙_}
 use mathlib.Core.Bool.{Bool, true, false, cond, true≢false, false≢true}
-use mathlib.Core.List.{List, [], _∷_, _++_}
+use mathlib.Core.List.{List, [], _∷_, _++_, append-nil, append-assoc}
 use native.Mathlib.Omega.{arith}
 use native.Mathlib.Numerals.{add-one}
 use lib.Dec.{eqb}
-use lib.ListN.{length, getD, take, drop, drop-of-length-le}
-use lib.Seq.{drop-cons}
-use borrow.Author.Tests.{eq-eqb, ne-eqb, eqb-true}
+use lib.ListN.{length, length-append, length-drop, getD, take, drop, drop-of-length-le}
+use lib.Seq.{drop-cons, drop-append-seam, getD-drop}
+use borrow.Author.Tests.{eq-eqb, ne-eqb, eqb-true, le-leb, lt-leb}
 use Rattle.lists.specs.Lists.{equal}
+use Rattle.lists.proofs.Equality.{equal-true, equal-same, equal-differs, drop-ends, drop-turn}
 use Rattle.path.specs.Split.{isComplete}
 use Rattle.path.specs.Join.{isAlone, isClosed, appended}
 use Rattle.path.proofs.Joins.{no-bytes, some-bytes}
-use Rattle.lookup.specs.Lookup.{covers}
+use Rattle.lookup.specs.Lookup.{covers, endsWith}
 
 -- ---- a directory and a path
 
@@ -95,3 +96,64 @@ module _ (d name p : List ℕ) where
 
     pub joins-not : equal (cond (isClosed d) name (47 ∷ name)) (drop (length d) p) ≡ false → false ≡ equal (appended d name) p
     joins-not e = sym (joins-parts ∙ rw e)
+
+-- ---- a name at a path's end
+
+-- the test from the back: a name that is too long; else the end of p decides, which has the name's length
+module _ (n p : List ℕ) where
+  pub ends-long : length p < length n → false ≡ endsWith n p
+  ends-long h = rw (lt-leb (length n) (length p) h)
+
+  module _ (h : length n ≤ length p) where
+    ends-by : equal n (drop (length p - length n) p) ≡ endsWith n p
+    ends-by = rw (le-leb (length n) (length p) h)
+
+    ends-length : length (drop (length p - length n) p) ≡ length n
+    ends-length = length-drop (length p - length n) p ∙ omega arith
+
+    pub ends-start : drop (length n) n ≡ drop (length n) (drop (length p - length n) p)
+    ends-start = drop-ends n (drop (length p - length n) p) (length n) (omega arith) (omega (arith, ends-length))
+
+    pub ends-turn : (i : ℕ) → 0 < i → i ≤ length n → getD n (i - 1) 0 ≡ getD p (length p - length n + (i - 1)) 0
+        → drop i n ≡ drop i (drop (length p - length n) p) → drop (i - 1) n ≡ drop (i - 1) (drop (length p - length n) p)
+    ends-turn i z k e = drop-turn n (drop (length p - length n) p) i z k (omega (arith, ends-length)) (e ∙ sym (getD-drop (length p - length n) p (i - 1) 0))
+
+    pub ends-other : (i : ℕ) → (getD n i 0 ≡ getD p (length p - length n + i) 0 → ⊥) → false ≡ endsWith n p
+    ends-other i k = sym (equal-differs n (drop (length p - length n) p) i (λ e. k (e ∙ getD-drop (length p - length n) p i 0))) ∙ ends-by
+
+    pub ends-same : n ≡ drop (length p - length n) p → true ≡ endsWith n p
+    ends-same e = sym (equal-same n (drop (length p - length n) p) e) ∙ ends-by
+
+-- a list that ends in n
+ends-append : (x n : List ℕ) → endsWith n (x ++ n) ≡ true
+ends-append x n =
+    let l : length (x ++ n) ≡ length x + length n = length-append x n in
+    let m : length (x ++ n) - length n ≡ length x = omega (arith, l) in
+    sym (ends-same n (x ++ n) (omega (arith, l)) (sym (drop-append-seam x n) ∙ ap (λ (i : ℕ). drop i (x ++ n)) (sym m)))
+
+-- so a join with a name that p does not end with is not p
+module _ (n p : List ℕ) (h : endsWith n p ≡ false) where
+  not-append : (x : List ℕ) → x ++ n ≡ p → ⊥
+  not-append x e = true≢false (sym (ends-append x n) ∙ ap (endsWith n) e ∙ h)
+
+  not-joined : (x : List ℕ) → equal (x ++ n) p ≡ false
+  not-joined x = at (equal (x ++ n) p) refl
+    where
+      at : (t : Bool) → equal (x ++ n) p ≡ t → t ≡ false
+      at true e = absurd (not-append x (equal-true (x ++ n) p e))
+      at false e = refl
+
+  some-name : length n ≡ 0 → ⊥
+  some-name e = not-append p (append-none n e)
+    where
+      append-none : (y : List ℕ) → length y ≡ 0 → p ++ y ≡ p
+      append-none [] q = append-nil p
+      append-none (c ∷ t) q = absurd (omega arith)
+
+  pub ends-joined : (d : List ℕ) → equal (appended d n) p ≡ false
+  ends-joined d = rw (some-bytes n some-name) (go (isAlone d) (isClosed d))
+    where
+      go : (t u : Bool) → equal (cond t n (d ++ cond u n (47 ∷ n))) p ≡ false
+      go true u = not-joined []
+      go false true = not-joined d
+      go false false = rw (sym (append-assoc d (47 ∷ []) n)) (not-joined (d ++ 47 ∷ []))

@@ -1,5 +1,5 @@
 -- Laws of the set that the lent tables hold: what a row says of its file, and the files and directories from a place on, which a
--- scan has still before it. They rely on the laws of tables by their places (`tables`).
+-- scan has still before it. They rely on the laws of tables by their places (`tables`) and of names at a path's end.
 use Prim.Native.Nat.{ℕ, zero, suc, _+_, _-_, _%_, _/_, _<_, _≤_}
 use mathlib.Core.Path.{_≡_, refl, sym, ap, _∙_}
 use mathlib.Core.Bool.{Bool, true, false, cond, not, false≢true, _&&_}
@@ -17,9 +17,10 @@ use Rattle.tables.specs.Rows.{rowAt, dirAt, noPath, isAbsolute, directorySpan, 
 use Rattle.tables.specs.Model.{presentIf, single, absolute, stored, pathIn, Store, directoryText, directoryIn, internalPath, tabled}
 use Rattle.tables.proofs.Paths.{path-parts}
 use Rattle.tables.proofs.Tabled.{tabled-same}
-use Rattle.lookup.specs.Lookup.{Entry, ownPath, isHeld, heldText, covers, isDirectory, Seen, nothing, file, link, orHere, fileAt, isThere, known, isFlagged, entriesOf, directoriesOf, seenCode}
+use Rattle.lookup.specs.Lookup.{Entry, ownPath, isHeld, heldText, covers, endsWith, isDirectory, Seen, nothing, file, link, orHere, fileAt, isThere, known, isFlagged, entriesOf, directoriesOf, seenCode}
 use Rattle.lookup.specs.Space.{directoryLength}
 use Rattle.lookup.specs.private.Rows.{entryAt, entriesFrom, directoriesFrom}
+use Rattle.lookup.proofs.Paths.{ends-joined}
 
 -- ---- a row
 
@@ -43,6 +44,12 @@ module _ (s : Store) (i : ℕ) where
   -- its link text
   pub text-at : cond (has (rowAt (s .rows) i .flags) 16) (textAt (s .text) (rowAt (s .rows) i .link)) [] ≡ entryAt s i .text
   text-at = text-if (has (rowAt (s .rows) i .flags) 16) (textAt (s .text) (rowAt (s .rows) i .link))
+
+-- a path that does not end with a row's name is not the row's internal path
+pub not-own : (dirs text p : List ℕ) (r : Row) → endsWith (textAt text (r .name)) p ≡ false → equal (internalPath dirs text r) p ≡ false
+not-own dirs text p r h =
+    ap (λ (x : List ℕ). equal x p) (sym (path-parts dirs text r (textAt text (r .name))))
+    ∙ ends-joined (textAt text (r .name)) p h (textAt text (directorySpan dirs r))
 
 -- how many marks a file has, at most
 pub one-or-none : (b : Bool) (j : ℕ) → j ≡ cond b 1 0 → j ≤ 1

@@ -1,9 +1,10 @@
 -- Document 01, 'Links': what stands at a path in a set: a directory, a file, or a flagged link. It relies on the model
 -- of a set in `tables` and on the separator of `path`.
-use Prim.Native.Nat.{ℕ}
+use Prim.Native.Nat.{ℕ, _-_}
 use mathlib.Core.Bool.{Bool, true, false, cond}
 use mathlib.Core.List.{List, [], _∷_}
-use lib.Dec.{eqb}
+use lib.Dec.{eqb, leb}
+use lib.ListN.{length, drop}
 use Rattle.lists.specs.Lists.{equal}
 use Rattle.path.specs.Split.{isSeparator}
 use Rattle.tables.specs.declared.storage.FileStorage.{FileStorage}
@@ -52,6 +53,10 @@ covers (x ∷ d) (y ∷ p) = cond (eqb x y) (covers d p) false
 abbrev pub isDirectory : List (List ℕ) → List ℕ → Bool
 isDirectory [] p = false
 isDirectory (d ∷ ds) p = cond (covers d p) true (isDirectory ds p)
+
+-- p ends with n
+abbrev pub endsWith : List ℕ → List ℕ → Bool
+endsWith n p = cond (leb (length n) (length p)) (equal n (drop (length p - length n) p)) false
 
 -- nothing, a file, or a flagged link
 pub data Seen : Type 0 where

@@ -6,6 +6,7 @@ mod space;
 
 pub use set::covers_at;
 pub use set::directory_of;
+pub use set::ends_with_name;
 pub use set::file_at;
 pub use set::is_directory;
 pub use set::is_flagged;

@@ -1,11 +1,11 @@
-// Tests on parts of paths: a directory that covers a path, and a join compared part by part. They rely on
-// `lists`, `path` and the laws of proofs/Paths.antt.
+// Tests on parts of paths: a directory that covers a path, a join compared part by part, and a name at a path's end.
+// They rely on `lists`, `path` and the laws of proofs/Paths.antt.
 ghost use mathlib.Core.Path.{_≡_};
 ghost use mathlib.Core.Bool.{cond};
 ghost use mathlib.Core.List.{_∷_};
 ghost use Rattle.lists.specs.Lists.{equal};
 ghost use Rattle.path.specs.Join.{appended};
-ghost use Rattle.lookup.specs.Lookup.{covers};
+ghost use Rattle.lookup.specs.Lookup.{covers, endsWith};
 
 // Whether p is the directory d, or stands before one of its separators.
 pub(crate) fn is_covered(d: &[u8], p: &[u8]) -> bool
@@ -55,4 +55,23 @@ pub(crate) fn joins_to(d: &[u8], name: &[u8], p: &[u8]) -> bool
         return lists::same(d, lists::part(p, 0, k));
     }
     false
+}
+
+// Whether p ends with n. It goes from the last byte to the first, since names of one directory mostly differ near their
+// ends.
+pub(crate) fn ends_with(n: &[u8], p: &[u8]) -> bool
+    ensures { λ r. ⌜ r ≡ endsWith (now (n .entry)) (now (p .entry)) ⌝ }
+{
+    if p.len() < n.len() {
+        return false;
+    }
+    let before = p.len() - n.len();
+    let mut i = n.len();
+    while i > 0 {
+        i -= 1;
+        if n[i] != p[before + i] {
+            return false;
+        }
+    }
+    true
 }

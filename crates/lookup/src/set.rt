@@ -8,8 +8,9 @@ ghost use Rattle.lists.specs.Lists.{equal};
 ghost use Rattle.tables.specs.Span.{textAt};
 ghost use Rattle.tables.specs.Rows.{rowAt, dirAt, directorySpan, has, linkHeldBit};
 ghost use Rattle.tables.specs.Model.{internalPath};
-ghost use Rattle.lookup.specs.Lookup.{covers, isDirectory, fileAt, isThere, known, isFlagged, seenCode};
+ghost use Rattle.lookup.specs.Lookup.{covers, endsWith, isDirectory, fileAt, isThere, known, isFlagged, seenCode};
 ghost use Rattle.lookup.specs.Lookup.{filesIn, dirsIn};
+use crate::parts::ends_with;
 use crate::parts::is_covered;
 use crate::parts::joins_to;
 use tables::FileStorage;
@@ -57,18 +58,25 @@ pub fn directory_of<'a>(dirs: &[u64], text: &'a [u8], row: Row) -> &'a [u8]
     tables::text_at(text, tables::directory_span(dirs, row))
 }
 
-// Whether the internal path of file i is p.
+// Whether p ends with the name of file i.
+pub fn ends_with_name(rows: &[u64], text: &[u8], i: usize, p: &[u8]) -> bool
+    ensures { λ r. ⌜ r ≡ endsWith (textAt (now (text .entry)) (rowAt (now (rows .entry)) i .name)) (now (p .entry)) ⌝ }
+{
+    ends_with(tables::text_at(text, tables::row_at(rows, i).name), p)
+}
+
+// Whether the internal path of file i is p. The name is looked at first: most files say no by it.
 pub fn own_is(rows: &[u64], dirs: &[u64], text: &[u8], i: usize, p: &[u8]) -> bool
     ensures { λ r. ⌜
         r ≡ equal (internalPath (now (dirs .entry)) (now (text .entry)) (rowAt (now (rows .entry)) i)) (now (p .entry))
         ⌝ }
 {
     let row = tables::row_at(rows, i);
-    joins_to(
-        directory_of(dirs, text, row),
-        tables::text_at(text, row.name),
-        p,
-    )
+    let name = tables::text_at(text, row.name);
+    if !ends_with(name, p) {
+        return false;
+    }
+    joins_to(directory_of(dirs, text, row), name, p)
 }
 
 // Whether p is a stored directory of the set, or the part of one that stands before one of its separators.
