@@ -6,10 +6,10 @@ use mathlib.Core.Bool.{Bool, true, false, cond, not, false≢true}
 use mathlib.Core.List.{List, [], _∷_, map}
 use Prim.Native.Nat.{ℕ, _≤_, _<_}
 use native.Mathlib.Omega.{arith}
-use lib.Dec.{eqb, ltb}
+use lib.Dec.{eqb}
 use lib.IntN.{pos}
 use lib.ListN.{length}
-use borrow.Author.Tests.{eqb-true, eqb-false, ltb-false}
+use borrow.Author.Tests.{eqb-true, eqb-false}
 use Rattle.lists.specs.Lists.{sum, cleared}
 use Rattle.types.specs.Refusals.{value, refused}
 use Rattle.tables.specs.declared.storage.FileStorage.{FileStorage}
@@ -26,8 +26,7 @@ use Rattle.plan.specs.Outcomes.{addingNumber}
 use Rattle.trim.specs.Removal.{trimmedBy}
 use Rattle.lookup.specs.Space.{space}
 use Rattle.lookup.specs.Lookup.{lent, entriesOf}
-use Rattle.links.specs.Judging.{judgingNumber}
-use Rattle.cleaning.specs.Cleaning.{cleanedStore, textNeeded, Cleaned, cleanedTo, cleanStored}
+use Rattle.cleaning.specs.Cleaning.{cleanedStore, textNeeded, Cleaned, cleanedTo, cleaningNumber, cleanStored}
 use Rattle.sound.specs.Sound.{Sound}
 use Rattle.sound.specs.Documents.{sizes, EndToEnd, OnDisk, Marked, MadePad, OnPiece, Each, LinkEmpty}
 use Rattle.reached.specs.Reached.{Reached}
@@ -36,9 +35,9 @@ use Rattle.sound.proofs.Common.{sum-tabled}
 use Rattle.sound.proofs.Opened.{sound-opened, view-opened}
 use Rattle.sound.proofs.Added.Answer.{adding}
 use Rattle.sound.proofs.Trimmed.{view-trimmed, sound-trimmed}
-use Rattle.reached.proofs.Cleaned.Answer.{work-enough}
+use Rattle.reached.proofs.Cleaned.Answer.{enough}
 use Rattle.reached.proofs.Cleaned.{sound-cleaned, view-cleaned}
-use Rattle.reached.proofs.Cleaned.Lent.{cleaned-lent, needed-lent}
+use Rattle.reached.proofs.Cleaned.Lent.{cleaned-lent, number-lent}
 use Rattle.reached.proofs.Documents.{end-to-end, on-disk, marked, pads-made, on-piece}
 use Rattle.book.specs.Book.{Call, add, trim, clean, rename, «import», Made, Book, sizesOf, afterAddition, afterTrim, entry, book, Untrimmed}
 use Rattle.book.specs.Book as books
@@ -84,7 +83,7 @@ module _ {ℓ} (P : Made → Store → Type ℓ) (k : Call) (number : ℕ) (s t 
 abbrev pub trimNumber : Store → ℕ
 trimNumber s = firstOf (when (badLength (s .fs .«piece_length»)) 1 ∷ when (not (holds s)) 10 ∷ [])
 
--- the same of a cleaning, which is lent neither roots nor times: it is done where links can be judged and the texts have room
+-- the same of a cleaning, which is lent neither roots nor times
 module _ {ℓ} (P : Made → Store → Type ℓ) (s : Store) (marks stage path : List ℕ) where
   abbrev Cleans : Cleaned → Type ℓ
   Cleans c = P (call clean (cleanedBy s c)) (storeAfter (s .fs) (cleanedBy s c))
@@ -92,27 +91,23 @@ module _ {ℓ} (P : Made → Store → Type ℓ) (s : Store) (marks stage path :
   abbrev bare : Store
   bare = lent (s .fs) (s .rows) (s .dirs) (s .text)
 
-  abbrev judged : ℕ
-  judged = judgingNumber s (length marks) (length stage) (length path)
-
-  pub after-clean : (judged ≡ 0 → textNeeded s ≤ length (s .text) → P (record { call = clean; came = books.done }) (cleanedStore (length stage) s))
+  pub after-clean : (cleaningNumber s (length marks) (length stage) (length path) ≡ 0 → P (record { call = clean; came = books.done }) (cleanedStore (length stage) s))
       → ((k : ℕ) → P (record { call = clean; came = books.refused k }) s)
       → (c : Cleaned) → c ≡ cleanStored bare marks stage path → Cleans c
-  after-clean d r c e = subst Cleans (sym e) (at (eqb judged 0) refl (ltb (length (s .text)) (textNeeded bare)) refl)
+  after-clean d r c e = subst Cleans (sym e) (at (eqb number 0) refl)
     where
+      number : ℕ
+      number = cleaningNumber bare (length marks) (length stage) (length path)
+
       cleaned : Cleaned
       cleaned =
           cleanedTo (value (cleanedStore (length stage) bare .fs)) (cleanedStore (length stage) bare) (cleared marks) (cleared stage) (cleared path)
 
-      fits : ltb (length (s .text)) (textNeeded bare) ≡ false → textNeeded s ≤ length (s .text)
-      fits q = rw (needed-lent s) (ltb-false (length (s .text)) (textNeeded bare) q)
-
-      at : (a : Bool) → eqb judged 0 ≡ a → (b : Bool) → ltb (length (s .text)) (textNeeded bare) ≡ b
-          → Cleans (cond a (cond b (cleanedTo (refused 10) bare (cleared marks) (cleared stage) (cleared path)) cleaned) (cleanedTo (refused judged) bare marks stage path))
-      at true p true q = r 10
-      at true p false q =
-          subst (P (record { call = clean; came = books.done })) (cleaned-lent (length stage) s) (d (eqb-true judged 0 p) (fits q))
-      at false p b q = r judged
+      at : (b : Bool) → eqb number 0 ≡ b → Cleans (cond b cleaned (cleanedTo (refused number) bare marks stage path))
+      at true q =
+          subst (P (record { call = clean; came = books.done })) (cleaned-lent (length stage) s)
+          (d (number-lent s (length marks) (length stage) (length path) ∙ eqb-true number 0 q))
+      at false q = r number
 
 -- ---- opening
 
@@ -227,7 +222,7 @@ agrees {n} (calls.trim {made} {s} c p e) =
 agrees {n} (calls.cleaning {made} {s} marks stage path c p e) =
     let g = agrees p in
     after-clean (λ (m : Made) (t : Store). Agrees n (m ∷ made) t) s marks stage path
-    (λ z room. agrees-cleaned (length stage) s g room (work-enough s (length marks) (length stage) (length path) z))
+    (λ z. let h = enough s (length marks) (length stage) (length path) z in agrees-cleaned (length stage) s g (h .0) (h .1))
     (λ k. agrees-refused clean k g)
     c
     e
@@ -264,7 +259,7 @@ reached (calls.trim {made} {s} c p e) =
     e
 reached (calls.cleaning {made} {s} marks stage path c p e) =
     after-clean (λ (m : Made) (t : Store). Reached (viewOf t)) s marks stage path
-    (λ z room. subst Reached (sym (view-cleaned s (agrees p .sound) (length stage) room (work-enough s (length marks) (length stage) (length path) z))) (reach.cleaning (reached p)))
+    (λ z. let h = enough s (length marks) (length stage) (length path) z in subst Reached (sym (view-cleaned s (agrees p .sound) (length stage) (h .0) (h .1))) (reach.cleaning (reached p)))
     (λ k. reached p)
     c
     e
@@ -291,8 +286,9 @@ untrimmed (calls.trim {made} {s} c p e) u =
     u
 untrimmed (calls.cleaning {made} {s} marks stage path c p e) u =
     after-clean (λ (m : Made) (t : Store). Untrimmed (m ∷ made) → viewOf t .trimmed ≡ false) s marks stage path
-    (λ z room w.
-    ap (λ (m : Model). m .trimmed) (view-cleaned s (agrees p .sound) (length stage) room (work-enough s (length marks) (length stage) (length path) z))
+    (λ z w.
+    let h = enough s (length marks) (length stage) (length path) z in
+    ap (λ (m : Model). m .trimmed) (view-cleaned s (agrees p .sound) (length stage) (h .0) (h .1))
     ∙ untrimmed p (w .1))
     (λ k w. untrimmed p (w .1))
     c

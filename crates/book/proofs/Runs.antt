@@ -2,7 +2,7 @@
 -- from every newly opened set, whatever its tables hold, every list of calls has a run, a refused call can be made again on
 -- longer tables, and after every list of calls an addition is refused as document 01's table says. Relies on the
 -- definitions, on Agree.antt and on Lent.antt, and on `sound` and `reached` for what an addition and a cleaning answer.
-use mathlib.Core.Path.{_≡_, refl, sym, ap, ap₂, subst, _∙_}
+use mathlib.Core.Path.{_≡_, refl, sym, ap, subst, _∙_}
 use mathlib.Core.Bool.{Bool, true, false, cond, not}
 use mathlib.Core.List.{List, [], _∷_, _++_, map}
 use Prim.Native.Nat.{ℕ, _*_, _≤_, _<_, max}
@@ -29,13 +29,13 @@ use Rattle.links.specs.Clean.{cleanedOf}
 use Rattle.lookup.specs.Space.{space, linkCount, lacksSpace}
 use Rattle.lookup.specs.Lookup.{lent, entriesOf}
 use Rattle.lists.specs.Lists.{cleared}
-use Rattle.cleaning.specs.Cleaning.{cleanedStore, Cleaned, cleanedTo, cleanStored}
+use Rattle.cleaning.specs.Cleaning.{cleanedStore, Cleaned, cleanedTo, cleaningNumber, cleanStored}
 use lib.Seq.{sets}
 use Rattle.renames.specs.Renames.{Renamed, inOrder, lacksRoom, renameFile, renamedTo, renamesOf, stateOf, wordsOf, textsOf}
 use Rattle.renames.specs.Renames as renames
 use Rattle.imports.specs.Imports.{Naming, hasNegative, imported, importFilenames}
 use Rattle.sound.proofs.Added.Answer.{sound-holds, adding-number}
-use Rattle.reached.proofs.Cleaned.Answer.{judging-is, space-enough}
+use Rattle.reached.proofs.Cleaned.Answer.{number-is, space-enough}
 use Rattle.reached.proofs.Cleaned.{needed-is}
 use Rattle.reached.proofs.Cleaned.Lent.{clean-lent}
 use Rattle.book.specs.Book.{Call, add, trim, clean, rename, «import», Came, done, refused, Made}
@@ -194,7 +194,7 @@ still number s t i =
 
 still-clean : (s : Store) (marks stage path : List ℕ) (i : ℕ) → cameOf (cleanStored (lent (s .fs) (s .rows) (s .dirs) (s .text)) marks stage path .says) ≡ refused i → storeAfter (s .fs) (cleanedBy s (cleanStored (lent (s .fs) (s .rows) (s .dirs) (s .text)) marks stage path)) ≡ s
 still-clean s marks stage path i =
-    after-clean (λ (m : Made) (u : Store). m .came ≡ refused i → u ≡ s) s marks stage path (λ z h e. cc) (λ k e. refl) (cleanStored (lent (s .fs) (s .rows) (s .dirs) (s .text)) marks stage path) refl
+    after-clean (λ (m : Made) (u : Store). m .came ≡ refused i → u ≡ s) s marks stage path (λ z e. cc) (λ k e. refl) (cleanStored (lent (s .fs) (s .rows) (s .dirs) (s .text)) marks stage path) refl
 
 still-names : (k : ℕ) (rs : List Renamed) (r : Renames) (i : ℕ) → cameOf (renames.renamesChangedIf k rs (r .entries) (r .text) .says) ≡ refused i → renamesAfter r (renames.renamesChangedIf k rs (r .entries) (r .text)) ≡ r
 still-names k rs r i e = at (eqb k 0) e
@@ -300,6 +300,21 @@ came-if k s t = at (eqb k 0)
     at true = refl
     at false = refl
 
+-- the same of a cleaning
+came-clean : (s : Store) (marks stage path : List ℕ) → cameOf (cleanStored s marks stage path .says) ≡ cameBy (cleaningNumber s (length marks) (length stage) (length path))
+came-clean s marks stage path = at (eqb number 0)
+  where
+    number : ℕ
+    number = cleaningNumber s (length marks) (length stage) (length path)
+
+    cleaned : Cleaned
+    cleaned =
+        cleanedTo (value (cleanedStore (length stage) s .fs)) (cleanedStore (length stage) s) (cleared marks) (cleared stage) (cleared path)
+
+    at : (b : Bool) → cameOf (cond b cleaned (cleanedTo (outcomes.refused number) s marks stage path) .says) ≡ cond b done (refused number)
+    at true = refl
+    at false = refl
+
 module _ {n : ℕ} {made : List Made} {s : Store} {r : Renames} (p : Leads n made s r) where
   pub good : badLength (s .fs .«piece_length») ≡ false
   good = let g = agrees p in rw (g .lengths, le-ltb n 1 (g .some)) (le-ltb 2147483647 n (g .short))
@@ -334,22 +349,9 @@ module _ {n : ℕ} {made : List Made} {s : Store} {r : Renames} (p : Leads n mad
   pub clean-answer : (marks stage path : List ℕ) → answerOf s r (cleaning marks stage path) .came ≡ cameBy (firstOf (cleanRefusals s marks stage path))
   clean-answer marks stage path =
       ap (λ (x : Cleaned). cameOf (x .says)) (clean-lent s marks stage path)
-      ∙ ap₂ (λ (k t : ℕ). cameOf (said k (ltb (length (s .text)) t) .says)) (judging-is s (length marks) (length stage) (length path) (agrees p .sound) good) (needed-is s (agrees p .sound))
-      ∙ at (lacksSpace (entriesOf s) (length marks) (length stage) (length path)) (ltb (length (s .text)) (textOf (cleanedOf (viewOf s))))
-    where
-      -- by the number of the judging, and whether the texts have no room
-      said : ℕ → Bool → Cleaned
-      said k short =
-          cond (eqb k 0)
-          (cond short
-          (cleanedTo (outcomes.refused 10) s (cleared marks) (cleared stage) (cleared path))
-          (cleanedTo (value (cleanedStore (length stage) s .fs)) (cleanedStore (length stage) s) (cleared marks) (cleared stage) (cleared path)))
-          (cleanedTo (outcomes.refused k) s marks stage path)
-
-      at : (lacks short : Bool) → cameOf (said (cond lacks 10 0) short .says) ≡ cameBy (cond lacks 10 (cond short 10 0))
-      at true short = refl
-      at false true = refl
-      at false false = refl
+      ∙ came-clean s marks stage path
+      ∙ ap cameBy (number-is s (length marks) (length stage) (length path) (agrees p .sound) good)
+      ∙ ap (λ (t : ℕ). cameBy (cond (lacksSpace (entriesOf s) (length marks) (length stage) (length path)) 10 (cond (ltb (length (s .text)) t) 10 0))) (needed-is s (agrees p .sound))
 
   -- done with document 01's work space, and room for the texts that the set then has
   pub clean-done : (marks stage path : List ℕ) → linkCount (entriesOf s) ≤ length marks → space (entriesOf s) ≤ length stage → 2 * space (entriesOf s) ≤ length path

@@ -7,22 +7,21 @@ use mathlib.Core.Logic.{⊎-elim}
 use mathlib.Core.List.{List, [], _∷_}
 use native.Mathlib.Omega.{arith}
 use native.Mathlib.Nat.{sub-zero}
-use lib.Dec.{eqb}
 use lib.ListN.{length, getD, List·getD-eq-default}
 use lib.Seq.{sets, length-sets}
-use borrow.Author.Tests.{ne-eqb}
 use Rattle.lists.proofs.Orders.{le-or-lt}
 use Rattle.lists.proofs.Runs.{getD-sets, getD-sets-below, getD-sets-above}
 use Rattle.tables.specs.declared.span.Span.{Span}
 use Rattle.tables.specs.declared.rows.Row.{Row}
 use Rattle.tables.specs.Rows.{rowAt, words, putRow}
-use Rattle.tables.specs.Model.{Store, fileOf}
+use Rattle.tables.specs.Model.{Store}
 use Rattle.tables.proofs.Filled.{word-filled, word-behind}
-use Rattle.lookup.specs.Lookup.{entryOf, isFlagged}
-use Rattle.links.specs.Judging.{textBy}
-use Rattle.texts.specs.Texts.{rowLowered, rowsLowered, linked, cutOut, goneAt, relinked}
-use Rattle.cleaning.specs.Cleaning.{textFits, writtenAt, rewrittenAt, emptied, rewritten}
-use Rattle.cleaning.specs.private.Writing.{flagsIn, verdictBy, markAfter, verdictsBy, passed, emptiedAt}
+use Rattle.lookup.specs.Lookup.{isFlagged}
+use Rattle.links.specs.declared.mark.LinkVerdict.{LinkVerdict}
+use Rattle.links.specs.declared.mark.LinkVerdict.the-variants.{Keep, OwnPath, FromDirectory}
+use Rattle.texts.specs.Texts.{rowLowered, rowsLowered, linked, cutOut, goneAt, relinked, ownFits, besideFits, ownText, textBeside}
+use Rattle.cleaning.specs.Cleaning.{emptiedAt, emptied, rewrittenAt, rewritten}
+use Rattle.cleaning.specs.private.Writing.{flagsIn, verdictBy, markAfter, verdictsBy, passed}
 
 -- ---- flags stay
 
@@ -53,8 +52,8 @@ flags-lowered rows n c j =
     (le-or-lt m j)
 
 -- each step leaves every row's flags
-abbrev pub Keeps : (ℕ → Store → ℕ → Store) → Type 0
-Keeps f = (v : ℕ) (s : Store) (i j : ℕ) → flagsIn (f v s i .rows) j ≡ flagsIn (s .rows) j
+abbrev pub Keeps : (LinkVerdict → Store → ℕ → Store) → Type 0
+Keeps f = (v : LinkVerdict) (s : Store) (i j : ℕ) → flagsIn (f v s i .rows) j ≡ flagsIn (s .rows) j
 
 flags-linked : (s : Store) (i : ℕ) (t : List ℕ) (j : ℕ) → flagsIn (linked s i t .rows) j ≡ flagsIn (s .rows) j
 flags-linked s i t j = flags-put (s .rows) i _ j refl
@@ -63,47 +62,41 @@ flags-relinked : (s : Store) (i : ℕ) (t : List ℕ) (j : ℕ) → flagsIn (rel
 flags-relinked s i t j =
     flags-linked (cutOut s (goneAt s i)) i t j ∙ flags-lowered (s .rows) (s .fs .«num_files») (goneAt s i) j
 
-kept-if : (b : Bool) (x y s : Store) (j : ℕ) → flagsIn (x .rows) j ≡ flagsIn (s .rows) j → flagsIn (y .rows) j ≡ flagsIn (s .rows) j → flagsIn (cond b x y .rows) j ≡ flagsIn (s .rows) j
-kept-if true x y s j p q = p
-kept-if false x y s j p q = q
+flags-if : (b : Bool) (x s : Store) (j : ℕ) → flagsIn (x .rows) j ≡ flagsIn (s .rows) j → flagsIn (cond b x s .rows) j ≡ flagsIn (s .rows) j
+flags-if true x s j p = p
+flags-if false x s j p = refl
 
 pub emptied-keeps : Keeps emptiedAt
-emptied-keeps v s i j = kept-if (eqb v 1) (relinked s i []) s s j (flags-relinked s i [] j) refl
+emptied-keeps Keep s i j = refl
+emptied-keeps OwnPath s i j = flags-relinked s i [] j
+emptied-keeps FromDirectory s i j = refl
 
 pub rewritten-keeps : (n : ℕ) → Keeps (rewrittenAt n)
-rewritten-keeps n v s i j =
-    let t = textBy v (entryOf (fileOf s i)) in
-    kept-if (eqb v 0) s (cond (textFits n v s i) (writtenAt v s i) s) s j refl
-    (kept-if (textFits n v s i) (writtenAt v s i) s s j
-    (kept-if (eqb v 0) s (cond (eqb v 1) (linked s i t) (relinked s i t)) s j refl
-    (kept-if (eqb v 1) (linked s i t) (relinked s i t) s j (flags-linked s i t j) (flags-relinked s i t j)))
-    refl)
-
--- ---- by the verdict
-
--- any verdict but 0 and 1 is that for the text from the link's directory
-pub other-verdict : (n v : ℕ) (s : Store) (i : ℕ) → (v ≡ 0 → ⊥) → (v ≡ 1 → ⊥) → rewrittenAt n 2 s i ≡ rewrittenAt n v s i
-other-verdict n v s i h k = rw (ne-eqb v 0 h, ne-eqb v 1 k)
+rewritten-keeps n Keep s i j = refl
+rewritten-keeps n OwnPath s i j =
+    flags-if (ownFits s i (ownText s i)) (linked s i (ownText s i)) s j (flags-linked s i (ownText s i) j)
+rewritten-keeps n FromDirectory s i j =
+    flags-if (besideFits n s i (textBeside s i)) (relinked s i (textBeside s i)) s j (flags-relinked s i (textBeside s i) j)
 
 -- ---- a pass
 
-pub emptied-pass : (vs : List ℕ) (i : ℕ) (s : Store) → passed emptiedAt vs i s ≡ emptied vs i s
+pub emptied-pass : (vs : List LinkVerdict) (i : ℕ) (s : Store) → passed emptiedAt vs i s ≡ emptied vs i s
 emptied-pass [] i s = refl
 emptied-pass (v ∷ vs) i s = emptied-pass vs (i + 1) (emptiedAt v s i)
 
-pub rewritten-pass : (n : ℕ) (vs : List ℕ) (i : ℕ) (s : Store) → passed (rewrittenAt n) vs i s ≡ rewritten n vs i s
+pub rewritten-pass : (n : ℕ) (vs : List LinkVerdict) (i : ℕ) (s : Store) → passed (rewrittenAt n) vs i s ≡ rewritten n vs i s
 rewritten-pass n [] i s = refl
 rewritten-pass n (v ∷ vs) i s = rewritten-pass n vs (i + 1) (rewrittenAt n v s i)
 
 -- the texts that go leave every row's flags, and so the verdicts
-pub emptied-flags : (vs : List ℕ) (i : ℕ) (s : Store) (j : ℕ) → flagsIn (emptied vs i s .rows) j ≡ flagsIn (s .rows) j
+pub emptied-flags : (vs : List LinkVerdict) (i : ℕ) (s : Store) (j : ℕ) → flagsIn (emptied vs i s .rows) j ≡ flagsIn (s .rows) j
 emptied-flags [] i s j = refl
 emptied-flags (v ∷ vs) i s j = emptied-flags vs (i + 1) (emptiedAt v s i) j ∙ emptied-keeps v s i j
 
 pub verdicts-same : (g h : ℕ → ℕ) → ((j : ℕ) → g j ≡ h j) → (marks : List ℕ) (n i k : ℕ) → verdictsBy g marks n i k ≡ verdictsBy h marks n i k
 unfolding verdictsBy
 verdicts-same g h e marks zero i k = refl
-verdicts-same g h e marks (suc n) i k = rw (e i) (ap (λ (vs : List ℕ). verdictBy (h i) marks k ∷ vs) (verdicts-same g h e marks n (i + 1) (markAfter (h i) k)))
+verdicts-same g h e marks (suc n) i k = rw (e i) (ap (λ (vs : List LinkVerdict). verdictBy (h i) marks k ∷ vs) (verdicts-same g h e marks n (i + 1) (markAfter (h i) k)))
 
 pub both-passes : (size n : ℕ) (marks : List ℕ) (s t : Store) → t ≡ emptied (verdictsBy (flagsIn (s .rows)) marks n 0 0) 0 s
     → rewritten size (verdictsBy (flagsIn (t .rows)) marks n 0 0) 0 t
@@ -111,7 +104,7 @@ pub both-passes : (size n : ℕ) (marks : List ℕ) (s t : Store) → t ≡ empt
 both-passes size n marks s t e =
     let vs = verdictsBy (flagsIn (s .rows)) marks n 0 0 in
     let same : (j : ℕ) → flagsIn (t .rows) j ≡ flagsIn (s .rows) j = λ j. ap (λ (x : Store). flagsIn (x .rows) j) e ∙ emptied-flags vs 0 s j in
-    ap (λ (ws : List ℕ). rewritten size ws 0 t) (verdicts-same (flagsIn (t .rows)) (flagsIn (s .rows)) same marks n 0 0)
+    ap (λ (ws : List LinkVerdict). rewritten size ws 0 t) (verdicts-same (flagsIn (t .rows)) (flagsIn (s .rows)) same marks n 0 0)
     ∙ ap (rewritten size vs 0) e
 
 -- the verdicts still to come, file by file; marks are no more than files
@@ -132,7 +125,7 @@ mark-behind flags k i h = at (isFlagged flags)
     at false = omega arith
 
 -- i files are passed, k flagged links among them: the flags are those at the start, and what is still to do gives the whole
-module _ (f : ℕ → Store → ℕ → Store) (marks : List ℕ) (n : ℕ) (s₀ : Store) where
+module _ (f : LinkVerdict → Store → ℕ → Store) (marks : List ℕ) (n : ℕ) (s₀ : Store) where
   pub record Going (s : Store) (i k : ℕ) : Type 0 where
     pub within : i ≤ n
     pub counted : k ≤ i
@@ -156,18 +149,18 @@ module _ (f : ℕ → Store → ℕ → Store) (marks : List ℕ) (n : ℕ) (s�
 
   pub going-end : (s : Store) (i k : ℕ) → Going s i k → n ≤ i → s ≡ passed f (verdictsBy (flagsIn (s₀ .rows)) marks n 0 0) 0 s₀
   going-end s i k p h =
-      ap (λ (vs : List ℕ). passed f vs i s) (sym (verdicts-end (flagsIn (s₀ .rows)) marks n i k h)) ∙ p .rest
+      ap (λ (vs : List LinkVerdict). passed f vs i s) (sym (verdicts-end (flagsIn (s₀ .rows)) marks n i k h)) ∙ p .rest
 
-  pub going-turn : Keeps f → (s : Store) (i k : ℕ) → Going s i k → i < n → (s′ : Store) {verdict k′ : ℕ}
+  pub going-turn : Keeps f → (s : Store) (i k : ℕ) → Going s i k → i < n → (s′ : Store) {verdict : LinkVerdict} {k′ : ℕ}
       → verdict ≡ verdictBy (flagsIn (s .rows) i) marks k → s′ ≡ f verdict s i → k′ ≡ markAfter (flagsIn (s .rows) i) k
       → length (s′ .rows) ≡ length (s .rows) → length (s′ .dirs) ≡ length (s .dirs) → length (s′ .text) ≡ length (s .text)
       → Going s′ (i + 1) k′
   going-turn keeps s i k p h s′ {verdict} {k′} e step mark rows dirs text =
       let g = flagsIn (s₀ .rows) in
       let q : s′ ≡ f (verdictBy (g i) marks k) s i =
-      step ∙ ap (λ (v : ℕ). f v s i) (e ∙ ap (λ (x : ℕ). verdictBy x marks k) (p .flags i)) in
+      step ∙ ap (λ (v : LinkVerdict). f v s i) (e ∙ ap (λ (x : ℕ). verdictBy x marks k) (p .flags i)) in
       let m : k′ ≡ markAfter (g i) k = mark ∙ ap (λ (x : ℕ). markAfter x k) (p .flags i) in
-      let done = ap (λ (vs : List ℕ). passed f vs i s) (sym (verdicts-turn g marks n i k h)) ∙ p .rest in
+      let done = ap (λ (vs : List LinkVerdict). passed f vs i s) (sym (verdicts-turn g marks n i k h)) ∙ p .rest in
       record {
         within = omega arith;
         counted = rw m (mark-behind (g i) k i (p .counted));

@@ -2,44 +2,25 @@
 -- verdicts and of a new text's parts.
 use Prim.Native.Nat.{ℕ, _+_, _-_, _≤_, _<_}
 use mathlib.Core.Path.{_≡_, refl, sym, ap, _∙_}
-use mathlib.Core.Bool.{Bool, true, false, cond}
+use mathlib.Core.Bool.{Bool, true, false}
 use mathlib.Core.Logic.{⊎-elim}
 use mathlib.Core.List.{List, [], _∷_}
 use native.Mathlib.Omega.{arith}
 use native.Mathlib.Nat.{sub-zero}
-use lib.Dec.{eqb, ltb}
+use lib.Dec.{ltb}
 use lib.ListN.{length}
 use borrow.Author.Tests.{lt-ltb, le-ltb}
 use Rattle.lists.proofs.Orders.{le-or-lt}
-use Rattle.path.specs.Join.{appended}
-use Rattle.tables.specs.declared.rows.Row.{Row}
-use Rattle.tables.specs.Span.{textAt}
-use Rattle.tables.specs.Rows.{rowAt, directorySpan}
+use Rattle.tables.specs.Rows.{rowAt}
 use Rattle.tables.specs.Model.{Store, fileOf}
 use Rattle.lookup.specs.Lookup.{entryOf}
+use Rattle.links.specs.declared.mark.LinkVerdict.{LinkVerdict}
+use Rattle.links.specs.declared.mark.LinkVerdict.the-variants.{Keep, OwnPath, FromDirectory}
 use Rattle.links.specs.Judging.{textBy}
-use Rattle.texts.specs.Texts.{ownText, textBeside, linkSpan}
 use Rattle.texts.proofs.NewTexts.{own-parts, beside-parts}
-use Rattle.cleaning.specs.Cleaning.{keptAfter, newBytes}
-use Rattle.cleaning.specs.private.Writing.{verdictBy, markAfter, verdictsBy, leafSpan, goneBytes, newLength, leftBy, sumBy, neededBy}
+use Rattle.cleaning.specs.Cleaning.{ifChanged, keptAfter, newBytes}
+use Rattle.cleaning.specs.private.Writing.{verdictBy, markAfter, verdictsBy, goneBytes, newLength, leftBy, sumBy, neededBy}
 use Rattle.cleaning.proofs.Passes.{verdicts-turn, verdicts-end, mark-behind}
-
--- ---- a new text by its parts
-
-module _ (s : Store) (i : ℕ) where
-  abbrev row : Row
-  row = rowAt (s .rows) i
-
-  abbrev branch : List ℕ
-  branch = textAt (s .text) (directorySpan (s .dirs) row)
-
-  text-parts : (b : Bool) → cond b (ownText s i) (textBeside s i) ≡ appended branch (textAt (s .text) (cond b (row .name) (linkSpan row)))
-  text-parts true = own-parts s i
-  text-parts false = beside-parts s i
-
-  -- the text that a verdict gives
-  text-by : (v : ℕ) → eqb v 0 ≡ false → textBy v (entryOf (fileOf s i)) ≡ appended branch (textAt (s .text) (leafSpan v row))
-  text-by v e = rw e (text-parts (eqb v 1))
 
 -- ---- a room less a number, and what is left of it
 
@@ -55,7 +36,7 @@ ltb-over r a b h = sym (lt-ltb r (a + b) (omega arith))
 
 -- ---- file by file
 
-module _ (h : ℕ → ℕ → ℕ) (g : ℕ → ℕ) (marks : List ℕ) (n : ℕ) where
+module _ (h : LinkVerdict → ℕ → ℕ) (g : ℕ → ℕ) (marks : List ℕ) (n : ℕ) where
   -- i files are passed, k flagged links among them, and so many bytes are left
   module _ (u : ℕ) where
     abbrev pub Leaving : ℕ → ℕ → ℕ → Type 0
@@ -67,10 +48,10 @@ module _ (h : ℕ → ℕ → ℕ) (g : ℕ → ℕ) (marks : List ℕ) (n : ℕ
     pub leaving-turn : (left i k : ℕ) → Leaving left i k → i < n → {left′ k′ : ℕ}
         → left′ ≡ left - h (verdictBy (g i) marks k) i → k′ ≡ markAfter (g i) k → Leaving left′ (i + 1) k′
     leaving-turn left i k (b, m, e) t p q =
-        (omega arith, rw q (mark-behind (g i) k i m), rw (p, q) (ap (λ (vs : List ℕ). leftBy h vs i left) (sym (verdicts-turn g marks n i k t)) ∙ e))
+        (omega arith, rw q (mark-behind (g i) k i m), rw (p, q) (ap (λ (vs : List LinkVerdict). leftBy h vs i left) (sym (verdicts-turn g marks n i k t)) ∙ e))
 
     pub leaving-end : (left i k : ℕ) → Leaving left i k → n ≤ i → left ≡ leftBy h (verdictsBy g marks n 0 0) 0 u
-    leaving-end left i k (b, m, e) t = ap (λ (vs : List ℕ). leftBy h vs i left) (sym (verdicts-end g marks n i k t)) ∙ e
+    leaving-end left i k (b, m, e) t = ap (λ (vs : List LinkVerdict). leftBy h vs i left) (sym (verdicts-end g marks n i k t)) ∙ e
 
     -- the same for a sum that is taken off
     abbrev pub Taking : ℕ → ℕ → ℕ → Type 0
@@ -81,7 +62,7 @@ module _ (h : ℕ → ℕ → ℕ) (g : ℕ → ℕ) (marks : List ℕ) (n : ℕ
 
     module _ (left i k : ℕ) (p : Taking left i k) where
       taking-next : i < n → ltb left (h (verdictBy (g i) marks k) i + sumBy h (verdictsBy g marks (n - (i + 1)) (i + 1) (markAfter (g i) k)) (i + 1)) ≡ ltb u (sumBy h (verdictsBy g marks n 0 0) 0)
-      taking-next t = ap (λ (vs : List ℕ). ltb left (sumBy h vs i)) (sym (verdicts-turn g marks n i k t)) ∙ p .2
+      taking-next t = ap (λ (vs : List LinkVerdict). ltb left (sumBy h vs i)) (sym (verdicts-turn g marks n i k t)) ∙ p .2
 
       pub taking-stop : i < n → left < h (verdictBy (g i) marks k) i → true ≡ ltb u (sumBy h (verdictsBy g marks n 0 0) 0)
       taking-stop t o = ltb-over left _ _ o ∙ taking-next t
@@ -92,27 +73,26 @@ module _ (h : ℕ → ℕ → ℕ) (g : ℕ → ℕ) (marks : List ℕ) (n : ℕ
           (omega arith, rw q (mark-behind (g i) k i (p .1)), rw (a, q) (ltb-less left _ _ o ∙ taking-next t))
 
       pub taking-end : n ≤ i → false ≡ ltb u (sumBy h (verdictsBy g marks n 0 0) 0)
-      taking-end t = sym (le-ltb left 0 (omega arith)) ∙ ap (λ (vs : List ℕ). ltb left (sumBy h vs i)) (sym (verdicts-end g marks n i k t)) ∙ p .2
+      taking-end t = sym (le-ltb left 0 (omega arith)) ∙ ap (λ (vs : List LinkVerdict). ltb left (sumBy h vs i)) (sym (verdicts-end g marks n i k t)) ∙ p .2
 
 -- ---- the definitions
 
-pub kept-by : (vs : List ℕ) (i : ℕ) (s : Store) (u : ℕ) → leftBy (goneBytes (s .rows) (s .fs .«text_len»)) vs i u ≡ keptAfter vs i s u
+pub kept-by : (vs : List LinkVerdict) (i : ℕ) (s : Store) (u : ℕ) → leftBy (goneBytes (s .rows) (s .fs .«text_len»)) vs i u ≡ keptAfter vs i s u
 kept-by [] i s u = refl
 kept-by (v ∷ vs) i s u = kept-by vs (i + 1) s _
 
-new-length : (s : Store) (v i : ℕ) → newLength (s .dirs) (s .text) v (rowAt (s .rows) i) ≡ cond (eqb v 0) 0 (length (textBy v (entryOf (fileOf s i))))
-new-length s v i = at (eqb v 0) _ _ (λ e. ap length (sym (text-by s i v e)))
-  where
-    at : (b : Bool) (x y : ℕ) → (b ≡ false → x ≡ y) → _≡_ {A = ℕ} (cond b 0 x) (cond b 0 y)
-    at true x y e = refl
-    at false x y e = e refl
+-- a new text by its parts
+new-length : (s : Store) (v : LinkVerdict) (i : ℕ) → newLength (s .dirs) (s .text) v (rowAt (s .rows) i) ≡ ifChanged v (length (textBy v (entryOf (fileOf s i))))
+new-length s Keep i = refl
+new-length s OwnPath i = ap length (sym (own-parts s i))
+new-length s FromDirectory i = ap length (sym (beside-parts s i))
 
-pub new-by : (vs : List ℕ) (i : ℕ) (s : Store) → sumBy (λ v k. newLength (s .dirs) (s .text) v (rowAt (s .rows) k)) vs i ≡ newBytes vs i s
+pub new-by : (vs : List LinkVerdict) (i : ℕ) (s : Store) → sumBy (λ v k. newLength (s .dirs) (s .text) v (rowAt (s .rows) k)) vs i ≡ newBytes vs i s
 new-by [] i s = refl
 new-by (v ∷ vs) i s = rw (new-length s v i, new-by vs (i + 1) s)
 
 -- what is left of the text held, and the new texts' lengths, against the text area's
-module _ (vs : List ℕ) (s : Store) (kept : ℕ) (e : kept ≡ leftBy (goneBytes (s .rows) (s .fs .«text_len»)) vs 0 (s .fs .«text_len»)) where
+module _ (vs : List LinkVerdict) (s : Store) (kept : ℕ) (e : kept ≡ leftBy (goneBytes (s .rows) (s .fs .«text_len»)) vs 0 (s .fs .«text_len»)) where
   kept-is : kept ≡ keptAfter vs 0 s (s .fs .«text_len»)
   kept-is = e ∙ kept-by vs 0 s (s .fs .«text_len»)
 

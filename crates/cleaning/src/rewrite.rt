@@ -4,10 +4,11 @@
 ghost use mathlib.Core.Path.{_≡_};
 ghost use lib.ListN.{length};
 ghost use Rattle.lookup.specs.Lookup.{lent};
-ghost use Rattle.cleaning.specs.Cleaning.{rewrittenAt, emptied, rewritten};
-ghost use Rattle.cleaning.specs.private.Writing.{emptiedAt, verdictsIn};
+ghost use Rattle.cleaning.specs.Cleaning.{emptiedAt, emptied, rewrittenAt, rewritten};
+ghost use Rattle.cleaning.specs.private.Writing.{verdictsIn};
 use crate::verdicts::mark_after;
 use crate::verdicts::verdict_of;
+use links::LinkVerdict;
 use tables::FileStorage;
 
 // Writes the new text of file i, by its verdict.
@@ -18,7 +19,7 @@ fn write_link(
     text: &mut [u8],
     scratch: &mut [u8],
     i: usize,
-    verdict: u8,
+    verdict: LinkVerdict,
 ) -> FileStorage
     ensures { λ r. ⌜
         lent r (now (rows .exit)) (now (dirs .exit)) (now (text .exit))
@@ -26,13 +27,11 @@ fn write_link(
         (lent fs (now (rows .entry)) (now (dirs .entry)) (now (text .entry))) i
         ⌝ }
 {
-    if verdict == links::VERDICT_KEEP {
-        return fs;
+    match verdict {
+        LinkVerdict::Keep => fs,
+        LinkVerdict::OwnPath => texts::write_own(fs, rows, dirs, text, i),
+        LinkVerdict::FromDirectory => texts::write_beside(fs, rows, dirs, text, scratch, i),
     }
-    if verdict == links::VERDICT_OWN_PATH {
-        return texts::write_own(fs, rows, dirs, text, i);
-    }
-    texts::write_beside(fs, rows, dirs, text, scratch, i)
 }
 
 // Removes the old text of file i, where its verdict is the link's own path.
@@ -42,17 +41,18 @@ fn empty_link(
     dirs: &mut [u64],
     text: &mut [u8],
     i: usize,
-    verdict: u8,
+    verdict: LinkVerdict,
 ) -> FileStorage
     ensures { λ r. ⌜
         lent r (now (rows .exit)) (now (dirs .exit)) (now (text .exit))
         ≡ emptiedAt verdict (lent fs (now (rows .entry)) (now (dirs .entry)) (now (text .entry))) i
         ⌝ }
 {
-    if verdict == links::VERDICT_OWN_PATH {
-        return texts::empty_text(fs, rows, dirs, text, i);
+    match verdict {
+        LinkVerdict::Keep => fs,
+        LinkVerdict::OwnPath => texts::empty_text(fs, rows, dirs, text, i),
+        LinkVerdict::FromDirectory => fs,
     }
-    fs
 }
 
 // Removes the old text of each of the first n files whose verdict is the link's own path.

@@ -1,32 +1,33 @@
 // The room that a cleaning needs, taken off the text area's length text by text, since a sum could be too
 // large. Relies on verdicts.rt, `texts` and the laws of proofs/Passes.antt.
 ghost use mathlib.Core.Path.{_≡_};
-ghost use mathlib.Core.Bool.{cond};
 ghost use Prim.Native.Nat.{_-_};
-ghost use lib.Dec.{eqb, ltb};
+ghost use lib.Dec.{ltb};
 ghost use lib.ListN.{length};
 ghost use Rattle.tables.specs.Span.{clip};
 ghost use Rattle.tables.specs.Rows.{rowAt};
 ghost use Rattle.lookup.specs.Lookup.{lent};
-ghost use Rattle.links.specs.Judging.{verdictKeep};
-ghost use Rattle.cleaning.specs.private.Writing.{allVerdicts, leafSpan, goneBytes, newLength, leftBy, sumBy};
+ghost use Rattle.cleaning.specs.Cleaning.{ifChanged};
+ghost use Rattle.cleaning.specs.private.Writing.{allVerdicts, goneBytes, joinedBytes, newLength, leftBy, sumBy};
 ghost use Rattle.cleaning.specs.private.Writing.{neededBy, verdictsIn};
 use crate::verdicts::mark_after;
 use crate::verdicts::verdict_of;
+use links::LinkVerdict;
 use lists::saturating_sub_usize;
 use tables::FileStorage;
 use tables::Row;
 use tables::Span;
 
 // What is left of `left` bytes after a link's old text is removed, where its verdict changes it.
-fn left_after(used: usize, link: Span, verdict: u8, left: usize) -> usize
-    ensures { λ r. ⌜ r ≡ left - cond (eqb verdict verdictKeep) 0 (clip used link .len) ⌝ }
+fn left_after(used: usize, link: Span, verdict: LinkVerdict, left: usize) -> usize
+    ensures { λ r. ⌜ r ≡ left - ifChanged verdict (clip used link .len) ⌝ }
 {
-    if verdict == links::VERDICT_KEEP {
-        return left;
-    }
     let gone = tables::clipped(used, link);
-    saturating_sub_usize(left, gone.len)
+    match verdict {
+        LinkVerdict::Keep => left,
+        LinkVerdict::OwnPath => saturating_sub_usize(left, gone.len),
+        LinkVerdict::FromDirectory => saturating_sub_usize(left, gone.len),
+    }
 }
 
 // What is left of `used` bytes of text after the old texts that change, of the first n files, are removed.
@@ -48,26 +49,23 @@ fn kept_after(used: usize, n: usize, rows: &[u64], marks: &[u8]) -> usize
     left
 }
 
-// The span of the leaf of a link's new text: its name, or its old text.
-fn leaf_of(row: Row, verdict: u8) -> Span
-    ensures { λ r. ⌜ r ≡ leafSpan verdict row ⌝ }
+// The length of a leaf joined to a row's directory.
+fn joined_length(dirs: &[u64], text: &[u8], row: Row, leaf: Span) -> usize
+    ensures { λ r. ⌜ r ≡ joinedBytes (now (dirs .entry)) (now (text .entry)) row leaf ⌝ }
 {
-    if verdict == links::VERDICT_OWN_PATH {
-        return row.name;
-    }
-    texts::link_span(row)
+    let branch = tables::text_at(text, tables::directory_span(dirs, row));
+    path::joined_length(branch, tables::text_at(text, leaf))
 }
 
 // The length of a file's new text, by its verdict.
-fn new_length(dirs: &[u64], text: &[u8], row: Row, verdict: u8) -> usize
+fn new_length(dirs: &[u64], text: &[u8], row: Row, verdict: LinkVerdict) -> usize
     ensures { λ r. ⌜ r ≡ newLength (now (dirs .entry)) (now (text .entry)) verdict row ⌝ }
 {
-    if verdict == links::VERDICT_KEEP {
-        return 0;
+    match verdict {
+        LinkVerdict::Keep => 0,
+        LinkVerdict::OwnPath => joined_length(dirs, text, row, row.name),
+        LinkVerdict::FromDirectory => joined_length(dirs, text, row, texts::link_span(row)),
     }
-    let branch = tables::text_at(text, tables::directory_span(dirs, row));
-    let leaf = tables::text_at(text, leaf_of(row, verdict));
-    path::joined_length(branch, leaf)
 }
 
 // Whether the new texts of the first n files have more than `room` bytes.

@@ -2,14 +2,13 @@
 -- of rules in order (`rules`).
 use Prim.Native.Nat.{ℕ, _+_, _*_, _≤_}
 use mathlib.Core.Path.{_≡_, refl, sym, ap, _∙_}
-use mathlib.Core.Bool.{Bool, true, false, cond, not, _&&_, _||_}
+use mathlib.Core.Bool.{Bool, true, false, cond, _&&_, _||_}
 use mathlib.Core.List.{List, [], _∷_, _++_}
 use native.Mathlib.Omega.{arith}
-use lib.Dec.{ltb}
+use lib.Dec.{ltb, leb}
 use lib.ListN.{length, drop}
 use lib.Seq.{sets, sets-eq}
-use borrow.Author.Tests.{ltb-false}
-use Rattle.lists.specs.Lists.{cleared}
+use borrow.Author.Tests.{ltb-false, leb-true, not-false}
 use Rattle.lists.proofs.Runs.{sets-whole}
 use Rattle.types.specs.Refusals.{numberOf, value, refused, usizeSays}
 use Rattle.types.specs.declared.refusal.Refusal.{Refusal}
@@ -19,11 +18,11 @@ use Rattle.types.proofs.Refusals.{numbered}
 use Rattle.tables.specs.Model.{Store}
 use Rattle.rules.specs.Rules.{Rule, when, outcomeOf}
 use Rattle.rules.specs.Bounds.{badLength}
-use Rattle.rules.proofs.Rules.{passed, either-false, outcome-value, outcome-refused}
+use Rattle.rules.proofs.Rules.{both-true, passed, either-false, outcome-value, outcome-refused}
 use Rattle.rules.specs.Questions.{rowsHeld, dirsHeld, textHeld, fewEntries, short}
 use Rattle.lookup.specs.Lookup.{Entry, entriesOf, directoriesOf}
 use Rattle.lookup.specs.Space.{space, linkCount, lacksSpace}
-use Rattle.links.specs.Judging.{verdictOf, verdictsFor, verdicts, judgingNumber, Judged, judged}
+use Rattle.links.specs.Judging.{verdictOf, verdictsFor, verdicts, judgingNumber, judgedOf, judged}
 use Rattle.links.specs.private.Walking.{firstMarks}
 use Rattle.links.proofs.Marking.{length-marks}
 
@@ -62,8 +61,9 @@ module _ (s : Store) where
         when (lacksSpace (entriesOf s) marks scratch path) 10 ∷
         []
 
-    -- the work space where none stops
+    -- where none stops: few files, and the work space
     pub record Roomy : Type 0 where
+      pub few : s .fs .«num_files» ≤ 65535
       pub marked : linkCount (entriesOf s) ≤ marks
       pub staged : space (entriesOf s) ≤ scratch
       pub walked : 2 * space (entriesOf s) ≤ path
@@ -74,7 +74,11 @@ module _ (s : Store) where
         let p = passed rules refl (sym e) in
         let a = either-false (ltb marks (linkCount (entriesOf s))) (ltb scratch (space (entriesOf s)) || ltb path (2 * space (entriesOf s))) (p .1 .1 .0) in
         let b = either-false (ltb scratch (space (entriesOf s))) (ltb path (2 * space (entriesOf s))) (a .1) in
+        let held = rowsHeld (s .fs) (s .rows) && (dirsHeld (s .fs) (s .dirs) && textHeld (s .fs) (s .text)) in
+        let f = both-true held (fewEntries (s .fs)) (not-false _ (p .1 .0)) .1 in
+        let n = both-true (leb (s .fs .«num_files») 65535) (leb (s .fs .«num_paths») 65535) f .0 in
         record {
+          few = leb-true (s .fs .«num_files») 65535 n;
           marked = ltb-false marks (linkCount (entriesOf s)) (a .0);
           staged = ltb-false scratch (space (entriesOf s)) (b .0);
           walked = ltb-false path (2 * space (entriesOf s)) (b .1);
@@ -89,12 +93,10 @@ module _ (s : Store) where
       judged-err e q = outcome-refused (judgingNumber s marks scratch path) (numberOf e) (linkCount (entriesOf s)) (ap usizeSays (sym q) ∙ h)
 
   -- the outcome
-  module _ (marks scratch path : List ℕ) where
-    pub judged-yes : (n : ℕ) (x y z : List ℕ) → judgingNumber s (length marks) (length scratch) (length path) ≡ 0
-        → n ≡ linkCount (entriesOf s) → x ≡ sets marks 0 (verdicts s) → y ≡ cleared scratch → z ≡ cleared path
-        → _≡_ {A = Judged} (record { says = value n; marks = x; scratch = y; walkPath = z }) (judged s marks scratch path)
-    judged-yes n x y z e a b c d = rw (e, a, b, c, d)
+  module _ (marks : List ℕ) (scratch path : ℕ) where
+    pub judged-yes : (n : ℕ) (x : List ℕ) → judgingNumber s (length marks) scratch path ≡ 0 → n ≡ linkCount (entriesOf s) → x ≡ sets marks 0 (verdicts s)
+        → judgedOf (value n) x ≡ judged s marks scratch path
+    judged-yes n x e a b = rw (e, a, b)
 
-    pub judged-no : (e : Refusal) → judgingNumber s (length marks) (length scratch) (length path) ≡ numberOf e
-        → _≡_ {A = Judged} (record { says = refused (numberOf e); marks = marks; scratch = scratch; walkPath = path }) (judged s marks scratch path)
+    pub judged-no : (e : Refusal) → judgingNumber s (length marks) scratch path ≡ numberOf e → judgedOf (refused (numberOf e)) marks ≡ judged s marks scratch path
     judged-no e q = rw (q, numbered e)

@@ -6,10 +6,14 @@ pub mod Marking
 pub mod Verdicts
 pub mod Judgements
 pub mod Turns
-pub mod Scans
 pub mod Events
+pub mod Turning
+pub mod Scans
+pub mod Heads
+pub mod Fronts
+pub mod Cuts
 pub mod Packed
-pub mod Written
 pub mod Walked
+pub mod Walks
 pub mod ResolvesTo
 pub mod Safe

@@ -1,14 +1,15 @@
--- Laws of the first pass: what its tests on one link say of the mark, and the pass over all files, which sets the marks of those
--- still to come. They rely on the definitions of Judging.antt.
-use Prim.Native.Nat.{ℕ, _+_}
-use mathlib.Core.Path.{_≡_, refl}
+-- Laws of the first pass: what its tests on one link say of the mark, and the pass over all files, which sets the marks
+-- of those still to come. They rely on the definitions of Judging.antt and on the laws of frames in Leads.antt and
+-- Fronts.antt.
+use Prim.Native.Nat.{ℕ, _+_, _*_, _/_, _≤_}
+use mathlib.Core.Path.{_≡_, refl, sym, ap, _∙_}
 use mathlib.Core.Bool.{Bool, true, false, cond, not, false≢true, true≢false, _&&_}
 use mathlib.Core.List.{List, [], _∷_}
 use native.Mathlib.Omega.{arith}
 use native.Mathlib.Numerals.{add-one}
 use lib.Dec.{eqb}
-use lib.ListN.{length, set}
-use lib.Seq.{sets}
+use lib.ListN.{length, set, take}
+use lib.Seq.{sets, take-all}
 use Rattle.path.specs.Split.{isComplete}
 use Rattle.path.specs.Join.{appended}
 use Rattle.tables.specs.declared.span.Span.{Span}
@@ -18,9 +19,13 @@ use Rattle.tables.specs.Rows.{dirAt, has, isInside}
 use Rattle.tables.specs.Model.{single, absolute, stored, Store, directoryOf}
 use Rattle.lookup.specs.Lookup.{Entry, Seen, nothing, file, link, fileAt, isDirectory, seenCode}
 use Rattle.lookup.specs.Space.{linkCount}
-use Rattle.lookup.proofs.Rows.{branchIn}
+use Rattle.lookup.specs.private.Rows.{entryAt, rowText}
+use Rattle.lookup.proofs.Rows.{branchIn, branchAt, text-at}
 use Rattle.links.specs.Judging.{settledMark, relativeMark, firstMark}
-use Rattle.links.specs.private.Walking.{firstMarks}
+use Rattle.rope.specs.Rope.{frameWidth, leads}
+use Rattle.links.specs.private.Walking.{firstMarks, withFrame, pathOf}
+use Rattle.rope.proofs.Leads.{lead-beside}
+use Rattle.links.proofs.Fronts.{flat-alone}
 
 -- ---- what stands at a path, by its number
 
@@ -74,6 +79,20 @@ module _ (files : List Entry) (ds : List (List ℕ)) (t : List ℕ) (other : ℕ
 
     pub near-in : (y : List ℕ) → isInside r ≡ true → y ≡ appended (branchIn (s .dirs) (s .text) r) t → settledMark (isDirectory ds y) (fileAt files y) other ≡ relativeMark files ds (directoryOf s r) t other
     near-in y = kinds-in (eqb (r .«path_index») 1073741823) (eqb (r .«path_index») 1073741822) (s .text) (dirAt (s .dirs) (r .«path_index»)) y (has (r .flags) 32)
+
+-- the text from a link's directory, as a path of one frame
+module _ (s : Store) (i n : ℕ) (f f′ : List ℕ) (h : frameWidth ≤ length f) (e : f′ ≡ withFrame f 0 ((i * 4 + 2) * 2)) (k : n ≡ length (leads (s .rows) (s .dirs) (s .text) (i * 4 + 2))) where
+  one-path : pathOf s f′ 1 ≡ leads (s .rows) (s .dirs) (s .text) (i * 4 + 2)
+  one-path = ap (λ (x : List ℕ). pathOf s x 1) e ∙ flat-alone (leads (s .rows) (s .dirs) (s .text)) f (i * 4 + 2) h
+
+  pub one-long : n ≤ length (pathOf s f′ 1)
+  one-long = omega (arith, k, ap length one-path)
+
+  pub one-part : take n (pathOf s f′ 1) ≡ appended (branchAt s i) (entryAt s i .text)
+  one-part =
+      let q : (i * 4 + 2) / 4 ≡ i = omega arith in
+      let w : appended (branchAt s i) (rowText (s .rows) (s .text) i) ≡ leads (s .rows) (s .dirs) (s .text) (i * 4 + 2) = rw q at (lead-beside (s .rows) (s .dirs) (s .text) (i * 4 + 2) (omega arith)) in
+      take-all n (pathOf s f′ 1) (omega (arith, k, ap length one-path)) ∙ one-path ∙ sym w ∙ ap (appended (branchAt s i)) (text-at s i)
 
 -- by its text as given
 module _ (files : List Entry) (ds : List (List ℕ)) (f : Entry) where

@@ -1,23 +1,21 @@
--- The first pass's marks: their leads leave open exactly the links of the set (Clean.antt), and document 01's work space serves the
--- walk of every link with them. These laws rely on those of proofs/Room.antt.
-use Prim.Native.Nat.{ℕ, zero, suc, _+_, _-_, _*_, _≤_}
+-- The first pass's marks: their leads leave open exactly the links of the set (Clean.antt), and none of them is
+-- traversed. These laws rely on the definitions of the two passes alone.
+use Prim.Native.Nat.{ℕ, zero, suc, _≤_}
 use mathlib.Core.Path.{_≡_, refl, sym, ap, _∙_}
 use mathlib.Core.Bool.{Bool, true, false, cond, false≢true}
 use mathlib.Core.List.{List, [], _∷_, map}
 use native.Mathlib.Omega.{arith}
 use lib.Dec.{ltb}
-use lib.ListN.{length, getD, drop}
+use lib.ListN.{getD, drop}
 use Rattle.lists.specs.Lists.{equal}
 use Rattle.lists.proofs.Equality.{equal-true}
 use Rattle.path.specs.Split.{isComplete}
 use Rattle.path.specs.Join.{appended}
 use Rattle.tables.specs.Model.{Directory, single, absolute, stored, pathIn}
 use Rattle.lookup.specs.Lookup.{Entry, ownPath, isDirectory, Seen, nothing, file, link, fileAt}
-use Rattle.lookup.specs.Space.{space}
-use Rattle.links.specs.Clean.{First, firstPass, direct, settled, relative, Link, Lead, none, to, leadAt, unless, linkOf, linksOf, weight}
+use Rattle.links.specs.Clean.{First, firstPass, direct, settled, relative, Link, Lead, none, to, leadAt, unless, linkOf, linksOf}
 use Rattle.links.specs.Judging.{settledMark, directMark, relativeMark, firstMark}
-use Rattle.links.specs.private.Walking.{lead, firstMarks, leadText, leading, butLater, anyAt, openLink, openOf, untraversed, Ready}
-use Rattle.links.proofs.Room.{links-fit}
+use Rattle.links.specs.private.Walking.{lead, firstMarks, leadText, leading, butLater, anyAt, openLink, openOf, untraversed}
 
 -- a lead m says of a link what the first pass says
 pub record Says (f : Entry) (r : First) (m : ℕ) : Type 0 where
@@ -144,15 +142,6 @@ module _ (files : List Entry) (dirs : List (List ℕ)) where
       go : (b : Bool) (r : First) (m : ℕ) → Says f r (lead m) → openOf fs (map lead ms) ≡ linksOf files dirs fs → cond b (openLink (butLater (anyAt fs (drop 1 (map lead (cond b (m ∷ ms) ms))) (ownPath f)) (leading (getD (map lead (cond b (m ∷ ms) ms)) 0 0))) (getD (map lead (cond b (m ∷ ms) ms)) 0 0) f (openOf fs (drop 1 (map lead (cond b (m ∷ ms) ms))))) (openOf fs (map lead (cond b (m ∷ ms) ms))) ≡ linkOf b (ownPath f) r (linksOf files dirs fs)
       go true r m s h = rw (any-open fs (ownPath f)) (open-one (leadAt (openOf fs (map lead ms)) (ownPath f)) r (lead m) (r .leads) (s .leads) (s .text) ∙ rw h)
       go false r m s h = h
-
-  -- with the first pass's leads, a scratch space of document 01's sum and a path of twice the sum, every text of a flagged link can be walked
-  pub ready : (ms scratch path : List ℕ) (k : ℕ) → ms ≡ firstLeads files → space files ≤ length scratch → 2 * space files ≤ length path → k + 2 ≤ space files → Ready files ms scratch path (length path - k)
-  ready ms scratch path k e s p q =
-      record {
-        inside = omega arith;
-        room = omega (arith, links-fit files dirs files, ap weight (ap (openOf files) e ∙ marks-say files));
-        staged = s;
-      }
 
   -- none of them is a use
   fresh-first : (fs : List Entry) → map untraversed (firstLeads fs) ≡ firstLeads fs

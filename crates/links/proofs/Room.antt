@@ -1,16 +1,20 @@
--- The work space suffices: the texts by which links lead on fit in document 01's sum. These laws rely on those of proofs/Walk.antt.
-use Prim.Native.Nat.{ℕ, _+_, _≤_}
+-- The work space suffices: the texts by which links lead on fit in document 01's sum, and there is at most one open link a file.
+-- These laws rely on those of proofs/Walk.antt.
+use Prim.Native.Nat.{ℕ, suc, _+_, _≤_}
 use mathlib.Core.Path.{_≡_, refl, ap}
 use mathlib.Core.Bool.{Bool, true, false, cond, false≢true}
 use mathlib.Core.List.{List, [], _∷_}
 use native.Mathlib.Omega.{arith}
-use lib.ListN.{length}
+use lib.ListN.{length, getD, drop}
 use Rattle.path.specs.Split.{isComplete}
 use Rattle.path.specs.Join.{appended}
-use Rattle.tables.specs.Model.{Directory, single, absolute, stored}
-use Rattle.lookup.specs.Lookup.{Entry, ownPath, Seen, nothing, file, link, fileAt, isDirectory}
+use Rattle.tables.specs.Model.{Directory, single, absolute, stored, Store}
+use Rattle.tables.proofs.Tabled.{length-tabled}
+use Rattle.lookup.specs.Lookup.{Entry, ownPath, Seen, nothing, file, link, fileAt, isDirectory, entriesOf}
 use Rattle.lookup.specs.Space.{directoryLength, space}
-use Rattle.links.specs.Clean.{First, settled, direct, relative, firstPass, linkOf, linksOf, Lead, none, to, leadAt, unless, weight}
+use Rattle.lookup.specs.private.Rows.{entryAt}
+use Rattle.links.specs.Clean.{Link, First, settled, direct, relative, firstPass, linkOf, linksOf, Lead, none, to, leadAt, unless, weight}
+use Rattle.links.specs.private.Walking.{openLink, butLater, leading, anyAt, openOf}
 use Rattle.links.proofs.Walk.{append-short}
 
 -- what the first pass leaves: a text that leads on is at most the directory, a separator and the text; one to be walked is as given
@@ -65,3 +69,21 @@ module _ (files : List Entry) (dirs : List (List ℕ)) where
       go : (b : Bool) (r : First) → Fits f r → weight (linksOf files dirs fs) ≤ space fs → weight (linkOf b (ownPath f) r (linksOf files dirs fs)) ≤ cond b (directoryLength (f .directory) + length (f .text) + 2) 0 + space fs
       go true r h k = add r (r .leads) (leadAt (linksOf files dirs fs) (ownPath f)) h refl k
       go false r h k = omega arith
+
+-- ---- how many links are open
+
+open-list : (fs : List Entry) (ms : List ℕ) → length (openOf fs ms) ≤ length fs
+open-list [] ms = omega arith
+open-list (f ∷ fs) ms = go (f .flagged) (open-list fs (drop 1 ms)) (open-list fs ms)
+  where
+    more : (b : Bool) (m : ℕ) (ls : List Link) → length (openLink b m f ls) ≤ suc (length ls)
+    more true m ls = omega arith
+    more false m ls = omega arith
+
+    go : (b : Bool) → length (openOf fs (drop 1 ms)) ≤ length fs → length (openOf fs ms) ≤ length fs → length (cond b (openLink (butLater (anyAt fs (drop 1 ms) (ownPath f)) (leading (getD ms 0 0))) (getD ms 0 0) f (openOf fs (drop 1 ms))) (openOf fs ms)) ≤ suc (length fs)
+    go true h k = omega (arith, more (butLater (anyAt fs (drop 1 ms) (ownPath f)) (leading (getD ms 0 0))) (getD ms 0 0) (openOf fs (drop 1 ms)))
+    go false h k = omega arith
+
+-- at most one a file
+pub open-few : (s : Store) (ms : List ℕ) → length (openOf (entriesOf s) ms) ≤ s .fs .«num_files»
+open-few s ms = omega (arith, open-list (entriesOf s) ms, length-tabled (s .fs .«num_files») (entryAt s))

@@ -9,12 +9,12 @@ use Rattle.path.specs.Join.{appended}
 use Rattle.tables.specs.Model.{Directory, single, absolute, stored, pathIn}
 use Rattle.lookup.specs.Lookup.{Entry, ownPath, isDirectory, Seen, nothing, file, link, fileAt}
 use Rattle.links.specs.Clean.{First, settled, direct, relative, firstPass, linksOf, resolves, cleanText}
-use Rattle.links.specs.Judging.{settledMark, directMark, relativeMark, firstMark, verdictOf, textBy}
+use Rattle.links.specs.Judging.{settledMark, directMark, relativeMark, firstMark, verdictRead, verdictOf, textBy}
 
 -- mark m and the first pass's r say the same of link f: the text then, where `goes` says whether a walked text leads on
 Tells : (List ℕ → Bool) → Entry → ℕ → First → Type 0
 Tells goes f m r =
-    textBy (cond (eqb (m / 8) 3) (cond (goes (f .text)) 0 1) (m / 8)) f ≡ cond (r .walked) (cond (goes (r .text)) (r .text) (ownPath f)) (r .text)
+    textBy (verdictRead (cond (eqb (m / 8) 3) (cond (goes (f .text)) 0 1) (m / 8))) f ≡ cond (r .walked) (cond (goes (r .text)) (r .text) (ownPath f)) (r .text)
 
 module _ (goes : List ℕ → Bool) (f : Entry) where
   -- a text that is walked
@@ -22,7 +22,7 @@ module _ (goes : List ℕ → Bool) (f : Entry) where
   unfolding Tells
   walked-tells = at (goes (f .text))
     where
-      at : (b : Bool) → textBy (cond b 0 1) f ≡ cond b (f .text) (ownPath f)
+      at : (b : Bool) → textBy (verdictRead (cond b 0 1)) f ≡ cond b (f .text) (ownPath f)
       at true = refl
       at false = refl
 
@@ -65,6 +65,6 @@ module _ (goes : List ℕ → Bool) (f : Entry) where
             (relative files dirs (f .directory) (f .text) other) (near-tells (f .directory) refl)
 
 -- the text by its verdict is the cleaned text
-pub verdict-text : (files : List Entry) (dirs : List (List ℕ)) (f : Entry) → textBy (verdictOf files dirs f) f ≡ cleanText files dirs f
+pub verdict-text : (files : List Entry) (dirs : List (List ℕ)) (f : Entry) → textBy (verdictRead (verdictOf files dirs f)) f ≡ cleanText files dirs f
 unfolding Tells
 verdict-text files dirs f = first-tells (resolves files dirs (linksOf files dirs files)) f files dirs

@@ -1,14 +1,15 @@
 -- Laws of the walk of Clean.antt: every turn makes `left` less, so the turns that a walk is allowed are no part of its meaning.
 -- They rely on nothing else of this crate.
-use Prim.Native.Nat.{ℕ, zero, suc, _+_, _≤_, _<_}
+use Prim.Native.Nat.{ℕ, zero, suc, _+_, _-_, _≤_, _<_}
 use mathlib.Core.Path.{_≡_, refl, ap}
 use mathlib.Core.Bool.{Bool, true, false, cond}
 use mathlib.Core.List.{List, [], _∷_, _++_}
 use native.Mathlib.Omega.{arith}
-use lib.ListN.{length, take, drop, length-append, length-drop}
+use lib.ListN.{length, take, drop, length-append, length-take, length-drop}
 use lib.Dec.{ltb}
 use borrow.Author.Tests.{ltb-true}
 use Rattle.lists.specs.Lists.{equal}
+use Rattle.path.specs.Split.{isSeparator, isComplete, beforeFirst}
 use Rattle.path.specs.Join.{isEmpty, isAlone, isClosed, glued, combined, appended}
 use Rattle.links.specs.Clean.{partEnd, Link, Lead, none, to, leadAt, withoutLink, Next, stop, done, on, further, through, step, follow, walk, weight, left, goes}
 
@@ -43,6 +44,36 @@ lead-less (l ∷ ls) p t h = go (equal (l .path) p) (λ q. lead-less ls p t q) h
     go : (b : Bool) → (leadAt ls p ≡ to t → suc (length t) + weight (withoutLink p ls) ≤ weight ls) → cond b (to (l .text)) (leadAt ls p) ≡ to t → suc (length t) + weight (cond b ls (l ∷ withoutLink p ls)) ≤ suc (length (l .text)) + weight ls
     go true r q = let e : l .text ≡ t = cc in omega (arith, ap length e)
     go false r q = omega (arith, r q)
+
+-- and it is one link less
+pub link-fewer : (ls : List Link) (p t : List ℕ) → leadAt ls p ≡ to t → length (withoutLink p ls) + 1 ≡ length ls
+link-fewer [] p t h = absurd (let z : _≡_ {A = ℕ} 0 1 = cc in omega arith)
+link-fewer (l ∷ ls) p t h = go (equal (l .path) p) h (link-fewer ls p t)
+  where
+    go : (b : Bool) → cond b (to (l .text)) (leadAt ls p) ≡ to t → (leadAt ls p ≡ to t → length (withoutLink p ls) + 1 ≡ length ls) → length (cond b ls (l ∷ withoutLink p ls)) + 1 ≡ suc (length ls)
+    go true q r = omega arith
+    go false q r = omega (arith, r q)
+
+-- a part ends in the path
+before-short : (p : List ℕ) → length (beforeFirst p) ≤ length p
+before-short [] = omega arith
+before-short (c ∷ p) = go (isSeparator c) (before-short p)
+  where
+    go : (b : Bool) → length (beforeFirst p) ≤ length p → length (cond b [] (c ∷ beforeFirst p)) ≤ suc (length p)
+    go true h = omega arith
+    go false h = omega arith
+
+parts-short : (p : List ℕ) (c pos : ℕ) → length (take (pos - c) (drop c p) ++ beforeFirst (drop (pos - c) (drop c p))) ≤ length p
+parts-short p c pos =
+    let b = before-short (drop (pos - c) (drop c p)) in
+    let x = length-append (take (pos - c) (drop c p)) (beforeFirst (drop (pos - c) (drop c p))) in
+    let y = length-take (pos - c) (drop c p) in
+    let z = length-drop c p in
+    let w = length-drop (pos - c) (drop c p) in
+    omega arith
+
+pub part-within : (p : List ℕ) (pos : ℕ) → partEnd p pos ≤ length p
+part-within p pos = parts-short p (cond {A = ℕ} (isComplete p) 1 0) pos
 
 -- a turn that goes on through a directory makes `left` less
 further-less : (ls : List Link) (p : List ℕ) (e n : ℕ) (ls′ : List Link) (p′ : List ℕ) (e′ : ℕ) → e < length p → further ls p e n ≡ on ls′ p′ e′ → left ls′ p′ e′ < left ls p e

@@ -1,43 +1,50 @@
--- The judgement that goes before a cleaning: for every flagged link, what becomes of its text, as a number. While links
--- are judged the lent marks carry more than that (`firstMark`); afterwards they hold the verdicts alone. It relies on
+-- The judgement that goes before a cleaning: for every flagged link, what becomes of its text. Marks hold it as a
+-- number; while links are judged they carry more than that (`firstMark`), afterwards the verdicts alone. It relies on
 -- Clean.antt for the two passes, on `lookup` for the set that the lent tables hold, and on the rules in order of
 -- `rules`.
 use Prim.Native.Nat.{ℕ, _/_}
-use mathlib.Core.Bool.{Bool, true, false, cond, not, _&&_}
+use mathlib.Core.Bool.{Bool, true, false, cond, _&&_}
 use mathlib.Core.List.{List, [], _∷_}
 use lib.Dec.{eqb}
 use lib.ListN.{length}
 use lib.Seq.{sets}
-use Rattle.lists.specs.Lists.{cleared}
 use Rattle.types.specs.Refusals.{Outcome, value, refused}
 use Rattle.path.specs.Split.{isComplete}
 use Rattle.path.specs.Join.{appended}
 use Rattle.tables.specs.Model.{Directory, single, absolute, stored, pathIn, Store}
-use Rattle.rules.specs.Rules.{when, firstOf}
+use Rattle.rules.specs.Rules.{Rule, when, firstOf}
 use Rattle.rules.specs.Bounds.{badLength}
 use Rattle.rules.specs.Questions.{rowsHeld, dirsHeld, textHeld, fewEntries, short}
 use Rattle.lookup.specs.Lookup.{Entry, ownPath, Seen, nothing, file, link, isDirectory, fileAt, entriesOf}
 use Rattle.lookup.specs.Lookup.{directoriesOf}
 use Rattle.lookup.specs.Space.{linkCount, lacksSpace}
+use Rattle.links.specs.declared.mark.LinkVerdict.{LinkVerdict}
+use Rattle.links.specs.declared.mark.LinkVerdict.the-variants.{Keep, OwnPath, FromDirectory}
 use Rattle.links.specs.Clean.{linksOf, resolves}
 
 -- ---- verdicts: what becomes of a link's text
 
--- it stays
+-- the text that a verdict gives: the link's text, its own internal path, or the text from its directory
+abbrev pub textBy : LinkVerdict → Entry → List ℕ
+textBy Keep f = f .text
+textBy OwnPath f = ownPath f
+textBy FromDirectory f = pathIn (f .directory) (f .text)
+
+-- ---- verdicts as marks hold them
+
 abbrev pub verdictKeep : ℕ
 verdictKeep = 0
 
--- it becomes the link's own internal path
 abbrev pub verdictOwnPath : ℕ
 verdictOwnPath = 1
-
--- it becomes the text from the link's directory
-abbrev pub verdictFromDirectory : ℕ
-verdictFromDirectory = 2
 
 -- a walk decides, in the second pass
 abbrev pub verdictWalk : ℕ
 verdictWalk = 3
+
+-- the verdict that a number is read as
+abbrev pub verdictRead : ℕ → LinkVerdict
+verdictRead v = cond (eqb v verdictKeep) Keep (cond (eqb v verdictOwnPath) OwnPath FromDirectory)
 
 -- ---- marks of the first pass
 
@@ -93,11 +100,6 @@ verdictOf files dirs f =
     (cond (resolves files dirs (linksOf files dirs files) (f .text)) verdictKeep verdictOwnPath)
     (firstMark files dirs f / 8)
 
--- the text that a verdict gives
-abbrev pub textBy : ℕ → Entry → List ℕ
-textBy v f =
-    cond (eqb v verdictKeep) (f .text) (cond (eqb v verdictOwnPath) (ownPath f) (pathIn (f .directory) (f .text)))
-
 -- one verdict for each flagged link
 abbrev pub verdictsFor : List Entry → List (List ℕ) → List Entry → List ℕ
 verdictsFor files dirs [] = []
@@ -109,30 +111,30 @@ verdicts s = verdictsFor (entriesOf s) (directoriesOf s) (entriesOf s)
 
 -- ---- the call
 
-abbrev pub judgingNumber : Store → ℕ → ℕ → ℕ → ℕ
-judgingNumber s marks scratch walkPath =
-    firstOf
-    (when (badLength (s .fs .«piece_length»)) 1 ∷
+-- the refusals in order: 1, then 10 for the tables or the counts, and for the work space, which is given by its lengths
+abbrev pub judgingRules : Store → ℕ → ℕ → ℕ → List Rule
+judgingRules s marks scratch walkPath =
+    when (badLength (s .fs .«piece_length»)) 1 ∷
     short
     ((rowsHeld (s .fs) (s .rows) && (dirsHeld (s .fs) (s .dirs) && textHeld (s .fs) (s .text))) && fewEntries (s .fs)) ∷
     when (lacksSpace (entriesOf s) marks scratch walkPath) 10 ∷
-    [])
+    []
 
--- the answer, the number of flagged links, and the work space
+abbrev pub judgingNumber : Store → ℕ → ℕ → ℕ → ℕ
+judgingNumber s marks scratch walkPath = firstOf (judgingRules s marks scratch walkPath)
+
+-- the answer, the number of flagged links, and the marks
 pub record Judged : Type 0 where
   pub says : Outcome ℕ
   pub marks : List ℕ
-  pub scratch : List ℕ
-  pub walkPath : List ℕ
 
-abbrev pub judgedOf : Outcome ℕ → List ℕ → List ℕ → List ℕ → Judged
-judgedOf says marks scratch walkPath =
-    record { says = says; marks = marks; scratch = scratch; walkPath = walkPath }
+abbrev pub judgedOf : Outcome ℕ → List ℕ → Judged
+judgedOf says marks = record { says = says; marks = marks }
 
--- `judge_links`: a refusal leaves the work space as it was; else the marks begin with the verdicts, and scratch space
--- and walk path are cleared
-abbrev pub judged : Store → List ℕ → List ℕ → List ℕ → Judged
+-- `judge_links`, with the lengths of a scratch space and a walk path: a refusal leaves the marks as they were; else
+-- they begin with the verdicts
+abbrev pub judged : Store → List ℕ → ℕ → ℕ → Judged
 judged s marks scratch walkPath =
-    cond (eqb (judgingNumber s (length marks) (length scratch) (length walkPath)) 0)
-    (judgedOf (value (linkCount (entriesOf s))) (sets marks 0 (verdicts s)) (cleared scratch) (cleared walkPath))
-    (judgedOf (refused (judgingNumber s (length marks) (length scratch) (length walkPath))) marks scratch walkPath)
+    cond (eqb (judgingNumber s (length marks) scratch walkPath) 0)
+    (judgedOf (value (linkCount (entriesOf s))) (sets marks 0 (verdicts s)))
+    (judgedOf (refused (judgingNumber s (length marks) scratch walkPath)) marks)

@@ -1,44 +1,60 @@
-// The first pass: a mark for each flagged link. It relies on `lookup` for what stands at a path, on text.rt for the
-// text from a link's directory, and on the laws of proofs/Marking.antt.
+// The first pass: a mark for each flagged link. It relies on `lookup` for what stands at a path, on scan.rt for what
+// stands at the text from a link's directory, and on the laws of proofs/Marking.antt.
 ghost use mathlib.Core.Path.{_≡_};
 ghost use mathlib.Core.Bool.{cond};
-ghost use Prim.Native.Nat.{_+_, _<_, _≤_};
-ghost use lib.ListN.{length, set};
+ghost use Prim.Native.Nat.{_^_, _<_, _≤_};
+ghost use lib.ListN.{set};
 ghost use lib.Seq.{sets};
-ghost use Rattle.tables.specs.Model.{directoryOf};
 ghost use Rattle.lookup.specs.Lookup.{isDirectory, fileAt, lent, filesIn, dirsIn};
-ghost use Rattle.lookup.specs.Space.{directoryLength, space};
 ghost use Rattle.lookup.specs.private.Rows.{entryAt};
 ghost use Rattle.links.specs.Judging.{walkDecides, settledMark, relativeMark};
-ghost use Rattle.links.specs.private.Walking.{firstMarkIn, firstMarksIn};
+ghost use Rattle.rope.specs.Rope.{front};
+ghost use Rattle.links.specs.private.Walking.{firstMarkIn, firstMarksIn, Fronted};
+use crate::front::put_frame;
+use crate::head::Part;
+use crate::head::put_head;
 use crate::mark::FROM_DIRECTORY;
 use crate::mark::FROM_DIRECTORY_AND_LEADS;
 use crate::mark::KEEPS_TEXT;
 use crate::mark::KEEPS_TEXT_AND_LEADS;
 use crate::mark::OWN_PATH_TAKEN;
 use crate::mark::WALK_DECIDES;
-use crate::text::append_in;
-use lookup::directory_of;
+use crate::scan::dir_in;
+use crate::scan::file_in;
 use lookup::file_at;
 use lookup::is_directory;
 use lookup::is_link;
 use lookup::link_text;
+use rope::FRAME_WIDTH;
+use rope::lead_length;
 use tables::FileStorage;
-use tables::Row;
 
-// The mark of a link whose text from its directory is p.
-fn settled_mark(fs: FileStorage, rows: &[u64], dirs: &[u64], text: &[u8], p: &[u8]) -> u8
+// The mark of a link whose text from its directory is the part.
+fn settled_mark(
+    fs: FileStorage,
+    rows: &[u64],
+    dirs: &[u64],
+    text: &[u8],
+    frames: &[u32],
+    part: Part,
+    head: &[u8],
+) -> u8
+    requires { ⌜ Fronted (now rows) (now dirs) (now text) (now frames) (part .depth) (part .e) (now head) ⌝ }
     ensures { λ r. ⌜
         r ≡ settledMark
-        (isDirectory (dirsIn fs (now (rows .entry)) (now (dirs .entry)) (now (text .entry))) (now (p .entry)))
-        (fileAt (filesIn fs (now (rows .entry)) (now (dirs .entry)) (now (text .entry))) (now (p .entry)))
+        (isDirectory (dirsIn fs (now (rows .entry)) (now (dirs .entry)) (now (text .entry)))
+        (front (now (rows .entry)) (now (dirs .entry)) (now (text .entry)) (now (frames .entry)) (part .depth)
+        (part .e)))
+        (fileAt (filesIn fs (now (rows .entry)) (now (dirs .entry)) (now (text .entry)))
+        (front (now (rows .entry)) (now (dirs .entry)) (now (text .entry)) (now (frames .entry)) (part .depth)
+        (part .e)))
         walkDecides
         ⌝ }
 {
-    if is_directory(fs, dirs, text, p) {
+    if dir_in(fs, rows, dirs, text, frames, part, head) {
         return FROM_DIRECTORY_AND_LEADS;
     }
-    let seen = file_at(fs, rows, dirs, text, p);
+    let seen = file_in(fs, rows, dirs, text, frames, part, head);
     if seen == 2 {
         return FROM_DIRECTORY_AND_LEADS;
     }
@@ -48,49 +64,35 @@ fn settled_mark(fs: FileStorage, rows: &[u64], dirs: &[u64], text: &[u8], p: &[u
     WALK_DECIDES
 }
 
-// The mark of the link of `row`, whose text t names nothing of the set as given.
-fn relative_mark(
-    fs: FileStorage,
-    rows: &[u64],
-    dirs: &[u64],
-    text: &[u8],
-    row: Row,
-    t: &[u8],
-    scratch: &mut [u8],
-) -> u8
-    requires { ⌜
-        directoryLength (directoryOf (lent fs (now rows) (now dirs) (now text)) row) + length (now t) + 1
-        ≤ length (now scratch)
-        ⌝ }
+// The mark of link i, whose text names nothing of the set as given: its text from its directory is a path of one frame.
+fn relative_mark(fs: FileStorage, rows: &[u64], dirs: &[u64], text: &[u8], i: usize) -> u8
+    requires { ⌜ i < 2 ^ 16 ⌝ }
     ensures { λ r. ⌜
         r ≡ relativeMark (filesIn fs (now (rows .entry)) (now (dirs .entry)) (now (text .entry)))
         (dirsIn fs (now (rows .entry)) (now (dirs .entry)) (now (text .entry)))
-        (directoryOf (lent fs (now (rows .entry)) (now (dirs .entry)) (now (text .entry))) row) (now (t .entry))
-        walkDecides
+        (entryAt (lent fs (now (rows .entry)) (now (dirs .entry)) (now (text .entry))) i .directory)
+        (entryAt (lent fs (now (rows .entry)) (now (dirs .entry)) (now (text .entry))) i .text) walkDecides
         ⌝ }
 {
+    let row = tables::row_at(rows, i);
     if tables::is_inside(row.path_index) {
-        let n = append_in(scratch, directory_of(dirs, text, row), t);
-        return settled_mark(fs, rows, dirs, text, &scratch[..n]);
+        let v = i as u32 * 4 + 2;
+        let mut frames = [0u32; FRAME_WIDTH];
+        put_frame(&mut frames, 0, v * 2);
+        let part = Part {
+            depth: 1,
+            e: lead_length(rows, dirs, text, v),
+        };
+        let mut buf = [0u8; 4096];
+        let n = put_head(rows, dirs, text, &frames, part, &mut buf);
+        return settled_mark(fs, rows, dirs, text, &frames, part, &buf[..n]);
     }
     WALK_DECIDES
 }
 
 // The mark of file i.
-fn first_mark(
-    fs: FileStorage,
-    rows: &[u64],
-    dirs: &[u64],
-    text: &[u8],
-    i: usize,
-    scratch: &mut [u8],
-) -> u8
-    requires { ⌜
-        directoryLength (entryAt (lent fs (now rows) (now dirs) (now text)) i .directory)
-        + length (entryAt (lent fs (now rows) (now dirs) (now text)) i .text)
-        + 1
-        ≤ length (now scratch)
-        ⌝ }
+fn first_mark(fs: FileStorage, rows: &[u64], dirs: &[u64], text: &[u8], i: usize) -> u8
+    requires { ⌜ i < 2 ^ 16 ⌝ }
     ensures { λ r. ⌜ r ≡ firstMarkIn (lent fs (now (rows .entry)) (now (dirs .entry)) (now (text .entry))) i ⌝ }
 {
     let row = tables::row_at(rows, i);
@@ -108,7 +110,7 @@ fn first_mark(
     if is_directory(fs, dirs, text, t) {
         return KEEPS_TEXT_AND_LEADS;
     }
-    relative_mark(fs, rows, dirs, text, row, t, scratch)
+    relative_mark(fs, rows, dirs, text, i)
 }
 
 // Sets mark k where file i is a flagged link, and gives the number of marks that the file has, 1 or 0.
@@ -118,13 +120,10 @@ fn mark_one(
     dirs: &[u64],
     text: &[u8],
     marks: &mut [u8],
-    scratch: &mut [u8],
     i: usize,
     k: usize,
 ) -> usize
-    requires { ⌜
-        (i < fs .«num_files») × (space (filesIn fs (now rows) (now dirs) (now text)) ≤ length (now scratch))
-        ⌝ }
+    requires { ⌜ (i < fs .«num_files») × (fs .«num_files» ≤ 65535) ⌝ }
     ensures { λ r. ⌜
         r ≡ cond (entryAt (lent fs (now (rows .entry)) (now (dirs .entry)) (now (text .entry))) i .flagged) 1 0
         ⌝ }
@@ -137,7 +136,7 @@ fn mark_one(
         ⌝ }
 {
     if is_link(rows, i) {
-        let m = first_mark(fs, rows, dirs, text, i, scratch);
+        let m = first_mark(fs, rows, dirs, text, i);
         lists::put_byte(marks, k, m);
         return 1;
     }
@@ -151,9 +150,8 @@ pub(crate) fn first_marks(
     dirs: &[u64],
     text: &[u8],
     marks: &mut [u8],
-    scratch: &mut [u8],
 )
-    requires { ⌜ space (filesIn fs (now rows) (now dirs) (now text)) ≤ length (now scratch) ⌝ }
+    requires { ⌜ fs .«num_files» ≤ 65535 ⌝ }
     ensures { λ _. ⌜
         now (marks .exit)
         ≡ sets (now (marks .entry)) 0
@@ -163,7 +161,7 @@ pub(crate) fn first_marks(
     let mut i = 0;
     let mut k = 0;
     while i < fs.num_files {
-        k += mark_one(fs, rows, dirs, text, marks, scratch, i, k);
+        k += mark_one(fs, rows, dirs, text, marks, i, k);
         i += 1;
     }
 }

@@ -1,12 +1,11 @@
 // `judge_links`: what becomes of each flagged link's text. Refusals are decided before anything is written; then the
-// first pass marks, walks decide the rest, and the work space is cleared. It relies on first.rt, second.rt, `lookup`
+// first pass marks, and walks decide the rest, with frames in a local array. It relies on first.rt, second.rt, `lookup`
 // and the laws of proofs/Judgements.antt.
 ghost use mathlib.Core.Bool.{_&&_};
 ghost use mathlib.Core.Path.{_≡_};
 ghost use mathlib.Core.List.{map};
-ghost use Prim.Native.Nat.{_*_, _≤_};
+ghost use Prim.Native.Nat.{_*_, _^_, _<_, _≤_};
 ghost use lib.ListN.{length};
-ghost use Rattle.lists.specs.Lists.{cleared};
 ghost use Rattle.types.specs.Refusals.{usizeSays};
 ghost use Rattle.rules.specs.Rules.{outcomeOf};
 ghost use Rattle.rules.specs.Questions.{rowsHeld, dirsHeld, textHeld, fewEntries};
@@ -21,6 +20,9 @@ use lookup::lacks_space;
 use tables::FileStorage;
 use types::Refusal;
 use types::UsizeResult;
+
+// The frames of a walk: one for the text that is walked, and one for each of 65535 links.
+type Frames = [u32; 196608];
 
 // Whether the lent tables hold what the set counts.
 fn holds_tables(fs: FileStorage, rows: &[u64], dirs: &[u64], text: &[u8]) -> bool
@@ -48,9 +50,9 @@ fn is_held(fs: FileStorage, rows: &[u64], dirs: &[u64], text: &[u8]) -> bool
     rules::are_held(fs, holds_tables(fs, rows, dirs, text))
 }
 
-// The number of links to judge, or why none are judged. `marks`, `scratch` and `walk_path` are lengths of the work
-// space.
-fn links_in(
+// The number of links to judge, or why none are judged. `marks`, `scratch` and `walk_path` are the lengths of the work
+// space that a cleaning is lent.
+pub fn links_to_judge(
     fs: FileStorage,
     rows: &[u64],
     dirs: &[u64],
@@ -89,65 +91,44 @@ fn keep_verdicts(marks: &mut [u8])
     }
 }
 
-// Judges all flagged links, with one mark for each and a work space that is long enough.
-fn judge(
-    fs: FileStorage,
-    rows: &[u64],
-    dirs: &[u64],
-    text: &[u8],
-    marks: &mut [u8],
-    scratch: &mut [u8],
-    walk_path: &mut [u8],
-)
-    requires { ⌜ length (now marks) ≡ linkCount (filesIn fs (now rows) (now dirs) (now text)) ⌝ }
+// Judges all flagged links, with one mark for each.
+fn judge(fs: FileStorage, rows: &[u64], dirs: &[u64], text: &[u8], marks: &mut [u8])
     requires { ⌜
-        (space (filesIn fs (now rows) (now dirs) (now text)) ≤ length (now scratch))
-        × (2 * space (filesIn fs (now rows) (now dirs) (now text)) ≤ length (now «walk_path»))
+        (length (now marks) ≡ linkCount (filesIn fs (now rows) (now dirs) (now text)))
+        × (fs .«num_files» ≤ 65535)
+        × (2 * space (filesIn fs (now rows) (now dirs) (now text)) < 2 ^ 64)
         ⌝ }
     ensures { λ _. ⌜
         now (marks .exit) ≡ verdicts (lent fs (now (rows .entry)) (now (dirs .entry)) (now (text .entry)))
         ⌝ }
-    ensures { λ _. ⌜
-        (now (scratch .exit) ≡ cleared (now (scratch .entry)))
-        × (now («walk_path» .exit) ≡ cleared (now («walk_path» .entry)))
-        ⌝ }
 {
-    first_marks(fs, rows, dirs, text, marks, scratch);
-    walk_links(fs, rows, dirs, text, marks, scratch, walk_path);
+    let mut frames: Frames = [0u32; 196608];
+    first_marks(fs, rows, dirs, text, marks);
+    walk_links(fs, rows, dirs, text, marks, &mut frames);
     keep_verdicts(marks);
-    lists::clear(scratch);
-    lists::clear(walk_path);
 }
 
-// Judges the flagged links of a set: gives their number, and sets mark n to the verdict on the n-th (`VERDICT_KEEP`,
-// `VERDICT_OWN_PATH` or `VERDICT_FROM_DIRECTORY`). `scratch` and `walk_path` are work space, which it clears; a refusal
-// leaves all three as they were.
+// Judges the flagged links of a set: gives their number, and sets mark n to the verdict on the n-th, which `verdict_in`
+// reads. `scratch` and `walk_path` are the lengths of the work space that a cleaning is lent. A refusal leaves the
+// marks as they were.
 pub fn judge_links(
     fs: FileStorage,
     rows: &[u64],
     dirs: &[u64],
     text: &[u8],
     marks: &mut [u8],
-    scratch: &mut [u8],
-    walk_path: &mut [u8],
+    scratch: usize,
+    walk_path: usize,
 ) -> UsizeResult
     ensures { λ r. ⌜
-        judgedOf (usizeSays r) (now (marks .exit)) (now (scratch .exit)) (now («walk_path» .exit))
-        ≡ judged (lent fs (now (rows .entry)) (now (dirs .entry)) (now (text .entry))) (now (marks .entry))
-        (now (scratch .entry)) (now («walk_path» .entry))
+        judgedOf (usizeSays r) (now (marks .exit))
+        ≡ judged (lent fs (now (rows .entry)) (now (dirs .entry)) (now (text .entry))) (now (marks .entry)) scratch
+        «walk_path»
         ⌝ }
 {
-    match links_in(
-        fs,
-        rows,
-        dirs,
-        text,
-        marks.len(),
-        scratch.len(),
-        walk_path.len(),
-    ) {
+    match links_to_judge(fs, rows, dirs, text, marks.len(), scratch, walk_path) {
         UsizeResult::Ok(n) => {
-            judge(fs, rows, dirs, text, &mut marks[..n], scratch, walk_path);
+            judge(fs, rows, dirs, text, &mut marks[..n]);
             UsizeResult::Ok(n)
         }
         UsizeResult::Err(e) => UsizeResult::Err(e),

@@ -1,16 +1,17 @@
 // Which links' texts a cleaning keeps, from `sanitize_symlinks` of file_storage.rs: a verdict for each flagged link,
-// with the set untouched. Relies on `lookup` for what stands at a path, on `path` and `lists` for paths, and on work
-// space that the caller lends.
+// with all that is lent untouched. Relies on `lookup` for what stands at a path and on `rope` for the path of a walk;
+// what a walk must remember stands in local arrays.
+mod cut;
 mod first;
+mod front;
+mod head;
 mod judge;
 mod mark;
 mod resolve;
 mod scan;
 mod second;
-mod text;
-mod work;
 
 pub use judge::judge_links;
-pub use mark::VERDICT_FROM_DIRECTORY;
-pub use mark::VERDICT_KEEP;
-pub use mark::VERDICT_OWN_PATH;
+pub use judge::links_to_judge;
+pub use mark::LinkVerdict;
+pub use mark::verdict_in;

@@ -4,14 +4,20 @@ ghost use mathlib.Core.Path.{_≡_};
 ghost use mathlib.Core.List.{map};
 ghost use Prim.Native.Nat.{_+_, _*_, _<_};
 ghost use lib.ListN.{getD, set};
+ghost use Rattle.links.specs.Judging.{verdictRead};
 ghost use Rattle.links.specs.private.Walking.{lead, verdict, untraversed};
 
-// Verdicts: a link's text stays, becomes the link's own internal path, or becomes the text from the link's directory.
-pub const VERDICT_KEEP: u8 = 0;
+// A link's text stays, becomes the link's own internal path, or becomes the text from the link's directory.
+pub enum LinkVerdict {
+    Keep,
+    OwnPath,
+    FromDirectory,
+}
 
-pub const VERDICT_OWN_PATH: u8 = 1;
+// Verdicts as marks hold them; any other number is read as `FromDirectory`.
+pub(crate) const VERDICT_KEEP: u8 = 0;
 
-pub const VERDICT_FROM_DIRECTORY: u8 = 2;
+pub(crate) const VERDICT_OWN_PATH: u8 = 1;
 
 // The first pass's verdict where a walk decides.
 pub(crate) const VERDICT_WALK: u8 = 3;
@@ -41,6 +47,20 @@ pub(crate) fn verdict_at(marks: &[u8], k: usize) -> u8
     ensures { λ r. ⌜ r ≡ verdict (getD (now (marks .entry)) k 0) ⌝ }
 {
     lists::byte(marks, k) / 8
+}
+
+// The verdict that mark k holds once links are judged; past the end of the marks, `Keep`.
+pub fn verdict_in(marks: &[u8], k: usize) -> LinkVerdict
+    ensures { λ r. ⌜ r ≡ verdictRead (getD (now (marks .entry)) k 0) ⌝ }
+{
+    let v = lists::byte(marks, k);
+    if v == VERDICT_KEEP {
+        return LinkVerdict::Keep;
+    }
+    if v == VERDICT_OWN_PATH {
+        return LinkVerdict::OwnPath;
+    }
+    LinkVerdict::FromDirectory
 }
 
 // Sets the lead of mark k and keeps its verdict; past the end it does nothing.

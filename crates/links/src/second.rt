@@ -1,15 +1,16 @@
 // The second pass: each link whose text the first pass left to a walk is walked, and the walk decides. It relies on
-// resolve.rt, mark.rt and the laws of proofs/Marks.antt and proofs/Walked.antt.
+// resolve.rt, mark.rt and the laws of proofs/Walks.antt, proofs/Marks.antt and proofs/Walked.antt.
 ghost use mathlib.Core.Path.{_≡_};
 ghost use mathlib.Core.Bool.{cond};
 ghost use mathlib.Core.List.{map};
-ghost use Prim.Native.Nat.{_*_, _<_, _≤_};
+ghost use Prim.Native.Nat.{_<_};
 ghost use lib.ListN.{length, getD, set};
-ghost use Rattle.lookup.specs.Space.{space};
-ghost use Rattle.lookup.specs.Lookup.{lent, filesIn};
+ghost use Rattle.lookup.specs.Lookup.{lent};
 ghost use Rattle.lookup.specs.private.Rows.{entryAt};
 ghost use Rattle.links.specs.Judging.{verdictKeep, verdictOwnPath, verdicts};
-ghost use Rattle.links.specs.private.Walking.{lead, verdict, firstMarksIn, resolvesIn, walkedMarkIn, WalkableIn};
+ghost use Rattle.links.specs.private.Walking.{lead, verdict, firstMarksIn, resolvesIn, walkedMarkIn, Bounded};
+ghost use Rattle.links.specs.private.Walking.{WalksFrom};
+use crate::front::put_frame;
 use crate::mark::VERDICT_KEEP;
 use crate::mark::VERDICT_OWN_PATH;
 use crate::mark::VERDICT_WALK;
@@ -17,9 +18,7 @@ use crate::mark::put_verdict;
 use crate::mark::reopen;
 use crate::mark::verdict_at;
 use crate::resolve::resolve;
-use crate::text::put_at;
 use lookup::is_link;
-use lookup::link_text;
 use tables::FileStorage;
 
 // Whether the text of the flagged link i leads to a file or a directory of the set. It relies on the first pass's
@@ -30,18 +29,18 @@ fn walk_link(
     dirs: &[u64],
     text: &[u8],
     marks: &mut [u8],
-    scratch: &mut [u8],
-    walk_path: &mut [u8],
+    frames: &mut [u32],
     i: usize,
 ) -> bool
-    requires { ⌜ WalkableIn (lent fs (now rows) (now dirs) (now text)) (now marks) (now scratch) (now «walk_path») i ⌝ }
+    requires { ⌜
+        Bounded (lent fs (now rows) (now dirs) (now text)) (length (now frames))
+        × WalksFrom (lent fs (now rows) (now dirs) (now text)) (now marks) i
+        ⌝ }
     ensures { λ r. ⌜ r ≡ resolvesIn (lent fs (now (rows .entry)) (now (dirs .entry)) (now (text .entry))) i ⌝ }
     ensures { λ _. ⌜ now (marks .exit) ≡ now (marks .entry) ⌝ }
 {
-    let t = link_text(text, tables::row_at(rows, i));
-    let from = walk_path.len() - t.len();
-    put_at(walk_path, from, t);
-    let r = resolve(fs, rows, dirs, text, marks, scratch, walk_path, from);
+    put_frame(frames, 0, (i as u32 * 4 + 1) * 2);
+    let r = resolve(fs, rows, dirs, text, marks, frames);
     reopen(marks);
     r
 }
@@ -65,16 +64,14 @@ fn walk_one(
     dirs: &[u64],
     text: &[u8],
     marks: &mut [u8],
-    scratch: &mut [u8],
-    walk_path: &mut [u8],
+    frames: &mut [u32],
     i: usize,
     k: usize,
 ) -> usize
     requires { ⌜
         (i < fs .«num_files»)
         × (map lead (now marks) ≡ map lead (firstMarksIn (lent fs (now rows) (now dirs) (now text))))
-        × (space (filesIn fs (now rows) (now dirs) (now text)) ≤ length (now scratch))
-        × (2 * space (filesIn fs (now rows) (now dirs) (now text)) ≤ length (now «walk_path»))
+        × Bounded (lent fs (now rows) (now dirs) (now text)) (length (now frames))
         ⌝ }
     ensures { λ r. ⌜
         r ≡ cond (entryAt (lent fs (now (rows .entry)) (now (dirs .entry)) (now (text .entry))) i .flagged) 1 0
@@ -94,7 +91,7 @@ fn walk_one(
     if verdict_at(marks, k) != VERDICT_WALK {
         return 1;
     }
-    let resolved = walk_link(fs, rows, dirs, text, marks, scratch, walk_path, i);
+    let resolved = walk_link(fs, rows, dirs, text, marks, frames, i);
     let verdict = verdict_by(resolved);
     put_verdict(marks, k, verdict);
     1
@@ -107,13 +104,11 @@ pub(crate) fn walk_links(
     dirs: &[u64],
     text: &[u8],
     marks: &mut [u8],
-    scratch: &mut [u8],
-    walk_path: &mut [u8],
+    frames: &mut [u32],
 )
     requires { ⌜
         (now marks ≡ firstMarksIn (lent fs (now rows) (now dirs) (now text)))
-        × (space (filesIn fs (now rows) (now dirs) (now text)) ≤ length (now scratch))
-        × (2 * space (filesIn fs (now rows) (now dirs) (now text)) ≤ length (now «walk_path»))
+        × Bounded (lent fs (now rows) (now dirs) (now text)) (length (now frames))
         ⌝ }
     ensures { λ _. ⌜
         map verdict (now (marks .exit)) ≡ verdicts (lent fs (now (rows .entry)) (now (dirs .entry)) (now (text .entry)))
@@ -122,7 +117,7 @@ pub(crate) fn walk_links(
     let mut i = 0;
     let mut k = 0;
     while i < fs.num_files {
-        k += walk_one(fs, rows, dirs, text, marks, scratch, walk_path, i, k);
+        k += walk_one(fs, rows, dirs, text, marks, frames, i, k);
         i += 1;
     }
 }

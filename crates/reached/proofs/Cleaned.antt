@@ -10,23 +10,23 @@ pub mod Run
 pub mod Verdicts
 pub mod Lent
 use mathlib.Core.Path.{_≡_, refl, sym, ap, subst, _∙_}
-use mathlib.Core.Bool.{Bool, true, false, cond}
-use mathlib.Core.List.{List, [], map}
+use mathlib.Core.Bool.{true, false≢true}
+use mathlib.Core.List.{List, map}
 use Prim.Native.Nat.{ℕ, _+_, _≤_, _<_}
 use native.Mathlib.Nat.{zero-add}
 use native.Mathlib.Omega.{arith}
-use lib.Dec.{eqb}
 use lib.ListN.{length}
-use borrow.Author.Tests.{eqb-true}
 use Rattle.lists.specs.Lists.{sum}
 use Rattle.tables.specs.declared.storage.FileStorage.{FileStorage}
-use Rattle.tables.specs.Model.{present, File, Store, tabled, fileOf, viewOf}
+use Rattle.tables.specs.Model.{File, Store, tabled, fileOf, viewOf}
 use Rattle.tables.proofs.Tabled.{length-tabled, tabled-same}
 use Rattle.additions.specs.Addition.{fileText, textOf}
 use Rattle.lookup.specs.Lookup.{Entry, entryOf, isHeld, entriesOf, directoriesOf}
-use Rattle.links.specs.Clean.{linkedTo, cleanFile, cleanedOf}
+use Rattle.links.specs.Clean.{cleanFile, cleanedOf}
 use Rattle.lookup.specs.Space.{space}
-use Rattle.links.specs.Judging.{verdictOf, textBy}
+use Rattle.links.specs.declared.mark.LinkVerdict.{LinkVerdict}
+use Rattle.links.specs.declared.mark.LinkVerdict.the-variants.{Keep, OwnPath, FromDirectory}
+use Rattle.links.specs.Judging.{verdictRead, verdictOf, textBy}
 use Rattle.cleaning.specs.Cleaning.{fileVerdicts, emptied, cleanedStore, textNeeded}
 use Rattle.sound.specs.Sound.{sumTo, Sound}
 use Rattle.sound.proofs.Common.{sum-tabled}
@@ -34,13 +34,13 @@ use Rattle.sound.proofs.Files.{map-tabled}
 use Rattle.sound.proofs.Texts.{text-is}
 use Rattle.reached.proofs.Cleaned.Files.{held-flagged}
 use Rattle.reached.proofs.Cleaned.Texts.{Turned, turned-then, turned-view}
-use Rattle.reached.proofs.Cleaned.Run.{verdictIn, textLength, amount, amount-same, emptiedFile, freed, Passed, emptied-turned, rewrittenFile, grown, rewritten-turned}
-use Rattle.reached.proofs.Cleaned.Verdicts.{length-file-verdicts, verdict, verdict-at, verdict-flagged, none-file, given-file, length-held, cleaned-file, replaced, new, longer, amount-two, amount-sum, sum-from, sum-two, balance, new-bytes, kept-after, replaced-used, beside-short, space-at}
+use Rattle.reached.proofs.Cleaned.Run.{changes, isOwn, isBeside, verdictIn, textLength, amount, amount-same, emptiedFile, freed, Passed, emptied-turned, rewrittenFile, grown, rewritten-turned}
+use Rattle.reached.proofs.Cleaned.Verdicts.{length-file-verdicts, verdict, verdict-at, verdict-flagged, given-file, length-held, cleaned-file, replaced, new, longer, amount-two, amount-sum, sum-from, sum-two, balance, new-bytes, kept-after, replaced-used, beside-short, space-at}
 
 -- ---- the tables after a cleaning
 
 module _ (s : Store) (ok : Sound s) where
-  abbrev vs : List ℕ
+  abbrev vs : List LinkVerdict
   vs = fileVerdicts s
 
   abbrev files : List Entry
@@ -59,17 +59,19 @@ module _ (s : Store) (ok : Sound s) where
   verdict-is : (k : ℕ) → k < n → verdictIn vs 0 k ≡ verdict files dirs (entryOf (fileOf s k))
   verdict-is k h = rw (zero-add k) at (verdict-at files dirs n (λ i. entryOf (fileOf s i)) 0 k h)
 
-  flagged : (k : ℕ) → k < n → eqb (verdictIn vs 0 k) 0 ≡ false → entryOf (fileOf s k) .flagged ≡ true
+  flagged : (k : ℕ) → k < n → changes (verdictIn vs 0 k) ≡ true → entryOf (fileOf s k) .flagged ≡ true
   flagged k h e =
-      verdict-flagged (entryOf (fileOf s k) .flagged) (verdictOf files dirs (entryOf (fileOf s k))) (ap (λ (v : ℕ). eqb v 0) (sym (verdict-is k h)) ∙ e)
+      verdict-flagged (entryOf (fileOf s k) .flagged) (verdictRead (verdictOf files dirs (entryOf (fileOf s k)))) (ap changes (sym (verdict-is k h)) ∙ e)
 
-  held : (k : ℕ) → k < n → eqb (verdictIn vs 0 k) 0 ≡ false → isHeld (fileOf s k .link) ≡ true
+  held : (k : ℕ) → k < n → changes (verdictIn vs 0 k) ≡ true → isHeld (fileOf s k .link) ≡ true
   held k h e = held-flagged (fileOf s k) (flagged k h e)
 
-  one-not-none : (v : ℕ) → eqb v 1 ≡ true → eqb v 0 ≡ false
-  one-not-none v e = ap (λ (w : ℕ). eqb w 0) (eqb-true v 1 e)
+  own-changes : (v : LinkVerdict) → isOwn v ≡ true → changes v ≡ true
+  own-changes Keep e = e
+  own-changes OwnPath e = refl
+  own-changes FromDirectory e = refl
 
-  amount-all : (w : ℕ → Entry → ℕ) → amount w vs 0 s ≡ sumTo n (λ k. w (verdictIn vs 0 k) (entryOf (fileOf s k)))
+  amount-all : (w : LinkVerdict → Entry → ℕ) → amount w vs 0 s ≡ sumTo n (λ k. w (verdictIn vs 0 k) (entryOf (fileOf s k)))
   amount-all w =
       let z : 0 + length vs ≡ n = omega (arith, count) in
       let e = amount-sum w (λ k. w (verdictIn vs 0 k) (entryOf (fileOf s k))) vs 0 s (λ k a b. refl) in
@@ -81,7 +83,7 @@ module _ (s : Store) (ok : Sound s) where
 
   first : Passed s between (λ k. emptiedFile (verdictIn vs 0 k)) (amount freed vs 0 s) 0
   first =
-      emptied-turned vs 0 s ok (omega (arith, count)) (λ k a b e. held k (omega (arith, count)) (one-not-none (verdictIn vs 0 k) e))
+      emptied-turned vs 0 s ok (omega (arith, count)) (λ k a b e. held k (omega (arith, count)) (own-changes (verdictIn vs 0 k) e))
 
   same-count : between .fs .«num_files» ≡ n
   same-count = ap (λ (x : FileStorage). x .«num_files») (first .turned .record-is)
@@ -89,13 +91,10 @@ module _ (s : Store) (ok : Sound s) where
   file-between : (k : ℕ) → k < 0 + length vs → fileOf between k ≡ emptiedFile (verdictIn vs 0 k) (fileOf s k)
   file-between k b = first .turned .files k (omega (arith, count))
 
-  grown-between : (v : ℕ) (f : File) → grown v (entryOf (emptiedFile v f)) ≡ longer v (entryOf f)
-  grown-between v f = at (eqb v 0) (eqb v 1) refl refl
-    where
-      at : (a b : Bool) → eqb v 0 ≡ a → eqb v 1 ≡ b → grown v (entryOf (emptiedFile v f)) ≡ longer v (entryOf f)
-      at true b p q = rw p
-      at false true p q = rw (p, q) (omega arith)
-      at false false p q = rw (p, q)
+  grown-between : (v : LinkVerdict) (f : File) → grown v (entryOf (emptiedFile v f)) ≡ longer v (entryOf f)
+  grown-between Keep f = refl
+  grown-between OwnPath f = omega arith
+  grown-between FromDirectory f = refl
 
   growth : amount grown vs 0 between ≡ amount longer vs 0 s
   growth =
@@ -115,23 +114,27 @@ module _ (s : Store) (ok : Sound s) where
       )
 
   -- what the second pass asks of them
-  held-between : (k : ℕ) → 0 ≤ k → k < 0 + length vs → eqb (verdictIn vs 0 k) 0 ≡ false → isHeld (fileOf between k .link) ≡ true
-  held-between k a b e = ap (λ (f : File). isHeld (f .link)) (file-between k b) ∙ at (eqb (verdictIn vs 0 k) 1)
+  held-between : (k : ℕ) → 0 ≤ k → k < 0 + length vs → changes (verdictIn vs 0 k) ≡ true → isHeld (fileOf between k .link) ≡ true
+  held-between k a b e = ap (λ (f : File). isHeld (f .link)) (file-between k b) ∙ at (verdictIn vs 0 k) (held k (omega (arith, count)) e)
     where
-      at : (c : Bool) → isHeld (cond c (linkedTo (present []) (fileOf s k)) (fileOf s k) .link) ≡ true
-      at true = refl
-      at false = held k (omega (arith, count)) e
+      at : (v : LinkVerdict) → isHeld (fileOf s k .link) ≡ true → isHeld (emptiedFile v (fileOf s k) .link) ≡ true
+      at Keep h = h
+      at OwnPath h = refl
+      at FromDirectory h = h
 
-  bare-between : (k : ℕ) → 0 ≤ k → k < 0 + length vs → eqb (verdictIn vs 0 k) 1 ≡ true → textLength between k ≡ 0
-  bare-between k a b e =
-      ap (λ (f : File). length (entryOf f .text)) (file-between k b)
-      ∙ ap (λ (c : Bool). length (entryOf (cond c (linkedTo (present []) (fileOf s k)) (fileOf s k)) .text)) e
+  bare-between : (k : ℕ) → 0 ≤ k → k < 0 + length vs → isOwn (verdictIn vs 0 k) ≡ true → textLength between k ≡ 0
+  bare-between k a b e = ap (λ (f : File). length (entryOf f .text)) (file-between k b) ∙ at (verdictIn vs 0 k) e
+    where
+      at : (v : LinkVerdict) → isOwn v ≡ true → length (entryOf (emptiedFile v (fileOf s k)) .text) ≡ 0
+      at Keep q = absurd (false≢true q)
+      at OwnPath q = refl
+      at FromDirectory q = absurd (false≢true q)
 
   -- both passes do to the files what the cleaning does
   files-cleaned : tabled n (λ k. rewrittenFile (verdictIn vs 0 k) (emptiedFile (verdictIn vs 0 k) (fileOf s k))) ≡ cleanedOf (viewOf s) .files
   files-cleaned =
       tabled-same n (λ k. rewrittenFile (verdictIn vs 0 k) (emptiedFile (verdictIn vs 0 k) (fileOf s k))) (λ k. cleanFile files dirs (fileOf s k))
-      (λ k h. ap (λ (v : ℕ). rewrittenFile v (emptiedFile v (fileOf s k))) (verdict-is k h) ∙ cleaned-file files dirs (fileOf s k))
+      (λ k h. ap (λ (v : LinkVerdict). rewrittenFile v (emptiedFile v (fileOf s k))) (verdict-is k h) ∙ cleaned-file files dirs (fileOf s k))
       ∙ sym (map-tabled (cleanFile files dirs) n (fileOf s))
       ∙ ap (λ (es : List Entry). map (cleanFile es dirs) (tabled n (fileOf s))) (sym (map-tabled entryOf n (fileOf s)))
 
@@ -142,13 +145,15 @@ module _ (s : Store) (ok : Sound s) where
 
   -- a file's texts, with the new text instead of the old
   text-of : (k : ℕ) → k < n → fileText (file-of k) + replaced (verdictIn vs 0 k) (entryOf (fileOf s k)) ≡ fileText (fileOf s k) + new (verdictIn vs 0 k) (entryOf (fileOf s k))
-  text-of k h = at (eqb (verdictIn vs 0 k) 0) refl
+  text-of k h = at (verdictIn vs 0 k) (held k h)
     where
-      at : (b : Bool) → eqb (verdictIn vs 0 k) 0 ≡ b → fileText (file-of k) + cond b 0 (textLength s k) ≡ fileText (fileOf s k) + cond b 0 (length (textBy (verdictIn vs 0 k) (entryOf (fileOf s k))))
-      at true p = ap (λ (f : File). fileText f + 0) (none-file (verdictIn vs 0 k) (fileOf s k) p)
-      at false p =
-          ap (λ (f : File). fileText f + textLength s k) (given-file (verdictIn vs 0 k) (fileOf s k) (held k h p))
-          ∙ omega (arith, length-held (fileOf s k .link))
+      at : (v : LinkVerdict) → (changes v ≡ true → isHeld (fileOf s k .link) ≡ true)
+          → fileText (rewrittenFile v (emptiedFile v (fileOf s k))) + replaced v (entryOf (fileOf s k)) ≡ fileText (fileOf s k) + new v (entryOf (fileOf s k))
+      at Keep e = refl
+      at OwnPath e =
+          ap (λ (f : File). fileText f + textLength s k) (given-file OwnPath (fileOf s k) (e refl)) ∙ omega (arith, length-held (fileOf s k .link))
+      at FromDirectory e =
+          ap (λ (f : File). fileText f + textLength s k) (given-file FromDirectory (fileOf s k) (e refl)) ∙ omega (arith, length-held (fileOf s k .link))
 
   -- 'Text needed is the sum of the set's name and all names, directories and link texts held after the call'
   pub needed-is : textNeeded s ≡ textOf (cleanedOf (viewOf s))
@@ -170,12 +175,18 @@ module _ (s : Store) (ok : Sound s) where
   -- ---- where there is room and work space enough
 
   module _ (m : ℕ) (room : textNeeded s ≤ length (s .text)) (work : space (entriesOf s) ≤ m) where
-    short-between : (k : ℕ) → 0 ≤ k → k < 0 + length vs → eqb (verdictIn vs 0 k) 0 ≡ false → eqb (verdictIn vs 0 k) 1 ≡ false → length (textBy (verdictIn vs 0 k) (entryOf (fileOf between k))) ≤ m
-    short-between k a b e z =
-        let f : fileOf between k ≡ fileOf s k = file-between k b ∙ ap (λ (c : Bool). cond c (linkedTo (present []) (fileOf s k)) (fileOf s k)) z in
-        let h : k < n = omega (arith, count) in
-        let l : length (textBy (verdictIn vs 0 k) (entryOf (fileOf s k))) ≤ m = rw (e, z) (omega (arith, beside-short (entryOf (fileOf s k) .directory) (entryOf (fileOf s k) .text), space-at n (λ i. entryOf (fileOf s i)) k h (flagged k h e), work)) in
-        subst (λ (x : File). length (textBy (verdictIn vs 0 k) (entryOf x)) ≤ m) (sym f) l
+    short-between : (k : ℕ) → 0 ≤ k → k < 0 + length vs → isBeside (verdictIn vs 0 k) ≡ true → length (textBy (verdictIn vs 0 k) (entryOf (fileOf between k))) ≤ m
+    short-between k a b e =
+        subst (λ (x : File). length (textBy (verdictIn vs 0 k) (entryOf x)) ≤ m) (sym (file-between k b)) (at (verdictIn vs 0 k) e (flagged k h))
+      where
+        h : k < n
+        h = omega (arith, count)
+
+        at : (v : LinkVerdict) → isBeside v ≡ true → (changes v ≡ true → entryOf (fileOf s k) .flagged ≡ true) → length (textBy v (entryOf (emptiedFile v (fileOf s k)))) ≤ m
+        at Keep q flag = absurd (false≢true q)
+        at OwnPath q flag = absurd (false≢true q)
+        at FromDirectory q flag =
+            omega (arith, beside-short (entryOf (fileOf s k) .directory) (entryOf (fileOf s k) .text), space-at n (λ i. entryOf (fileOf s i)) k h (flag refl), work)
 
     second : Passed between (cleanedStore m s) (λ k. rewrittenFile (verdictIn vs 0 k)) 0 (amount grown vs 0 between)
     second =

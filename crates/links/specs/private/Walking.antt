@@ -1,24 +1,19 @@
--- Where the judgement of links stands, for the private parts of its code: marks in use, texts in the work space, and
--- what a walk needs. The meaning is that of Clean.antt; the marks are those of Judging.antt.
-use Prim.Native.Nat.{ℕ, zero, suc, _+_, _*_, _/_, _%_, _<_, _≤_}
+-- Where the judgement of links stands, for the private parts of its code: marks in use, frames written, and what a walk
+-- needs. The meaning is that of Clean.antt; the marks are those of Judging.antt.
+use Prim.Native.Nat.{ℕ, zero, suc, _+_, _*_, _/_, _%_, _^_, _<_, _≤_}
 use mathlib.Core.Bool.{Bool, true, false, cond}
 use mathlib.Core.Path.{_≡_}
-use mathlib.Core.List.{List, [], _∷_, _++_, map}
+use mathlib.Core.List.{List, [], _∷_, map}
 use lib.Dec.{eqb, ltb}
-use lib.ListN.{length, getD, take, drop}
+use lib.ListN.{length, getD, set, drop}
 use Rattle.lists.specs.Lists.{equal}
-use Rattle.path.specs.Join.{appended, combined}
 use Rattle.tables.specs.Model.{pathIn, Store}
 use Rattle.lookup.specs.Lookup.{Entry, ownPath, isDirectory, known, entriesOf, directoriesOf}
-use Rattle.lookup.specs.private.Rows.{entryAt, rowText, rowBranch}
+use Rattle.lookup.specs.private.Rows.{entryAt}
 use Rattle.lookup.specs.Space.{space}
 use Rattle.links.specs.Clean.{Link, linksOf, goes, resolves, weight}
+use Rattle.rope.specs.Rope.{heldPath, front, frameWidth, halfWord}
 use Rattle.links.specs.Judging.{verdictKeep, verdictOwnPath, verdictWalk, firstMark}
-
--- the text by which the link of row i leads with lead m (`leadText` of `entryAt`)
-abbrev pub rowLead : List ℕ → List ℕ → List ℕ → ℕ → ℕ → List ℕ
-rowLead rows dirs text i m =
-    cond (ltb m 2) (rowText rows text i) (appended (rowBranch rows dirs text i) (rowText rows text i))
 
 -- ---- marks
 
@@ -88,24 +83,20 @@ linkAt f m p = cond (f .flagged) (cond (ltb 0 m) (equal (ownPath f) p) false) fa
 abbrev pub leadMark : Entry → ℕ → List ℕ → Bool → ℕ
 leadMark f m p later = cond (f .flagged) (cond (leading m) (cond (equal (ownPath f) p) (cond later 0 m) 0) 0) 0
 
--- ---- texts in the work space
+-- ---- frames written
 
--- b with t written over what stands at `at`
-abbrev pub overwritten : List ℕ → ℕ → List ℕ → List ℕ
-overwritten b at t = take at b ++ (t ++ drop (at + length t) b)
+-- frame k with its start at n, and frame k written with its whole text unused
+abbrev pub withStart : List ℕ → ℕ → ℕ → List ℕ
+withStart frames k n =
+    set (set frames (k * frameWidth + 1) (n % halfWord)) (k * frameWidth + 2) (n / halfWord)
 
--- t stands in the first r bytes of b
-pub record StandsIn (b : List ℕ) (r : ℕ) (t : List ℕ) : Type 0 where
-  pub long : r ≡ length t
-  pub fits : r ≤ length b
-  pub is : take r b ≡ t
+abbrev pub withFrame : List ℕ → ℕ → ℕ → List ℕ
+withFrame frames k w = withStart (set frames (k * frameWidth) w) k 0
 
--- the path at r of b′ is t joined to what stood after the part of e bytes at `at` in b, and it begins no earlier than
--- t needs
-pub record JoinedAt (b : List ℕ) (at e : ℕ) (t : List ℕ) (b′ : List ℕ) (r : ℕ) : Type 0 where
-  pub inside : r ≤ length b
-  pub room : at ≤ r + length t
-  pub is : drop r b′ ≡ combined t (drop (e + 1) (drop at b))
+-- the path has e bytes, and h is its front: all e bytes, or as many as fit
+pub record Fronted (rows dirs text frames : List ℕ) (depth e : ℕ) (h : List ℕ) : Type 0 where
+  pub long : e ≤ length (heldPath rows dirs text frames depth)
+  pub head : h ≡ front rows dirs text frames depth (length h)
 
 -- ---- walks
 
@@ -113,21 +104,28 @@ pub record JoinedAt (b : List ℕ) (at e : ℕ) (t : List ℕ) (b′ : List ℕ)
 abbrev pub walkOf : List Entry → List (List ℕ) → List ℕ → List ℕ → ℕ → Bool
 walkOf fs ds ms p e = goes (isDirectory ds) (known fs ds) (openOf fs ms) p e
 
--- what a walk needs: a path that ends with its buffer, room before it for the texts of all open links, a scratch space
--- for each text
-pub record Ready (fs : List Entry) (ms scratch path : List ℕ) (from : ℕ) : Type 0 where
-  pub inside : from ≤ length path
-  pub room : weight (openOf fs ms) ≤ from
-  pub staged : space fs ≤ length scratch
+-- the path that the frames hold, with the texts of a set's tables
+abbrev pub pathOf : Store → List ℕ → ℕ → List ℕ
+pathOf s frames depth = heldPath (s .rows) (s .dirs) (s .text) frames depth
 
--- what the walk of link i needs of the tables and the work space: the first pass's leads, and 01's space
-pub record Walkable (files : List Entry) (dirs : List (List ℕ)) (f : Entry) (n : ℕ) (ms scratch path : List ℕ) (i : ℕ)
-    : Type 0 where
-  pub row : i < n
-  pub flag : f .flagged ≡ true
-  pub marked : map lead ms ≡ map lead (firstMarks files dirs files)
-  pub staged : space files ≤ length scratch
-  pub room : 2 * space files ≤ length path
+-- what a walk of the path in the first frame needs: few files, a number for each place in the path, and a frame for
+-- each open link
+pub record Walkable (s : Store) (ms frames : List ℕ) : Type 0 where
+  pub few : s .fs .«num_files» ≤ 65535
+  pub fits : length (pathOf s frames 1) + weight (openOf (entriesOf s) ms) < 2 ^ 64
+  pub room : (1 + length (openOf (entriesOf s) ms)) * frameWidth ≤ length frames
+
+-- what the passes need: few files, document 01's space as a number, and 65536 frames
+pub record Bounded (s : Store) (frames : ℕ) : Type 0 where
+  pub few : s .fs .«num_files» ≤ 65535
+  pub small : 2 * space (entriesOf s) < 2 ^ 64
+  pub room : 65536 * frameWidth ≤ frames
+
+-- what the walk of link i needs besides: the first pass's leads
+pub record WalksFrom (s : Store) (marks : List ℕ) (i : ℕ) : Type 0 where
+  pub row : i < s .fs .«num_files»
+  pub flag : entryAt s i .flagged ≡ true
+  pub marked : map lead marks ≡ map lead (firstMarks (entriesOf s) (directoriesOf s) (entriesOf s))
 
 -- a link's mark after the second pass: where a walk decides, the text stays or the link's own path replaces it
 abbrev pub walkedMark : List Entry → List (List ℕ) → Entry → ℕ → ℕ
@@ -151,7 +149,3 @@ resolvesIn s i =
 
 abbrev pub walkedMarkIn : Store → ℕ → ℕ → ℕ
 walkedMarkIn s i m = walkedMark (entriesOf s) (directoriesOf s) (entryAt s i) m
-
-abbrev pub WalkableIn : Store → List ℕ → List ℕ → List ℕ → ℕ → Type 0
-WalkableIn s marks scratch walkPath i =
-    Walkable (entriesOf s) (directoriesOf s) (entryAt s i) (s .fs .«num_files») marks scratch walkPath i

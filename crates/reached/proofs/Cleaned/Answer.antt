@@ -1,7 +1,7 @@
--- What a cleaning answers: it judges links where there is work space enough, and on tables in order nothing but work space and
--- room for texts can be lacking. Relies on the laws of rules in `sound` (Added/Answer.antt).
---     work-enough     links that are judged have their work space
---     judging-is      the number on tables in order
+-- What a cleaning answers: it is done where there is work space and room for the texts, and on tables in order nothing else can be
+-- lacking. Relies on the laws of rules in `sound` (Added/Answer.antt).
+--     enough          a cleaning that is not refused has room for its texts, and its work space
+--     number-is       the number on tables in order
 --     clean-done      a cleaning with work space and room is done
 use mathlib.Core.Path.{_≡_, ap, _∙_}
 use mathlib.Core.Bool.{Bool, true, false, cond, not, _&&_}
@@ -17,9 +17,8 @@ use Rattle.rules.specs.Bounds.{badLength}
 use Rattle.lookup.specs.Space.{space, linkCount, lacksSpace}
 use Rattle.lookup.specs.Lookup.{entriesOf}
 use Rattle.rules.specs.Questions.{fewEntries}
-use Rattle.links.specs.Judging.{judgingNumber}
 use Rattle.lists.specs.Lists.{cleared}
-use Rattle.cleaning.specs.Cleaning.{cleanedStore, textNeeded, Cleaned, cleanedTo, cleanStored}
+use Rattle.cleaning.specs.Cleaning.{cleanedStore, textNeeded, cleaningNumber, cleanedTo, cleanStored}
 use Rattle.sound.specs.Sound.{Sound}
 use Rattle.sound.proofs.Added.Answer.{pass-one, neither}
 
@@ -33,13 +32,18 @@ module _ (s : Store) (marks stage path : ℕ) where
   abbrev lacks : Bool
   lacks = lacksSpace (entriesOf s) marks stage path
 
-  pub work-enough : judgingNumber s marks stage path ≡ 0 → space (entriesOf s) ≤ stage
-  work-enough e =
+  -- the texts have no room
+  abbrev unfit : Bool
+  unfit = ltb (length (s .text)) (textNeeded s)
+
+  pub enough : cleaningNumber s marks stage path ≡ 0 → (textNeeded s ≤ length (s .text)) × (space (entriesOf s) ≤ stage)
+  enough e =
       let p = pass-one (badLength (s .fs .«piece_length»)) 0 _ e in
       let q = pass-one (not held) 9 _ (p .1) in
       let r = pass-one lacks 9 _ (q .1) in
+      let t = pass-one unfit 9 _ (r .1) in
       let w = neither (ltb marks (linkCount (entriesOf s))) _ (r .0) in
-      ltb-false stage (space (entriesOf s)) (neither (ltb stage (space (entriesOf s))) _ (w .1) .0)
+      (ltb-false (length (s .text)) (textNeeded s) (t .0), ltb-false stage (space (entriesOf s)) (neither (ltb stage (space (entriesOf s))) _ (w .1) .0))
 
   module _ (ok : Sound s) (good : badLength (s .fs .«piece_length») ≡ false) where
     all-held : held ≡ true
@@ -52,30 +56,22 @@ module _ (s : Store) (marks stage path : ℕ) where
         )
         (le-leb (s .fs .«num_paths») 65535 (ok .few-paths))
 
-    pub judging-is : judgingNumber s marks stage path ≡ cond (lacksSpace (entriesOf s) marks stage path) 10 0
-    judging-is =
-        ap (λ (b : Bool). cond b 1 (cond (not held) 10 (cond lacks 10 0))) good
-        ∙ ap (λ (b : Bool). cond (not b) 10 (cond lacks 10 0)) all-held
+    pub number-is : cleaningNumber s marks stage path ≡ cond (lacksSpace (entriesOf s) marks stage path) 10 (cond (ltb (length (s .text)) (textNeeded s)) 10 0)
+    number-is =
+        ap (λ (b : Bool). cond b 1 (cond (not held) 10 (cond lacks 10 (cond unfit 10 0)))) good
+        ∙ ap (λ (b : Bool). cond (not b) 10 (cond lacks 10 (cond unfit 10 0))) all-held
 
 -- enough is a mark for each link, and three times the sum of document 01
 pub space-enough : (s : Store) (marks stage path : ℕ) → linkCount (entriesOf s) ≤ marks → space (entriesOf s) ≤ stage → 2 * space (entriesOf s) ≤ path → lacksSpace (entriesOf s) marks stage path ≡ false
 space-enough s marks stage path a b c =
     rw (le-ltb marks (linkCount (entriesOf s)) a, le-ltb stage (space (entriesOf s)) b) (le-ltb path (2 * space (entriesOf s)) c)
 
--- with work space enough, the text needed decides
-module _ (s : Store) (marks stage path : List ℕ) (ok : Sound s) (good : badLength (s .fs .«piece_length») ≡ false) (work : lacksSpace (entriesOf s) (length marks) (length stage) (length path) ≡ false) where
-  abbrev short : Cleaned
-  short = cleanedTo (refused 10) s (cleared marks) (cleared stage) (cleared path)
-
-  abbrev done : Cleaned
-  done =
-      cleanedTo (value (cleanedStore (length stage) s .fs)) (cleanedStore (length stage) s) (cleared marks) (cleared stage) (cleared path)
-
-  answer-is : cleanStored s marks stage path ≡ cond (ltb (length (s .text)) (textNeeded s)) short done
-  answer-is =
-      ap (λ (k : ℕ). cond (eqb k 0) (cond (ltb (length (s .text)) (textNeeded s)) short done) (cleanedTo (refused k) s marks stage path))
-      (judging-is s (length marks) (length stage) (length path) ok good ∙ ap (λ (b : Bool). cond b 10 0) work)
-
-  pub clean-done : textNeeded s ≤ length (s .text)
-      → cleanStored s marks stage path ≡ cleanedTo (value (cleanedStore (length stage) s .fs)) (cleanedStore (length stage) s) (cleared marks) (cleared stage) (cleared path)
-  clean-done room = answer-is ∙ ap (λ (b : Bool). cond b short done) (le-ltb (length (s .text)) (textNeeded s) room)
+-- with work space enough and room for the texts, none of them stops
+pub clean-done : (s : Store) (marks stage path : List ℕ) → Sound s → badLength (s .fs .«piece_length») ≡ false
+    → lacksSpace (entriesOf s) (length marks) (length stage) (length path) ≡ false → textNeeded s ≤ length (s .text)
+    → cleanStored s marks stage path ≡ cleanedTo (value (cleanedStore (length stage) s .fs)) (cleanedStore (length stage) s) (cleared marks) (cleared stage) (cleared path)
+clean-done s marks stage path ok good work room =
+    ap (λ (k : ℕ). cond (eqb k 0) (cleanedTo (value (cleanedStore (length stage) s .fs)) (cleanedStore (length stage) s) (cleared marks) (cleared stage) (cleared path)) (cleanedTo (refused k) s marks stage path))
+    (number-is s (length marks) (length stage) (length path) ok good
+    ∙ ap (λ (b : Bool). cond b 10 (cond (ltb (length (s .text)) (textNeeded s)) 10 0)) work
+    ∙ ap (λ (b : Bool). cond b 10 0) (le-ltb (length (s .text)) (textNeeded s) room))

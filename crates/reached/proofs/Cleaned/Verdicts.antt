@@ -8,33 +8,34 @@ use mathlib.Core.Bool.{Bool, true, false, cond, false≢true}
 use mathlib.Core.List.{List, [], _∷_}
 use Prim.Native.Nat.{ℕ, zero, suc, _+_, _-_, _≤_, _<_}
 use native.Mathlib.Omega.{arith}
-use lib.Dec.{eqb}
 use lib.ListN.{length}
-use borrow.Author.Tests.{eqb-true, eq-eqb, ne-eqb}
+use borrow.Author.Tests.{eq-eqb, ne-eqb}
 use Rattle.tables.specs.declared.span.Span.{Span}
 use Rattle.tables.specs.Model.{Optional, absent, present, Directory, single, absolute, stored, File, Store, tabled, fileOf, pathIn}
 use Rattle.additions.specs.Addition.{linkLength}
-use Rattle.lookup.specs.Lookup.{Entry, entryOf, isHeld, heldText, ownPath}
+use Rattle.lookup.specs.Lookup.{Entry, entryOf, isHeld, heldText}
 use Rattle.links.specs.Clean.{linkedTo, cleanText, cleanFile}
 use Rattle.lookup.specs.Space.{directoryLength, space}
-use Rattle.links.specs.Judging.{verdictOf, textBy}
+use Rattle.links.specs.declared.mark.LinkVerdict.{LinkVerdict}
+use Rattle.links.specs.declared.mark.LinkVerdict.the-variants.{Keep, OwnPath, FromDirectory}
+use Rattle.links.specs.Judging.{verdictRead, verdictOf, textBy}
 use Rattle.links.proofs.Walk.{append-short}
 use Rattle.links.proofs.Verdicts.{verdict-text}
 use Rattle.texts.specs.Texts.{goneAt}
-use Rattle.cleaning.specs.Cleaning.{fileVerdictsFor, keptAfter, newBytes}
+use Rattle.cleaning.specs.Cleaning.{fileVerdictsFor, ifChanged, keptAfter, newBytes}
 use Rattle.sound.specs.Sound.{sumTo, textAtRow, Sound}
 use Rattle.sound.proofs.Common.{sum-more}
 use Rattle.sound.proofs.Texts.{link-span}
 use Rattle.reached.proofs.Cleaned.Files.{held-flagged}
 use Rattle.reached.proofs.Cleaned.Step.{gone-is}
-use Rattle.reached.proofs.Cleaned.Run.{verdictIn, verdict-here, verdict-behind, textLength, text-len, amount, emptiedFile, freed, rewrittenFile, text-longer}
+use Rattle.reached.proofs.Cleaned.Run.{changes, verdictIn, verdict-here, verdict-behind, textLength, text-len, amount, emptiedFile, freed, rewrittenFile, text-longer}
 
 -- ---- the verdicts of a set's files
 
 module _ (files : List Entry) (dirs : List (List ℕ)) where
   -- the verdict of a file, one for each, and where it stands in the list
-  abbrev pub verdict : Entry → ℕ
-  verdict f = cond (f .flagged) (verdictOf files dirs f) 0
+  abbrev pub verdict : Entry → LinkVerdict
+  verdict f = cond (f .flagged) (verdictRead (verdictOf files dirs f)) Keep
 
   pub length-file-verdicts : (es : List Entry) → length (fileVerdictsFor files dirs es) ≡ length es
   length-file-verdicts [] = refl
@@ -52,10 +53,10 @@ module _ (files : List Entry) (dirs : List (List ℕ)) where
       (ap (λ (b : Bool). cond b (verdict (g 0)) (verdictIn (fileVerdictsFor files dirs (tabled n (λ j. g (suc j)))) (i + 1) (i + 1 + k))) (ne-eqb (i + 1 + k) i (λ q. omega arith))
       ∙ verdict-at n (λ j. g (suc j)) (i + 1) k (omega arith))
 
--- a verdict other than 0 is that of a flagged link
-pub verdict-flagged : (b : Bool) (v : ℕ) → eqb (cond b v 0) 0 ≡ false → b ≡ true
+-- a verdict that changes a text is that of a flagged link
+pub verdict-flagged : (b : Bool) (v : LinkVerdict) → changes (cond b v Keep) ≡ true → b ≡ true
 verdict-flagged true v e = refl
-verdict-flagged false v e = absurd (false≢true (sym e))
+verdict-flagged false v e = e
 
 -- ---- what becomes of a file
 
@@ -68,30 +69,21 @@ pub length-held : (l : Optional (List ℕ)) → linkLength l ≡ length (heldTex
 length-held absent = refl
 length-held (present t) = refl
 
--- a file with verdict 0 stays, and one with another verdict has the text that the verdict gives
-pub none-file : (v : ℕ) (f : File) → eqb v 0 ≡ true → rewrittenFile v (emptiedFile v f) ≡ f
-none-file v f p = let z : eqb v 1 ≡ false = ne-eqb v 1 (λ o. omega (arith, eqb-true v 0 p)) in rw (p, z)
-
-pub given-file : (v : ℕ) (f : File) → isHeld (f .link) ≡ true → rewrittenFile v (emptiedFile v f) ≡ linkedTo (present (textBy v (entryOf f))) f
-given-file v f h = at (eqb v 0) (eqb v 1) refl refl
-  where
-    at : (a b : Bool) → eqb v 0 ≡ a → eqb v 1 ≡ b → rewrittenFile v (emptiedFile v f) ≡ linkedTo (present (textBy v (entryOf f))) f
-    at true b p q =
-        none-file v f p
-        ∙ ap (λ (l : Optional (List ℕ)). linkedTo l f) (still-held (f .link) h)
-        ∙ ap (λ (c : Bool). linkedTo (present (cond c (heldText (f .link)) (cond (eqb v 1) (ownPath (entryOf f)) (pathIn (f .directory) (heldText (f .link)))))) f) (sym p)
-    at false true p q = rw (p, q)
-    at false false p q = rw (p, q)
+-- a file that holds a link text has the text that the verdict gives
+pub given-file : (v : LinkVerdict) (f : File) → isHeld (f .link) ≡ true → rewrittenFile v (emptiedFile v f) ≡ linkedTo (present (textBy v (entryOf f))) f
+given-file Keep f h = ap (λ (l : Optional (List ℕ)). linkedTo l f) (still-held (f .link) h)
+given-file OwnPath f h = refl
+given-file FromDirectory f h = refl
 
 module _ (files : List Entry) (dirs : List (List ℕ)) (f : File) where
-  abbrev v : ℕ
-  v = verdictOf files dirs (entryOf f)
+  abbrev v : LinkVerdict
+  v = verdictRead (verdictOf files dirs (entryOf f))
 
   -- the passes do to a file what the cleaning does
   pub cleaned-file : rewrittenFile (verdict files dirs (entryOf f)) (emptiedFile (verdict files dirs (entryOf f)) f) ≡ cleanFile files dirs f
   cleaned-file = at (entryOf f .flagged) (held-flagged f)
     where
-      at : (b : Bool) → (b ≡ true → isHeld (f .link) ≡ true) → rewrittenFile (cond b v 0) (emptiedFile (cond b v 0) f) ≡ cond b (linkedTo (present (cleanText files dirs (entryOf f))) f) f
+      at : (b : Bool) → (b ≡ true → isHeld (f .link) ≡ true) → rewrittenFile (cond b v Keep) (emptiedFile (cond b v Keep) f) ≡ cond b (linkedTo (present (cleanText files dirs (entryOf f))) f) f
       at true h = given-file v f (h refl) ∙ ap (λ (t : List ℕ). linkedTo (present t) f) (verdict-text files dirs (entryOf f))
       at false h = refl
 
@@ -99,30 +91,32 @@ module _ (files : List Entry) (dirs : List (List ℕ)) (f : File) where
 
 -- the bytes of old texts that change, and of new texts; and by how much texts are longer, where those that give way to the
 -- link's own path are gone already
-abbrev pub replaced : ℕ → Entry → ℕ
-replaced v f = cond (eqb v 0) 0 (length (f .text))
+abbrev pub replaced : LinkVerdict → Entry → ℕ
+replaced v f = ifChanged v (length (f .text))
 
-abbrev pub new : ℕ → Entry → ℕ
-new v f = cond (eqb v 0) 0 (length (textBy v f))
+abbrev pub new : LinkVerdict → Entry → ℕ
+new v f = ifChanged v (length (textBy v f))
 
-abbrev pub longer : ℕ → Entry → ℕ
-longer v f = cond (eqb v 0) 0 (cond (eqb v 1) (length (textBy v f)) (length (textBy v f) - length (f .text)))
+abbrev pub longer : LinkVerdict → Entry → ℕ
+longer Keep f = 0
+longer OwnPath f = length (textBy OwnPath f)
+longer FromDirectory f = length (textBy FromDirectory f) - length (f .text)
 
 -- two sums are two others where the summands are
-pub amount-two : (w x y z : ℕ → Entry → ℕ) → ((v : ℕ) (f : Entry) → w v f + x v f ≡ y v f + z v f) → (vs : List ℕ) (i : ℕ) (s : Store) → amount w vs i s + amount x vs i s ≡ amount y vs i s + amount z vs i s
+pub amount-two : (w x y z : LinkVerdict → Entry → ℕ) → ((v : LinkVerdict) (f : Entry) → w v f + x v f ≡ y v f + z v f) → (vs : List LinkVerdict) (i : ℕ) (s : Store) → amount w vs i s + amount x vs i s ≡ amount y vs i s + amount z vs i s
 amount-two w x y z e [] i s = refl
 amount-two w x y z e (v ∷ vs) i s = omega (arith, e v (entryOf (fileOf s i)), amount-two w x y z e vs (i + 1) s)
 
 -- the sum over all files from place i on, by place
-pub amount-sum : (w : ℕ → Entry → ℕ) (g : ℕ → ℕ) (vs : List ℕ) (i : ℕ) (s : Store) → ((k : ℕ) → i ≤ k → k < i + length vs → g k ≡ w (verdictIn vs i k) (entryOf (fileOf s k)))
+pub amount-sum : (w : LinkVerdict → Entry → ℕ) (g : ℕ → ℕ) (vs : List LinkVerdict) (i : ℕ) (s : Store) → ((k : ℕ) → i ≤ k → k < i + length vs → g k ≡ w (verdictIn vs i k) (entryOf (fileOf s k)))
     → amount w vs i s + sumTo i g ≡ sumTo (i + length vs) g
 amount-sum w g [] i s e = let z : i + 0 ≡ i = omega arith in rw z (omega arith)
-amount-sum w g (v ∷ vs) i s e = more (amount-sum w g vs (i + 1) s (λ k a b. e k (omega arith) (omega arith) ∙ ap (λ (x : ℕ). w x (entryOf (fileOf s k))) (verdict-behind v vs i k a)))
+amount-sum w g (v ∷ vs) i s e = more (amount-sum w g vs (i + 1) s (λ k a b. e k (omega arith) (omega arith) ∙ ap (λ (x : LinkVerdict). w x (entryOf (fileOf s k))) (verdict-behind v vs i k a)))
   where
     more : amount w vs (i + 1) s + sumTo (i + 1) g ≡ sumTo (i + 1 + length vs) g → amount w (v ∷ vs) i s + sumTo i g ≡ sumTo (i + suc (length vs)) g
     more r =
         let z : i + suc (length vs) ≡ i + 1 + length vs = omega arith in
-        let q : g i ≡ w v (entryOf (fileOf s i)) = e i (omega arith) (omega arith) ∙ ap (λ (x : ℕ). w x (entryOf (fileOf s i))) (verdict-here v vs i) in
+        let q : g i ≡ w v (entryOf (fileOf s i)) = e i (omega arith) (omega arith) ∙ ap (λ (x : LinkVerdict). w x (entryOf (fileOf s i))) (verdict-here v vs i) in
         rw z (omega (arith, r, q, sum-more i g))
 
 -- sums by place
@@ -136,37 +130,30 @@ sum-two zero a b c d e = refl
 sum-two (suc n) a b c d e = omega (arith, sum-two n a b c d (λ k h. e k (omega arith)), e n (omega arith))
 
 -- new texts and those gone already are the growth and the texts replaced
-pub balance : (v : ℕ) (f : Entry) → new v f + freed v f ≡ longer v f + replaced v f
-balance v f = at (eqb v 0) (eqb v 1) refl refl
-  where
-    at : (a b : Bool) → eqb v 0 ≡ a → eqb v 1 ≡ b
-        → cond a 0 (length (textBy v f)) + cond b (length (f .text)) 0 ≡ cond a 0 (cond b (length (textBy v f)) (length (textBy v f) - length (f .text))) + cond a 0 (length (f .text))
-    at true true p q = absurd (zero-one (sym (eqb-true v 0 p) ∙ eqb-true v 1 q))
-      where
-        zero-one : _≡_ {A = ℕ} 0 1 → ⊥
-        zero-one e = omega arith
-    at true false p q = refl
-    at false true p q = refl
-    at false false p q = omega (arith, text-longer v f p q)
+pub balance : (v : LinkVerdict) (f : Entry) → new v f + freed v f ≡ longer v f + replaced v f
+balance Keep f = refl
+balance OwnPath f = refl
+balance FromDirectory f = omega (arith, text-longer f)
 
 -- what `textNeeded` adds and takes away
-pub new-bytes : (vs : List ℕ) (i : ℕ) (s : Store) → newBytes vs i s ≡ amount new vs i s
+pub new-bytes : (vs : List LinkVerdict) (i : ℕ) (s : Store) → newBytes vs i s ≡ amount new vs i s
 new-bytes [] i s = refl
 new-bytes (v ∷ vs) i s = ap (λ (n : ℕ). new v (entryOf (fileOf s i)) + n) (new-bytes vs (i + 1) s)
 
-at-most : (b : Bool) (n : ℕ) → cond b 0 n ≤ n
-at-most true n = omega arith
-at-most false n = omega arith
+at-most : (v : LinkVerdict) (n : ℕ) → ifChanged v n ≤ n
+at-most Keep n = omega arith
+at-most OwnPath n = omega arith
+at-most FromDirectory n = omega arith
 
 module _ (s : Store) (ok : Sound s) where
-  pub kept-after : (vs : List ℕ) (i u : ℕ) → i + length vs ≤ s .fs .«num_files» → keptAfter vs i s u ≡ u - amount replaced vs i s
+  pub kept-after : (vs : List LinkVerdict) (i u : ℕ) → i + length vs ≤ s .fs .«num_files» → keptAfter vs i s u ≡ u - amount replaced vs i s
   kept-after [] i u h = omega arith
   kept-after (v ∷ vs) i u h =
-      kept-after vs (i + 1) (u - cond (eqb v 0) 0 (goneAt s i .len)) (omega arith)
-      ∙ omega (arith, ap (λ (n : ℕ). cond (eqb v 0) 0 n) (ap (λ (x : Span). x .len) (gone-is s ok i (omega arith)) ∙ sym (text-len s ok i (omega arith))))
+      kept-after vs (i + 1) (u - ifChanged v (goneAt s i .len)) (omega arith)
+      ∙ omega (arith, ap (ifChanged v) (ap (λ (x : Span). x .len) (gone-is s ok i (omega arith)) ∙ sym (text-len s ok i (omega arith))))
 
   -- the texts that change are among those held
-  replaced-held : (vs : List ℕ) (i : ℕ) → i + length vs ≤ s .fs .«num_files» → amount replaced vs i s + sumTo i (textAtRow s) ≤ sumTo (i + length vs) (textAtRow s)
+  replaced-held : (vs : List LinkVerdict) (i : ℕ) → i + length vs ≤ s .fs .«num_files» → amount replaced vs i s + sumTo i (textAtRow s) ≤ sumTo (i + length vs) (textAtRow s)
   replaced-held [] i h = let e : i + 0 ≡ i = omega arith in rw e (omega arith)
   replaced-held (v ∷ vs) i h = more (replaced-held vs (i + 1) (omega arith))
     where
@@ -174,9 +161,9 @@ module _ (s : Store) (ok : Sound s) where
       more r =
           let e : i + suc (length vs) ≡ i + 1 + length vs = omega arith in
           rw e
-          (omega (arith, r, at-most (eqb v 0) (textLength s i), text-len s ok i (omega arith), ap (λ (x : Span). x .len) (link-span s i (omega arith)), sum-more i (textAtRow s)))
+          (omega (arith, r, at-most v (textLength s i), text-len s ok i (omega arith), ap (λ (x : Span). x .len) (link-span s i (omega arith)), sum-more i (textAtRow s)))
 
-  pub replaced-used : (vs : List ℕ) → length vs ≡ s .fs .«num_files» → amount replaced vs 0 s ≤ s .fs .«text_len»
+  pub replaced-used : (vs : List LinkVerdict) → length vs ≡ s .fs .«num_files» → amount replaced vs 0 s ≤ s .fs .«text_len»
   replaced-used vs e =
       let z : 0 + length vs ≡ s .fs .«num_files» = omega arith in
       omega (arith, rw z at (replaced-held vs 0 (omega arith)), ok .full)

@@ -4,7 +4,8 @@ use Prim.Native.Nat.{ℕ, _-_}
 use mathlib.Core.Path.{ap, _∙_}
 use native.Mathlib.Omega.{arith}
 use Rattle.lookup.specs.Lookup.{lent}
-use Rattle.cleaning.specs.private.Writing.{flagsIn, verdictBy, markAfter, verdictsBy, emptiedAt}
+use Rattle.cleaning.specs.Cleaning.{emptiedAt}
+use Rattle.cleaning.specs.private.Writing.{flagsIn, verdictBy, markAfter, verdictsBy}
 use Rattle.cleaning.proofs.Passes.{emptied-keeps, emptied-pass, Going, going-start, going-turn, going-end}
 use Rattle.cleaning.proofs.rewrite.empty_links.Statement.{statement}
 use Rattle.cleaning.proofs.rewrite.empty_links.Tie as tie

@@ -1,12 +1,12 @@
 -- `cleaning::room::kept_after` meets its contract. The loop's invariant: i files are passed, and what the others leave of
 -- `left` bytes is what all leave.
 use borrow.Author.Needs.{needs}
-use Prim.Native.Nat.{ℕ, _-_}
+use Prim.Native.Nat.{_-_}
 use mathlib.Core.Path.{ap, _∙_}
-use mathlib.Core.Bool.{cond}
-use lib.Dec.{eqb}
 use Rattle.tables.specs.Span.{clip}
 use Rattle.tables.specs.declared.rows.Row.{Row}
+use Rattle.links.specs.declared.mark.LinkVerdict.{LinkVerdict}
+use Rattle.cleaning.specs.Cleaning.{ifChanged}
 use Rattle.cleaning.specs.private.Writing.{flagsIn, verdictBy, markAfter, goneBytes}
 use Rattle.cleaning.proofs.Rooms.{Leaving, leaving-start, leaving-turn, leaving-end}
 use Rattle.cleaning.proofs.room.kept_after.Statement.{statement}
@@ -47,7 +47,7 @@ loop-again c =
     let l = c .before .before .before .before .before .loop in
     let row = c .before .before .before .row-at .ensures in
     let verdict = c .before .before .verdict-of .ensures ∙ ap (λ (r : Row). verdictBy (r .flags) (a .marks .now) (l .k)) row in
-    let left = c .before .left-after .ensures ∙ ap (λ (r : Row). l .left - cond (eqb (c .before .before .verdict-of .result) 0) 0 (clip (a .used) (r .link) .len)) row ∙ ap (λ (v : ℕ). l .left - goneBytes (a .rows .now) (a .used) v (l .i)) verdict in
+    let left = c .before .left-after .ensures ∙ ap (λ (r : Row). l .left - ifChanged (c .before .before .verdict-of .result) (clip (a .used) (r .link) .len)) row ∙ ap (λ (v : LinkVerdict). l .left - goneBytes (a .rows .now) (a .used) v (l .i)) verdict in
     let mark = c .mark-after .ensures ∙ ap (λ (r : Row). markAfter (r .flags) (l .k)) row in
     leaving-turn (goneBytes (a .rows .now) (a .used)) (flagsIn (a .rows .now)) (a .marks .now) (a .n) (a .used) (l .left) (l .i) (l .k) (l .inv) (c .before .before .before .before .loop-test .taken) left mark
 

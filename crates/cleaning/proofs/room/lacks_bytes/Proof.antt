@@ -7,13 +7,14 @@ use mathlib.Core.List.{List}
 use native.Mathlib.Omega.{arith}
 use Rattle.tables.specs.declared.rows.Row.{Row}
 use Rattle.tables.specs.Rows.{rowAt}
+use Rattle.links.specs.declared.mark.LinkVerdict.{LinkVerdict}
 use Rattle.cleaning.specs.private.Writing.{flagsIn, verdictBy, markAfter, newLength}
 use Rattle.cleaning.proofs.Rooms.{Taking, taking-start, taking-stop, taking-turn, taking-end}
 use Rattle.cleaning.proofs.room.lacks_bytes.Statement.{statement}
 use Rattle.cleaning.proofs.room.lacks_bytes.Tie as tie
 
 -- how long the new text of file i is, by its verdict
-abbrev lengths : List ℕ → List ℕ → List ℕ → ℕ → ℕ → ℕ
+abbrev lengths : List ℕ → List ℕ → List ℕ → LinkVerdict → ℕ → ℕ
 lengths rows dirs text v i = newLength dirs text v (rowAt rows i)
 
 abbrev Inv-loop : tie.InvT-loop
@@ -29,7 +30,7 @@ more-is c =
     let l = c .before .before .before .before .loop in
     let row = c .before .before .row-at .ensures in
     let verdict = c .before .verdict-of .ensures ∙ ap (λ (r : Row). verdictBy (r .flags) (a .marks .now) (l .k)) row in
-    c .new-length .ensures ∙ ap (λ (r : Row). newLength (a .dirs .now) (a .text .now) (c .before .verdict-of .result) r) row ∙ ap (λ (v : ℕ). newLength (a .dirs .now) (a .text .now) v (rowAt (a .rows .now) (l .i))) verdict
+    c .new-length .ensures ∙ ap (λ (r : Row). newLength (a .dirs .now) (a .text .now) (c .before .verdict-of .result) r) row ∙ ap (λ (v : LinkVerdict). newLength (a .dirs .now) (a .text .now) v (rowAt (a .rows .now) (l .i))) verdict
 
 loop-holds : tie.Need-loop-holds Inv-loop μ-loop
 loop-holds c =

@@ -7,14 +7,14 @@ use Rattle.cleaning.proofs.verdicts.verdict_of.Tie as tie
 is-flagged-requires : tie.Need-is-flagged-requires
 is-flagged-requires c κs = search needs
 
-byte-requires : tie.Need-byte-requires
-byte-requires c κs = search needs
+verdict-in-requires : tie.Need-verdict-in-requires
+verdict-in-requires c κs = search needs
 
 returns : tie.Need-returns
-returns c = c .byte .ensures ∙ rw (sym (c .before .before .is-flagged .ensures) ∙ c .before .if1 .taken)
+returns c = c .verdict-in .ensures ∙ rw (sym (c .before .before .is-flagged .ensures) ∙ c .before .if1 .taken)
 
 returns-2 : tie.Need-returns-2
 returns-2 c = rw (sym (c .before .is-flagged .ensures) ∙ c .if1 .left)
 
 pub verdict-of-spec : {M : Type 1} → statement M
-verdict-of-spec = tie.close (tie.spec is-flagged-requires byte-requires returns returns-2)
+verdict-of-spec = tie.close (tie.spec is-flagged-requires verdict-in-requires returns returns-2)

@@ -31,8 +31,14 @@ mark c = getD (c .args .marks .now) (c .args .k) 0
 abbrev then : tie.Start → ℕ
 then c = walkedMark (entriesOf (theSet c)) (directoriesOf (theSet c)) (this c) (mark c)
 
-flag-is : (c : tie.After-is-link) → c .is-link .result ≡ this (c .before .before .before .before .before .before .before) .flagged
-flag-is c = c .is-link .ensures ∙ flagged-at (theSet (c .before .before .before .before .before .before .before)) (c .before .before .before .before .before .before .before .args .i)
+flag-is : (c : tie.After-is-link) → c .is-link .result ≡ this (c .before .before .before .before .before .before) .flagged
+flag-is c = c .is-link .ensures ∙ flagged-at (theSet (c .before .before .before .before .before .before)) (c .before .before .before .before .before .before .args .i)
+
+plain-is : (c : tie.Then1) → this (c .before .before .before .before .before .before .before) .flagged ≡ false
+plain-is c = sym (flag-is (c .before)) ∙ not-true (c .before .is-link .result) (c .if1 .taken)
+
+link-is : (c : tie.Else1) → this (c .before .before .before .before .before .before .before) .flagged ≡ true
+link-is c = sym (flag-is (c .before)) ∙ not-false (c .before .is-link .result) (c .if1 .left)
 
 one : (f : Bool) → f ≡ true → _≡_ {A = ℕ} 1 (cond f 1 0)
 one f h = sym (cond-yes 1 0 f h)
@@ -54,8 +60,8 @@ is-link-requires c κs = search needs
 
 returns : tie.Need-returns
 returns c =
-    let s = c .before .before .before .before .before .before .before .before in
-    let f : this (c .before .before .before .before .before .before .before .before) .flagged ≡ false = sym (flag-is (c .before)) ∙ not-true (c .before .is-link .result) (c .if1 .taken) in
+    let s = c .before .before .before .before .before .before .before in
+    let f = plain-is c in
     (sym (cond-no 1 0 (this s .flagged) f), sym (cond-no (set (s .args .marks .now) (s .args .k) (then s)) (s .args .marks .now) (this s .flagged) f))
 
 verdict-at-requires : tie.Need-verdict-at-requires
@@ -66,20 +72,20 @@ same-length c = search needs
 
 returns-2 : tie.Need-returns-2
 returns-2 c =
-    let s = c .before .before .before .before .before .before .before .before .before .before .before in
-    let f : this (c .before .before .before .before .before .before .before .before .before .before .before) .flagged ≡ true = sym (flag-is (c .before .before .before .before)) ∙ not-false (c .before .before .before .before .is-link .result) (c .before .before .before .if1 .left) in
+    let s = c .before .before .before .before .before .before .before .before .before .before in
+    let f = link-is (c .before .before .before) in
     (one (this s .flagged) f, link-marks (this s .flagged) (s .args .marks .now) (s .args .marks .now) (s .args .k) (then s) f (sym (set-getD (s .args .marks .now) (s .args .k) 0) ∙ ap (set (s .args .marks .now) (s .args .k)) (walked-not (entriesOf (theSet s)) (directoriesOf (theSet s)) (this s) (mark s) (λ q. c .if2 .taken (c .before .verdict-at .ensures ∙ q)))))
 
 walk-link-requires : tie.Need-walk-link-requires
 walk-link-requires c κs =
-    let p = c .before .before .before .before .before .before .before .before .before .before .before .before .before .before .pre in
-    record { row = p .0; flag = sym (flag-is (c .before .before .before .before .before .before .before)) ∙ not-false (c .before .before .before .before .before .before .before .is-link .result) (c .before .before .before .before .before .before .if1 .left); marked = p .1; staged = p .2; room = p .3 }
+    let p = c .before .before .before .before .before .before .before .before .before .before .before .before .pre in
+    (p .2, record { row = p .0; flag = link-is (c .before .before .before .before .before); marked = p .1 })
 
 verdict-by-requires : tie.Need-verdict-by-requires
 verdict-by-requires c κs = search needs
 
 put-verdict-requires : tie.Need-put-verdict-requires
-put-verdict-requires c κs = small (c .before .before .before .before .before .before .before .before .walk-link .result) (c .before .verdict-by .result) (c .before .verdict-by .ensures)
+put-verdict-requires c κs = small (c .before .before .before .before .before .before .walk-link .result) (c .before .verdict-by .result) (c .before .verdict-by .ensures)
 
 same-length-2 : tie.Need-same-length-2
 same-length-2 c = search needs
@@ -87,14 +93,15 @@ same-length-2 c = search needs
 same-length-3 : tie.Need-same-length-3
 same-length-3 c = search needs
 
-same-length-4 : tie.Need-same-length-4
-same-length-4 c = search needs
-
 returns-3 : tie.Need-returns-3
 returns-3 c =
-    let s = c .before .before .before .before .before .before .before .before .before .before .before .before .before .before .before .before .before .before .before .before .before .before .before .before .before .before in
-    let f : this (c .before .before .before .before .before .before .before .before .before .before .before .before .before .before .before .before .before .before .before .before .before .before .before .before .before .before) .flagged ≡ true = sym (flag-is (c .before .before .before .before .before .before .before .before .before .before .before .before .before .before .before .before .before .before .before)) ∙ not-false (c .before .before .before .before .before .before .before .before .before .before .before .before .before .before .before .before .before .before .before .is-link .result) (c .before .before .before .before .before .before .before .before .before .before .before .before .before .before .before .before .before .before .if1 .left) in
-    (one (this s .flagged) f, link-marks (this s .flagged) (s .args .marks .now) (c .before .before .put-verdict .last .0) (s .args .k) (then s) f (given (s .args .marks .now) (c .before .before .before .before .before .before .before .before .before .before .before .walk-link .last .1 .1 .1 .1 .0) (c .before .before .put-verdict .last .0) (s .args .k) (c .before .before .before .before .verdict-by .result) (then s) (c .before .before .before .before .before .before .before .before .before .before .before .walk-link .ensures .1) (c .before .before .put-verdict .ensures) (walked-by (entriesOf (theSet s)) (directoriesOf (theSet s)) (this s) (mark s) (c .before .before .before .before .verdict-by .result) (sym (c .before .before .before .before .before .before .before .before .before .before .before .before .before .before .before .before .verdict-at .ensures) ∙ c .before .before .before .before .before .before .before .before .before .before .before .before .before .before .before .if2 .left) (sym (c .before .before .before .before .verdict-by .ensures ∙ ap (λ (b : Bool). cond b 0 1) (c .before .before .before .before .before .before .before .before .before .before .before .walk-link .ensures .0))))))
+    let s = c .before .before .before .before .before .before .before .before .before .before .before .before .before .before .before .before .before .before .before .before .before .before in
+    let f = link-is (c .before .before .before .before .before .before .before .before .before .before .before .before .before .before .before) in
+    let w = c .before .before .before .before .before .before .before .before .before .walk-link in
+    let v = c .before .before .before .before .verdict-by in
+    let p = c .before .before .put-verdict in
+    let m = walked-by (entriesOf (theSet s)) (directoriesOf (theSet s)) (this s) (mark s) (v .result) (sym (c .before .before .before .before .before .before .before .before .before .before .before .before .before .verdict-at .ensures) ∙ c .before .before .before .before .before .before .before .before .before .before .before .before .if2 .left) (sym (v .ensures ∙ ap (λ (b : Bool). cond b 0 1) (w .ensures .0))) in
+    (one (this s .flagged) f, link-marks (this s .flagged) (s .args .marks .now) (p .last .0) (s .args .k) (then s) f (given (s .args .marks .now) (w .last .1 .1 .1 .1 .0) (p .last .0) (s .args .k) (v .result) (then s) (w .ensures .1) (p .ensures) m))
 
 pub walk-one-spec : {M : Type 1} → statement M
 walk-one-spec =
@@ -110,5 +117,4 @@ walk-one-spec =
     put-verdict-requires
     same-length-2
     same-length-3
-    same-length-4
     returns-3)
