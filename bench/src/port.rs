@@ -44,6 +44,22 @@ unsafe extern "C" {
         text_len: usize,
     ) -> u32;
 
+    fn niflathen_sanitize_symlinks(
+        state: *mut [u64; 12],
+        rows: *mut u64,
+        rows_len: usize,
+        dirs: *mut u64,
+        dirs_len: usize,
+        text: *mut u8,
+        text_len: usize,
+        marks: *mut u8,
+        marks_len: usize,
+        scratch: *mut u8,
+        scratch_len: usize,
+        walk_path: *mut u8,
+        walk_path_len: usize,
+    ) -> u32;
+
     fn niflathen_map_block(
         state: *const [u64; 12],
         rows: *const u64,
@@ -102,6 +118,7 @@ pub struct Row {
     pub size: u64,
     pub name: (usize, usize),
     pub link: (usize, usize),
+    pub directory: usize,
     pub flags: u64,
 }
 
@@ -136,6 +153,14 @@ pub struct FileRequest {
     pub length: i32,
 }
 
+/// The work space of a cleaning.
+#[derive(PartialEq)]
+pub struct WorkSpace {
+    pub marks: Vec<u8>,
+    pub scratch: Vec<u8>,
+    pub walk_path: Vec<u8>,
+}
+
 /// The columns that `map_block` puts its slices into.
 pub struct Columns {
     file: Vec<u64>,
@@ -156,6 +181,7 @@ impl Columns {
 }
 
 /// A set: its record's words and its tables.
+#[derive(Clone, PartialEq)]
 pub struct Set {
     state: [u64; 12],
     rows: Vec<u64>,
@@ -280,6 +306,38 @@ impl Set {
 
     /// Puts a block's slices into the columns, and gives their number, or minus the number of the refusal.
     #[inline]
+    /// Cleans the links of the set, with a work space that is lent.
+    pub fn sanitize_symlinks(&mut self, work: &mut WorkSpace) -> u32 {
+        unsafe {
+            niflathen_sanitize_symlinks(
+                &mut self.state,
+                self.rows.as_mut_ptr(),
+                self.rows.len(),
+                self.dirs.as_mut_ptr(),
+                self.dirs.len(),
+                self.text.as_mut_ptr(),
+                self.text.len(),
+                work.marks.as_mut_ptr(),
+                work.marks.len(),
+                work.scratch.as_mut_ptr(),
+                work.scratch.len(),
+                work.walk_path.as_mut_ptr(),
+                work.walk_path.len(),
+            )
+        }
+    }
+
+    /// A work space of the length that document 01 asks for, with these bytes in it.
+    pub fn work_space(&self, bytes: u8) -> WorkSpace {
+        let links: Vec<Row> = (0..self.num_files()).map(|i| self.row(i)).filter(|row| row.flags & 24 == 24).collect();
+        let sum: usize = links.iter().map(|row| self.directory_length(row) + row.link.1 + 2).sum();
+        WorkSpace { marks: vec![bytes; links.len()], scratch: vec![bytes; sum], walk_path: vec![bytes; 2 * sum] }
+    }
+
+    fn directory_length(&self, row: &Row) -> usize {
+        if row.directory < self.num_paths() { self.directory(row.directory).len() } else { 0 }
+    }
+
     pub fn map_block(&self, piece: i32, offset: i64, size: i64, out: &mut Columns) -> i64 {
         // SAFETY: as above.
         unsafe {
@@ -385,7 +443,7 @@ impl Set {
     pub fn row(&self, i: usize) -> Row {
         let w = &self.rows[i * 8..i * 8 + 8];
         let part = |i| (w[i] as usize, w[i + 1] as usize);
-        Row { offset: w[0], size: w[1], name: part(2), link: part(4), flags: w[7] }
+        Row { offset: w[0], size: w[1], name: part(2), link: part(4), directory: w[6] as usize, flags: w[7] }
     }
 
     pub fn root(&self, i: usize) -> &[u8] {

@@ -1,3 +1,4 @@
 -- The definitions that the contracts of `exports` cite.
 pub mod State
 pub mod Layout
+pub mod Cleanings

@@ -10,6 +10,7 @@ ghost use Rattle.trim.specs.Removal.{trimStored};
 ghost use Rattle.exports.specs.State.{Exported, exported, storageOf, storeAt, wordsOf, bit, presenceOf};
 ghost use Rattle.exports.specs.State.{numberReturned, stateAfter};
 
+mod cleanings;
 mod questions;
 mod slices;
 
@@ -86,7 +87,7 @@ fn presence_of(n: u8) -> Presence
 }
 
 // Writes the record that an answer holds, and gives the number of its refusal, 0 for none.
-fn put_answer(state: &mut State, answer: StorageResult) -> u32
+pub(crate) fn put_answer(state: &mut State, answer: StorageResult) -> u32
     ensures { λ r. ⌜ r ≡ numberReturned (storageSays answer) ⌝ }
     ensures { λ _. ⌜ now (state .exit) ≡ stateAfter (storageSays answer) (now (state .entry)) ⌝ }
 {
