@@ -1,5 +1,6 @@
 // `clean`: the set's parts of the tables and a work space of the program's own are lent to the library. Relies on
-// `cleaning`. A small work space serves most sets; the large one is cleared only where that is too short.
+// `cleaning`. A small work space serves most sets; the large one is filled only where that is too short. The work space
+// is lent full of one byte: a refusal must leave it so, and a cleaning must clear it.
 use crate::changes;
 use crate::places;
 use crate::places::Dirs;
@@ -13,69 +14,54 @@ use crate::sets::Work;
 use change::StorageResult;
 use tables::FileStorage;
 
+// The byte that the work space is lent full of.
+const FILL: u8 = 7;
+
 // `clean`.
 pub(crate) fn clean(set: Set, rows: &mut Rows, dirs: &mut Dirs, text: &mut Texts) -> Made {
-    let made = changes::outcome(
-        set,
-        clean_in_small(set.fs, set.parts, set.work, rows, dirs, text),
-    );
+    let made = clean_in_small(set, rows, dirs, text);
     match made {
-        Made::Refused(_) => changes::outcome(
-            set,
-            clean_in_large(set.fs, set.parts, set.work, rows, dirs, text),
-        ),
+        Made::Refused(_) => clean_in_large(set, rows, dirs, text),
         _ => made,
     }
 }
 
 // A cleaning with the small work space.
-fn clean_in_small(
-    fs: FileStorage,
-    parts: Places,
-    work: Work,
-    rows: &mut Rows,
-    dirs: &mut Dirs,
-    text: &mut Texts,
-) -> StorageResult {
-    let mut marks = [0u8; 256];
-    let mut stage = [0u8; 2048];
-    let mut path = [0u8; 4096];
-    clean_with(
-        fs,
-        parts,
-        work,
+fn clean_in_small(set: Set, rows: &mut Rows, dirs: &mut Dirs, text: &mut Texts) -> Made {
+    let mut marks = [FILL; 256];
+    let mut stage = [FILL; 2048];
+    let mut path = [FILL; 4096];
+    let result = clean_with(
+        set.fs,
+        set.parts,
+        set.work,
         rows,
         dirs,
         text,
         &mut marks,
         &mut stage,
         &mut path,
-    )
+    );
+    outcome(set, result, &marks, &stage, &path)
 }
 
 // A cleaning with the large work space.
-fn clean_in_large(
-    fs: FileStorage,
-    parts: Places,
-    work: Work,
-    rows: &mut Rows,
-    dirs: &mut Dirs,
-    text: &mut Texts,
-) -> StorageResult {
-    let mut marks = [0u8; 256];
+fn clean_in_large(set: Set, rows: &mut Rows, dirs: &mut Dirs, text: &mut Texts) -> Made {
+    let mut marks = [FILL; 256];
     let mut stage = large_stage();
     let mut path = large_path();
-    clean_with(
-        fs,
-        parts,
-        work,
+    let result = clean_with(
+        set.fs,
+        set.parts,
+        set.work,
         rows,
         dirs,
         text,
         &mut marks,
         &mut stage,
         &mut path,
-    )
+    );
+    outcome(set, result, &marks, &stage, &path)
 }
 
 // A cleaning with as much of the work space as the set is lent.
@@ -101,6 +87,48 @@ fn clean_with(
     )
 }
 
+// What came of a cleaning; where it left the work space otherwise than it must, that is the answer.
+fn outcome(set: Set, result: StorageResult, marks: &[u8], stage: &[u8], path: &[u8]) -> Made {
+    let byte = byte_after(result);
+    let work = set.work;
+    if !all_are(lists::part(marks, 0, work.marks), byte) {
+        return spoilt();
+    }
+    if !all_are(lists::part(stage, 0, work.sum), byte) {
+        return spoilt();
+    }
+    if !all_are(lists::part(path, 0, twice(work.sum)), byte) {
+        return spoilt();
+    }
+    changes::outcome(set, result)
+}
+
+// Answers that the work space was spoilt.
+fn spoilt() -> Made {
+    replies::string(b"spoilt");
+    Made::Answered
+}
+
+// The byte that the work space must then hold.
+fn byte_after(result: StorageResult) -> u8 {
+    match result {
+        StorageResult::Ok(_) => 0,
+        StorageResult::Err(_) => FILL,
+    }
+}
+
+// Whether all bytes are this one.
+fn all_are(bytes: &[u8], byte: u8) -> bool {
+    let mut i = 0;
+    while i < bytes.len() {
+        if bytes[i] != byte {
+            return false;
+        }
+        i += 1;
+    }
+    true
+}
+
 // The first n places of a table.
 fn first(n: usize) -> Place {
     Place { start: 0, count: n }
@@ -113,10 +141,10 @@ fn twice(sum: usize) -> usize {
 
 // A stage for 256 links in directories of 4096 bytes, and as many bytes of texts as a set can hold.
 fn large_stage() -> [u8; 1311232] {
-    [0u8; 1311232]
+    [FILL; 1311232]
 }
 
 // The path that goes with it.
 fn large_path() -> [u8; 2622464] {
-    [0u8; 2622464]
+    [FILL; 2622464]
 }

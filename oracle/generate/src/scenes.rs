@@ -132,6 +132,7 @@ pub const SCENES: &[&[&str]] = &[
     &["open 10", "add - :s/a 5 0 0 : *01", "trim", "add - :s/l 0 8 0 :.pad -", "add - :s/m 0 8 0 :l/5 -", "clean"],
     // Room for the texts after a cleaning: exact and one short, where one text grows, where one shrinks for another, and
     // where two are joined to their directory; what a cleaning frees is used, to the last byte.
+    &["open 10 text=4", "add - :s/d/n 0 8 0 :/ -", "clean"],
     &["open 10 files=1 dirs=1 text=13", "add - :s/abcdef 0 8 0 :/ -", "clean"],
     &["open 10 files=1 dirs=1 text=12", "add - :s/abcdef 0 8 0 :/ -", "clean"],
     &["open 10 text=9", "add - :s/abc 0 8 0 :/ -", "add - :s/m 0 8 0 :/et -", "clean"],
