@@ -10,7 +10,6 @@ pub use set::ends_with_name;
 pub use set::file_at;
 pub use set::is_directory;
 pub use set::is_flagged;
-pub use set::is_known;
 pub use set::is_link;
 pub use set::link_count;
 pub use set::link_text;

@@ -8,7 +8,7 @@ ghost use Rattle.lists.specs.Lists.{equal};
 ghost use Rattle.tables.specs.Span.{textAt};
 ghost use Rattle.tables.specs.Rows.{rowAt, dirAt, directorySpan, has, linkHeldBit};
 ghost use Rattle.tables.specs.Model.{internalPath};
-ghost use Rattle.lookup.specs.Lookup.{covers, endsWith, isDirectory, fileAt, isThere, known, isFlagged, seenCode};
+ghost use Rattle.lookup.specs.Lookup.{covers, endsWith, isDirectory, fileAt, isFlagged, seenCode};
 ghost use Rattle.lookup.specs.Lookup.{filesIn, dirsIn};
 use crate::parts::ends_with;
 use crate::parts::is_covered;
@@ -65,18 +65,18 @@ pub fn ends_with_name(rows: &[u64], text: &[u8], i: usize, p: &[u8]) -> bool
     ends_with(tables::text_at(text, tables::row_at(rows, i).name), p)
 }
 
-// Whether the internal path of file i is p. The name is looked at first: most files say no by it.
+// Whether the internal path of file i is p.
 pub fn own_is(rows: &[u64], dirs: &[u64], text: &[u8], i: usize, p: &[u8]) -> bool
     ensures { λ r. ⌜
         r ≡ equal (internalPath (now (dirs .entry)) (now (text .entry)) (rowAt (now (rows .entry)) i)) (now (p .entry))
         ⌝ }
 {
     let row = tables::row_at(rows, i);
-    let name = tables::text_at(text, row.name);
-    if !ends_with(name, p) {
-        return false;
-    }
-    joins_to(directory_of(dirs, text, row), name, p)
+    joins_to(
+        directory_of(dirs, text, row),
+        tables::text_at(text, row.name),
+        p,
+    )
 }
 
 // Whether p is a stored directory of the set, or the part of one that stands before one of its separators.
@@ -116,34 +116,14 @@ pub fn file_at(fs: FileStorage, rows: &[u64], dirs: &[u64], text: &[u8], p: &[u8
     while k < fs.num_files {
         k += 1;
         let i = fs.num_files - k;
-        if own_is(rows, dirs, text, i, p) {
-            if is_link(rows, i) {
-                return 2;
+        if ends_with_name(rows, text, i, p) {
+            if own_is(rows, dirs, text, i, p) {
+                if is_link(rows, i) {
+                    return 2;
+                }
+                return 1;
             }
-            return 1;
         }
     }
     0
-}
-
-// Whether a file of the set has the internal path p.
-fn has_file(fs: FileStorage, rows: &[u64], dirs: &[u64], text: &[u8], p: &[u8]) -> bool
-    ensures { λ r. ⌜
-        r ≡ isThere (fileAt (filesIn fs (now (rows .entry)) (now (dirs .entry)) (now (text .entry))) (now (p .entry)))
-        ⌝ }
-{
-    file_at(fs, rows, dirs, text, p) != 0
-}
-
-// Whether a file or a directory of the set stands at p.
-pub fn is_known(fs: FileStorage, rows: &[u64], dirs: &[u64], text: &[u8], p: &[u8]) -> bool
-    ensures { λ r. ⌜
-        r ≡ known (filesIn fs (now (rows .entry)) (now (dirs .entry)) (now (text .entry)))
-        (dirsIn fs (now (rows .entry)) (now (dirs .entry)) (now (text .entry))) (now (p .entry))
-        ⌝ }
-{
-    if has_file(fs, rows, dirs, text, p) {
-        return true;
-    }
-    is_directory(fs, dirs, text, p)
 }

@@ -1,5 +1,5 @@
 -- `lookup::set::own_is` meets its contract.
-use mathlib.Core.Path.{_≡_, sym, ap, _∙_}
+use mathlib.Core.Path.{_≡_, ap, _∙_}
 use mathlib.Core.List.{List}
 use Prim.Native.Nat.{ℕ}
 use Rattle.lists.specs.Lists.{equal}
@@ -9,9 +9,7 @@ use Rattle.tables.specs.Rows.{rowAt, directorySpan}
 use Rattle.tables.specs.declared.rows.Row.{Row}
 use Rattle.tables.specs.Model.{internalPath}
 use Rattle.tables.proofs.Paths.{path-parts}
-use Rattle.lookup.proofs.Rows.{not-own}
 use borrow.Author.Needs.{needs}
-use borrow.Author.Tests.{not-true}
 use Rattle.lookup.proofs.set.own_is.Statement.{statement}
 use Rattle.lookup.proofs.set.own_is.Tie as tie
 
@@ -22,32 +20,22 @@ row-own dirs text d name row r e h k = rw (h, k, e) (path-parts dirs text r (tex
 row-at-requires : tie.Need-row-at-requires
 row-at-requires c κs = search needs
 
-text-at-requires : tie.Need-text-at-requires
-text-at-requires c κs = search needs
-
-ends-with-requires : tie.Need-ends-with-requires
-ends-with-requires c κs = search needs
-
-returns : tie.Need-returns
-returns c =
-    let a = c .before .before .before .before .before .before .before .before .args in
-    sym (not-own (a .dirs .now) (a .text .now) (a .p .now) (rowAt (a .rows .now) (a .i))
-    (sym (c .before .ends-with .ensures ∙ rw (c .before .before .text-at .ensures, c .before .before .before .row-at .ensures))
-    ∙ not-true (c .before .ends-with .result) (c .if1 .taken)))
-
 directory-of-requires : tie.Need-directory-of-requires
 directory-of-requires c κs = search needs
+
+text-at-requires : tie.Need-text-at-requires
+text-at-requires c κs = search needs
 
 joins-to-requires : tie.Need-joins-to-requires
 joins-to-requires c κs = search needs
 
-returns-2 : tie.Need-returns-2
-returns-2 c =
-    let a = c .before .before .before .before .before .before .before .before .before .before .args in
+returns : tie.Need-returns
+returns c =
+    let a = c .before .before .before .before .before .before .before .before .args in
     c .joins-to .ensures
-    ∙ ap (λ (x : List ℕ). equal x (a .p .now)) (row-own (a .dirs .now) (a .text .now) (c .before .directory-of .result .now) (c .before .before .before .before .text-at .result .now) (c .before .before .before .before .before .row-at .result) (rowAt (a .rows .now) (a .i)) (c .before .before .before .before .before .row-at .ensures) (c .before .directory-of .ensures) (c .before .before .before .before .text-at .ensures))
+    ∙ ap (λ (x : List ℕ). equal x (a .p .now)) (row-own (a .dirs .now) (a .text .now) (c .before .before .directory-of .result .now) (c .before .text-at .result .now) (c .before .before .before .row-at .result) (rowAt (a .rows .now) (a .i)) (c .before .before .before .row-at .ensures) (c .before .before .directory-of .ensures) (c .before .text-at .ensures))
 
 pub own-is-spec : {M : Type 1} → statement M
 own-is-spec =
     tie.close
-    (tie.spec row-at-requires text-at-requires ends-with-requires returns directory-of-requires joins-to-requires returns-2)
+    (tie.spec row-at-requires directory-of-requires text-at-requires joins-to-requires returns)
