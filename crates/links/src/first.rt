@@ -11,6 +11,7 @@ ghost use Rattle.links.specs.Judging.{walkDecides, settledMark, relative
 ghost use Rattle.rope.specs.Rope.{front};
 ghost use Rattle.links.specs.private.Walking.{firstMarkIn, firstMarksIn, Fronted};
 use crate::front::put_frame;
+use crate::head::HEAD_SIZE;
 use crate::head::Part;
 use crate::head::put_head;
 use crate::mark::FROM_DIRECTORY;
@@ -83,7 +84,7 @@ fn relative_mark(fs: FileStorage, rows: &[u64], dirs: &[u64], text: &[u8], i: us
             depth: 1,
             e: lead_length(rows, dirs, text, v),
         };
-        let mut buf = [0u8; 4096];
+        let mut buf = [0u8; HEAD_SIZE];
         let n = put_head(rows, dirs, text, &frames, part, &mut buf);
         return settled_mark(fs, rows, dirs, text, &frames, part, &buf[..n]);
     }

@@ -15,6 +15,9 @@ use rope::own_in;
 use rope::path_byte;
 use rope::seek;
 
+// The bytes of the longest part that is copied to a buffer.
+pub(crate) const HEAD_SIZE: usize = 4096;
+
 // The first e bytes of a path that `depth` frames hold.
 pub(crate) struct Part {
     pub depth: u32,

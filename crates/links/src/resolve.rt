@@ -11,6 +11,7 @@ ghost use Rattle.rope.specs.Rope.{rowLead, heldPath, frameWidth};
 ghost use Rattle.links.specs.private.Walking.{lead, verdict, untraversed, walkOf, Walkable};
 use crate::cut::cut_in;
 use crate::front::go_through;
+use crate::head::HEAD_SIZE;
 use crate::head::Part;
 use crate::head::covers_part;
 use crate::head::put_head;
@@ -85,7 +86,7 @@ pub(crate) fn resolve(
         ⌝ }
     ensures { λ _. ⌜ map verdict (now (marks .exit)) ≡ map verdict (now (marks .entry)) ⌝ }
 {
-    let mut buf = [0u8; 4096];
+    let mut buf = [0u8; HEAD_SIZE];
     let mut depth = 1;
     let mut e = cut_in(rows, dirs, text, frames, depth, 0);
     'walk: while has_byte(rows, dirs, text, frames, depth, e) {
