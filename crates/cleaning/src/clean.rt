@@ -61,7 +61,7 @@ fn clean_links(
     }
 }
 
-// Cleans a set; `marks` and `walk_path` are lengths. Without flagged links nothing is judged and no stack is used.
+// Cleans a set; `marks` and `walk_path` are lengths. Without flagged links nothing is judged.
 fn clean(
     fs: FileStorage,
     rows: &mut [u64],

@@ -21,9 +21,6 @@ use tables::FileStorage;
 use types::Refusal;
 use types::UsizeResult;
 
-// The frames of a walk: one for the text that is walked, and one for each of 65535 links.
-type Frames = [u32; 196608];
-
 // Whether the lent tables hold what the set counts.
 fn holds_tables(fs: FileStorage, rows: &[u64], dirs: &[u64], text: &[u8]) -> bool
     ensures { λ r. ⌜
@@ -91,7 +88,8 @@ fn keep_verdicts(marks: &mut [u8])
     }
 }
 
-// Judges all flagged links, with one mark for each.
+// Judges all flagged links, with one mark for each. A walk has 65536 frames: one for the text that is walked, and one
+// for each of 65535 links.
 fn judge(fs: FileStorage, rows: &[u64], dirs: &[u64], text: &[u8], marks: &mut [u8])
     requires { ⌜
         (length (now marks) ≡ linkCount (filesIn fs (now rows) (now dirs) (now text)))
@@ -102,7 +100,7 @@ fn judge(fs: FileStorage, rows: &[u64], dirs: &[u64], text: &[u8], marks: &mut [
         now (marks .exit) ≡ verdicts (lent fs (now (rows .entry)) (now (dirs .entry)) (now (text .entry)))
         ⌝ }
 {
-    let mut frames: Frames = [0u32; 196608];
+    let mut frames = [0u32; 196608];
     first_marks(fs, rows, dirs, text, marks);
     walk_links(fs, rows, dirs, text, marks, &mut frames);
     keep_verdicts(marks);

@@ -4,9 +4,11 @@ use Prim.Native.Nat.{ℕ, zero, suc, _+_, _-_, _%_, _≤_, _<_}
 use mathlib.Core.Path.{_≡_, refl, sym, ap, _∙_}
 use mathlib.Core.List.{List, [], _++_}
 use native.Mathlib.Omega.{arith}
+use borrow.Author.Tests.{lt-ltb, le-ltb}
 use lib.ListN.{length, getD, drop, replicate, length-append, length-replicate, getD-replicate, List·getD-append}
 use lib.Seq.{drop-append-add}
-use Rattle.rope.specs.Rope.{kind, unused, segment, flat}
+use Rattle.rope.specs.Rope.{kind, unused, segment, flat, placeIn}
+use Rattle.rope.specs.declared.place.Place.{Place}
 use Rattle.rope.proofs.Bytes.{getD-right}
 
 module _ (t : ℕ → List ℕ) (frames : List ℕ) where
@@ -57,6 +59,34 @@ module _ (t : ℕ → List ℕ) (frames : List ℕ) where
       ap (λ (j : ℕ). getD (flat t frames (k - 1)) j 0) e
       ∙ sym (getD-right (segment t frames (k - 1)) (flat t frames (k - 1)) at (omega arith))
       ∙ ap (λ (x : List ℕ). getD x at 0) (flat-step k h)
+
+  -- a place in the front frame, behind it, and past all frames
+  pub place-here : (k at : ℕ) → 0 < k → at < length (unused t frames (k - 1)) + kind frames (k - 1) % 2 → _≡_ {A = Place} (record { k = k; at = at }) (placeIn t frames k at)
+  unfolding placeIn
+  place-here zero at h l = absurd (omega arith)
+  place-here (suc k) at h l =
+      let e : suc k - 1 ≡ k = omega arith in
+      let f : at < length (unused t frames k) + kind frames k % 2 = rw e at l in
+      let q : at < length (segment t frames k) = omega (arith, segment-length k, f) in
+      rw (lt-ltb at (length (segment t frames k)) q)
+
+  pub place-on : (k at n m : ℕ) → 0 < k → n ≡ length (unused t frames (k - 1)) → m ≡ kind frames (k - 1) % 2 → n + m ≤ at
+      → placeIn t frames (k - 1) (at - n - m) ≡ placeIn t frames k at
+  unfolding placeIn
+  place-on zero at n m h p q l = absurd (omega arith)
+  place-on (suc k) at n m h p q l =
+      let e : suc k - 1 ≡ k = omega arith in
+      let u : n ≡ length (unused t frames k) = rw e at p in
+      let w : m ≡ kind frames k % 2 = rw e at q in
+      let s = segment-length k in
+      let far : length (segment t frames k) ≤ at = omega (arith, s, u, w, l) in
+      let rest : at - n - m ≡ at - length (segment t frames k) = omega (arith, s, u, w) in
+      rw (e, rest, le-ltb at (length (segment t frames k)) far)
+
+  pub place-none : (k at : ℕ) → k ≡ 0 → _≡_ {A = Place} (record { k = 0; at = at }) (placeIn t frames k at)
+  unfolding placeIn
+  place-none zero at h = refl
+  place-none (suc k) at h = absurd (omega arith)
 
   -- a place behind the front frame is one in the path of the others
   pub flat-dropped : (k at n m : ℕ) → 0 < k → n ≡ length (unused t frames (k - 1)) → m ≡ kind frames (k - 1) % 2 → n + m ≤ at

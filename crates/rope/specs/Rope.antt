@@ -1,8 +1,8 @@
 -- A path that leads through links, held as frames: nothing is composed, each frame says which text stands there and how
--- much of it is used. 'Whatever the lengths of texts', three words a frame are enough. Frames past the list's end are
+-- much of it is used. Three words a frame are enough, whatever the lengths of texts. Frames past the list's end are
 -- read as zeros, so every list and every count of frames hold a path. It relies on what a row says of a link
 -- (`lookup`) and on the joins of `path`.
-use Prim.Native.Nat.{ℕ, zero, suc, _+_, _*_, _/_, _%_}
+use Prim.Native.Nat.{ℕ, zero, suc, _+_, _-_, _*_, _/_, _%_}
 use mathlib.Core.Bool.{Bool, cond, _&&_}
 use mathlib.Core.List.{List, [], _++_}
 use lib.Dec.{eqb, leb, ltb}
@@ -11,6 +11,7 @@ use Rattle.lists.specs.Lists.{equal}
 use Rattle.path.specs.Join.{appended}
 use Rattle.lookup.specs.Lookup.{covers}
 use Rattle.lookup.specs.private.Rows.{rowText, rowBranch}
+use Rattle.rope.specs.declared.place.Place.{Place}
 
 -- ---- the texts by which links lead
 
@@ -50,6 +51,14 @@ segment t frames k = unused t frames k ++ replicate (kind frames k % 2) 47
 unfoldable pub flat : (ℕ → List ℕ) → List ℕ → ℕ → List ℕ
 flat t frames zero = []
 flat t frames (suc k) = segment t frames k ++ flat t frames k
+
+-- the place of byte j in it: the number of frames that are left there, and of their bytes that are passed; no frame is
+-- passed whole
+unfoldable pub placeIn : (ℕ → List ℕ) → List ℕ → ℕ → ℕ → Place
+placeIn t frames zero j = record { k = 0; at = j }
+placeIn t frames (suc k) j =
+    cond (ltb j (length (segment t frames k))) (record { k = suc k; at = j })
+    (placeIn t frames k (j - length (segment t frames k)))
 
 -- that path with the texts of the lent tables
 abbrev pub heldPath : List ℕ → List ℕ → List ℕ → List ℕ → ℕ → List ℕ

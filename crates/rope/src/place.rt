@@ -3,7 +3,7 @@ ghost use mathlib.Core.Path.{_≡_};
 ghost use Prim.Native.Nat.{_≤_};
 ghost use lib.Dec.{ltb};
 ghost use lib.ListN.{length, getD, drop};
-ghost use Rattle.rope.specs.Rope.{heldPath};
+ghost use Rattle.rope.specs.Rope.{leads, placeIn, heldPath};
 use crate::frame::frame_byte;
 use crate::frame::is_in;
 use crate::frame::tail_in;
@@ -70,14 +70,19 @@ pub struct Place {
     pub at: usize,
 }
 
-// The place of byte j, with no frame that is passed whole.
+// The place of byte j. What stands from there on is what stands from byte j on.
 pub fn seek(rows: &[u64], dirs: &[u64], text: &[u8], frames: &[u32], depth: u32, j: usize) -> Place
     ensures { λ r. ⌜
         drop (r .at)
         (heldPath (now (rows .entry)) (now (dirs .entry)) (now (text .entry)) (now (frames .entry)) (r .k))
         ≡ drop j (heldPath (now (rows .entry)) (now (dirs .entry)) (now (text .entry)) (now (frames .entry)) depth)
         ⌝ }
-    ensures { λ r. ⌜ (r .k ≤ depth) × (r .at ≤ j) ⌝ }
+    ensures { λ r. ⌜
+        (r .k ≤ depth)
+        × (r .at ≤ j)
+        × (r ≡ placeIn (leads (now (rows .entry)) (now (dirs .entry)) (now (text .entry))) (now (frames .entry)) depth
+        j)
+        ⌝ }
 {
     let mut k = depth;
     let mut at = j;
