@@ -24,3 +24,5 @@ pub use signed::signed32;
 pub use signed::signed64;
 pub use signed::unsigned32;
 pub use signed::unsigned64;
+pub use signed::unzigzag64;
+pub use signed::zigzag64;

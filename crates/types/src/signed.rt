@@ -1,10 +1,10 @@
 // Signed numbers at the boundary: unsigned inside, signed in the Rust's signatures. It relies on the laws of
-// proofs/Boundary.antt.
+// proofs/Boundary.antt and proofs/Zigzag.antt.
 ghost use mathlib.Core.Path.{_≡_};
 ghost use Prim.Native.Nat.{_%_, _^_};
 ghost use lib.IntN.{pos, negsuc};
 ghost use Rattle.types.specs.Refusals.{numberOf, usizeSays};
-ghost use Rattle.types.specs.Signed.{unsignedOf, isNegative, clampedOf, belowOr};
+ghost use Rattle.types.specs.Signed.{unsignedOf, isNegative, clampedOf, belowOr, zigzag, unzigzag};
 use crate::index::FileIndex;
 use crate::index::PieceIndex;
 use crate::refusal::Refusal;
@@ -88,6 +88,29 @@ pub fn signed32(n: u64) -> i32
     ensures { λ r. ⌜ r ≡ pos (n % 2 ^ 31) ⌝ }
 {
     (n % 0x8000_0000) as i32
+}
+
+// An `i64` as a word, by zigzag: 0, −1, 1, −2, … are 0, 1, 2, 3, …. Below 0 the word is 2n + 1, with n = −1 − x; as a
+// difference from the largest word the compiler makes it without a branch.
+pub fn zigzag64(x: i64) -> u64
+    ensures { λ r. ⌜ r ≡ zigzag x ⌝ }
+{
+    if x < 0 {
+        let n = (-1 - x) as u64;
+        return u64::MAX - (i64::MAX as u64 - n) * 2;
+    }
+    x as u64 * 2
+}
+
+// The `i64` of a word.
+pub fn unzigzag64(word: u64) -> i64
+    ensures { λ r. ⌜ r ≡ unzigzag word ⌝ }
+{
+    let half = (word / 2) as i64;
+    if word % 2 == 0 {
+        return half;
+    }
+    -1 - half
 }
 
 // The number as a `usize`, 0 where it is negative.
