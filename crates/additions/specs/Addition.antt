@@ -2,8 +2,7 @@
 -- here speaks of tables. It relies on the model of `tables`, the splits of `path` and the rules in order of `rules`.
 --
 -- Names from elsewhere: `cond t a b` is a where t is true, else b; `eqb`, `ltb` and `leb` test =, < and ≤; `a - b` is 0
--- where b is larger. `pos n` is the integer n and `negsuc n` is −(n + 1); `clampedOf` is an integer, 0 where it is
--- negative. A text is its bytes.
+-- where b is larger. `pos n` is the integer n; `clampedOf` is an integer, 0 where it is negative. A text is its bytes.
 -- Of a path (path, specs/Split.antt): `rsplitBranch` and `rsplitLeaf` are what stands before and after its last
 -- separator, once one at its end is dropped; `lsplitFirst` and `lsplitRest` what stands before and after the first,
 -- once one at its start is dropped; `hasParent`, that it has more than one part; `isComplete`, that it is absolute.
@@ -13,8 +12,8 @@ use Prim.Native.Nat.{ℕ, _+_, _-_, _*_, _/_, _%_}
 use mathlib.Core.Bool.{Bool, true, false, cond, not, _&&_, _||_}
 use mathlib.Core.List.{List, [], _∷_, _++_, map}
 use lib.Dec.{eqb, ltb, leb}
-use lib.IntN.{ℤ, pos, negsuc}
-use lib.ListN.{length, set, replicate}
+use lib.IntN.{ℤ, pos}
+use lib.ListN.{length}
 use Rattle.lists.specs.Lists.{equal, any, sum}
 use Rattle.lists.specs.Decimal.{decimal}
 use Rattle.path.specs.Split.{isSeparator, rsplitBranch, rsplitLeaf, isComplete, lsplitFirst, lsplitRest, hasParent}
@@ -58,10 +57,6 @@ additionOf file filename path link =
       link = link;
       root = optionalOf (file .rooted) (file .root .bytes);
     }
-
-abbrev pub isZero : ℤ → Bool
-isZero (pos n) = eqb n 0
-isZero (negsuc n) = false
 
 abbrev pub isPresent : {A : Type 0} → Optional A → Bool
 isPresent absent = false
@@ -168,10 +163,6 @@ withDirectoryOf single ds = ds
 withDirectoryOf absolute ds = ds
 withDirectoryOf (stored d outside) ds = withDirectory d ds
 
--- the times after file i is given one: a time of 0 changes none, and the file has what is held for it
-abbrev pub withTime : ℕ → ℤ → List ℤ → List ℤ
-withTime i t times = cond (isZero t) times (set (times ++ replicate (i + 1 - length times) (pos 0)) i t)
-
 -- ---- the set after an addition that is not refused
 
 abbrev pub filesOf : Model → ℕ
@@ -203,12 +194,13 @@ fileAdded m a =
       name = storedName (a .given) (a .path);
       directory = directoryAdded m a;
       flags = flagsKept (a .flags) (keeps m a);
+      time = a .time;
       link = presentIf (keeps m a) (a .link);
       root = a .root;
       made = false;
     }
 
--- 'a pad follows: directory `.pad`, name the pad's size in decimal digits'
+-- 'a pad follows: directory `.pad`, name the pad's size in decimal digits'; it is given no time
 abbrev pub padAdded : ℕ → ℕ → List File
 padAdded offset size =
     cond (eqb size 0) []
@@ -218,6 +210,7 @@ padAdded offset size =
       name = decimal size;
       directory = stored padDirectory false;
       flags = padBit;
+      time = pos 0;
       link = absent;
       root = absent;
       made = true;
@@ -238,7 +231,6 @@ added m a =
       name = newName m a;
       files = m .files ++ (fileAdded m a ∷ padAdded (m .total + sizeAdded a) (padOf m a));
       directories = directoriesAfter m a;
-      times = withTime (filesOf m) (a .time) (m .times);
       links = m .links + cond (keeps m a) 1 0;
       total = m .total + sizeAdded a + padOf m a;
       onDisk = m .onDisk + cond (isPad (a .flags)) 0 (sizeAdded a);
@@ -262,8 +254,7 @@ textOf m = length (m .name) + sum (map length (m .directories)) + sum (map fileT
 abbrev pub lacks : Rooms → Model → ℕ → Bool
 lacks rooms m text =
     ltb (filesRoom rooms) (filesOf m)
-    || (ltb (dirsRoom rooms) (length (m .directories))
-    || (ltb (rooms .times) (length (m .times)) || ltb (rooms .text) text))
+    || (ltb (dirsRoom rooms) (length (m .directories)) || ltb (rooms .text) text)
 
 -- ---- refusals
 

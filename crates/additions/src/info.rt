@@ -3,11 +3,10 @@ ghost use mathlib.Core.Path.{_≡_};
 ghost use mathlib.Core.Bool.{not, _&&_};
 ghost use lib.ListN.{length};
 ghost use Rattle.path.specs.Join.{isEmpty};
-ghost use Rattle.additions.specs.Addition.{isZero, keepsLink};
+ghost use Rattle.additions.specs.Addition.{keepsLink};
 ghost use Rattle.additions.specs.private.Texts.{isHere, nameFrom, linkTextOf};
 use tables::Presence;
 use tables::Sha256Hash;
-use types::Unsigned;
 
 // The most link texts that a set holds.
 const MAX_LINKS: usize = 32766;
@@ -30,16 +29,6 @@ pub fn is_here(presence: Presence) -> bool
     match presence {
         Presence::Present => true,
         Presence::Absent => false,
-    }
-}
-
-// Whether a number is 0.
-pub fn is_zero(x: i64) -> bool
-    ensures { λ r. ⌜ r ≡ isZero x ⌝ }
-{
-    match types::unsigned64(x) {
-        Unsigned::Of(n) => n == 0,
-        Unsigned::Negative => false,
     }
 }
 

@@ -11,7 +11,6 @@ pub use checks::decide_sizes;
 pub use info::FileInfo;
 pub use info::is_given;
 pub use info::is_here;
-pub use info::is_zero;
 pub use info::keeps_link;
 pub use info::link_text;
 pub use info::name_length;

@@ -7,7 +7,7 @@ use mathlib.Core.Bool.{Bool, true, false, cond, _&&_}
 use mathlib.Core.List.{List, [], _∷_}
 use native.Mathlib.Omega.{arith}
 use lib.Dec.{eqb}
-use lib.IntN.{ℤ, pos}
+use lib.IntN.{ℤ}
 use lib.ListN.{length, getD, replicate}
 use borrow.Author.Tests.{eqb-true}
 use Rattle.types.specs.Refusals.{Outcome, value, refused}
@@ -116,7 +116,7 @@ module _ (s : Store) where
         let e : f / 1 % 2 ≡ (f % 16) / 1 % 2 = omega arith in
         ap (λ (n : ℕ). eqb n 1) e
 
-    pub time-is : timeOf (s .fs) (s .times) k ≡ getD (viewOf s .times) k (pos 0)
+    pub time-is : timeOf (s .rows) k ≡ fileOf s k .time
     time-is = refl
 
     pub root-is : rootOf (s .rows) (s .roots) k ≡ orElse (fileOf s k .root) (replicate 32 0)

@@ -4,8 +4,9 @@
 use Prim.Native.Nat.{ℕ}
 use mathlib.Core.Bool.{cond}
 use mathlib.Core.List.{List, []}
-use lib.IntN.{ℤ, pos}
-use lib.ListN.{getD, take, replicate}
+use lib.IntN.{ℤ}
+use lib.ListN.{replicate}
+use Rattle.types.specs.Signed.{unzigzag}
 use Rattle.tables.specs.declared.storage.FileStorage.{FileStorage}
 use Rattle.tables.specs.declared.rows.Row.{Row}
 use Rattle.tables.specs.Span.{textAt}
@@ -14,9 +15,9 @@ pub use Rattle.tables.specs.Model.{internalPath}
 use Rattle.tables.specs.Rows.{rowAt, rootAt, has, linkHeldBit, rootBit}
 use Rattle.path.specs.Join.{appended}
 
--- a modified time, 0 past those held
-abbrev pub timeOf : FileStorage → List ℤ → ℕ → ℤ
-timeOf fs times k = getD (take (fs .«num_mtimes») times) k (pos 0)
+-- a modified time, which the row holds as a word
+abbrev pub timeOf : List ℕ → ℕ → ℤ
+timeOf rows k = unzigzag (rowAt rows k .time)
 
 -- a root, 32 zero bytes where there is none
 abbrev pub rootOf : List ℕ → List ℕ → ℕ → List ℕ

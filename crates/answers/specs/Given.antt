@@ -10,7 +10,7 @@ use Rattle.path.specs.Join.{Joined}
 use Rattle.tables.specs.declared.storage.FileStorage.{FileStorage}
 use Rattle.tables.specs.declared.span.Span.{Span}
 use Rattle.tables.specs.Rows.{rowAt, dirAt, has, linkHeldBit, padBit}
-use Rattle.rules.specs.Questions.{rowThere, rowsHeld, rootsHeld, dirsHeld, textHeld, timesHeld}
+use Rattle.rules.specs.Questions.{rowThere, rowsHeld, rootsHeld, dirsHeld, textHeld}
 use Rattle.rules.specs.Questions.{setAnswer, heldAnswer, directoryAnswer, fileAnswer, linkAnswer}
 use Rattle.rules.specs.Composed.{composedFile}
 use Rattle.answers.specs.Answers.{timeOf, rootOf, isAbsolute, internalPath, symlinkPath}
@@ -63,8 +63,8 @@ fileFlagsGiven fs rows z = fileAnswer fs z (rowsHeld fs rows) (λ k. rowAt rows 
 abbrev pub fileAbsolutePathGiven : FileStorage → List ℕ → ℤ → Outcome Bool
 fileAbsolutePathGiven fs rows z = fileAnswer fs z (rowsHeld fs rows) (λ k. isAbsolute (rowAt rows k))
 
-abbrev pub mtimeGiven : FileStorage → List ℤ → ℤ → Outcome ℤ
-mtimeGiven fs times z = fileAnswer fs z (timesHeld fs times) (timeOf fs times)
+abbrev pub mtimeGiven : FileStorage → List ℕ → ℤ → Outcome ℤ
+mtimeGiven fs rows z = fileAnswer fs z (rowsHeld fs rows) (timeOf rows)
 
 abbrev pub rootGiven : FileStorage → List ℕ → List ℕ → ℤ → Outcome (List ℕ)
 rootGiven fs rows roots z = fileAnswer fs z (rowsHeld fs rows && rootsHeld fs roots) (rootOf rows roots)

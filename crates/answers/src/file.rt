@@ -19,14 +19,11 @@ use tables::Sha256Hash;
 use types::FileIndex;
 use types::UsizeResult;
 
-// The time of file k, 0 past those held.
-fn time_of(fs: FileStorage, times: &[i64], k: usize) -> i64
-    ensures { λ r. ⌜ r ≡ timeOf fs (now (times .entry)) k ⌝ }
+// The time of file k.
+fn time_of(rows: &[u64], k: usize) -> i64
+    ensures { λ r. ⌜ r ≡ timeOf (now (rows .entry)) k ⌝ }
 {
-    if k < fs.num_mtimes {
-        return tables::time_at(times, k);
-    }
-    0
+    types::unzigzag64(tables::time_at(rows, k))
 }
 
 // The root of file k, zeros where it has none.
@@ -94,12 +91,12 @@ pub fn file_absolute_path(fs: FileStorage, rows: &[u64], index: FileIndex) -> Bo
     }
 }
 
-// The modified time of a file, 0 where none is held.
-pub fn mtime(fs: FileStorage, times: &[i64], index: FileIndex) -> I64Result
-    ensures { λ r. ⌜ i64Says r ≡ mtimeGiven fs (now (times .entry)) (index .0) ⌝ }
+// The modified time of a file: the one that its addition gave, 0 for a pad that an addition made.
+pub fn mtime(fs: FileStorage, rows: &[u64], index: FileIndex) -> I64Result
+    ensures { λ r. ⌜ i64Says r ≡ mtimeGiven fs (now (rows .entry)) (index .0) ⌝ }
 {
-    match file_in(fs, index, is_held(fs.num_mtimes, times.len())) {
-        UsizeResult::Ok(k) => I64Result::Ok(time_of(fs, times, k)),
+    match file_in(fs, index, is_held(fs.num_files, rows.len() / 8)) {
+        UsizeResult::Ok(k) => I64Result::Ok(time_of(rows, k)),
         UsizeResult::Err(e) => I64Result::Err(e),
     }
 }

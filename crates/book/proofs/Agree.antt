@@ -1,9 +1,9 @@
 -- The book agrees with the set over every list of calls, refused ones included, and every set that the calls lead to is one
 -- of those of which BEP 3, 47 and 52 are proved. Relies on Entries.antt, Rooted.antt and Lent.antt, and on the theorems of
 -- `reached`.
-use mathlib.Core.Path.{_≡_, refl, sym, ap, subst, _∙_}
+use mathlib.Core.Path.{_≡_, refl, sym, ap, ap₂, subst, _∙_}
 use mathlib.Core.Bool.{Bool, true, false, cond, not, false≢true}
-use mathlib.Core.List.{List, [], _∷_, map}
+use mathlib.Core.List.{List, [], _∷_, map, map-map}
 use Prim.Native.Nat.{ℕ, _≤_, _<_}
 use native.Mathlib.Omega.{arith}
 use lib.Dec.{eqb}
@@ -41,30 +41,32 @@ use Rattle.reached.proofs.Cleaned.Lent.{cleaned-lent, number-lent}
 use Rattle.reached.proofs.Documents.{end-to-end, on-disk, marked, pads-made, on-piece}
 use Rattle.book.specs.Book.{Call, add, trim, clean, rename, «import», Made, Book, sizesOf, afterAddition, afterTrim, entry, book, Untrimmed}
 use Rattle.book.specs.Book as books
+use Rattle.book.specs.Times.{Timed, timesIn, trimmedTimed, timedAfter, timedRows}
 use Rattle.book.specs.Calls.{cameOf, storeAfter, call, cleanedBy, SameSet, Renames, Leads}
 use Rattle.book.specs.Calls as calls
-use Rattle.book.proofs.Entries.{bookOf, sizes-rows, book-added, book-trimmed, book-cleaned, entry-rename, entry-import}
+use Rattle.book.proofs.Entries.{bookOf, timedOf, timedFiles, sizes-rows, book-added, timed-added, book-trimmed, timed-trimmed, book-cleaned, timed-cleaned, entry-rename, entry-import, timed-rename, timed-import}
 use Rattle.book.proofs.Rooted.{Settled, settled}
 use Rattle.book.proofs.Lent.{lent-sound, lent-view}
 
--- the book's rows are the set's files
+-- the book's rows are the set's files, with their times
 pub record Agrees (n : ℕ) (made : List Made) (s : Store) : Type 0 where
   pub sound : Sound s
   pub some : 0 < n
   pub short : n ≤ 2147483647
   pub lengths : s .fs .«piece_length» ≡ n
   pub books : bookOf (viewOf s) ≡ book n made
+  pub timed : timedFiles (viewOf s .files) ≡ timedRows n made
 
 -- ---- what holds after a call
 
 -- the answer of a call that leaves the store t, and of one that is refused on the store s
 abbrev pub leaving : Store → Changed
 leaving t =
-    record { says = value (t .fs); rows = t .rows; roots = t .roots; times = t .times; dirs = t .dirs; text = t .text }
+    record { says = value (t .fs); rows = t .rows; roots = t .roots; dirs = t .dirs; text = t .text }
 
 abbrev pub refusing : ℕ → Store → Changed
 refusing k s =
-    record { says = refused k; rows = s .rows; roots = s .roots; times = s .times; dirs = s .dirs; text = s .text }
+    record { says = refused k; rows = s .rows; roots = s .roots; dirs = s .dirs; text = s .text }
 
 -- it holds of a call that is done where its number is 0, and of a refused one, which changes nothing
 module _ {ℓ} (P : Made → Store → Type ℓ) (k : Call) (number : ℕ) (s t : Store) where
@@ -83,7 +85,7 @@ module _ {ℓ} (P : Made → Store → Type ℓ) (k : Call) (number : ℕ) (s t 
 abbrev pub trimNumber : Store → ℕ
 trimNumber s = firstOf (when (badLength (s .fs .«piece_length»)) 1 ∷ when (not (holds s)) 10 ∷ [])
 
--- the same of a cleaning, which is lent neither roots nor times
+-- the same of a cleaning, which is lent no roots
 module _ {ℓ} (P : Made → Store → Type ℓ) (s : Store) (marks stage path : List ℕ) where
   abbrev Cleans : Cleaned → Type ℓ
   Cleans c = P (call clean (cleanedBy s c)) (storeAfter (s .fs) (cleanedBy s c))
@@ -120,22 +122,23 @@ module _ (n : ℕ) (s : Store) (e : opened (pos n) ≡ value (s .fs)) where
       at false q e = (omega (arith, eqb-false n 0 q), cc)
 
   abbrev with-record : FileStorage → Store
-  with-record fs = record { fs = fs; rows = s .rows; roots = s .roots; times = s .times; dirs = s .dirs; text = s .text }
+  with-record fs = record { fs = fs; rows = s .rows; roots = s .roots; dirs = s .dirs; text = s .text }
 
   opened-store : with-record (newStorage n) ≡ s
   opened-store = ap with-record (opened-is .1)
 
   opened-view : newModel n ≡ viewOf s
-  opened-view = sym (view-opened n (s .rows) (s .roots) (s .times) (s .dirs) (s .text)) ∙ ap viewOf opened-store
+  opened-view = sym (view-opened n (s .rows) (s .roots) (s .dirs) (s .text)) ∙ ap viewOf opened-store
 
   agrees-opened : n ≤ 2147483647 → Agrees n [] s
   agrees-opened h =
       record {
-        sound = subst Sound opened-store (sound-opened n (s .rows) (s .roots) (s .times) (s .dirs) (s .text));
+        sound = subst Sound opened-store (sound-opened n (s .rows) (s .roots) (s .dirs) (s .text));
         some = opened-is .0;
         short = h;
         lengths = ap (λ (fs : FileStorage). fs .«piece_length») (sym (opened-is .1));
         books = ap bookOf (sym opened-view);
+        timed = ap (λ (m : Model). timedFiles (m .files)) (sym opened-view);
       }
 
 -- ---- one call
@@ -144,7 +147,8 @@ pub total-is : (s : Store) → Sound s → viewOf s .total ≡ sum (sizes (viewO
 total-is s ok = ok .total ∙ sym (sum-tabled (λ (f : File). f .size) (s .fs .«num_files») (fileOf s))
 
 agrees-refused : {n : ℕ} {made : List Made} {s : Store} (k : Call) (i : ℕ) → Agrees n made s → Agrees n (record { call = k; came = books.refused i } ∷ made) s
-agrees-refused k i g = record { sound = g .sound; some = g .some; short = g .short; lengths = g .lengths; books = g .books }
+agrees-refused k i g =
+    record { sound = g .sound; some = g .some; short = g .short; lengths = g .lengths; books = g .books; timed = g .timed }
 
 agrees-added : {n : ℕ} {made : List Made} (s : Store) (a : Addition) → Agrees n made s → Settled s a → Agrees n (record { call = add a; came = books.done } ∷ made) (storeAdded s (viewOf s) a)
 agrees-added s a g st =
@@ -159,6 +163,11 @@ agrees-added s a g st =
           ∙ book-added (viewOf s) (st .like) (total-is s (g .sound)) (omega (arith, g .some))
           ∙ st .entered (bookOf (viewOf s))
           ∙ ap (λ (b : Book). afterAddition b a) (g .books);
+      timed =
+          ap (λ (m : Model). timedFiles (m .files)) (st .view)
+          ∙ timed-added (viewOf s) (st .like) (total-is s (g .sound)) (omega (arith, g .some))
+          ∙ st .timed (bookOf (viewOf s)) (timedFiles (viewOf s .files))
+          ∙ ap₂ (λ (b : Book) (ts : List Timed). timedAfter b ts (add a) books.done) (g .books) (g .timed);
     }
 
 agrees-trimmed : {n : ℕ} {made : List Made} (s : Store) → Agrees n made s → Agrees n (record { call = trim; came = books.done } ∷ made) (trimmedBy (tailPad (viewOf s .files)) s)
@@ -169,6 +178,10 @@ agrees-trimmed s g =
       short = g .short;
       lengths = same-length (tailPad (viewOf s .files)) ∙ g .lengths;
       books = ap bookOf (view-trimmed s (g .sound)) ∙ book-trimmed (viewOf s) ∙ ap afterTrim (g .books);
+      timed =
+          ap (λ (m : Model). timedFiles (m .files)) (view-trimmed s (g .sound))
+          ∙ timed-trimmed (viewOf s)
+          ∙ ap trimmedTimed (g .timed);
     }
   where
     same-length : (o : Optional ℕ) → trimmedBy o s .fs .«piece_length» ≡ s .fs .«piece_length»
@@ -183,12 +196,24 @@ agrees-cleaned m s g room work =
       short = g .short;
       lengths = ap (λ (x : Model). x .pieceLength) (view-cleaned s (g .sound) m room work) ∙ g .lengths;
       books = ap bookOf (view-cleaned s (g .sound) m room work) ∙ book-cleaned (viewOf s) ∙ g .books;
+      timed =
+          ap (λ (x : Model). timedFiles (x .files)) (view-cleaned s (g .sound) m room work)
+          ∙ timed-cleaned (viewOf s)
+          ∙ g .timed;
     }
 
 -- a call that leaves the set, and that the book does not enter
-agrees-beside : {n : ℕ} {made : List Made} {s : Store} (m : Made) → entry (book n made) (m .call) (m .came) ≡ book n made → Agrees n made s → Agrees n (m ∷ made) s
-agrees-beside m e g =
-    record { sound = g .sound; some = g .some; short = g .short; lengths = g .lengths; books = g .books ∙ sym e }
+agrees-beside : {n : ℕ} {made : List Made} {s : Store} (m : Made) → entry (book n made) (m .call) (m .came) ≡ book n made
+    → timedAfter (book n made) (timedRows n made) (m .call) (m .came) ≡ timedRows n made → Agrees n made s → Agrees n (m ∷ made) s
+agrees-beside m e t g =
+    record {
+      sound = g .sound;
+      some = g .some;
+      short = g .short;
+      lengths = g .lengths;
+      books = g .books ∙ sym e;
+      timed = g .timed ∙ sym t;
+    }
 
 -- other tables that hold the same set mean the same, so they agree with the same book
 agrees-lent : {n : ℕ} {made : List Made} (s t : Store) → Agrees n made s → SameSet s t → Agrees n made t
@@ -199,6 +224,7 @@ agrees-lent s t g same =
       short = g .short;
       lengths = ap (λ (fs : FileStorage). fs .«piece_length») (same .fs) ∙ g .lengths;
       books = ap bookOf (lent-view s t (g .sound) same) ∙ g .books;
+      timed = ap (λ (m : Model). timedFiles (m .files)) (lent-view s t (g .sound) same) ∙ g .timed;
     }
 
 -- ---- every list of calls
@@ -227,13 +253,17 @@ agrees {n} (calls.cleaning {made} {s} marks stage path c p e) =
     c
     e
 agrees {n} (calls.renaming {made} {s} x c p e) =
-    agrees-beside (record { call = rename x; came = cameOf (c .says) }) (entry-rename (book n made) x (cameOf (c .says))) (agrees p)
+    agrees-beside (record { call = rename x; came = cameOf (c .says) }) (entry-rename (book n made) x (cameOf (c .says))) (timed-rename (book n made) (timedRows n made) x (cameOf (c .says))) (agrees p)
 agrees {n} (calls.importing {made} {s} xs c p e) =
-    agrees-beside (record { call = «import» xs; came = cameOf (c .says) }) (entry-import (book n made) xs (cameOf (c .says))) (agrees p)
+    agrees-beside (record { call = «import» xs; came = cameOf (c .says) }) (entry-import (book n made) xs (cameOf (c .says))) (timed-import (book n made) (timedRows n made) xs (cameOf (c .says))) (agrees p)
 agrees (calls.lending {made} {s} {t} p same names) = agrees-lent s t (agrees p) same
 
 pub sizes-agree : {n : ℕ} {made : List Made} {s : Store} {r : Renames} → Leads n made s r → map (λ (f : File). f .size) (viewOf s .files) ≡ sizesOf (book n made .rows)
 sizes-agree {n} {made} {s} p = sym (sizes-rows (viewOf s .files)) ∙ ap (λ (b : Book). sizesOf (b .rows)) (agrees p .books)
+
+-- document 02 (vi): every file has the time that its addition gave, and 0 where an addition made it
+pub times-given : {n : ℕ} {made : List Made} {s : Store} {r : Renames} → Leads n made s r → map (λ (f : File). f .time) (viewOf s .files) ≡ timesIn (timedRows n made)
+times-given {n} {made} {s} p = sym (map-map (λ (t : Timed). t .time) timedOf (viewOf s .files)) ∙ ap timesIn (agrees p .timed)
 
 -- ---- the public documents
 

@@ -1,5 +1,6 @@
 -- What the book keeps of a set is, after an addition and after a trim, what the book enters for it, and after a cleaning what
--- it was. All on the model; it relies on what the search for a tail pad finds, and on what a cleaning keeps of each file.
+-- it was; the same of its rows with their times. All on the model; it relies on what the search for a tail pad finds, and on
+-- what a cleaning keeps of each file.
 use mathlib.Core.Path.{_≡_, refl, sym, ap, ap₂, _∙_}
 use mathlib.Core.Bool.{Bool, true, false, cond, not, _&&_, _||_}
 use mathlib.Core.List.{List, [], _∷_, _++_, map, map-append, map-map}
@@ -25,7 +26,9 @@ use Rattle.sound.specs.Documents.{sizes}
 use Rattle.sound.proofs.Files.{sum-zero}
 use Rattle.reached.proofs.Cleaned.Files.{clean-map-same}
 use Rattle.sound.proofs.Trimmed.Tail.{flagsAt, Last, tail-pad, NoTailPad, bare, other, no-tail-pad}
-use Rattle.book.specs.Book.{Came, done, refused, rename, «import», Row, Book, sizesOf, bytesOf, natural, sizeGiven, hasLink, isGiven, isPlain, isOpen, versionAfter, rowFor, filling, linksAfter, afterAddition, trimmedRows, afterTrim, entry}
+use Rattle.book.specs.Book.{Came, done, refused, add, rename, «import», Row, Book, sizesOf, bytesOf, natural, sizeGiven, hasLink, isGiven, isPlain, isOpen, versionAfter, rowFor, filling, linksAfter, afterAddition, trimmedRows, afterTrim, entry}
+use Rattle.book.specs.Times.{Timed, rowsIn, untimed, trimmedTimed, timedAfter}
+use Rattle.book.proofs.Timed.{rows-trimmed}
 
 -- ---- what the book keeps of a set
 
@@ -40,6 +43,16 @@ bookOf m = record { pieceLength = m .pieceLength; v2 = m .v2; rows = rowsOf (m .
 
 pub sizes-rows : (fs : List File) → sizesOf (rowsOf fs) ≡ map (λ (f : File). f .size) fs
 sizes-rows fs = map-map (λ (r : Row). r .size) rowOf fs
+
+-- its rows with their times
+abbrev pub timedOf : File → Timed
+timedOf f = record { row = rowOf f; time = f .time }
+
+abbrev pub timedFiles : List File → List Timed
+timedFiles fs = map timedOf fs
+
+pub timed-rows : (fs : List File) → rowsIn (timedFiles fs) ≡ rowsOf fs
+timed-rows fs = map-map (λ (t : Timed). t .row) timedOf fs
 
 pub length-rows : (fs : List File) → length (rowsOf fs) ≡ length fs
 length-rows [] = refl
@@ -95,6 +108,14 @@ pad-bytes o n = at (eqb n 0) refl
     at true e = rw e (sym (eqb-true n 0 e))
     at false e = rw e (omega arith)
 
+-- which has no time
+pad-untimed : (o n : ℕ) → timedFiles (padAdded o n) ≡ map untimed (rowsOf (padAdded o n))
+pad-untimed o n = at (eqb n 0) refl
+  where
+    at : (b : Bool) → eqb n 0 ≡ b → timedFiles (padAdded o n) ≡ map untimed (rowsOf (padAdded o n))
+    at true e = rw e
+    at false e = rw e
+
 link-counted : (b : Bool) (n : ℕ) → n + cond b 1 0 ≡ cond b (n + 1) n
 link-counted true n = refl
 link-counted false n = omega arith
@@ -120,19 +141,25 @@ module _ (m : Model) (a : Addition) (total : m .total ≡ sum (sizes m)) where
       ∙ link-counted (hasLink a && ltb (m .links) 32766) (m .links)
 
   module _ (some : 0 < m .pieceLength) where
+    file-row : rowOf (fileAdded m a) ≡ rowFor a
+    file-row =
+        ap₂ (λ (k n : ℕ). record { size = k; marked = eqb n 1 }) (natural-is (a .size)) (marked-kept (a .flags) (keeps m a))
+
+    pad-row : rowsOf (padAdded (m .total + sizeAdded a) (padOf m a)) ≡ filling (m .pieceLength) (versionAfter (bookOf m) a) (bytesOf (rowsOf (m .files)) + sizeGiven a)
+    pad-row =
+        pad-rows (m .pieceLength) (isV2 m a) (m .total + sizeAdded a) (m .total + sizeAdded a) some
+        ∙ ap₂ (λ (v : Bool) (t : ℕ). filling (m .pieceLength) v t) version-is bytes-with
+
     rows-is : rowsOf (added m a .files) ≡ afterAddition (bookOf m) a .rows
     rows-is =
         map-append rowOf (m .files) (fileAdded m a ∷ padAdded (m .total + sizeAdded a) (padOf m a))
-        ∙ ap₂ (λ (r : Row) (l : List Row). rowsOf (m .files) ++ (r ∷ l)) file pad
-      where
-        file : rowOf (fileAdded m a) ≡ rowFor a
-        file =
-            ap₂ (λ (k n : ℕ). record { size = k; marked = eqb n 1 }) (natural-is (a .size)) (marked-kept (a .flags) (keeps m a))
+        ∙ ap₂ (λ (r : Row) (l : List Row). rowsOf (m .files) ++ (r ∷ l)) file-row pad-row
 
-        pad : rowsOf (padAdded (m .total + sizeAdded a) (padOf m a)) ≡ filling (m .pieceLength) (versionAfter (bookOf m) a) (bytesOf (rowsOf (m .files)) + sizeGiven a)
-        pad =
-            pad-rows (m .pieceLength) (isV2 m a) (m .total + sizeAdded a) (m .total + sizeAdded a) some
-            ∙ ap₂ (λ (v : Bool) (t : ℕ). filling (m .pieceLength) v t) version-is bytes-with
+    pub timed-added : timedFiles (added m a .files) ≡ timedAfter (bookOf m) (timedFiles (m .files)) (add a) done
+    timed-added =
+        map-append timedOf (m .files) (fileAdded m a ∷ padAdded (m .total + sizeAdded a) (padOf m a))
+        ∙ ap₂ (λ (r : Row) (l : List Timed). timedFiles (m .files) ++ (record { row = r; time = a .time } ∷ l)) file-row
+        (pad-untimed (m .total + sizeAdded a) (padOf m a) ∙ ap (map untimed) pad-row)
 
     -- the pad's size is that of the row that fills up
     pub pad-is : padOf m a ≡ bytesOf (filling (m .pieceLength) (versionAfter (bookOf m) a) (bytesOf (rowsOf (m .files)) + sizeGiven a))
@@ -146,28 +173,28 @@ module _ (m : Model) (a : Addition) (total : m .total ≡ sum (sizes m)) where
 
 -- ---- a trim
 
-sum-rows : (fs : List File) → bytesOf (rowsOf fs) ≡ sum (map (λ (f : File). f .size) fs)
-sum-rows fs = ap sum (sizes-rows fs)
+sum-timed : (fs : List File) → bytesOf (rowsIn (timedFiles fs)) ≡ sum (map (λ (f : File). f .size) fs)
+sum-timed fs = ap bytesOf (timed-rows fs) ∙ ap sum (sizes-rows fs)
 
 -- where all rows are empty, none goes
-trimmed-none : (fs : List File) → ((k : ℕ) → sizeAt k fs ≡ 0) → trimmedRows (rowsOf fs) ≡ rowsOf fs
+trimmed-none : (fs : List File) → ((k : ℕ) → sizeAt k fs ≡ 0) → trimmedTimed (timedFiles fs) ≡ timedFiles fs
 trimmed-none [] z = refl
 trimmed-none (f ∷ fs) z =
-    let e : eqb (bytesOf (rowsOf fs)) 0 ≡ true = eq-eqb (bytesOf (rowsOf fs)) 0 (sum-rows fs ∙ sum-zero (map (λ (g : File). g .size) fs) (λ k. z (suc k))) in
+    let e : eqb (bytesOf (rowsIn (timedFiles fs))) 0 ≡ true = eq-eqb (bytesOf (rowsIn (timedFiles fs))) 0 (sum-timed fs ∙ sum-zero (map (λ (g : File). g .size) fs) (λ k. z (suc k))) in
     let d : f .size ≡ 0 = z 0 in
     rw (e, d)
 
 -- the last nonempty row goes where it is marked
-trimmed-last : (fs : List File) (k : ℕ) → Last fs k → trimmedRows (rowsOf fs) ≡ cond (eqb (flagsAt k fs % 2) 1) (rowsOf (take k fs ++ drop (suc k) fs)) (rowsOf fs)
+trimmed-last : (fs : List File) (k : ℕ) → Last fs k → trimmedTimed (timedFiles fs) ≡ cond (eqb (flagsAt k fs % 2) 1) (timedFiles (take k fs ++ drop (suc k) fs)) (timedFiles fs)
 trimmed-last [] k p = absurd (omega (arith, p .there))
 trimmed-last (f ∷ fs) zero p =
-    let e : eqb (bytesOf (rowsOf fs)) 0 ≡ true = eq-eqb (bytesOf (rowsOf fs)) 0 (sum-rows fs ∙ sum-zero (map (λ (g : File). g .size) fs) (λ k. p .behind (suc k) (omega arith))) in
+    let e : eqb (bytesOf (rowsIn (timedFiles fs))) 0 ≡ true = eq-eqb (bytesOf (rowsIn (timedFiles fs))) 0 (sum-timed fs ∙ sum-zero (map (λ (g : File). g .size) fs) (λ k. p .behind (suc k) (omega arith))) in
     let d : ltb 0 (f .size) ≡ true = lt-ltb 0 (f .size) (p .nonempty) in
     rw (e, d)
 trimmed-last (f ∷ fs) (suc k) p =
     let q : Last fs k = record { there = omega (arith, p .there); nonempty = p .nonempty; behind = λ i h. p .behind (suc i) (omega arith) } in
-    let e : eqb (bytesOf (rowsOf fs)) 0 ≡ false = ne-eqb (bytesOf (rowsOf fs)) 0 (λ z. omega (arith, sum-rows fs, size-in fs k, p .nonempty)) in
-    rw e (ap (λ (l : List Row). rowOf f ∷ l) (trimmed-last fs k q) ∙ by (eqb (flagsAt k fs % 2) 1))
+    let e : eqb (bytesOf (rowsIn (timedFiles fs))) 0 ≡ false = ne-eqb (bytesOf (rowsIn (timedFiles fs))) 0 (λ z. omega (arith, sum-timed fs, size-in fs k, p .nonempty)) in
+    rw e (ap (λ (l : List Timed). timedOf f ∷ l) (trimmed-last fs k q) ∙ by (eqb (flagsAt k fs % 2) 1))
   where
     size-in : (gs : List File) (i : ℕ) → sizeAt i gs ≤ sum (map (λ (g : File). g .size) gs)
     size-in [] zero = omega arith
@@ -175,44 +202,59 @@ trimmed-last (f ∷ fs) (suc k) p =
     size-in (g ∷ gs) zero = omega arith
     size-in (g ∷ gs) (suc i) = omega (arith, size-in gs i)
 
-    by : (b : Bool) → rowOf f ∷ cond b (rowsOf (take k fs ++ drop (suc k) fs)) (rowsOf fs) ≡ cond b (rowOf f ∷ rowsOf (take k fs ++ drop (suc k) fs)) (rowOf f ∷ rowsOf fs)
+    by : (b : Bool) → timedOf f ∷ cond b (timedFiles (take k fs ++ drop (suc k) fs)) (timedFiles fs) ≡ cond b (timedOf f ∷ timedFiles (take k fs ++ drop (suc k) fs)) (timedOf f ∷ timedFiles fs)
     by true = refl
     by false = refl
 
-pub book-trimmed : (m : Model) → bookOf (trimmedOf m) ≡ afterTrim (bookOf m)
-book-trimmed m = at (tailPad (m .files)) refl
+pub timed-trimmed : (m : Model) → timedFiles (trimmedOf m .files) ≡ trimmedTimed (timedFiles (m .files))
+timed-trimmed m = at (tailPad (m .files)) refl
   where
-    none : NoTailPad (m .files) → rowsOf (m .files) ≡ trimmedRows (rowsOf (m .files))
+    none : NoTailPad (m .files) → timedFiles (m .files) ≡ trimmedTimed (timedFiles (m .files))
     none (bare z) = sym (trimmed-none (m .files) z)
     none (other f p q) =
         sym
         (trimmed-last (m .files) f p
-        ∙ ap (λ (b : Bool). cond b (rowsOf (take f (m .files) ++ drop (suc f) (m .files))) (rowsOf (m .files))) (ne-eqb (flagsAt f (m .files) % 2) 1 q))
+        ∙ ap (λ (b : Bool). cond b (timedFiles (take f (m .files) ++ drop (suc f) (m .files))) (timedFiles (m .files))) (ne-eqb (flagsAt f (m .files) % 2) 1 q))
 
-    gone : (o f : ℕ) → rowsOf (take f (m .files) ++ map (beginningAt o) (drop (f + 1) (m .files))) ≡ rowsOf (take f (m .files) ++ drop (suc f) (m .files))
+    gone : (o f : ℕ) → timedFiles (take f (m .files) ++ map (beginningAt o) (drop (f + 1) (m .files))) ≡ timedFiles (take f (m .files) ++ drop (suc f) (m .files))
     gone o f =
         rw (add-one f)
-        (map-append rowOf (take f (m .files)) (map (beginningAt o) (drop (suc f) (m .files)))
-        ∙ ap (λ (l : List Row). rowsOf (take f (m .files)) ++ l) (map-map rowOf (beginningAt o) (drop (suc f) (m .files)))
-        ∙ sym (map-append rowOf (take f (m .files)) (drop (suc f) (m .files))))
+        (map-append timedOf (take f (m .files)) (map (beginningAt o) (drop (suc f) (m .files)))
+        ∙ ap (λ (l : List Timed). timedFiles (take f (m .files)) ++ l) (map-map timedOf (beginningAt o) (drop (suc f) (m .files)))
+        ∙ sym (map-append timedOf (take f (m .files)) (drop (suc f) (m .files))))
 
-    at : (o : Optional ℕ) → tailPad (m .files) ≡ o → bookOf (trimmedIf o m) ≡ afterTrim (bookOf m)
-    at absent e = same-book refl (none (no-tail-pad (m .files) e)) refl
+    at : (o : Optional ℕ) → tailPad (m .files) ≡ o → timedFiles (trimmedIf o m .files) ≡ trimmedTimed (timedFiles (m .files))
+    at absent e = none (no-tail-pad (m .files) e)
     at (present f) e =
         let p = tail-pad (m .files) f e in
-        same-book
-        refl
-        (gone (m .total - sizeAt f (m .files)) f
+        gone (m .total - sizeAt f (m .files)) f
         ∙ sym
         (trimmed-last (m .files) f (p .last)
-        ∙ ap (λ (b : Bool). cond b (rowsOf (take f (m .files) ++ drop (suc f) (m .files))) (rowsOf (m .files))) (eq-eqb (flagsAt f (m .files) % 2) 1 (p .pad))))
-        refl
+        ∙ ap (λ (b : Bool). cond b (timedFiles (take f (m .files) ++ drop (suc f) (m .files))) (timedFiles (m .files))) (eq-eqb (flagsAt f (m .files) % 2) 1 (p .pad)))
+
+pub book-trimmed : (m : Model) → bookOf (trimmedOf m) ≡ afterTrim (bookOf m)
+book-trimmed m = at (tailPad (m .files)) rows
+  where
+    rows : rowsOf (trimmedOf m .files) ≡ trimmedRows (rowsOf (m .files))
+    rows =
+        sym (timed-rows (trimmedOf m .files))
+        ∙ ap rowsIn (timed-trimmed m)
+        ∙ rows-trimmed (timedFiles (m .files))
+        ∙ ap trimmedRows (timed-rows (m .files))
+
+    at : (o : Optional ℕ) → rowsOf (trimmedIf o m .files) ≡ trimmedRows (rowsOf (m .files)) → bookOf (trimmedIf o m) ≡ afterTrim (bookOf m)
+    at absent e = same-book refl e refl
+    at (present f) e = same-book refl e refl
 
 -- ---- calls that the book does not enter
 
 -- a cleaning leaves sizes, pads and the number of link texts
 pub book-cleaned : (m : Model) → bookOf (cleanedOf m) ≡ bookOf m
 book-cleaned m = same-book refl (clean-map-same m rowOf (λ l f. refl)) refl
+
+-- and times
+pub timed-cleaned : (m : Model) → timedFiles (cleanedOf m .files) ≡ timedFiles (m .files)
+timed-cleaned m = clean-map-same m timedOf (λ l f. refl)
 
 -- whatever comes of a rename or of an import
 pub entry-rename : (b : Book) (x : Naming) (o : Came) → entry b (rename x) o ≡ b
@@ -222,3 +264,11 @@ entry-rename b x (refused k) = refl
 pub entry-import : (b : Book) (xs : List Naming) (o : Came) → entry b («import» xs) o ≡ b
 entry-import b xs done = refl
 entry-import b xs (refused k) = refl
+
+pub timed-rename : (b : Book) (ts : List Timed) (x : Naming) (o : Came) → timedAfter b ts (rename x) o ≡ ts
+timed-rename b ts x done = refl
+timed-rename b ts x (refused k) = refl
+
+pub timed-import : (b : Book) (ts : List Timed) (xs : List Naming) (o : Came) → timedAfter b ts («import» xs) o ≡ ts
+timed-import b ts xs done = refl
+timed-import b ts xs (refused k) = refl

@@ -1,6 +1,6 @@
 -- One list of calls in which each kind of call occurs, done and refused (a trim is never refused): a file of v2 leaves a pad,
--- a link is cleaned and the trim takes the pad. What comes of each call is computed, and so are the book's rows before and
--- after the trim. It relies on Runs.antt.
+-- a link is cleaned and the trim takes the pad. What comes of each call is computed, and so are the book's rows and their
+-- times before and after the trim. It relies on Runs.antt.
 use mathlib.Core.Path.{_≡_, refl}
 use mathlib.Core.Bool.{Bool, true, false}
 use mathlib.Core.List.{List, [], _∷_, _++_}
@@ -10,7 +10,7 @@ use lib.IntN.{ℤ, pos, negsuc}
 use lib.ListN.{replicate}
 use Rattle.lists.specs.Decimal.{digitsWithin}
 use Rattle.tables.specs.declared.storage.FileStorage.{FileStorage}
-use Rattle.tables.specs.Rows.{filled}
+use Rattle.tables.specs.Rows.{packed, filled}
 use Rattle.tables.specs.Model.{absent, present, Store, tabled}
 use Rattle.additions.specs.Addition.{Addition}
 use Rattle.storage.specs.Opening.{newStorage}
@@ -19,6 +19,7 @@ use Rattle.links.specs.Clean.{step, walk}
 use Rattle.renames.specs.Renames.{renamesFrom, orderedFrom}
 use Rattle.imports.specs.Imports.{Naming}
 use Rattle.book.specs.Book.{Came, done, refused, Made, book}
+use Rattle.book.specs.Times.{timesIn, timedRows}
 use Rattle.book.specs.Calls.{Renames, noEntries, Leads}
 use Rattle.book.specs.Calls as calls
 use Rattle.book.proofs.Runs.{Known, adding, trimming, cleaning, renaming, importing, answerOf, entered, stepped, opens}
@@ -34,7 +35,6 @@ storage files links used total trimmed =
       «num_files» = files;
       «num_paths» = 2;
       «num_symlinks» = links;
-      «num_mtimes» = 0;
       name = record { at = 0; len = 1 };
       «text_len» = used;
       «total_size» = total;
@@ -48,7 +48,7 @@ root = replicate 32 1
 
 abbrev tables : FileStorage → List ℕ → List ℕ → Store
 tables fs rows text =
-    record { fs = fs; rows = rows; roots = root ++ replicate 64 0; times = []; dirs = 1 ∷ 0 ∷ 2 ∷ 4 ∷ []; text = text }
+    record { fs = fs; rows = rows; roots = root ++ replicate 64 0; dirs = 1 ∷ 0 ∷ 2 ∷ 4 ∷ []; text = text }
 
 -- newly opened
 abbrev start : Store
@@ -57,20 +57,20 @@ start =
       fs = newStorage 16384;
       rows = replicate 24 0;
       roots = replicate 96 0;
-      times = [];
       dirs = replicate 4 0;
       text = replicate 15 0;
     }
 
--- the rows of the file, of its pad, and of a link whose name of one byte begins at `at` and its text after that
+-- the rows of the file, of its pad, and of a link whose name of one byte begins at `at` and its text after that; the file
+-- has the time 5, the link −3
 abbrev fileRow : List ℕ
-fileRow = 0 ∷ 10000 ∷ 1 ∷ 1 ∷ 2 ∷ 0 ∷ 0 ∷ 128 ∷ []
+fileRow = 0 ∷ packed 10000 128 ∷ 1 ∷ 1 ∷ 2 ∷ 0 ∷ 0 ∷ 10 ∷ []
 
 abbrev padRow : List ℕ
-padRow = 10000 ∷ 6384 ∷ 6 ∷ 4 ∷ 10 ∷ 0 ∷ 1 ∷ 65 ∷ []
+padRow = 10000 ∷ packed 6384 65 ∷ 6 ∷ 4 ∷ 10 ∷ 0 ∷ 1 ∷ 0 ∷ []
 
 abbrev linkRow : ℕ → ℕ → ℕ → List ℕ
-linkRow offset at len = offset ∷ 0 ∷ at ∷ 1 ∷ (at + 1) ∷ len ∷ 0 ∷ 24 ∷ []
+linkRow offset at len = offset ∷ packed 0 24 ∷ at ∷ 1 ∷ (at + 1) ∷ len ∷ 0 ∷ 5 ∷ []
 
 -- the texts sf.pad and then `text`
 abbrev afterPad : List ℕ → List ℕ
@@ -108,7 +108,7 @@ file size =
       path = 115 ∷ 47 ∷ 102 ∷ [];
       size = size;
       flags = 0;
-      time = pos 0;
+      time = pos 5;
       link = [];
       root = present root;
     }
@@ -120,7 +120,7 @@ link =
       path = 115 ∷ 47 ∷ 110 ∷ [];
       size = pos 0;
       flags = 8;
-      time = pos 0;
+      time = negsuc 2;
       link = 47 ∷ 101 ∷ 116 ∷ 99 ∷ [];
       root = absent;
     }
@@ -229,3 +229,10 @@ rows-before = refl
 
 pub rows-after : book 16384 made .rows ≡ record { size = 10000; marked = false } ∷ record { size = 0; marked = false } ∷ []
 rows-after = refl
+
+-- the link, an empty file behind the pad, keeps its time when the pad goes
+pub times-before : timesIn (timedRows 16384 before) ≡ pos 5 ∷ pos 0 ∷ negsuc 2 ∷ []
+times-before = refl
+
+pub times-after : timesIn (timedRows 16384 made) ≡ pos 5 ∷ negsuc 2 ∷ []
+times-after = refl

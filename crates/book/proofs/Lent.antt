@@ -52,7 +52,7 @@ here k n x y z e = at (ltb k n) refl
 
 module _ (s t : Store) (ok : Sound s) (same : SameSet s t) where
   abbrev beside : FileStorage → Store
-  beside fs = record { fs = fs; rows = t .rows; roots = t .roots; times = t .times; dirs = t .dirs; text = t .text }
+  beside fs = record { fs = fs; rows = t .rows; roots = t .roots; dirs = t .dirs; text = t .text }
 
   abbrev lent : Store
   lent = beside (s .fs)
@@ -94,7 +94,6 @@ module _ (s t : Store) (ok : Sound s) (same : SameSet s t) where
         rows-hold = as-long _ (t .rows) (s .rows) (same .rows) (ok .rows-hold);
         roots-hold = as-long _ (t .roots) (s .roots) (same .roots) (ok .roots-hold);
         dirs-hold = as-long _ (t .dirs) (s .dirs) (same .dirs) (ok .dirs-hold);
-        times-hold = as-long _ (t .times) (s .times) (same .times) (ok .times-hold);
         text-holds = as-long _ (t .text) (s .text) (same .text) (ok .text-holds);
         few-files = ok .few-files;
         few-paths = ok .few-paths;
@@ -123,7 +122,7 @@ module _ (s t : Store) (ok : Sound s) (same : SameSet s t) where
 
   view-beside : viewOf lent ≡ viewOf s
   view-beside =
-      rw (set-name-kept s lent ok alike refl, files-kept s lent ok alike, dirs-kept s lent ok alike, same .times)
+      rw (set-name-kept s lent ok alike refl, files-kept s lent ok alike, dirs-kept s lent ok alike)
 
   -- ---- the theorems
 
@@ -136,7 +135,7 @@ module _ (s t : Store) (ok : Sound s) (same : SameSet s t) where
 -- ---- lendings
 
 pub same-self : (s : Store) → SameSet s s
-same-self s = record { fs = refl; rows = refl; roots = refl; times = refl; dirs = refl; text = refl }
+same-self s = record { fs = refl; rows = refl; roots = refl; dirs = refl; text = refl }
 
 pub same-through : (s t u : Store) → SameSet s t → SameSet t u → SameSet s u
 same-through s t u p q =
@@ -144,7 +143,6 @@ same-through s t u p q =
       fs = q .fs ∙ p .fs;
       rows = rw (p .fs) at (q .rows) ∙ p .rows;
       roots = rw (p .fs) at (q .roots) ∙ p .roots;
-      times = rw (p .fs) at (q .times) ∙ p .times;
       dirs = rw (p .fs) at (q .dirs) ∙ p .dirs;
       text = rw (p .fs) at (q .text) ∙ p .text;
     }
@@ -161,7 +159,6 @@ pub record Longer (s t : Store) : Type 0 where
   pub fs : t .fs ≡ s .fs
   pub rows : take (length (s .rows)) (t .rows) ≡ s .rows
   pub roots : take (length (s .roots)) (t .roots) ≡ s .roots
-  pub times : take (length (s .times)) (t .times) ≡ s .times
   pub dirs : take (length (s .dirs)) (t .dirs) ≡ s .dirs
   pub text : take (length (s .text)) (t .text) ≡ s .text
 
@@ -175,7 +172,6 @@ longer s t ok l =
       fs = l .fs;
       rows = begins (s .fs .«num_files» * 8) (t .rows) (s .rows) (l .rows) (ok .rows-hold);
       roots = begins (s .fs .«num_files» * 32) (t .roots) (s .roots) (l .roots) (ok .roots-hold);
-      times = begins (s .fs .«num_mtimes») (t .times) (s .times) (l .times) (ok .times-hold);
       dirs = begins (s .fs .«num_paths» * 2) (t .dirs) (s .dirs) (l .dirs) (ok .dirs-hold);
       text = begins (s .fs .«text_len») (t .text) (s .text) (l .text) (ok .text-holds);
     }

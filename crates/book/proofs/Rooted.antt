@@ -25,13 +25,14 @@ use Rattle.sound.specs.Sound.{TextId, setName, dirName, fileName, linkText, spa
 use Rattle.sound.proofs.Added.Answer.{Fits, fits}
 use Rattle.sound.proofs.Added.Whole.{count-files}
 use Rattle.sound.proofs.Added.{view-added, sound-added}
-use Rattle.book.specs.Book.{Book, afterAddition}
+use Rattle.book.specs.Book.{done, add, Book, afterAddition}
+use Rattle.book.specs.Times.{Timed, timedAfter}
 
 -- ---- tables with other roots
 
 abbrev withRoots : Store → List ℕ → Store
 withRoots s roots =
-    record { fs = s .fs; rows = s .rows; roots = roots; times = s .times; dirs = s .dirs; text = s .text }
+    record { fs = s .fs; rows = s .rows; roots = roots; dirs = s .dirs; text = s .text }
 
 sound-roots : (s : Store) (roots : List ℕ) → length roots ≡ length (s .roots) → Sound s → Sound (withRoots s roots)
 sound-roots s roots e ok =
@@ -39,7 +40,6 @@ sound-roots s roots e ok =
       rows-hold = ok .rows-hold;
       roots-hold = omega (arith, ok .roots-hold);
       dirs-hold = ok .dirs-hold;
-      times-hold = ok .times-hold;
       text-holds = ok .text-holds;
       few-files = ok .few-files;
       few-paths = ok .few-paths;
@@ -87,6 +87,7 @@ pub record Settled (s : Store) (a : Addition) : Type 0 where
   pub view : viewOf (storeAdded s (viewOf s) a) ≡ added (viewOf s) like
   pub sound : Sound (storeAdded s (viewOf s) a)
   pub entered : (b : Book) → afterAddition b like ≡ afterAddition b a
+  pub timed : (b : Book) (ts : List Timed) → timedAfter b ts (add like) done ≡ timedAfter b ts (add a) done
 
 -- which root it is does not count for a refusal: the rules with so many files after the addition
 abbrev numberWith : Store → Model → Addition → ℕ → ℕ
@@ -95,8 +96,7 @@ numberWith s m a files =
     (addingRules m a
     (not (holds s)
     || (ltb (min 65535 (roomsOf s .files)) files
-    || (ltb (min 65535 (roomsOf s .directories)) (length (added m a .directories))
-    || (ltb (roomsOf s .times) (length (added m a .times)) || ltb (roomsOf s .text) (textAfter (s .fs) m a))))))
+    || (ltb (min 65535 (roomsOf s .directories)) (length (added m a .directories)) || ltb (roomsOf s .text) (textAfter (s .fs) m a)))))
 
 same-number : (s : Store) (m : Model) (a : Addition) (r q : List ℕ) → addingNumber s m (withRoot a (present q)) ≡ addingNumber s m (withRoot a (present r))
 same-number s m a r q =
@@ -138,7 +138,7 @@ module _ (s : Store) (a : Addition) (r : List ℕ) (ok : Sound s) (zero : adding
   pad-bare e =
       let c : filesOf (added (viewOf s) like) ≡ n + 1 + 1 = files-count ∙ ap (λ (b : Bool). n + 1 + cond b 0 1) e in
       let rows = putRow (s .rows) n (rowAdded (s .fs) (viewOf s) like) in
-      let q : rowAt (putRow rows (n + 1) (padRow (s .fs) (viewOf s) like)) (n + 1) ≡ padRow (s .fs) (viewOf s) like = row-back rows (n + 1) (padRow (s .fs) (viewOf s) like) (omega (arith, fit .rows-hold, length-put-row (s .rows) n (rowAdded (s .fs) (viewOf s) like))) (omega (arith, fit .limited)) (omega (arith, fit .limited)) in
+      let q : rowAt (putRow rows (n + 1) (padRow (s .fs) (viewOf s) like)) (n + 1) ≡ padRow (s .fs) (viewOf s) like = row-back rows (n + 1) (padRow (s .fs) (viewOf s) like) (omega (arith, fit .rows-hold, length-put-row (s .rows) n (rowAdded (s .fs) (viewOf s) like))) (record { offset = omega (arith, fit .limited); size = omega (arith, fit .limited); flags = omega arith }) in
       ap (λ (b : Bool). has (rowAt (cond b rows (putRow rows (n + 1) (padRow (s .fs) (viewOf s) like))) (n + 1) .flags) 128) e
       ∙ ap (λ (x : Row). has (x .flags) 128) q
 
@@ -171,6 +171,7 @@ module _ (s : Store) (a : Addition) (r : List ℕ) (ok : Sound s) (zero : adding
         view = view-roots after (putRoot (s .roots) n r) same-root ∙ view-added s like ok passes rooted;
         sound = sound-roots after (putRoot (s .roots) n r) (length-put-root (s .roots) n r ∙ sym (length-put-root (s .roots) n held)) (sound-added s like ok passes rooted);
         entered = λ b. refl;
+        timed = λ b ts. refl;
       }
 
 pub settled : (s : Store) (a : Addition) → Sound s → addingNumber s (viewOf s) a ≡ 0 → Settled s a
@@ -184,6 +185,7 @@ settled s a ok zero = at (a .root) zero
           view = view-added s (withRoot a absent) ok z (λ q e. none q e);
           sound = sound-added s (withRoot a absent) ok z (λ q e. none q e);
           entered = λ b. refl;
+          timed = λ b ts. refl;
         }
       where
         none : (q : List ℕ) → _≡_ {A = Optional (List ℕ)} absent (present q) → length q ≡ 32

@@ -76,19 +76,19 @@ module _ (κs : Lifetimes.Lfts 0) (a : World.ArgsD open.signature κs) (r : Worl
 
 -- ---- `add_file`
 
-module _ (κs : Lifetimes.Lfts 8) (a : World.ArgsD add_file.signature κs) (r : World.ResD add_file.signature κs) (s : Clauses.AtExit (kinds.endedOf 8 add-kinds.ps add-kinds.r) κs) where
+module _ (κs : Lifetimes.Lfts 7) (a : World.ArgsD add_file.signature κs) (r : World.ResD add_file.signature κs) (s : Clauses.AtExit (kinds.endedOf 7 add-kinds.ps add-kinds.r) κs) where
   -- the record and the tables that were lent
   abbrev pub addedTo : Store
-  addedTo = storeOf (a .0) (now (a .1 .0)) (now (a .1 .1 .0)) (now (a .1 .1 .1 .0)) (now (a .1 .1 .1 .1 .0)) (now (a .1 .1 .1 .1 .1 .0))
+  addedTo = storeOf (a .0) (now (a .1 .0)) (now (a .1 .1 .0)) (now (a .1 .1 .1 .0)) (now (a .1 .1 .1 .1 .0))
 
   -- the other arguments
   abbrev pub asked : Addition
   asked =
       additionOf
-      (a .1 .1 .1 .1 .1 .1 .0)
+      (a .1 .1 .1 .1 .1 .0)
+      (now (a .1 .1 .1 .1 .1 .1 .0))
       (now (a .1 .1 .1 .1 .1 .1 .1 .0))
       (now (a .1 .1 .1 .1 .1 .1 .1 .1 .0))
-      (now (a .1 .1 .1 .1 .1 .1 .1 .1 .1 .0))
 
   -- the answer, and the tables as they were left
   abbrev pub addedBy : Changed
@@ -97,9 +97,8 @@ module _ (κs : Lifetimes.Lfts 8) (a : World.ArgsD add_file.signature κs) (r : 
         says = storageSays r;
         rows = now (s .1 .0);
         roots = now (s .1 .1 .0);
-        times = now (s .1 .1 .1 .0);
-        dirs = now (s .1 .1 .1 .1 .0);
-        text = now (s .1 .1 .1 .1 .1 .0);
+        dirs = now (s .1 .1 .1 .0);
+        text = now (s .1 .1 .1 .1 .0);
       }
 
   pub add-file-says : add-reads.Learnt κs a r s → addedBy ≡ addStored addedTo asked
@@ -111,9 +110,9 @@ module _ (κs : Lifetimes.Lfts 8) (a : World.ArgsD add_file.signature κs) (r : 
 
 -- ---- `remove_tail_padding`
 
-module _ (κs : Lifetimes.Lfts 5) (a : World.ArgsD remove_tail_padding.signature κs) (r : World.ResD remove_tail_padding.signature κs) (s : Clauses.AtExit (kinds.endedOf 5 trim-kinds.ps trim-kinds.r) κs) where
+module _ (κs : Lifetimes.Lfts 4) (a : World.ArgsD remove_tail_padding.signature κs) (r : World.ResD remove_tail_padding.signature κs) (s : Clauses.AtExit (kinds.endedOf 4 trim-kinds.ps trim-kinds.r) κs) where
   abbrev pub trimmedFrom : Store
-  trimmedFrom = storeOf (a .0) (now (a .1 .0)) (now (a .1 .1 .0)) (now (a .1 .1 .1 .0)) (now (a .1 .1 .1 .1 .0)) (now (a .1 .1 .1 .1 .1 .0))
+  trimmedFrom = storeOf (a .0) (now (a .1 .0)) (now (a .1 .1 .0)) (now (a .1 .1 .1 .0)) (now (a .1 .1 .1 .1 .0))
 
   abbrev pub trimmedBy : Changed
   trimmedBy =
@@ -121,9 +120,8 @@ module _ (κs : Lifetimes.Lfts 5) (a : World.ArgsD remove_tail_padding.signature
         says = storageSays r;
         rows = now (s .1 .0);
         roots = now (s .1 .1 .0);
-        times = now (s .1 .1 .1 .0);
-        dirs = now (s .1 .1 .1 .1 .0);
-        text = now (s .1 .1 .1 .1 .1 .0);
+        dirs = now (s .1 .1 .1 .0);
+        text = now (s .1 .1 .1 .1 .0);
       }
 
   pub trim-says : trim-reads.Learnt κs a r s → trimmedBy ≡ trimStored trimmedFrom
@@ -132,13 +130,13 @@ module _ (κs : Lifetimes.Lfts 5) (a : World.ArgsD remove_tail_padding.signature
   pub trim-leads : {n : ℕ} {made : List Made} {q : Renames} → Leads n made trimmedFrom q → trim-reads.Learnt κs a r s → Leads n (call book.trim trimmedBy ∷ made) (storeAfter (a .0) trimmedBy) q
   trim-leads l p = calls.trim trimmedBy l (trim-says p)
 
--- ---- `sanitize_symlinks`, to which roots and times are not lent
+-- ---- `sanitize_symlinks`, to which roots are not lent
 
 module _ (κs : Lifetimes.Lfts 6) (a : World.ArgsD sanitize_symlinks.signature κs) (r : World.ResD sanitize_symlinks.signature κs) (s : Clauses.AtExit (kinds.endedOf 6 clean-kinds.ps clean-kinds.r) κs) where
-  -- the set of the record and the tables that were lent, with these roots and times
-  abbrev pub cleanedFrom : List ℕ → List ℤ → Store
-  cleanedFrom roots times =
-      record { fs = a .0; rows = now (a .1 .0); roots = roots; times = times; dirs = now (a .1 .1 .0); text = now (a .1 .1 .1 .0) }
+  -- the set of the record and the tables that were lent, with these roots
+  abbrev pub cleanedFrom : List ℕ → Store
+  cleanedFrom roots =
+      record { fs = a .0; rows = now (a .1 .0); roots = roots; dirs = now (a .1 .1 .0); text = now (a .1 .1 .1 .0) }
 
   abbrev pub cleaned : Cleaned
   cleaned =
@@ -155,8 +153,8 @@ module _ (κs : Lifetimes.Lfts 6) (a : World.ArgsD sanitize_symlinks.signature �
   pub clean-says : clean-reads.Learnt κs a r s → cleaned ≡ cleanStored (lent (a .0) (now (a .1 .0)) (now (a .1 .1 .0)) (now (a .1 .1 .1 .0))) (now (a .1 .1 .1 .1 .0)) (now (a .1 .1 .1 .1 .1 .0)) (now (a .1 .1 .1 .1 .1 .1 .0))
   clean-says p = p
 
-  pub clean-leads : {n : ℕ} {made : List Made} {q : Renames} (roots : List ℕ) (times : List ℤ) → Leads n made (cleanedFrom roots times) q → clean-reads.Learnt κs a r s → Leads n (call book.clean (cleanedBy (cleanedFrom roots times) cleaned) ∷ made) (storeAfter (a .0) (cleanedBy (cleanedFrom roots times) cleaned)) q
-  clean-leads roots times l p =
+  pub clean-leads : {n : ℕ} {made : List Made} {q : Renames} (roots : List ℕ) → Leads n made (cleanedFrom roots) q → clean-reads.Learnt κs a r s → Leads n (call book.clean (cleanedBy (cleanedFrom roots) cleaned) ∷ made) (storeAfter (a .0) (cleanedBy (cleanedFrom roots) cleaned)) q
+  clean-leads roots l p =
       calls.cleaning (now (a .1 .1 .1 .1 .0)) (now (a .1 .1 .1 .1 .1 .0)) (now (a .1 .1 .1 .1 .1 .1 .0)) cleaned l (clean-says p)
 
 -- ---- `rename_file`, on renames in tables of their own

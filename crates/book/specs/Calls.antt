@@ -5,8 +5,8 @@
 -- contracts of `storage`, `trim`, `cleaning` and `renames` cite, so a refused call is a step like any other.
 --
 -- Names from elsewhere: `value a` is an answer, `refused k` a refusal by number k; `pos n` is the integer n; `take n`
--- is the first n elements. The tables are those of `Store` (tables, specs/Model.antt): rows, roots, times, directories
--- and text beside the set's record.
+-- is the first n elements. The tables are those of `Store` (tables, specs/Model.antt): rows, roots, directories and
+-- text beside the set's record.
 use mathlib.Core.Path.{_≡_}
 use mathlib.Core.List.{List, [], _∷_}
 use Prim.Native.Nat.{ℕ, _*_, _≤_}
@@ -45,7 +45,6 @@ storeAfter old c =
       fs = kept (c .says) old;
       rows = c .rows;
       roots = c .roots;
-      times = c .times;
       dirs = c .dirs;
       text = c .text;
     }
@@ -53,10 +52,10 @@ storeAfter old c =
 abbrev pub call : Call → Changed → Made
 call k c = record { call = k; came = cameOf (c .says) }
 
--- a cleaning changes neither roots nor times
+-- a cleaning changes no roots
 abbrev pub cleanedBy : Store → Cleaned → Changed
 cleanedBy s c =
-    record { says = c .says; rows = c .rows; roots = s .roots; times = s .times; dirs = c .dirs; text = c .text }
+    record { says = c .says; rows = c .rows; roots = s .roots; dirs = c .dirs; text = c .text }
 
 -- tables t that hold the set of the tables s: other tables may be lent to the next call, longer or shorter, where the
 -- part that the set uses was copied over
@@ -64,7 +63,6 @@ pub record SameSet (s t : Store) : Type 0 where
   pub fs : t .fs ≡ s .fs
   pub rows : take (s .fs .«num_files» * rowWidth) (t .rows) ≡ take (s .fs .«num_files» * rowWidth) (s .rows)
   pub roots : take (s .fs .«num_files» * rootWidth) (t .roots) ≡ take (s .fs .«num_files» * rootWidth) (s .roots)
-  pub times : take (s .fs .«num_mtimes») (t .times) ≡ take (s .fs .«num_mtimes») (s .times)
   pub dirs : take (s .fs .«num_paths» * dirWidth) (t .dirs) ≡ take (s .fs .«num_paths» * dirWidth) (s .dirs)
   pub text : take (s .fs .«text_len») (t .text) ≡ take (s .fs .«text_len») (s .text)
 

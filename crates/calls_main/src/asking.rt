@@ -6,7 +6,6 @@ use crate::places::Dirs;
 use crate::places::Roots;
 use crate::places::Rows;
 use crate::places::Texts;
-use crate::places::Times;
 use crate::sets;
 use crate::sets::Sets;
 
@@ -16,7 +15,6 @@ pub(crate) fn answer(
     all: Sets,
     rows: &Rows,
     roots: &Roots,
-    times: &Times,
     dirs: &Dirs,
     text: &Texts,
 ) {
@@ -34,7 +32,6 @@ pub(crate) fn answer(
         set.fs,
         places::words_at(rows, p.rows),
         places::bytes_at(roots, p.roots),
-        places::times_at(times, p.times),
         places::words_at(dirs, p.dirs),
         places::bytes_at(text, p.text),
         set.held,

@@ -9,7 +9,6 @@ use crate::places::Dirs;
 use crate::places::Roots;
 use crate::places::Rows;
 use crate::places::Texts;
-use crate::places::Times;
 use crate::sets;
 use crate::sets::Made;
 use crate::sets::Sets;
@@ -23,7 +22,6 @@ pub(crate) fn answer(
     all: Sets,
     rows: &mut Rows,
     roots: &mut Roots,
-    times: &mut Times,
     dirs: &mut Dirs,
     text: &mut Texts,
 ) -> Made {
@@ -32,11 +30,11 @@ pub(crate) fn answer(
         return first;
     };
     let content = lists::part(line, 0, length);
-    let made = changes::make(content, sets::current(all), rows, roots, times, dirs, text);
+    let made = changes::make(content, sets::current(all), rows, roots, dirs, text);
     let Made::NoCall = made else {
         return made;
     };
-    asking::answer(content, all, rows, roots, times, dirs, text);
+    asking::answer(content, all, rows, roots, dirs, text);
     Made::Answered
 }
 

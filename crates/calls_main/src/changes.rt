@@ -13,7 +13,6 @@ use crate::places::Places;
 use crate::places::Roots;
 use crate::places::Rows;
 use crate::places::Texts;
-use crate::places::Times;
 use crate::renaming;
 use crate::sets::Made;
 use crate::sets::Set;
@@ -29,7 +28,6 @@ pub(crate) fn make(
     set: Set,
     rows: &mut Rows,
     roots: &mut Roots,
-    times: &mut Times,
     dirs: &mut Dirs,
     text: &mut Texts,
 ) -> Made {
@@ -37,13 +35,13 @@ pub(crate) fn make(
         return Made::NoCall;
     }
     match words::form_of(b"add NAME PATH SIZE FLAGS MTIME LINK ROOT, trim", line) {
-        0 => add(line, set, rows, roots, times, dirs, text),
-        1 => outcome(set, trim(set.fs, set.parts, rows, roots, times, dirs, text)),
+        0 => add(line, set, rows, roots, dirs, text),
+        1 => outcome(set, trim(set.fs, set.parts, rows, roots, dirs, text)),
         _ => make_other(line, set, rows, dirs, text),
     }
 }
 
-// Makes a change that leaves the roots and the times as they are.
+// Makes a change that leaves the roots as they are.
 fn make_other(line: &[u8], set: Set, rows: &mut Rows, dirs: &mut Dirs, text: &mut Texts) -> Made {
     match words::form_of(b"clean, rename I :NEW, import I :N ..", line) {
         0 => cleanings::clean(set, rows, dirs, text),
@@ -59,7 +57,6 @@ fn add(
     set: Set,
     rows: &mut Rows,
     roots: &mut Roots,
-    times: &mut Times,
     dirs: &mut Dirs,
     text: &mut Texts,
 ) -> Made {
@@ -70,17 +67,7 @@ fn add(
     }
     outcome(
         set,
-        add_read(
-            words,
-            &texts,
-            set.fs,
-            set.parts,
-            rows,
-            roots,
-            times,
-            dirs,
-            text,
-        ),
+        add_read(words, &texts, set.fs, set.parts, rows, roots, dirs, text),
     )
 }
 
@@ -92,7 +79,6 @@ fn add_read(
     parts: Places,
     rows: &mut [u64],
     roots: &mut [u8],
-    times: &mut [i64],
     dirs: &mut [u64],
     text: &mut [u8],
 ) -> StorageResult {
@@ -111,7 +97,6 @@ fn add_read(
         fs,
         places::words_of(rows, parts.rows),
         places::bytes_of(roots, parts.roots),
-        places::times_of(times, parts.times),
         places::words_of(dirs, parts.dirs),
         places::bytes_of(text, parts.text),
         file,
@@ -127,7 +112,6 @@ fn trim(
     parts: Places,
     rows: &mut [u64],
     roots: &mut [u8],
-    times: &mut [i64],
     dirs: &mut [u64],
     text: &mut [u8],
 ) -> StorageResult {
@@ -135,7 +119,6 @@ fn trim(
         fs,
         places::words_of(rows, parts.rows),
         places::bytes_of(roots, parts.roots),
-        places::times_of(times, parts.times),
         places::words_of(dirs, parts.dirs),
         places::bytes_of(text, parts.text),
     )

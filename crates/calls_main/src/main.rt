@@ -22,7 +22,6 @@ fn main() {
     let mut line = io::large_buffer();
     let mut rows = [0u64; 11264];
     let mut roots = [0u8; 32768];
-    let mut times = [0i64; 1024];
     let mut dirs = [0u64; 2048];
     let mut text = texts();
     let mut all = sets::none();
@@ -40,7 +39,6 @@ fn main() {
             all,
             &mut rows,
             &mut roots,
-            &mut times,
             &mut dirs,
             &mut text,
         );

@@ -4,12 +4,10 @@
 ghost use Prim.Native.Nat.{_≤_};
 use lists::min_usize;
 
-// The tables: rows of files and entries of renames, roots, times, directories, and texts of sets and of renames.
+// The tables: rows of files and entries of renames, roots, directories, and texts of sets and of renames.
 pub(crate) type Rows = [u64; 11264];
 
 pub(crate) type Roots = [u8; 32768];
-
-pub(crate) type Times = [i64; 1024];
 
 pub(crate) type Dirs = [u64; 2048];
 
@@ -21,12 +19,11 @@ pub(crate) struct Place {
     pub count: usize,
 }
 
-// The parts of a set: in the rows, the roots, the times, the directories and the texts; its renames' parts in the
-// rows and in the texts.
+// The parts of a set: in the rows, the roots, the directories and the texts; its renames' parts in the rows and in the
+// texts.
 pub(crate) struct Places {
     pub rows: Place,
     pub roots: Place,
-    pub times: Place,
     pub dirs: Place,
     pub text: Place,
     pub entries: Place,
@@ -59,14 +56,6 @@ pub(crate) fn words_at(table: &[u64], place: Place) -> &[u64] {
     &table[from..to]
 }
 
-// The part of a table of times.
-pub(crate) fn times_at(table: &[i64], place: Place) -> &[i64] {
-    let part = inside(table.len(), place);
-    let from = part.start;
-    let to = part.end;
-    &table[from..to]
-}
-
 // The part of a table of bytes.
 pub(crate) fn bytes_at(table: &[u8], place: Place) -> &[u8] {
     lists::part(table, place.start, place.count)
@@ -74,14 +63,6 @@ pub(crate) fn bytes_at(table: &[u8], place: Place) -> &[u8] {
 
 // The part of a table of words, to be changed.
 pub(crate) fn words_of(table: &mut [u64], place: Place) -> &mut [u64] {
-    let part = inside(table.len(), place);
-    let from = part.start;
-    let to = part.end;
-    &mut table[from..to]
-}
-
-// The part of a table of times, to be changed.
-pub(crate) fn times_of(table: &mut [i64], place: Place) -> &mut [i64] {
     let part = inside(table.len(), place);
     let from = part.start;
     let to = part.end;
@@ -116,10 +97,6 @@ pub(crate) fn of_set(
         roots: Place {
             start: at * 8192,
             count: most * 32,
-        },
-        times: Place {
-            start: at * 256,
-            count: most,
         },
         dirs: Place {
             start: at * 512,

@@ -57,7 +57,6 @@ pub(crate) fn closed() -> Set {
         num_files: 0,
         num_paths: 0,
         num_symlinks: 0,
-        num_mtimes: 0,
         name: Span { at: 0, len: 0 },
         text_len: 0,
         total_size: 0,

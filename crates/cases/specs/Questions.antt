@@ -33,7 +33,6 @@ newStore n =
       fs = newStorage n;
       rows = replicate 32 0;
       roots = replicate 128 0;
-      times = [];
       dirs = replicate 4 0;
       text = replicate 14 0;
     }
@@ -47,7 +46,7 @@ kept s c = by (c .says)
   where
     by : Outcome FileStorage → Store
     by (value fs) =
-        record { fs = fs; rows = c .rows; roots = c .roots; times = c .times; dirs = c .dirs; text = c .text }
+        record { fs = fs; rows = c .rows; roots = c .roots; dirs = c .dirs; text = c .text }
     by (refused k) = s
 
 abbrev pub built : Store → List Addition → Store
@@ -66,7 +65,6 @@ cleaned s =
           says = c .says;
           rows = c .rows;
           roots = s .roots;
-          times = s .times;
           dirs = c .dirs;
           text = c .text;
         })

@@ -11,17 +11,14 @@ use Rattle.rules.proofs.Rules.{both-true}
 pub record Held (fs : FileStorage) (rooms : Rooms) : Type 0 where
   pub files : fs .«num_files» ≤ filesRoom rooms
   pub paths : fs .«num_paths» ≤ dirsRoom rooms
-  pub mtimes : fs .«num_mtimes» ≤ rooms .times
   pub used : fs .«text_len» ≤ rooms .text
 
 pub held : (fs : FileStorage) (rooms : Rooms) → holdsIn fs rooms ≡ true → Held fs rooms
 held fs rooms e =
     let a = both-true _ _ e in
     let b = both-true _ _ (a .1) in
-    let d = both-true _ _ (b .1) in
     record {
       files = leb-true _ _ (a .0);
       paths = leb-true _ _ (b .0);
-      mtimes = leb-true _ _ (d .0);
-      used = leb-true _ _ (d .1);
+      used = leb-true _ _ (b .1);
     }

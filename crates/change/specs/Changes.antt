@@ -3,7 +3,6 @@ use Prim.Native.Nat.{ℕ}
 use mathlib.Core.Bool.{cond}
 use mathlib.Core.List.{List}
 use lib.Dec.{eqb}
-use lib.IntN.{ℤ}
 use Rattle.types.specs.Refusals.{numberOf, Outcome, value, refused}
 use Rattle.tables.specs.declared.storage.FileStorage.{FileStorage}
 use Rattle.tables.specs.Model.{Store}
@@ -19,17 +18,15 @@ pub record Changed : Type 0 where
   pub says : Outcome FileStorage
   pub rows : List ℕ
   pub roots : List ℕ
-  pub times : List ℤ
   pub dirs : List ℕ
   pub text : List ℕ
 
-abbrev pub changedOf : Outcome FileStorage → List ℕ → List ℕ → List ℤ → List ℕ → List ℕ → Changed
-changedOf says rows roots times dirs text =
-    record { says = says; rows = rows; roots = roots; times = times; dirs = dirs; text = text }
+abbrev pub changedOf : Outcome FileStorage → List ℕ → List ℕ → List ℕ → List ℕ → Changed
+changedOf says rows roots dirs text = record { says = says; rows = rows; roots = roots; dirs = dirs; text = text }
 
 -- an answer with the tables of a store
 abbrev pub answering : Outcome FileStorage → Store → Changed
-answering says s = changedOf says (s .rows) (s .roots) (s .times) (s .dirs) (s .text)
+answering says s = changedOf says (s .rows) (s .roots) (s .dirs) (s .text)
 
 -- a refusal leaves every table as it was
 abbrev pub changedIf : ℕ → Store → Store → Changed

@@ -10,17 +10,16 @@ use Rattle.rules.specs.Bounds.{maxEntries}
 use Rattle.change.specs.declared.rooms.Rooms.{Rooms}
 
 -- the rooms of tables that have these lengths
-abbrev pub roomsIn : ℕ → ℕ → ℕ → ℕ → ℕ → Rooms
-roomsIn rows roots times dirs text =
+abbrev pub roomsIn : ℕ → ℕ → ℕ → ℕ → Rooms
+roomsIn rows roots dirs text =
     record {
       files = min (rows / rowWidth) (roots / rootWidth);
       directories = dirs / dirWidth;
-      times = times;
       text = text;
     }
 
 abbrev pub roomsOf : Store → Rooms
-roomsOf s = roomsIn (length (s .rows)) (length (s .roots)) (length (s .times)) (length (s .dirs)) (length (s .text))
+roomsOf s = roomsIn (length (s .rows)) (length (s .roots)) (length (s .dirs)) (length (s .text))
 
 -- refusal 10: 'over 65535 files or directories'
 abbrev pub filesRoom : Rooms → ℕ
@@ -33,9 +32,7 @@ dirsRoom rooms = min maxEntries (rooms .directories)
 abbrev pub holdsIn : FileStorage → Rooms → Bool
 holdsIn fs rooms =
     leb (fs .«num_files») (filesRoom rooms)
-    && (leb (fs .«num_paths») (dirsRoom rooms)
-    && (leb (fs .«num_mtimes») (rooms .times)
-    && leb (fs .«text_len») (rooms .text)))
+    && (leb (fs .«num_paths») (dirsRoom rooms) && leb (fs .«text_len») (rooms .text))
 
 abbrev pub holds : Store → Bool
 holds s = holdsIn (s .fs) (roomsOf s)

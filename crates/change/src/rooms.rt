@@ -10,22 +10,20 @@ use tables::FileStorage;
 use tables::ROOT_WIDTH;
 use tables::ROW_WIDTH;
 
-// How many files, directories, times and bytes of text the lent tables can hold.
+// How many files, directories and bytes of text the lent tables can hold.
 pub struct Rooms {
     pub files: usize,
     pub directories: usize,
-    pub times: usize,
     pub text: usize,
 }
 
 // The rooms of tables that have these lengths.
-pub fn rooms_in(rows: usize, roots: usize, times: usize, dirs: usize, text: usize) -> Rooms
-    ensures { λ r. ⌜ r ≡ roomsIn rows roots times dirs text ⌝ }
+pub fn rooms_in(rows: usize, roots: usize, dirs: usize, text: usize) -> Rooms
+    ensures { λ r. ⌜ r ≡ roomsIn rows roots dirs text ⌝ }
 {
     Rooms {
         files: min_usize(rows / ROW_WIDTH, roots / ROOT_WIDTH),
         directories: dirs / DIR_WIDTH,
-        times,
         text,
     }
 }
@@ -59,9 +57,6 @@ pub fn holds(fs: FileStorage, rooms: Rooms) -> bool
         return false;
     }
     if dirs_room(rooms) < fs.num_paths {
-        return false;
-    }
-    if rooms.times < fs.num_mtimes {
         return false;
     }
     holds_text(fs, rooms)

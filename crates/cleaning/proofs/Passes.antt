@@ -1,6 +1,6 @@
 -- Laws of passes over the files: a pass leaves every row's flags, so that each file's verdict can be read as it comes, and what is
 -- still to do from each file on gives the whole. They rely on the laws of rows of `tables`.
-use Prim.Native.Nat.{ℕ, zero, suc, _+_, _-_, _*_, _/_, _≤_, _<_, min}
+use Prim.Native.Nat.{ℕ, zero, suc, _+_, _-_, _*_, _/_, _%_, _^_, _≤_, _<_, min}
 use mathlib.Core.Path.{_≡_, refl, sym, ap, _∙_}
 use mathlib.Core.Bool.{Bool, true, false, cond}
 use mathlib.Core.Logic.{⊎-elim}
@@ -10,11 +10,12 @@ use native.Mathlib.Nat.{sub-zero}
 use lib.ListN.{length, getD, List·getD-eq-default}
 use lib.Seq.{sets, length-sets}
 use Rattle.lists.proofs.Orders.{le-or-lt}
-use Rattle.lists.proofs.Runs.{getD-sets, getD-sets-below, getD-sets-above}
+use Rattle.lists.proofs.Runs.{getD-sets}
 use Rattle.tables.specs.declared.span.Span.{Span}
 use Rattle.tables.specs.declared.rows.Row.{Row}
-use Rattle.tables.specs.Rows.{rowAt, words, putRow}
+use Rattle.tables.specs.Rows.{rowAt, packed, words, putRow}
 use Rattle.tables.specs.Model.{Store}
+use Rattle.tables.proofs.Words.{row-other}
 use Rattle.tables.proofs.Filled.{word-filled, word-behind}
 use Rattle.lookup.specs.Lookup.{isFlagged}
 use Rattle.links.specs.declared.mark.LinkVerdict.{LinkVerdict}
@@ -25,19 +26,27 @@ use Rattle.cleaning.specs.private.Writing.{flagsIn, verdictBy, markAfter
 
 -- ---- flags stay
 
+-- a row's flags stand above its size in one word; flags that were read are read back, whatever the size
+abbrev flagsOf : ℕ → ℕ
+flagsOf w = w / 2 ^ 48 % 2 ^ 16
+
+flags-back : (size w : ℕ) → flagsOf (packed size (flagsOf w)) ≡ flagsOf w
+flags-back size w = omega arith
+
 module _ (rows : List ℕ) (i : ℕ) (r : Row) (j : ℕ) where
   -- a row is written with its own flags, also where the table ends within it
   flags-put : r .flags ≡ flagsIn rows i → flagsIn (putRow rows i r) j ≡ flagsIn rows j
   flags-put e =
-      ⊎-elim (λ h. ⊎-elim (λ g. same (omega arith)) (λ g. getD-sets-above (words r) rows (i * 8) (j * 8 + 7) 0 (omega arith)) (le-or-lt j i))
-      (λ h. getD-sets-below (words r) rows (i * 8) (j * 8 + 7) 0 (omega arith))
-      (le-or-lt i j)
+      ⊎-elim (λ h. ⊎-elim (λ g. same (omega arith)) (λ g. other (λ q. omega arith)) (le-or-lt j i)) (λ h. other (λ q. omega arith)) (le-or-lt i j)
     where
-      own : getD (sets rows (i * 8) (words r)) (i * 8 + 7) 0 ≡ getD rows (i * 8 + 7) 0
+      other : (j ≡ i → ⊥) → flagsIn (putRow rows i r) j ≡ flagsIn rows j
+      other n = ap (λ (x : Row). x .flags) (row-other rows i r j n)
+
+      own : flagsIn (putRow rows i r) i ≡ flagsIn rows i
       own =
-          ⊎-elim (λ h. List·getD-eq-default (sets rows (i * 8) (words r)) 0 (omega (arith, length-sets rows (i * 8) (words r))) ∙ sym (List·getD-eq-default rows 0 h))
-          (λ h. getD-sets (words r) rows (i * 8) 7 0 (omega arith) h ∙ e)
-          (le-or-lt (length rows) (i * 8 + 7))
+          ⊎-elim (λ h. ap flagsOf (List·getD-eq-default (sets rows (i * 8) (words r)) 0 (omega (arith, length-sets rows (i * 8) (words r))) ∙ sym (List·getD-eq-default rows 0 h)))
+          (λ h. ap flagsOf (getD-sets (words r) rows (i * 8) 1 0 (omega arith) h) ∙ ap (λ (f : ℕ). flagsOf (packed (r .size) f)) e ∙ flags-back (r .size) (getD rows (i * 8 + 1) 0))
+          (le-or-lt (length rows) (i * 8 + 1))
 
       same : j ≡ i → flagsIn (putRow rows i r) j ≡ flagsIn rows j
       same q = rw q own
@@ -47,8 +56,8 @@ flags-lowered : (rows : List ℕ) (n : ℕ) (c : Span) (j : ℕ) → flagsIn (ro
 flags-lowered rows n c j =
     let g : ℕ → List ℕ = λ i. words (rowLowered c (rowAt rows i)) in
     let m = min n (length rows / 8) in
-    ⊎-elim (λ h. word-behind 8 g (λ k. refl) rows m j 7 (omega arith) h)
-    (λ h. word-filled 8 g (λ k. refl) rows m j 7 (omega arith) (omega arith) h)
+    ⊎-elim (λ h. ap flagsOf (word-behind 8 g (λ k. refl) rows m j 1 (omega arith) h))
+    (λ h. ap flagsOf (word-filled 8 g (λ k. refl) rows m j 1 (omega arith) (omega arith) h) ∙ flags-back (rowAt rows j .size) (getD rows (j * 8 + 1) 0))
     (le-or-lt m j)
 
 -- each step leaves every row's flags

@@ -1,11 +1,11 @@
 -- A set's record as twelve words, an array of that size, for programs in other languages: piece length, v2 (0 or 1),
--- files, directories, link texts, times, the name's position and length, text held, total, size on disk, trimmed (0 or
--- 1). It relies on the record of `tables` and on what a change of `change` leaves.
+-- files, directories, link texts, a word that is not used, the name's position and length, text held, total, size on
+-- disk, trimmed (0 or 1). The unused word is not looked at, and a change that is done writes 0 there. It relies on the
+-- record of `tables` and on what a change of `change` leaves.
 use Prim.Native.Nat.{ℕ}
 use mathlib.Core.Bool.{Bool, true, false, cond, not}
 use mathlib.Core.List.{List, [], _∷_}
 use lib.Dec.{eqb}
-use lib.IntN.{ℤ}
 use lib.ListN.{getD}
 use Rattle.types.specs.Refusals.{Outcome, value, refused}
 use Rattle.tables.specs.declared.storage.FileStorage.{FileStorage}
@@ -23,7 +23,6 @@ storageOf w =
       «num_files» = getD w 2 0;
       «num_paths» = getD w 3 0;
       «num_symlinks» = getD w 4 0;
-      «num_mtimes» = getD w 5 0;
       name = record { at = getD w 6 0; len = getD w 7 0 };
       «text_len» = getD w 8 0;
       «total_size» = getD w 9 0;
@@ -44,7 +43,7 @@ wordsOf fs =
     fs .«num_files» ∷
     fs .«num_paths» ∷
     fs .«num_symlinks» ∷
-    fs .«num_mtimes» ∷
+    0 ∷
     fs .name .at ∷
     fs .name .len ∷
     fs .«text_len» ∷
@@ -54,8 +53,8 @@ wordsOf fs =
     []
 
 -- the set that a record's words and the tables hold
-abbrev pub storeAt : List ℕ → List ℕ → List ℕ → List ℤ → List ℕ → List ℕ → Store
-storeAt state rows roots times dirs text = storeOf (storageOf state) rows roots times dirs text
+abbrev pub storeAt : List ℕ → List ℕ → List ℕ → List ℕ → List ℕ → Store
+storeAt state rows roots dirs text = storeOf (storageOf state) rows roots dirs text
 
 -- 0 is absent, any other number present
 abbrev pub presenceOf : ℕ → Presence
@@ -67,7 +66,6 @@ pub record Exported : Type 0 where
   pub state : List ℕ
   pub rows : List ℕ
   pub roots : List ℕ
-  pub times : List ℤ
   pub dirs : List ℕ
   pub text : List ℕ
 
@@ -86,7 +84,6 @@ exported state c =
       state = stateAfter (c .says) state;
       rows = c .rows;
       roots = c .roots;
-      times = c .times;
       dirs = c .dirs;
       text = c .text;
     }

@@ -1,6 +1,6 @@
 // The C interface, for benchmarks and other languages: a set's record is twelve lent words and a root 32 lent bytes,
 // arrays with their sizes in their types. A change returns 0 or document 01's number; questions.rt and slices.rt say
-// what a question returns. An addition has 15 parameters and can't have fewer in C: each table and each text is a slice
+// what a question returns. An addition has 14 parameters and can't have fewer in C: each table and each text is a slice
 // of its own. Relies on `storage`, `trim`, `tables`, `layout`, `files`, `blocks` and `mapping`.
 ghost use mathlib.Core.Path.{_≡_};
 ghost use Rattle.change.specs.Changes.{storageSays};
@@ -37,7 +37,6 @@ pub(crate) fn storage_at(state: &State) -> FileStorage
         num_files: state[2] as usize,
         num_paths: state[3] as usize,
         num_symlinks: state[4] as usize,
-        num_mtimes: state[5] as usize,
         name: Span {
             at: state[6] as usize,
             len: state[7] as usize,
@@ -66,7 +65,7 @@ fn words_of(fs: FileStorage) -> State
         fs.num_files as u64,
         fs.num_paths as u64,
         fs.num_symlinks as u64,
-        fs.num_mtimes as u64,
+        0,
         fs.name.at as u64,
         fs.name.len as u64,
         fs.text_len as u64,
@@ -106,7 +105,6 @@ pub extern "C" fn niflathen_add_file(
     state: &mut State,
     rows: &mut [u64],
     roots: &mut [u8],
-    times: &mut [i64],
     dirs: &mut [u64],
     text: &mut [u8],
     given: u8,
@@ -125,13 +123,12 @@ pub extern "C" fn niflathen_add_file(
           state = now (state .exit);
           rows = now (rows .exit);
           roots = now (roots .exit);
-          times = now (times .exit);
           dirs = now (dirs .exit);
           text = now (text .exit);
         })
         (exported (now (state .entry))
         (addStored
-        (storeAt (now (state .entry)) (now (rows .entry)) (now (roots .entry)) (now (times .entry))
+        (storeAt (now (state .entry)) (now (rows .entry)) (now (roots .entry))
         (now (dirs .entry)) (now (text .entry)))
         (record {
           given = optionalOf (presenceOf given) (now (filename .entry));
@@ -156,7 +153,6 @@ pub extern "C" fn niflathen_add_file(
         storage_at(state),
         rows,
         roots,
-        times,
         dirs,
         text,
         file,
@@ -173,7 +169,6 @@ pub extern "C" fn niflathen_remove_tail_padding(
     state: &mut State,
     rows: &mut [u64],
     roots: &mut [u8],
-    times: &mut [i64],
     dirs: &mut [u64],
     text: &mut [u8],
 ) -> u32
@@ -183,15 +178,14 @@ pub extern "C" fn niflathen_remove_tail_padding(
           state = now (state .exit);
           rows = now (rows .exit);
           roots = now (roots .exit);
-          times = now (times .exit);
           dirs = now (dirs .exit);
           text = now (text .exit);
         })
         (exported (now (state .entry))
         (trimStored
-        (storeAt (now (state .entry)) (now (rows .entry)) (now (roots .entry)) (now (times .entry))
+        (storeAt (now (state .entry)) (now (rows .entry)) (now (roots .entry))
         (now (dirs .entry)) (now (text .entry))))) ⌝ }
 {
-    let answer = trim::remove_tail_padding(storage_at(state), rows, roots, times, dirs, text);
+    let answer = trim::remove_tail_padding(storage_at(state), rows, roots, dirs, text);
     put_answer(state, answer)
 }

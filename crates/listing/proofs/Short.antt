@@ -7,6 +7,7 @@ use mathlib.Core.Bool.{Bool, true, false, cond, not, _&&_, _||_}
 use mathlib.Core.List.{List, [], _∷_, _++_}
 use native.Mathlib.Omega.{arith}
 use lib.Dec.{eqb, ltb, leb}
+use lib.IntN.{ℤ, pos}
 use lib.ListN.{length, drop, length-append, length-drop}
 use borrow.Author.Tests.{ltb-false, eqb-true}
 use Rattle.lists.specs.Lists.{equal, any, ceiling}
@@ -88,8 +89,8 @@ name-few : (path : List ℕ) → length (pathName path) ≤ length path
 name-few path = cond-few (isComplete path) path (rsplitLeaf path) (length path) (omega arith) (leaf-part-few path)
 
 -- the length of an internal path
-module _ (offset size : ℕ) (name : List ℕ) (flags : ℕ) (link root : Optional (List ℕ)) (made : Bool) where
-  inside-few : (d : Directory) → length (internalPath (record { offset = offset; size = size; name = name; directory = d; flags = flags; link = link; root = root; made = made })) ≤ directoryLength d + 1 + length name
+module _ (offset size : ℕ) (name : List ℕ) (flags : ℕ) (time : ℤ) (link root : Optional (List ℕ)) (made : Bool) where
+  inside-few : (d : Directory) → length (internalPath (record { offset = offset; size = size; name = name; directory = d; flags = flags; time = time; link = link; root = root; made = made })) ≤ directoryLength d + 1 + length name
   unfolding directoryLength
   inside-few single = omega arith
   inside-few absolute = omega arith
@@ -101,7 +102,7 @@ added-path-few m a e =
     let n : f .name ≡ pathName (a .path) = ap (λ (g : Optional (List ℕ)). storedName g (a .path)) e in
     omega (
       arith,
-      inside-few (f .offset) (f .size) (f .name) (f .flags) (f .link) (f .root) (f .made) (directoryAdded m a),
+      inside-few (f .offset) (f .size) (f .name) (f .flags) (f .time) (f .link) (f .root) (f .made) (directoryAdded m a),
       place-few (isComplete (a .path)) (isEmpty (rsplitBranch (a .path))) (newName m a) (a .path),
       ap length n,
       name-few (a .path),
@@ -125,7 +126,7 @@ pad-few false offset size pad h = omega arith
 pads-few : (offset size : ℕ) → pathsLength (padAdded offset size) ≤ 26 * length (padAdded offset size)
 pads-few offset size =
     pad-few (eqb size 0) offset size
-    (record { offset = offset; size = size; name = decimal size; directory = stored padDirectory false; flags = 1; link = absent; root = absent; made = true })
+    (record { offset = offset; size = size; name = decimal size; directory = stored padDirectory false; flags = 1; time = pos 0; link = absent; root = absent; made = true })
     (omega (arith, joined-few padDirectory (decimal size), decimal-few size))
 
 length-files : (fs gs : List File) → length (fs ++ gs) ≡ length fs + length gs
@@ -222,7 +223,7 @@ taken m next a e = at (eqb k 0) refl e
     at true t q =
         let z : next ≡ added m a = cc in
         let f = room-left m a noRoom (eqb-true k 0 t) in
-        (z, ltb-false 400 (filesOf (added m a)) (either-none (ltb 400 (filesOf (added m a))) (ltb 400 (length (added m a .directories)) || (ltb 0 (length (added m a .times)) || ltb 65536 (textOf (added m a)))) f))
+        (z, ltb-false 400 (filesOf (added m a)) (either-none (ltb 400 (filesOf (added m a))) (ltb 400 (length (added m a .directories)) || ltb 65536 (textOf (added m a))) f))
     at false t q = let z : _≡_ {A = ℕ} 0 1 = cc in absurd (omega arith)
 
 -- the lines of an input are no longer than it

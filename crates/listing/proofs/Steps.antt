@@ -7,7 +7,6 @@ use mathlib.Core.List.{List, [], _∷_}
 use native.Mathlib.Omega.{arith}
 use native.Mathlib.Nat.{mod-eq-of-lt}
 use lib.Dec.{eqb, leb, ltb}
-use lib.IntN.{ℤ}
 use lib.ListN.{length, getD, drop, replicate, length-take, length-drop, drop-of-length-le}
 use borrow.Author.Tests.{eqb-true, leb-true, lt-ltb, le-ltb}
 use Rattle.lists.specs.Lists.{partOf, ceiling}
@@ -97,29 +96,29 @@ root-by true root = refl
 root-by false root = refl
 
 -- the run after the last line
-pub counted-is : (fs : FileStorage) (rows roots : List ℕ) (times : List ℤ) (dirs text : List ℕ) (line : ℕ)
-    → runSays (countedBy fs line) rows roots times dirs text ≡ counted line (viewOf (storeOf fs rows roots times dirs text))
-counted-is fs rows roots times dirs text line = at (ltb 2147483647 (ceiling (fs .«total_size») (fs .«piece_length»)))
+pub counted-is : (fs : FileStorage) (rows roots dirs text : List ℕ) (line : ℕ)
+    → runSays (countedBy fs line) rows roots dirs text ≡ counted line (viewOf (storeOf fs rows roots dirs text))
+counted-is fs rows roots dirs text line = at (ltb 2147483647 (ceiling (fs .«total_size») (fs .«piece_length»)))
   where
-    at : (b : Bool) → runSays (cond b (Stopped TooManyPieces line) (Listed fs)) rows roots times dirs text ≡ cond b (stopped 13 line) (listed (viewOf (storeOf fs rows roots times dirs text)))
+    at : (b : Bool) → runSays (cond b (Stopped TooManyPieces line) (Listed fs)) rows roots dirs text ≡ cond b (stopped 13 line) (listed (viewOf (storeOf fs rows roots dirs text)))
     at true = refl
     at false = refl
 
 -- tables of these lengths have `places`
-rooms-are : (s : Store) → Placed (s .rows) (s .roots) (s .times) (s .dirs) (s .text) → roomsOf s ≡ places
-rooms-are s p = rw (p .rows-are, p .roots-are, p .times-are, p .dirs-are, p .text-is)
+rooms-are : (s : Store) → Placed (s .rows) (s .roots) (s .dirs) (s .text) → roomsOf s ≡ places
+rooms-are s p = rw (p .rows-are, p .roots-are, p .dirs-are, p .text-is)
 
 -- what a change leaves, by whether its number is 0
 abbrev changedBy : Bool → ℕ → Store → Store → Changed
 changedBy b k s t =
-    cond b (record { says = value (t .fs); rows = t .rows; roots = t .roots; times = t .times; dirs = t .dirs; text = t .text })
-    (record { says = refused k; rows = s .rows; roots = s .roots; times = s .times; dirs = s .dirs; text = s .text })
+    cond b (record { says = value (t .fs); rows = t .rows; roots = t .roots; dirs = t .dirs; text = t .text })
+    (record { says = refused k; rows = s .rows; roots = s .roots; dirs = s .dirs; text = s .text })
 
 -- a line that is read and obeyed, or refused
 abbrev pub newStore : FileStorage → Changed → Store
-newStore fs t = storeOf fs (t .rows) (t .roots) (t .times) (t .dirs) (t .text)
+newStore fs t = storeOf fs (t .rows) (t .roots) (t .dirs) (t .text)
 
-module _ (s : Store) (p : Placed (s .rows) (s .roots) (s .times) (s .dirs) (s .text)) (ok : Sound s) (line : ℕ) (l : List ℕ) (ls : List (List ℕ)) where
+module _ (s : Store) (p : Placed (s .rows) (s .roots) (s .dirs) (s .text)) (ok : Sound s) (line : ℕ) (l : List ℕ) (ls : List (List ℕ)) where
   adding-is : (a : Addition) → addedTo places (viewOf s) a ≡ outcomeOf (addingNumber s (viewOf s) a) (added (viewOf s) a)
   adding-is a = ap (λ (r : Rooms). addedTo r (viewOf s) a) (sym (rooms-are s p)) ∙ adding s ok a
 
@@ -184,7 +183,7 @@ line-few input at =
 pub record Going (input : List ℕ) (whole : Run) (at line : ℕ) (s : Store) : Type 0 where
   pub after-line : line ≤ at
   pub within : at ≤ length input + 1
-  pub placed : Placed (s .rows) (s .roots) (s .times) (s .dirs) (s .text)
+  pub placed : Placed (s .rows) (s .roots) (s .dirs) (s .text)
   pub sound : Sound s
   pub rest : runFrom places line (viewOf s) (lines (drop at input)) ≡ whole
 
@@ -210,7 +209,7 @@ module _ (input : List ℕ) (whole : Run) (at line : ℕ) (s : Store) (g : Going
           ∙ rest-next
 
       -- a line is obeyed
-      pub run-goes : (fs : FileStorage) → t .says ≡ value fs → Placed (t .rows) (t .roots) (t .times) (t .dirs) (t .text) → Going input whole (at + n + 1) (line + 1) (newStore fs t)
+      pub run-goes : (fs : FileStorage) → t .says ≡ value fs → Placed (t .rows) (t .roots) (t .dirs) (t .text) → Going input whole (at + n + 1) (line + 1) (newStore fs t)
       run-goes fs r p =
           let l = partOf input at n in
           let ls = lines (drop (at + n + 1) input) in

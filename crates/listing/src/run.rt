@@ -60,7 +60,6 @@ fn add_line(
     fs: FileStorage,
     rows: &mut [u64],
     roots: &mut [u8],
-    times: &mut [i64],
     dirs: &mut [u64],
     text: &mut [u8],
     line: &[u8],
@@ -70,12 +69,11 @@ fn add_line(
           says = storageSays r;
           rows = now (rows .exit);
           roots = now (roots .exit);
-          times = now (times .exit);
           dirs = now (dirs .exit);
           text = now (text .exit);
         })
         (obeyed (fileIn (now (line .entry)))
-        (storeOf fs (now (rows .entry)) (now (roots .entry)) (now (times .entry)) (now (dirs .entry))
+        (storeOf fs (now (rows .entry)) (now (roots .entry)) (now (dirs .entry))
         (now (text .entry)))) ⌝ }
 {
     let FileLine::Of(size, flags) = file_in(line) else {
@@ -92,7 +90,7 @@ fn add_line(
         rooted: rooted_by(flags),
         root: Sha256Hash { bytes },
     };
-    storage::add_file(fs, rows, roots, times, dirs, text, file, none, path, none)
+    storage::add_file(fs, rows, roots, dirs, text, file, none, path, none)
 }
 
 // The run that a refused line ends. Its callers hand on refusals only, but `let else` hands on the whole answer: the
@@ -123,18 +121,17 @@ fn add_lines(
     fs: FileStorage,
     rows: &mut [u64],
     roots: &mut [u8],
-    times: &mut [i64],
     dirs: &mut [u64],
     text: &mut [u8],
 ) -> RunResult
-    requires { ⌜ Placed (now rows) (now roots) (now times) (now dirs) (now text) ⌝ }
-    requires { ⌜ Sound (storeOf fs (now rows) (now roots) (now times) (now dirs) (now text)) ⌝ }
+    requires { ⌜ Placed (now rows) (now roots) (now dirs) (now text) ⌝ }
+    requires { ⌜ Sound (storeOf fs (now rows) (now roots) (now dirs) (now text)) ⌝ }
     requires { ⌜ (1 ≤ from) × (from ≤ length (now input) + 1) ⌝ }
     ensures { λ r. ⌜
-        runSays r (now (rows .exit)) (now (roots .exit)) (now (times .exit)) (now (dirs .exit)) (now (text .exit)) ≡
+        runSays r (now (rows .exit)) (now (roots .exit)) (now (dirs .exit)) (now (text .exit)) ≡
         runFrom places 1
         (viewOf
-        (storeOf fs (now (rows .entry)) (now (roots .entry)) (now (times .entry)) (now (dirs .entry))
+        (storeOf fs (now (rows .entry)) (now (roots .entry)) (now (dirs .entry))
         (now (text .entry))))
         (lines (drop from (now (input .entry)))) ⌝ }
 {
@@ -144,15 +141,7 @@ fn add_lines(
     while at < input.len() {
         let n = line_length(input, at);
         line += 1;
-        let answer = add_line(
-            set,
-            rows,
-            roots,
-            times,
-            dirs,
-            text,
-            lists::part(input, at, n),
-        );
+        let answer = add_line(set, rows, roots, dirs, text, lists::part(input, at, n));
         let StorageResult::Ok(next) = answer else {
             return stopped_by(answer, line);
         };
@@ -167,13 +156,12 @@ fn run_input(
     input: &[u8],
     rows: &mut [u64],
     roots: &mut [u8],
-    times: &mut [i64],
     dirs: &mut [u64],
     text: &mut [u8],
 ) -> RunResult
-    requires { ⌜ Placed (now rows) (now roots) (now times) (now dirs) (now text) ⌝ }
+    requires { ⌜ Placed (now rows) (now roots) (now dirs) (now text) ⌝ }
     ensures { λ r. ⌜
-        runSays r (now (rows .exit)) (now (roots .exit)) (now (times .exit)) (now (dirs .exit)) (now (text .exit)) ≡
+        runSays r (now (rows .exit)) (now (roots .exit)) (now (dirs .exit)) (now (text .exit)) ≡
         run places (now (input .entry)) ⌝ }
 {
     if 65536 < input.len() {
@@ -187,7 +175,7 @@ fn run_input(
     let StorageResult::Ok(fs) = answer else {
         return stopped_by(answer, 1);
     };
-    add_lines(input, n + 1, fs, rows, roots, times, dirs, text)
+    add_lines(input, n + 1, fs, rows, roots, dirs, text)
 }
 
 // The listing of an input, at the start of `out`, and its length; refusal 10 where `out` is too short.
@@ -197,17 +185,9 @@ pub fn list(input: &[u8], out: &mut [u8]) -> UsizeResult
 {
     let mut rows = [0u64; 3200];
     let mut roots = [0u8; 12800];
-    let mut times = [0i64; 1];
     let mut dirs = [0u64; 800];
     let mut text = [0u8; 65536];
-    let ended = run_input(
-        input,
-        &mut rows,
-        &mut roots,
-        &mut times[..0],
-        &mut dirs,
-        &mut text,
-    );
+    let ended = run_input(input, &mut rows, &mut roots, &mut dirs, &mut text);
     match ended {
         RunResult::Listed(fs) => put_set(fs, &rows, &dirs, &text, out),
         RunResult::Stopped(refusal, line) => put_refusal(refusal, line, out),

@@ -24,7 +24,7 @@ use Rattle.tables.specs.declared.span.Span.{Span}
 use Rattle.tables.specs.Span.{textAt}
 use Rattle.tables.specs.declared.storage.FileStorage.{FileStorage}
 use Rattle.tables.specs.Rows.{rowAt, dirAt, has}
-use Rattle.tables.specs.Model.{Optional, single, absolute, stored, File, Store, tabled, fileOf, viewOf}
+use Rattle.tables.specs.Model.{single, absolute, stored, pathIn, File, Store, tabled, fileOf, viewOf}
 use Rattle.tables.proofs.Tabled.{length-tabled, getD-tabled}
 use Rattle.listing_output.specs.Output.{listed, stopped, internalPath, fileLine, fileLines, totalsLine, printed}
 use Rattle.listing_output.specs.private.Lines.{fourColumns, rowPath, rowLine, linesOf}
@@ -100,10 +100,10 @@ row-line-length dirs text i r =
     rw (length-append (fourColumns i (r .offset) (r .size) 2 (r .flags % 2) 32), length-append (rowPath dirs text r), four-length i (r .offset) (r .size) 2 (r .flags % 2) 32)
     (omega arith)
 
--- what a row's file prints
-module _ (offset size : ℕ) (name : List ℕ) (flags : ℕ) (link root : Optional (List ℕ)) (made : Bool) (area : List ℕ) (span : Span) (outside : Bool) where
+-- the path that a row's file prints
+module _ (name area : List ℕ) (span : Span) (outside : Bool) where
   path-in : (a b : Bool)
-      → internalPath (record { offset = offset; size = size; name = name; directory = cond a single (cond b absolute (stored (textAt area span) outside)); flags = flags; link = link; root = root; made = made }) ≡ appended (textAt area (cond (not a && not b) span (record { at = 0; len = 0 }))) name
+      → pathIn (cond a single (cond b absolute (stored (textAt area span) outside))) name ≡ appended (textAt area (cond (not a && not b) span (record { at = 0; len = 0 }))) name
   path-in true b = refl
   path-in false true = refl
   path-in false false = refl
@@ -116,7 +116,7 @@ line-is s i k =
     let r = rowAt (s .rows) k in
     let f = fileOf s k in
     let p : internalPath f ≡ rowPath (s .dirs) (s .text) r =
-    path-in (r .offset) (r .size) (f .name) (f .flags) (f .link) (f .root) (f .made) (s .text) (dirAt (s .dirs) (r .«path_index»)) (has (r .flags) 32) (eqb (r .«path_index») 1073741823) (eqb (r .«path_index») 1073741822) in
+    path-in (f .name) (s .text) (dirAt (s .dirs) (r .«path_index»)) (has (r .flags) 32) (eqb (r .«path_index») 1073741823) (eqb (r .«path_index») 1073741822) in
     let q : r .flags % 16 % 2 ≡ r .flags % 2 = omega arith in
     ap (λ (x : List ℕ). column 5 i ++ (column 15 (r .offset) ++ (column 15 (r .size) ++ (column 2 (r .flags % 16 % 2) ++ (32 ∷ (x ++ (10 ∷ []))))))) p
     ∙ ap (λ (n : ℕ). column 5 i ++ (column 15 (r .offset) ++ (column 15 (r .size) ++ (column 2 n ++ (32 ∷ (rowPath (s .dirs) (s .text) r ++ (10 ∷ []))))))) q
@@ -189,7 +189,7 @@ module _ (fs : FileStorage) (rows dirs text : List ℕ) where
   set-put out at n e h =
       rw (totals-are n h) (sets-two out (linesOf fs rows dirs text) (totalsLine (shown fs rows dirs text)) 0 at (omega arith))
 
--- roots and times are not shown
+-- roots are not shown
 lines-same : (n i : ℕ) (g h : ℕ → File) → ((j k : ℕ) → fileLine j (g k) ≡ fileLine j (h k)) → fileLines i (tabled n g) ≡ fileLines i (tabled n h)
 unfolding fileLines tabled
 lines-same zero i g h e = refl

@@ -97,9 +97,9 @@ known files dirs p = cond (isThere (fileAt files p)) true (isDirectory dirs p)
 abbrev pub isFlagged : ℕ → Bool
 isFlagged flags = cond (has flags symlinkBit) (has flags linkHeldBit) false
 
--- neither roots nor times are looked at
+-- roots are not looked at
 abbrev pub lent : FileStorage → List ℕ → List ℕ → List ℕ → Store
-lent fs rows dirs text = record { fs = fs; rows = rows; roots = []; times = []; dirs = dirs; text = text }
+lent fs rows dirs text = record { fs = fs; rows = rows; roots = []; dirs = dirs; text = text }
 
 abbrev pub entriesOf : Store → List Entry
 entriesOf s = tabled (s .fs .«num_files») (λ i. entryOf (fileOf s i))

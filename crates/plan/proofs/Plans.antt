@@ -1,19 +1,18 @@
 -- The plan of an addition, made on numbers and searches, is the one that the public definitions give on the model that the
 -- tables mean. They rely on the laws of rules and of directories.
-use Prim.Native.Nat.{ℕ, suc, _+_, _-_, _≤_, max}
+use Prim.Native.Nat.{ℕ, suc, _+_, _≤_}
 use mathlib.Core.Path.{_≡_, refl, sym, ap, _∙_}
 use mathlib.Core.Bool.{Bool, true, false, cond, not, _||_}
 use mathlib.Core.List.{List, [], _∷_, _++_}
 use native.Mathlib.Omega.{arith}
 use lib.Dec.{eqb, ltb}
-use lib.IntN.{ℤ, pos}
-use lib.ListN.{length, set, take, replicate, length-append, length-set, length-replicate}
-use lib.Seq.{length-take-le}
+use lib.ListN.{length, length-append}
 use borrow.Author.Tests.{not-false}
 use Rattle.lists.specs.Lists.{any, equal}
 use Rattle.path.specs.Split.{hasParent, rsplitBranch, rsplitLeaf, isComplete, lsplitFirst, lsplitRest}
 use Rattle.path.specs.Join.{isEmpty}
 use Rattle.types.specs.Refusals.{numberOf, Outcome, refused}
+use Rattle.types.specs.Signed.{zigzag}
 use Rattle.types.specs.declared.refusal.Refusal.{Refusal}
 use Rattle.types.proofs.Refusals.{numbered}
 use Rattle.tables.specs.declared.storage.FileStorage.{FileStorage}
@@ -32,7 +31,7 @@ use Rattle.additions.specs.declared.checks.Sizes.{Sizes}
 use Rattle.additions.specs.declared.parts.PathKind.{PathKind}
 use Rattle.additions.specs.declared.parts.PathKind.the-variants.{Single, Absolute, Inside, Outside}
 use Rattle.additions.specs.declared.parts.PathParts.{PathParts}
-use Rattle.additions.specs.Addition.{Addition, optionalOf, isPresent, isZero, nameAfter, withoutLeading, directoryFor, storedName, badName, decides, isOpen, keeps, isV2, withTime, withDirectoryOf, padAdded, directoryAdded, added, lacks, sizeRules, nameRules, versionRules, padRules, addingRules, filesOf, padOf, fileAdded, sizeAdded}
+use Rattle.additions.specs.Addition.{Addition, optionalOf, isPresent, nameAfter, withoutLeading, directoryFor, storedName, badName, decides, isOpen, keeps, isV2, withDirectoryOf, padAdded, directoryAdded, added, lacks, sizeRules, nameRules, versionRules, padRules, addingRules, filesOf, padOf, fileAdded, sizeAdded}
 use Rattle.additions.specs.private.Texts.{isHere, nameFrom, linkTextOf, setTextOf, textUnder, directoryAt, outsideKind}
 use Rattle.additions.specs.Parts.{kindFor, nameSpan, partsOf}
 use Rattle.additions.specs.private.Checks.{limitedLength, sizesFor, numberRules}
@@ -98,15 +97,14 @@ texts-of s a given filename p eg ep =
 -- ---- the plan of a model
 
 -- a model whose counts and sums are those of a set's record
-abbrev pub seen : FileStorage → List ℕ → List File → List (List ℕ) → List ℤ → Model
-seen fs name files directories times =
+abbrev pub seen : FileStorage → List ℕ → List File → List (List ℕ) → Model
+seen fs name files directories =
     record {
       pieceLength = fs .«piece_length»;
       v2 = fs .v2;
       name = name;
       files = files;
       directories = directories;
-      times = times;
       links = fs .«num_symlinks»;
       total = fs .«total_size»;
       onDisk = fs .«size_on_disk»;
@@ -128,15 +126,13 @@ with-directory Outside d ds = at (any (equal d) ds)
     at true = refl
     at false = refl
 
-room : (r : Rooms) (n n' k h h' : ℕ) (x : Bool) → n ≡ n' → h ≡ h'
-    → (ltb (filesRoom r) n || (ltb (dirsRoom r) k || (ltb (r .times) h || x))) ≡ (shortOf r n' k h' || x)
-room r n n' k h h' x p q = rw (p, q) (at (ltb (filesRoom r) n') (ltb (dirsRoom r) k) (ltb (r .times) h'))
+room : (r : Rooms) (n n' k : ℕ) (x : Bool) → n ≡ n' → (ltb (filesRoom r) n || (ltb (dirsRoom r) k || x)) ≡ (shortOf r n' k || x)
+room r n n' k x p = rw p (at (ltb (filesRoom r) n') (ltb (dirsRoom r) k))
   where
-    at : (a b c : Bool) → (a || (b || (c || x))) ≡ ((a || (b || c)) || x)
-    at true b c = refl
-    at false true c = refl
-    at false false true = refl
-    at false false false = refl
+    at : (a b : Bool) → (a || (b || x)) ≡ ((a || b) || x)
+    at true b = refl
+    at false true = refl
+    at false false = refl
 
 few : {A : Type 0} (t : Bool) (x : A) → suc (length (cond t [] (x ∷ []))) ≡ cond t 1 2
 few true x = refl
@@ -145,19 +141,9 @@ few false x = refl
 length-pads : (files : List File) (f : File) (offset pad : ℕ) → length (files ++ (f ∷ padAdded offset pad)) ≡ length files + cond (eqb pad 0) 1 2
 length-pads files f offset pad = length-append files (f ∷ padAdded offset pad) ∙ ap (λ (k : ℕ). length files + k) (few (eqb pad 0) _)
 
-length-times : (i : ℕ) (t : ℤ) (times : List ℤ) → length (withTime i t times) ≡ cond (isZero t) (length times) (max (length times) (i + 1))
-length-times i t times = at (isZero t)
-  where
-    at : (z : Bool) → length (cond z times (set (times ++ replicate (i + 1 - length times) (pos 0)) i t)) ≡ cond z (length times) (max (length times) (i + 1))
-    at true = refl
-    at false =
-        length-set (times ++ replicate (i + 1 - length times) (pos 0)) i t
-        ∙ length-append times (replicate (i + 1 - length times) (pos 0))
-        ∙ omega (arith, length-replicate {A = ℤ} (i + 1 - length times) (pos 0))
-
-module _ (fs : FileStorage) (name : List ℕ) (files : List File) (ds : List (List ℕ)) (times : List ℤ) (e : length files ≡ fs .«num_files») (a : Addition) where
+module _ (fs : FileStorage) (name : List ℕ) (files : List File) (ds : List (List ℕ)) (e : length files ≡ fs .«num_files») (a : Addition) where
   abbrev m : Model
-  m = seen fs name files ds times
+  m = seen fs name files ds
 
   abbrev sizes : Sizes
   sizes = record { size = sizeAdded a; v2 = isV2 m a; pad = padOf m a }
@@ -175,7 +161,7 @@ module _ (fs : FileStorage) (name : List ℕ) (files : List File) (ds : List (Li
   spans = textSpansFor fs sizes first second lengths
 
   abbrev facts : FileFacts
-  facts = record { flags = a .flags; «keeps_link» = keeps m a; untimed = isZero (a .time); «has_root» = isPresent (a .root) }
+  facts = record { flags = a .flags; «keeps_link» = keeps m a; «has_root» = isPresent (a .root); time = zigzag (a .time) }
 
   abbrev parts : PathParts
   parts = partsOf (fs .«num_files») name (a .path)
@@ -206,20 +192,11 @@ module _ (fs : FileStorage) (name : List ℕ) (files : List File) (ds : List (Li
   sizes-are = rw e
 
   -- room is lacking where a count or the text's end passes it
-  pub room-is : (rooms : Rooms) → length times ≡ fs .«num_mtimes»
-      → lacks rooms (added m a) (textAfter fs m a)
-      ≡ (shortOf rooms (counts .«num_files») (second .count) (counts .«num_mtimes»)
-      || ltb (rooms .text) (spans .end))
-  room-is rooms l =
-      room rooms (filesOf (added m a)) (counts .«num_files») (second .count)
-      (length (withTime (filesOf m) (a .time) times))
-      (counts .«num_mtimes»)
-      (ltb (rooms .text) (textAfter fs m a))
+  pub room-is : (rooms : Rooms)
+      → lacks rooms (added m a) (textAfter fs m a) ≡ (shortOf rooms (counts .«num_files») (second .count) || ltb (rooms .text) (spans .end))
+  room-is rooms =
+      room rooms (filesOf (added m a)) (counts .«num_files») (second .count) (ltb (rooms .text) (textAfter fs m a))
       (length-pads files (fileAdded m a) (fs .«total_size» + sizeAdded a) (padOf m a) ∙ ap (λ (n : ℕ). n + cond (eqb (padOf m a) 0) 1 2) e)
-      (length-times (filesOf m) (a .time) times ∙ held (isZero (a .time)))
-    where
-      held : (z : Bool) → cond z (length times) (max (length times) (length files + 1)) ≡ cond z (fs .«num_mtimes») (max (fs .«num_mtimes») (fs .«num_files» + 1))
-      held z = rw (l, e)
 
 -- ---- the same on the model that the tables mean
 
@@ -254,7 +231,7 @@ module _ (s : Store) (a : Addition) where
 
   number-is : addingNumber s (viewOf s) a ≡ orElse before (cond unheld 10 0)
   number-is =
-      rules-are (s .fs) (textAt (s .text) (s .fs .name)) (tabled (s .fs .«num_files») (fileOf s)) dirs (take (s .fs .«num_mtimes») (s .times)) count a unheld
+      rules-are (s .fs) (textAt (s .text) (s .fs .name)) (tabled (s .fs .«num_files») (fileOf s)) dirs count a unheld
 
   -- where no rule stops, the tables hold what the set counts
   pub add-held : addingNumber s (viewOf s) a ≡ 0 → s .fs .«num_files» ≤ 65535
@@ -288,7 +265,7 @@ module _ (s : Store) (a : Addition) where
 
       abbrev factsSeen : FileFacts
       factsSeen =
-          record { flags = a .flags; «keeps_link» = keeps (viewOf s) a; untimed = isZero (a .time); «has_root» = isPresent (a .root) }
+          record { flags = a .flags; «keeps_link» = keeps (viewOf s) a; «has_root» = isPresent (a .root); time = zigzag (a .time) }
 
       abbrev lengthsFor : List ℕ → List ℕ → List ℕ → TextLengths
       lengthsFor x y z = record { «set_name» = length x; name = length y; link = length z }
@@ -301,9 +278,8 @@ module _ (s : Store) (a : Addition) where
 
       decided-is : decided sizesSeen factsSeen (isOutside directory) directory (lengthsFor (setText (viewOf s) a) (nameText (viewOf s) a) (linkNew (viewOf s) a)) partsSeen ≡ result
       decided-is =
-          let l = length-take-le (s .fs .«num_mtimes») (s .times) (store-held s h .mtimes) in
           ap (λ (t : Bool). outcomeOf (cond t 10 0) (planOf (s .fs) (viewOf s) a))
-          (sym (room-is (s .fs) (textAt (s .text) (s .fs .name)) (tabled (s .fs .«num_files») (fileOf s)) dirs (take (s .fs .«num_mtimes») (s .times)) count a (roomsOf s) l))
+          (sym (room-is (s .fs) (textAt (s .text) (s .fs .name)) (tabled (s .fs .«num_files») (fileOf s)) dirs count a (roomsOf s)))
           ∙ ap (λ (n : ℕ). outcomeOf n (planOf (s .fs) (viewOf s) a)) (sym number-held)
 
       pub add-planned : (z : Sizes) (f : FileFacts) (kind : PathKind) (x dir name link : List ℕ) (p : PathParts)
@@ -311,7 +287,7 @@ module _ (s : Store) (a : Addition) where
           → TextsOf (viewOf s) a x kind dir name link
           → decided z f (outsideKind kind) (directoryAt kind dir) (lengthsFor x name link) p ≡ result
       add-planned z f kind x dir name link p ez ef ep t =
-          let q : z ≡ sizesSeen = ez ∙ sizes-are (s .fs) (textAt (s .text) (s .fs .name)) (tabled (s .fs .«num_files») (fileOf s)) dirs (take (s .fs .«num_mtimes») (s .times)) count a in
+          let q : z ≡ sizesSeen = ez ∙ sizes-are (s .fs) (textAt (s .text) (s .fs .name)) (tabled (s .fs .«num_files») (fileOf s)) dirs count a in
           ap (λ (v : Sizes). decided v f (outsideKind kind) (directoryAt kind dir) (lengthsFor x name link) p) q
           ∙ ap (λ (v : FileFacts). decided sizesSeen v (outsideKind kind) (directoryAt kind dir) (lengthsFor x name link) p) ef
           ∙ ap (λ (v : PathParts). decided sizesSeen factsSeen (outsideKind kind) (directoryAt kind dir) (lengthsFor x name link) v) ep

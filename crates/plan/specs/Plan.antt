@@ -37,6 +37,7 @@ planOf fs m a =
             cond (eqb (padOf m a) 0) 0
             (directoryIndex padDirectory (withDirectoryOf (directoryAdded m a) (m .directories)));
         flags = madePadFlags;
+        time = 0;
       };
       dir = record {
         new = isNewDirectory (directoryAdded m a) (m .directories);

@@ -1,14 +1,14 @@
 -- What an addition writes: the tables after it, word by word, for tables of any content. The decisions are
 -- those of Addition.antt on what the tables mean (`viewOf`); here stands where each text and row goes.
-use Prim.Native.Nat.{ℕ, _+_, _-_, _%_, _^_, max}
+use Prim.Native.Nat.{ℕ, _+_, _-_, _%_, _^_}
 use mathlib.Core.Bool.{Bool, false, cond, not, _&&_}
 use mathlib.Core.List.{List, [], _∷_, _++_}
 use lib.Dec.{eqb}
-use lib.IntN.{ℤ, pos}
-use lib.ListN.{length, set, take, replicate}
+use lib.ListN.{length, take}
 use lib.Seq.{sets}
 use Rattle.lists.specs.Lists.{equal}
 use Rattle.lists.specs.Decimal.{decimal}
+use Rattle.types.specs.Signed.{zigzag}
 use Rattle.tables.specs.declared.span.Span.{Span}
 use Rattle.tables.specs.declared.rows.Row.{Row}
 use Rattle.tables.specs.declared.storage.FileStorage.{FileStorage}
@@ -18,7 +18,7 @@ use Rattle.tables.specs.Rows.{linkHeldBit, outsideBit, rootBit, madePadFlags}
 use Rattle.tables.specs.Model.{Optional, absent, present, Directory, single, absolute, stored, isPad, Model, Store}
 use Rattle.additions.specs.Addition.{Addition, filesOf, sizeAdded, keeps, isV2, padOf, directoryAdded, storedName}
 use Rattle.additions.specs.Addition.{setNameOf, flagsKept, padDirectory, isAmong}
-use Rattle.additions.specs.Addition.{withDirectoryOf, added, isPresent, isZero}
+use Rattle.additions.specs.Addition.{withDirectoryOf, added, isPresent}
 
 -- ---- texts one after the other
 
@@ -176,9 +176,10 @@ rowAdded fs m a =
           + cond (keeps m a) linkHeldBit 0
           + cond (isOutside (directoryAdded m a)) outsideBit 0
           + cond (isPresent (a .root)) rootBit 0;
+      time = zigzag (a .time);
     }
 
--- the row of the pad that an addition makes
+-- the row of the pad that an addition makes, with time 0
 abbrev pub padRow : FileStorage → Model → Addition → Row
 padRow fs m a =
     record {
@@ -188,6 +189,7 @@ padRow fs m a =
       link = record { at = textAfter fs m a; len = 0 };
       «path_index» = directoryIndex padDirectory (withDirectoryOf (directoryAdded m a) (m .directories));
       flags = madePadFlags;
+      time = 0;
     }
 
 abbrev pub rowsAdded : Store → Model → Addition → List ℕ
@@ -202,10 +204,6 @@ abbrev pub rootsAdded : List ℕ → ℕ → Optional (List ℕ) → List ℕ
 rootsAdded roots i absent = roots
 rootsAdded roots i (present root) = putRoot roots i root
 
--- the times with that of file i; files before it that have none get 0
-abbrev pub timesAdded : List ℤ → ℕ → ℕ → ℤ → List ℤ
-timesAdded times held i t = cond (isZero t) times (set (sets times held (replicate (i + 1 - held) (pos 0))) i t)
-
 -- the size on disk with what an addition adds, held in 64 bits; on tables in order the sum itself
 abbrev pub onDiskAdded : ℕ → ℕ → ℕ
 onDiskAdded disk size = (disk + size) % 2 ^ 64
@@ -219,7 +217,6 @@ storageAdded fs m a =
       «num_files» = fs .«num_files» + cond (eqb (padOf m a) 0) 1 2;
       «num_paths» = length (added m a .directories);
       «num_symlinks» = fs .«num_symlinks» + cond (keeps m a) 1 0;
-      «num_mtimes» = cond (isZero (a .time)) (fs .«num_mtimes») (max (fs .«num_mtimes») (fs .«num_files» + 1));
       name = cond (eqb (fs .«num_files») 0) (record { at = textKept fs; len = length (setText m a) }) (fs .name);
       «text_len» = textAfter fs m a;
       «total_size» = fs .«total_size» + sizeAdded a + padOf m a;
@@ -233,7 +230,6 @@ storeAdded s m a =
       fs = storageAdded (s .fs) m a;
       rows = rowsAdded s m a;
       roots = rootsAdded (s .roots) (s .fs .«num_files») (a .root);
-      times = timesAdded (s .times) (s .fs .«num_mtimes») (s .fs .«num_files») (a .time);
       dirs = dirsAdded s m a;
       text = textAdded s m a;
     }

@@ -1,13 +1,13 @@
-// What a set counts after an addition, and the flags of the file's row. The bounds that keep every sum
+// What a set counts after an addition, and the flags and the time of the file's row. The bounds that keep every sum
 // small are in `Countable`.
 ghost use mathlib.Core.Path.{_≡_};
 ghost use mathlib.Core.Bool.{true, cond};
-ghost use Prim.Native.Nat.{_+_, _≤_, _<_, max};
+ghost use Prim.Native.Nat.{_+_, _≤_, _<_};
 ghost use lib.Dec.{eqb};
 ghost use Rattle.tables.specs.Model.{isPad};
 ghost use Rattle.rules.specs.Bounds.{maxEntries, maxLinks};
 ghost use Rattle.plan.specs.Write.{onDiskAdded};
-ghost use Rattle.plan.specs.private.Steps.{Countable, bitOf, rowFlags, countsOf, shortOf};
+ghost use Rattle.plan.specs.private.Steps.{Countable, bitOf, rowFlags, rowFactsOf, countsOf, shortOf};
 use additions::Sizes;
 use change::Rooms;
 use tables::FileStorage;
@@ -20,19 +20,24 @@ use tables::SYMLINK_BIT;
 pub(crate) struct Counts {
     pub num_files: usize,
     pub num_symlinks: usize,
-    pub num_mtimes: usize,
     pub file_end: u64,
     pub total_size: u64,
     pub size_on_disk: u64,
 }
 
-// What an addition adds to the counts: the flags that are given, whether its link text is kept, whether
-// it has no time, and whether it has a root. The flags are a word: four bytes would be put together in one.
+// What an addition brings: the flags that are given, whether its link text is kept, whether it has a root, and its time
+// as a word. The flags are a word: three bytes would be put together in one.
 pub(crate) struct FileFacts {
     pub flags: u64,
     pub keeps_link: bool,
-    pub untimed: bool,
     pub has_root: bool,
+    pub time: u64,
+}
+
+// What a file's row says besides where things are.
+pub(crate) struct RowFacts {
+    pub flags: u64,
+    pub time: u64,
 }
 
 // A number where a flag is set, 0 where not.
@@ -43,7 +48,7 @@ fn bit(on: bool, value: u64) -> u64
 }
 
 // The flags of a file's row.
-pub(crate) fn row_flags(facts: FileFacts, outside: bool) -> u64
+fn row_flags(facts: FileFacts, outside: bool) -> u64
     ensures { λ r. ⌜ r ≡ rowFlags facts outside ⌝ }
 {
     let flags = facts.flags;
@@ -53,6 +58,16 @@ pub(crate) fn row_flags(facts: FileFacts, outside: bool) -> u64
         + bit(keeps, LINK_HELD_BIT)
         + bit(outside, OUTSIDE_BIT)
         + bit(facts.has_root, ROOT_BIT)
+}
+
+// The flags and the time of a file's row.
+pub(crate) fn row_facts(facts: FileFacts, outside: bool) -> RowFacts
+    ensures { λ r. ⌜ r ≡ rowFactsOf facts outside ⌝ }
+{
+    RowFacts {
+        flags: row_flags(facts, outside),
+        time: facts.time,
+    }
 }
 
 // How many files there are after an addition.
@@ -69,17 +84,6 @@ fn links_after(links: usize, keeps: bool) -> usize
     ensures { λ r. ⌜ r ≡ links + cond keeps 1 0 ⌝ }
 {
     if keeps { links + 1 } else { links }
-}
-
-// How many times are held after an addition.
-fn times_after(held: usize, files: usize, untimed: bool) -> usize
-    requires { ⌜ files ≤ maxEntries ⌝ }
-    ensures { λ r. ⌜ r ≡ cond untimed held (max held (files + 1)) ⌝ }
-{
-    if untimed {
-        return held;
-    }
-    if held < files + 1 { files + 1 } else { held }
 }
 
 // What an addition adds to the bytes on disk: a pad counts for none.
@@ -105,22 +109,18 @@ pub(crate) fn counts_after(fs: FileStorage, sizes: Sizes, facts: FileFacts) -> C
     Counts {
         num_files: files_after(fs.num_files, sizes.pad),
         num_symlinks: links_after(fs.num_symlinks, facts.keeps_link),
-        num_mtimes: times_after(fs.num_mtimes, fs.num_files, facts.untimed),
         file_end,
         total_size: file_end + sizes.pad,
         size_on_disk: disk_after(fs.size_on_disk, facts.flags, sizes.size),
     }
 }
 
-// Whether the file rows, directory rows or times are too few for these counts.
-pub(crate) fn is_short(rooms: Rooms, files: usize, dirs: usize, times: usize) -> bool
-    ensures { λ r. ⌜ r ≡ shortOf rooms files dirs times ⌝ }
+// Whether the file rows or directory rows are too few for these counts.
+pub(crate) fn is_short(rooms: Rooms, files: usize, dirs: usize) -> bool
+    ensures { λ r. ⌜ r ≡ shortOf rooms files dirs ⌝ }
 {
     if change::files_room(rooms) < files {
         return true;
     }
-    if change::dirs_room(rooms) < dirs {
-        return true;
-    }
-    rooms.times < times
+    change::dirs_room(rooms) < dirs
 }

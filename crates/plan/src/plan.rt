@@ -18,9 +18,10 @@ ghost use Rattle.plan.specs.private.Steps.{textSpansSays, spansWithin, p
 ghost use Rattle.plan.specs.Plan.{planSays, plannedFor};
 use crate::counts::Counts;
 use crate::counts::FileFacts;
+use crate::counts::RowFacts;
 use crate::counts::counts_after;
 use crate::counts::is_short;
-use crate::counts::row_flags;
+use crate::counts::row_facts;
 use crate::dirs::DirPlan;
 use crate::dirs::plan_dir;
 use crate::dirs::plan_pad_dir;
@@ -191,14 +192,14 @@ fn make_plan(
     fs: FileStorage,
     sizes: Sizes,
     counts: Counts,
-    flags: u64,
+    file: RowFacts,
     first: DirPlan,
     second: DirPlan,
     spans: TextSpans,
     old: Span,
     parts: PathParts,
 ) -> AddPlan
-    ensures { λ r. ⌜ r ≡ planFrom fs sizes counts flags first second spans old parts ⌝ }
+    ensures { λ r. ⌜ r ≡ planFrom fs sizes counts file first second spans old parts ⌝ }
 {
     let set = spans.set;
     let directory = spans.directory;
@@ -213,7 +214,6 @@ fn make_plan(
             num_files: counts.num_files,
             num_paths: second.count,
             num_symlinks: counts.num_symlinks,
-            num_mtimes: counts.num_mtimes,
             name: name_after(fs, set),
             text_len: spans.end,
             total_size: counts.total_size,
@@ -226,7 +226,8 @@ fn make_plan(
             name,
             link,
             path_index: first.index,
-            flags,
+            flags: file.flags,
+            time: file.time,
         },
         pad_row: Row {
             offset: counts.file_end,
@@ -238,6 +239,7 @@ fn make_plan(
             },
             path_index: second.index,
             flags: MADE_PAD_FLAGS,
+            time: 0,
         },
         dir: NewDir {
             new: first.new,
@@ -258,22 +260,22 @@ fn make_plan(
     }
 }
 
-// The plan where there is room: `flags` are those of the file's row, `first` and `second` its directory and the pad's.
+// The plan where there is room: `first` and `second` are the file's directory and the pad's.
 fn plan_numbers(
     fs: FileStorage,
     rooms: Rooms,
     sizes: Sizes,
     counts: Counts,
-    flags: u64,
+    file: RowFacts,
     first: DirPlan,
     second: DirPlan,
     lengths: TextLengths,
     parts: PathParts,
 ) -> PlanResult
     requires { ⌜ fs .«text_len» ≤ rooms .text ⌝ }
-    ensures { λ r. ⌜ planSays r ≡ plannedIn fs rooms sizes counts flags first second lengths parts ⌝ }
+    ensures { λ r. ⌜ planSays r ≡ plannedIn fs rooms sizes counts file first second lengths parts ⌝ }
 {
-    if is_short(rooms, counts.num_files, second.count, counts.num_mtimes) {
+    if is_short(rooms, counts.num_files, second.count) {
         return PlanResult::Err(Refusal::NoRoom);
     }
     let old = old_name(fs);
@@ -290,7 +292,7 @@ fn plan_numbers(
     let TextSpansResult::Ok(spans) = laid else {
         return PlanResult::Err(Refusal::NoRoom);
     };
-    PlanResult::Ok(make_plan(fs, sizes, counts, flags, first, second, spans, old, parts))
+    PlanResult::Ok(make_plan(fs, sizes, counts, file, first, second, spans, old, parts))
 }
 
 // The plan of an addition whose sizes are decided, to a set that its tables hold: `dir` is the text of its directory,
@@ -317,15 +319,15 @@ fn plan_dirs(
 {
     let kind = parts.kind;
     let first = plan_dir(kind, dirs, text, fs.num_paths, dir);
+    let file = row_facts(facts, additions::is_outside(kind));
     let second = plan_pad_dir(sizes.pad, first.new, dirs, text, fs.num_paths, dir);
     let counts = counts_after(fs, sizes, facts);
-    let flags = row_flags(facts, additions::is_outside(kind));
     plan_numbers(
         fs,
         rooms,
         sizes,
         counts,
-        flags,
+        file,
         first,
         second,
         lengths,
@@ -333,7 +335,7 @@ fn plan_dirs(
     )
 }
 
-// What an addition to a set adds to its counts.
+// What an addition brings to a set.
 fn facts_of(fs: FileStorage, file: FileInfo, link: &[u8]) -> FileFacts
     ensures { λ r. ⌜ r ≡ factsOf fs file (now (link .entry)) ⌝ }
 {
@@ -341,8 +343,8 @@ fn facts_of(fs: FileStorage, file: FileInfo, link: &[u8]) -> FileFacts
     FileFacts {
         flags: file.flags as u64,
         keeps_link: additions::keeps_link(fs.num_symlinks, link),
-        untimed: additions::is_zero(file.mtime),
         has_root: additions::is_here(rooted),
+        time: types::zigzag64(file.mtime),
     }
 }
 
@@ -422,7 +424,6 @@ pub fn plan_add(
     fs: FileStorage,
     rows: &[u64],
     roots: &[u8],
-    times: &[i64],
     dirs: &[u64],
     text: &[u8],
     file: FileInfo,
@@ -434,7 +435,7 @@ pub fn plan_add(
         planSays r
         ≡ plannedFor
         (storeOf fs
-        (now (rows .entry)) (now (roots .entry)) (now (times .entry)) (now (dirs .entry)) (now (text .entry)))
+        (now (rows .entry)) (now (roots .entry)) (now (dirs .entry)) (now (text .entry)))
         (additionOf file (now (filename .entry)) (now (path .entry)) (now («symlink_path» .entry)))
         ⌝ }
 {
@@ -442,13 +443,7 @@ pub fn plan_add(
     match additions::decide_sizes(fs, file, filename, parts, symlink_path) {
         SizesResult::Err(e) => PlanResult::Err(e),
         SizesResult::Ok(sizes) => {
-            let rooms = change::rooms_in(
-                rows.len(),
-                roots.len(),
-                times.len(),
-                dirs.len(),
-                text.len(),
-            );
+            let rooms = change::rooms_in(rows.len(), roots.len(), dirs.len(), text.len());
             if !change::holds(fs, rooms) {
                 return PlanResult::Err(Refusal::NoRoom);
             }

@@ -17,7 +17,6 @@ pub fn on_set(
     fs: FileStorage,
     rows: &[u64],
     roots: &[u8],
-    times: &[i64],
     dirs: &[u64],
     text: &[u8],
     held: RenamedFiles,
@@ -28,7 +27,7 @@ pub fn on_set(
     if whole_set::answer(line, fs, dirs, text) {
         return;
     }
-    if file_rows::answer(line, fs, rows, roots, times, dirs, text, lent.output) {
+    if file_rows::answer(line, fs, rows, roots, dirs, text, lent.output) {
         return;
     }
     if layouts::answer(line, fs, rows, roots, lent.slices) {

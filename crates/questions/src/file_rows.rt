@@ -11,7 +11,6 @@ pub(crate) fn answer(
     fs: FileStorage,
     rows: &[u64],
     roots: &[u8],
-    times: &[i64],
     dirs: &[u64],
     text: &[u8],
     output: usize,
@@ -19,21 +18,14 @@ pub(crate) fn answer(
     let I32Word::Is(n) = script::to_i32(script::word(line, 1)) else {
         return false;
     };
-    if on_row(line, FileIndex(n), fs, rows, roots, times) {
+    if on_row(line, FileIndex(n), fs, rows, roots) {
         return true;
     }
     on_text(line, FileIndex(n), fs, rows, dirs, text, output)
 }
 
 // Answers a question on the numbers of a row; an arm stands for each form, in their order.
-fn on_row(
-    line: &[u8],
-    index: FileIndex,
-    fs: FileStorage,
-    rows: &[u64],
-    roots: &[u8],
-    times: &[i64],
-) -> bool {
+fn on_row(line: &[u8], index: FileIndex, fs: FileStorage, rows: &[u64], roots: &[u8]) -> bool {
     let forms =
         b"file_size I, file_offset I, pad_file_at I, file_flags I, mtime I, file_absolute_path I, root I";
     match script::form_of(forms, line) {
@@ -41,7 +33,7 @@ fn on_row(
         1 => replies::long(answers::file_offset(fs, rows, index)),
         2 => replies::boolean(answers::pad_file_at(fs, rows, index)),
         3 => replies::small(answers::file_flags(fs, rows, index)),
-        4 => replies::long(answers::mtime(fs, times, index)),
+        4 => replies::long(answers::mtime(fs, rows, index)),
         5 => replies::boolean(answers::file_absolute_path(fs, rows, index)),
         6 => replies::root(answers::root(fs, rows, roots, index)),
         _ => return false,

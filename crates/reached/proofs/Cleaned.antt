@@ -208,7 +208,6 @@ module _ (s : Store) (ok : Sound s) where
           name = viewOf s .name;
           files = fs;
           directories = viewOf s .directories;
-          times = viewOf s .times;
           links = viewOf s .links;
           total = viewOf s .total;
           onDisk = viewOf s .onDisk;

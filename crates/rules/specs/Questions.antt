@@ -89,9 +89,6 @@ dirsHeld fs dirs = leb (fs .«num_paths») (length dirs / dirWidth)
 abbrev pub textHeld : FileStorage → List ℕ → Bool
 textHeld fs text = leb (fs .«text_len») (length text)
 
-abbrev pub timesHeld : FileStorage → List ℤ → Bool
-timesHeld fs times = leb (fs .«num_mtimes») (length times)
-
 -- ---- answers
 
 -- an answer about the set

@@ -8,7 +8,6 @@ pub mod Files
 pub mod SetName
 pub mod Stages
 pub mod Places
-pub mod Times
 pub mod Whole
 use mathlib.Core.Path.{_≡_, refl, sym, ap, _∙_}
 use mathlib.Core.Bool.{Bool, true, false, cond, not, _&&_}
@@ -16,18 +15,19 @@ use mathlib.Core.List.{List, [], _∷_, _++_, append-assoc}
 use Prim.Native.Nat.{ℕ, _+_, _-_, _*_, _%_, _≤_, _<_}
 use native.Mathlib.Omega.{arith}
 use lib.Dec.{eqb}
-use lib.IntN.{ℤ}
-use lib.ListN.{length, take}
+use lib.IntN.{ℤ, pos}
+use lib.ListN.{length}
 use lib.Seq.{sets, length-sets}
 use borrow.Author.Tests.{eqb-true}
 use Rattle.lists.specs.Decimal.{decimal}
+use Rattle.types.proofs.Zigzag.{zigzag-back}
 use Rattle.tables.specs.declared.span.Span.{Span}
 use Rattle.tables.specs.Span.{slid}
 use Rattle.tables.specs.Rows.{has, rootAt, dirWords, dirsLowered}
 use Rattle.tables.specs.Model.{Optional, absent, present, presentIf, Directory, single, absolute, stored, isPad, File, Model, Store, fileOf, directoryText, viewOf}
 use Rattle.tables.proofs.Spans.{clip-same, length-slid}
 use Rattle.tables.proofs.Tabled.{length-tabled}
-use Rattle.additions.specs.Addition.{Addition, added, filesOf, sizeAdded, keeps, padOf, newName, directoryAdded, fileAdded, padAdded, padDirectory, flagsKept, isAmong, withDirectory, withDirectoryOf, directoriesAfter, isPresent, withTime}
+use Rattle.additions.specs.Addition.{Addition, added, filesOf, sizeAdded, keeps, padOf, newName, directoryAdded, fileAdded, padAdded, padDirectory, flagsKept, isAmong, withDirectory, withDirectoryOf, directoriesAfter, isPresent}
 use Rattle.plan.specs.Write.{isOutside, textIfNew, newTextOf, setText, directoryNew, nameText, linkNew, padDirectoryNew, oldName, textKept, putDirIf, isNew, isNewDirectory, isNewPad, rootsAdded, onDiskAdded, storageAdded, storeAdded}
 use Rattle.rules.specs.Bounds.{limit}
 use Rattle.plan.specs.Outcomes.{addingNumber}
@@ -35,8 +35,7 @@ use Rattle.sound.specs.Sound.{setName, Sound}
 use Rattle.sound.proofs.Added.Answer.{Fits, fits}
 use Rattle.sound.proofs.Added.Files.{rowFor, Fitting, length-roots, sound-file, file-name, file-directories, file-files, file-root}
 use Rattle.sound.proofs.Added.Stages.{Named, again, stays, sound-name-stage, name-stage-name, name-stage-directories, name-stage-files, sound-dir-stage, dir-stage-name, dir-stage-directories, dir-stage-files, Padded, none, some, fileIn, sound-pad-stage, pad-stage-name, pad-stage-directories, pad-stage-files, sound-settled}
-use Rattle.sound.proofs.Added.Places.{leads, index-placed, index-small, place-at, flags-low, flags-link, flags-outside, flags-made, flags-root, kept-small}
-use Rattle.sound.proofs.Added.Times.{times-after, times-fit}
+use Rattle.sound.proofs.Added.Places.{leads, index-placed, index-small, place-at, flags-small, flags-low, flags-link, flags-outside, flags-made, flags-root, kept-small}
 use Rattle.sound.proofs.Added.Whole.{newFile, newPad, stage1, stage2, stage3, stage4, stage5, stage6, count-place, count-pad, count-files, on-disk-is, whole}
 
 -- ---- what is not put is empty
@@ -89,15 +88,15 @@ link-there : (b : Bool) (l : List ℕ) → presentIf b (cond b l []) ≡ present
 link-there true l = refl
 link-there false l = refl
 
-abbrev file : ℕ → ℕ → List ℕ → Directory → ℕ → Optional (List ℕ) → Optional (List ℕ) → Bool → File
-file o z t d g l r k =
-    record { offset = o; size = z; name = t; directory = d; flags = g; link = l; root = r; made = k }
+abbrev file : ℕ → ℕ → List ℕ → Directory → ℕ → ℤ → Optional (List ℕ) → Optional (List ℕ) → Bool → File
+file o z t d g h l r k =
+    record { offset = o; size = z; name = t; directory = d; flags = g; time = h; link = l; root = r; made = k }
 
-same-file : {o o′ z g g′ : ℕ} {t t′ : List ℕ} {d d′ : Directory} {l l′ r r′ : Optional (List ℕ)} {k k′ : Bool} → o ≡ o′ → t ≡ t′ → d ≡ d′ → g ≡ g′ → l ≡ l′ → r ≡ r′ → k ≡ k′ → file o z t d g l r k ≡ file o′ z t′ d′ g′ l′ r′ k′
-same-file eo et ed eg el er ek = cc
+same-file : {o o′ z g g′ : ℕ} {t t′ : List ℕ} {d d′ : Directory} {h h′ : ℤ} {l l′ r r′ : Optional (List ℕ)} {k k′ : Bool} → o ≡ o′ → t ≡ t′ → d ≡ d′ → g ≡ g′ → h ≡ h′ → l ≡ l′ → r ≡ r′ → k ≡ k′ → file o z t d g h l r k ≡ file o′ z t′ d′ g′ h′ l′ r′ k′
+same-file eo et ed eg eh el er ek = cc
 
 abbrev padFile : ℕ → ℕ → File
-padFile o k = file o k (decimal k) (stored padDirectory false) 1 absent absent true
+padFile o k = file o k (decimal k) (stored padDirectory false) 1 (pos 0) absent absent true
 
 pad-there : (o k : ℕ) (x : File) → (eqb k 0 ≡ false → x ≡ padFile o k) → cond (eqb k 0) [] (x ∷ []) ≡ padAdded o k
 pad-there o k x e = at (eqb k 0) e
@@ -106,13 +105,13 @@ pad-there o k x e = at (eqb k 0) e
     at true f = refl
     at false f = ap (λ (y : File). y ∷ []) (f refl)
 
-abbrev model : ℕ → Bool → List ℕ → List File → List (List ℕ) → List ℤ → ℕ → ℕ → ℕ → Bool → Model
-model p v t f d h l z o b =
-    record { pieceLength = p; v2 = v; name = t; files = f; directories = d; times = h; links = l; total = z; onDisk = o; trimmed = b }
+abbrev model : ℕ → Bool → List ℕ → List File → List (List ℕ) → ℕ → ℕ → ℕ → Bool → Model
+model p v t f d l z o b =
+    record { pieceLength = p; v2 = v; name = t; files = f; directories = d; links = l; total = z; onDisk = o; trimmed = b }
 
-same-model : {p p′ l l′ z z′ o o′ : ℕ} {v b b′ : Bool} {t t′ : List ℕ} {f f′ : List File} {d d′ : List (List ℕ)} {h h′ : List ℤ}
-    → p ≡ p′ → t ≡ t′ → f ≡ f′ → d ≡ d′ → h ≡ h′ → l ≡ l′ → z ≡ z′ → o ≡ o′ → b ≡ b′ → model p v t f d h l z o b ≡ model p′ v t′ f′ d′ h′ l′ z′ o′ b′
-same-model ep et ef ed eh el ez eo eb = cc
+same-model : {p p′ l l′ z z′ o o′ : ℕ} {v b b′ : Bool} {t t′ : List ℕ} {f f′ : List File} {d d′ : List (List ℕ)}
+    → p ≡ p′ → t ≡ t′ → f ≡ f′ → d ≡ d′ → l ≡ l′ → z ≡ z′ → o ≡ o′ → b ≡ b′ → model p v t f d l z o b ≡ model p′ v t′ f′ d′ l′ z′ o′ b′
+same-model ep et ef ed el ez eo eb = cc
 
 -- ---- the size on disk
 
@@ -211,6 +210,7 @@ module _ (s : Store) (m : Model) (a : Addition) (ok : Sound s) (is : viewOf s �
         roots-hold = omega (arith, fit .roots-hold, count-files m a, files-count);
         text-holds = omega (arith, fit .text-holds, text2);
         limited = omega (arith, fit .limited, ap (λ (x : Model). x .total) is);
+        flagged = flags-small kept-flags (keeps m a) (isOutside place) (isPresent (a .root)) (kept-small (a .flags) (keeps m a));
         rooted = rooted;
         unlinked = λ e. unlinked (keeps m a) (sym links-is ∙ e);
         placed = λ h. omega (arith, index-placed place ds h, paths2);
@@ -274,6 +274,7 @@ module _ (s : Store) (m : Model) (a : Addition) (ok : Sound s) (is : viewOf s �
             roots-hold = omega (arith, fit .roots-hold, roots4);
             text-holds = omega (arith, fit .text-holds, text4);
             limited = omega (arith, fit .limited, ap (λ (x : Model). x .total) is);
+            flagged = omega arith;
             rooted = λ r e. let z : _≡_ {A = ℕ} 0 1 = cc in absurd (omega arith);
             unlinked = λ e. refl;
             placed = λ h. omega (arith, place-at padDirectory (withDirectoryOf place ds) .0, ap length dirs);
@@ -285,13 +286,8 @@ module _ (s : Store) (m : Model) (a : Addition) (ok : Sound s) (is : viewOf s �
 
   -- ---- the rest
 
-  times-room : length (withTime n (a .time) (take (s .fs .«num_mtimes») (s .times))) ≤ length (s .times)
-  times-room = rw (files-count, ← is) at (fit .times-hold)
-
   sound6 : Sound (stage6 s m a)
-  sound6 =
-      sound-settled (stage5 s m a) _ _ _ _ sound5
-      (times-fit (s .times) (s .fs .«num_mtimes») n (a .time) (ok .times-hold) times-room)
+  sound6 = sound-settled (stage5 s m a) _ _ sound5
 
   plain : storageAdded (s .fs) m a .«size_on_disk» ≡ s .fs .«size_on_disk» + cond (isPad (a .flags)) 0 (sizeAdded a)
   plain = disk-plain s a ok (omega (arith, fit .limited, ap (λ (x : Model). x .total) is))
@@ -338,6 +334,7 @@ module _ (s : Store) (m : Model) (a : Addition) (ok : Sound s) (is : viewOf s �
       refl
       (leads (stage2 s m a) ds (sound2 .few-paths) place (rowFor (stage2 s m a .fs .«total_size») (stage2 s m a .fs .«text_len») (newFile m a)) directories2 refl (flags-outside kept-flags (keeps m a) (isOutside place) (isPresent (a .root)) small))
       (flags-low kept-flags (keeps m a) (isOutside place) (isPresent (a .root)) small)
+      (zigzag-back (a .time))
       (ap (λ (b : Bool). presentIf b (linkNew m a)) links-is ∙ link-there (keeps m a) (a .link))
       (ap (λ (b : Bool). presentIf b (rootAt (rootsAdded (stage2 s m a .roots) n (a .root)) n)) (flags-root kept-flags (keeps m a) (isOutside place) (isPresent (a .root)) small) ∙ file-root (stage2 s m a) (newFile m a) sound2 fitting3)
       (flags-made kept-flags (keeps m a) (isOutside place) (isPresent (a .root)) small)
@@ -361,6 +358,7 @@ module _ (s : Store) (m : Model) (a : Addition) (ok : Sound s) (is : viewOf s �
           refl
           refl
           refl
+          refl
 
   files-is : viewOf (stage6 s m a) .files ≡ added m a .files
   files-is =
@@ -379,12 +377,6 @@ module _ (s : Store) (m : Model) (a : Addition) (ok : Sound s) (is : viewOf s �
           ∙ ap (λ (x : Model). x .files) is)
           ∙ ap (λ (f : File). m .files ++ (f ∷ [])) file-is
 
-  times-is : viewOf (stage6 s m a) .times ≡ added m a .times
-  times-is =
-      times-after (s .times) (s .fs .«num_mtimes») n (a .time) (ok .times-hold) times-room
-      ∙ ap (λ (k : ℕ). withTime k (a .time) (viewOf s .times)) (sym files-count)
-      ∙ ap (λ (x : Model). withTime (filesOf m) (a .time) (x .times)) is
-
   view-whole : viewOf (storeAdded s m a) ≡ added m a
   view-whole =
       ap viewOf (whole s m a dirs-count plain)
@@ -393,7 +385,6 @@ module _ (s : Store) (m : Model) (a : Addition) (ok : Sound s) (is : viewOf s �
       name-is
       files-is
       directories-is
-      times-is
       (ap (λ (x : Model). x .links + cond (keeps m a) 1 0) is)
       (ap (λ (x : Model). x .total + sizeAdded a + padOf m a) is)
       (sym (on-disk-is s m a dirs-count plain) ∙ ap (λ (x : Model). x .onDisk + cond (eqb (a .flags % 2) 1) 0 (sizeAdded a)) is)

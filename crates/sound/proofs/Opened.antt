@@ -3,15 +3,14 @@ use mathlib.Core.Path.{_≡_, refl}
 use mathlib.Core.List.{List}
 use Prim.Native.Nat.{ℕ}
 use native.Mathlib.Omega.{arith}
-use lib.IntN.{ℤ}
 use borrow.Author.Tests.{le-ltb}
 use Rattle.tables.specs.Model.{Store, tabled, viewOf}
 use Rattle.storage.specs.Opening.{newStorage, newModel}
 use Rattle.sound.specs.Sound.{TextId, setName, dirName, fileName, linkText, nowhere, spanOf, sumTo, Sound}
 
-module _ (n : ℕ) (rows roots : List ℕ) (times : List ℤ) (dirs text : List ℕ) where
+module _ (n : ℕ) (rows roots dirs text : List ℕ) where
   abbrev opened : Store
-  opened = record { fs = newStorage n; rows = rows; roots = roots; times = times; dirs = dirs; text = text }
+  opened = record { fs = newStorage n; rows = rows; roots = roots; dirs = dirs; text = text }
 
   span-opened : (p : TextId) → spanOf opened p ≡ nowhere
   span-opened setName = refl
@@ -26,7 +25,6 @@ module _ (n : ℕ) (rows roots : List ℕ) (times : List ℤ) (dirs text : List 
         rows-hold = omega arith;
         roots-hold = omega arith;
         dirs-hold = omega arith;
-        times-hold = omega arith;
         text-holds = omega arith;
         few-files = omega arith;
         few-paths = omega arith;

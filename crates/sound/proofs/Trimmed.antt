@@ -153,7 +153,6 @@ sound-after s f ok p =
       rows-hold = rows-after s f h ok;
       roots-hold = roots-after s f h ok;
       dirs-hold = dirs-after s f h ok;
-      times-hold = ok .times-hold;
       text-holds = text-after s f h ok;
       few-files = omega (arith, ok .few-files);
       few-paths = ok .few-paths;

@@ -56,7 +56,6 @@ pub record Sound (s : Store) : Type 0 where
   pub rows-hold : s .fs .«num_files» * rowWidth ≤ length (s .rows)
   pub roots-hold : s .fs .«num_files» * rootWidth ≤ length (s .roots)
   pub dirs-hold : s .fs .«num_paths» * dirWidth ≤ length (s .dirs)
-  pub times-hold : s .fs .«num_mtimes» ≤ length (s .times)
   pub text-holds : s .fs .«text_len» ≤ length (s .text)
   pub few-files : s .fs .«num_files» ≤ maxEntries
   pub few-paths : s .fs .«num_paths» ≤ maxEntries

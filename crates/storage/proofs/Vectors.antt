@@ -43,7 +43,7 @@ unfolding listed aWav bWav digitsWithin
 texts = refl
 
 rooms : Rooms
-rooms = record { files = 3; directories = 2; times = 0; text = 19 }
+rooms = record { files = 3; directories = 2; text = 19 }
 
 -- 'v2, length 16384, one file of 281474976710655: 4'
 pad-passes : addedTo rooms (newModel 16384) (file aWav 281474976710655 (present (replicate 32 1))) ≡ refused 4

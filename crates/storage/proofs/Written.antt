@@ -4,7 +4,6 @@ use mathlib.Core.Path.{_≡_, refl, sym, subst, _∙_}
 use mathlib.Core.Bool.{Bool, true, false, cond, not, _&&_}
 use mathlib.Core.List.{List, []}
 use lib.Dec.{eqb}
-use lib.IntN.{ℤ}
 use lib.Seq.{sets}
 use Rattle.lists.specs.Decimal.{decimal}
 use Rattle.types.specs.Refusals.{value, refused}
@@ -85,6 +84,7 @@ module _ (s : Store) (m : Model) (a : Addition) where
             link = padRow fs m a .link;
             «path_index» = cond t 0 (padRow fs m a .«path_index»);
             flags = padRow fs m a .flags;
+            time = padRow fs m a .time;
           }))
           ≡ cond t (putRow (s .rows) (fs .«num_files») (rowAdded fs m a)) (putRow (putRow (s .rows) (fs .«num_files») (rowAdded fs m a)) (fs .«num_files» + 1) (padRow fs m a))
       at true = refl
@@ -101,7 +101,7 @@ module _ (s : Store) (m : Model) (a : Addition) where
 pub kept-all : (n k : ℕ) (s t : Store) → n ≡ k → eqb k 0 ≡ false → answering (refused k) s ≡ changedIf n s t
 kept-all n k s t e h = rw (e, h)
 
-pub wrote-all : (n : ℕ) (s t : Store) (fs : FileStorage) (rows roots : List ℕ) (times : List ℤ) (dirs text : List ℕ) → n ≡ 0
-    → fs ≡ t .fs → rows ≡ t .rows → roots ≡ t .roots → times ≡ t .times → dirs ≡ t .dirs → text ≡ t .text
-    → changedOf (value fs) rows roots times dirs text ≡ changedIf n s t
-wrote-all n s t fs rows roots times dirs text e a b c d f g = rw (e, a, b, c, d, f, g)
+pub wrote-all : (n : ℕ) (s t : Store) (fs : FileStorage) (rows roots dirs text : List ℕ) → n ≡ 0
+    → fs ≡ t .fs → rows ≡ t .rows → roots ≡ t .roots → dirs ≡ t .dirs → text ≡ t .text
+    → changedOf (value fs) rows roots dirs text ≡ changedIf n s t
+wrote-all n s t fs rows roots dirs text e a b c d f = rw (e, a, b, c, d, f)

@@ -22,7 +22,6 @@ newStorage n =
       «num_files» = 0;
       «num_paths» = 0;
       «num_symlinks» = 0;
-      «num_mtimes» = 0;
       name = record { at = 0; len = 0 };
       «text_len» = 0;
       «total_size» = 0;
@@ -39,7 +38,6 @@ newModel n =
       name = [];
       files = [];
       directories = [];
-      times = [];
       links = 0;
       total = 0;
       onDisk = 0;

@@ -16,7 +16,6 @@ pub fn add_file(
     fs: FileStorage,
     rows: &mut [u64],
     roots: &mut [u8],
-    times: &mut [i64],
     dirs: &mut [u64],
     text: &mut [u8],
     file: FileInfo,
@@ -26,10 +25,10 @@ pub fn add_file(
 ) -> StorageResult
     ensures { λ r. ⌜
         changedOf (storageSays r)
-        (now (rows .exit)) (now (roots .exit)) (now (times .exit)) (now (dirs .exit)) (now (text .exit))
+        (now (rows .exit)) (now (roots .exit)) (now (dirs .exit)) (now (text .exit))
         ≡ addStored
         (storeOf fs
-        (now (rows .entry)) (now (roots .entry)) (now (times .entry)) (now (dirs .entry)) (now (text .entry)))
+        (now (rows .entry)) (now (roots .entry)) (now (dirs .entry)) (now (text .entry)))
         (additionOf file (now (filename .entry)) (now (path .entry)) (now («symlink_path» .entry)))
         ⌝ }
 {
@@ -37,7 +36,6 @@ pub fn add_file(
         fs,
         rows,
         roots,
-        times,
         dirs,
         text,
         file,
@@ -51,7 +49,6 @@ pub fn add_file(
             write_all(
                 rows,
                 roots,
-                times,
                 dirs,
                 text,
                 plan,

@@ -3,15 +3,14 @@
 ghost use mathlib.Core.Path.{_≡_};
 ghost use mathlib.Core.Bool.{cond};
 ghost use mathlib.Core.List.{[]};
-ghost use Prim.Native.Nat.{_+_, _-_, _≤_};
-ghost use lib.IntN.{pos};
-ghost use lib.ListN.{length, replicate};
+ghost use Prim.Native.Nat.{_+_, _≤_};
+ghost use lib.ListN.{length};
 ghost use lib.Seq.{sets};
 ghost use Rattle.tables.specs.Span.{textAt};
 ghost use Rattle.tables.specs.Rows.{putRow};
 ghost use Rattle.rules.specs.Bounds.{maxEntries};
 ghost use Rattle.additions.specs.private.Texts.{nameFrom, linkTextOf, PartsWithin};
-ghost use Rattle.plan.specs.Write.{padDigits, rootsAdded, timesAdded};
+ghost use Rattle.plan.specs.Write.{padDigits, rootsAdded};
 ghost use Rattle.additions.specs.Addition.{optionalOf};
 ghost use Rattle.storage.specs.private.Written.{renamed, textBeforePad, padTextWritten, textWritten, dirsRenamed};
 ghost use Rattle.storage.specs.private.Written.{dirWritten, dirsBeforePad, padDirWritten, dirsWritten};
@@ -193,29 +192,6 @@ fn write_file(
     );
 }
 
-// Writes time 0 to the files from `from` up to, and without, `to`.
-fn clear_times(times: &mut [i64], from: usize, to: usize)
-    ensures { λ _. ⌜ now (times .exit) ≡ sets (now (times .entry)) from (replicate (to - from) (pos 0)) ⌝ }
-{
-    let mut i = from;
-    while i < to {
-        tables::put_time(times, i, 0);
-        i += 1;
-    }
-}
-
-// Writes the time of file i, and 0 to the files before it that have none; a time of 0 writes nothing.
-fn write_time(times: &mut [i64], held: usize, i: usize, time: i64)
-    requires { ⌜ i ≤ maxEntries ⌝ }
-    ensures { λ _. ⌜ now (times .exit) ≡ timesAdded (now (times .entry)) held i time ⌝ }
-{
-    if additions::is_zero(time) {
-        return;
-    }
-    clear_times(times, held, i + 1);
-    tables::put_time(times, i, time);
-}
-
 // Writes the pad of an addition, where there is one: its row, which is all of its record, its directory and its texts.
 fn write_pad(rows: &mut [u64], dirs: &mut [u64], text: &mut [u8], files: usize, plan: AddPlan)
     requires { ⌜ files ≤ maxEntries ⌝ }
@@ -233,11 +209,10 @@ fn write_pad(rows: &mut [u64], dirs: &mut [u64], text: &mut [u8], files: usize, 
     }
 }
 
-// Writes an addition by its plan: row, root, time, directory row and texts, and then the pad.
+// Writes an addition by its plan: row, root, directory row and texts, and then the pad.
 pub(crate) fn write_all(
     rows: &mut [u64],
     roots: &mut [u8],
-    times: &mut [i64],
     dirs: &mut [u64],
     text: &mut [u8],
     plan: AddPlan,
@@ -252,10 +227,6 @@ pub(crate) fn write_all(
     ensures { λ _. ⌜
         now (roots .exit)
         ≡ rootsAdded (now (roots .entry)) (plan .before .«num_files») (optionalOf (file .rooted) (file .root .bytes))
-        ⌝ }
-    ensures { λ _. ⌜
-        now (times .exit)
-        ≡ timesAdded (now (times .entry)) (plan .before .«num_mtimes») (plan .before .«num_files») (file .mtime)
         ⌝ }
     ensures { λ _. ⌜
         now (dirs .exit) ≡ dirsWritten (plan .before .«num_files») (plan .before .«num_paths») plan (now (dirs .entry))
@@ -274,12 +245,6 @@ pub(crate) fn write_all(
     let root = file.root;
     let row = plan.row;
     write_file(rows, roots, plan.before.num_files, row, rooted, root);
-    write_time(
-        times,
-        plan.before.num_mtimes,
-        plan.before.num_files,
-        file.mtime,
-    );
     write_dirs(dirs, plan.before.num_files, plan.before.num_paths, plan);
     write_texts(text, plan, given, filename, path, symlink_path);
     write_pad(rows, dirs, text, plan.before.num_files, plan);

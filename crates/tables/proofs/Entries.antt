@@ -1,6 +1,6 @@
 -- A file that was written to the tables is read back, where the tables have its place and its row's root bit agrees with the
 -- presence of its root. It relies on the laws of Words.antt.
-use Prim.Native.Nat.{ℕ, _+_, _*_, _^_, _<_, _≤_}
+use Prim.Native.Nat.{ℕ, _+_, _*_, _≤_}
 use mathlib.Core.Path.{_≡_, ap, _∙_}
 use mathlib.Core.List.{List}
 use lib.ListN.{length}
@@ -10,7 +10,7 @@ use Rattle.tables.specs.declared.rows.Presence.the-variants.{Absent, Pre
 use Rattle.tables.specs.declared.rows.FileEntry.{FileEntry}
 use Rattle.tables.specs.Rows.{rowAt, rootAt, has, rootBit}
 use Rattle.tables.specs.Entry.{presenceIf, entryAt, rootIf, rowsWith, rootsWith}
-use Rattle.tables.proofs.Words.{row-back, root-back}
+use Rattle.tables.proofs.Words.{InRange, row-back, root-back}
 
 made : {a b : Row} {p q : Presence} {x y : List ℕ} → a ≡ b → p ≡ q → x ≡ y
     → _≡_ {A = FileEntry} (record { row = a; presence = p; root = record { bytes = x } }) (record { row = b; presence = q; root = record { bytes = y } })
@@ -18,10 +18,10 @@ made e f g = rw (e, f, g)
 
 module _ (rows roots : List ℕ) (i : ℕ) (file : FileEntry)
     (has-row : i * 8 + 8 ≤ length rows) (has-root : i * 32 + 32 ≤ length roots)
-    (offset : file .row .offset < 2 ^ 48) (size : file .row .size < 2 ^ 48) (bytes : length (file .root .bytes) ≡ 32)
+    (in-range : InRange (file .row)) (bytes : length (file .root .bytes) ≡ 32)
     (agrees : presenceIf (has (file .row .flags) rootBit) ≡ file .presence) where
   row-is : rowAt (rowsWith rows i file) i ≡ file .row
-  row-is = row-back rows i (file .row) has-row offset size
+  row-is = row-back rows i (file .row) has-row in-range
 
   presence-is : presenceIf (has (rowAt (rowsWith rows i file) i .flags) rootBit) ≡ file .presence
   presence-is = ap (λ (r : Row). presenceIf (has (r .flags) rootBit)) row-is ∙ agrees

@@ -4,7 +4,6 @@ use mathlib.Core.Path.{_≡_, refl}
 use mathlib.Core.Bool.{Bool, true, false, cond}
 use mathlib.Core.List.{List}
 use Prim.Native.Nat.{ℕ, _+_, _*_, _/_, _^_, _≤_, _<_, min}
-use native.Mathlib.Nat.{mod-lt}
 use native.Mathlib.Omega.{arith}
 use lib.Dec.{ltb}
 use lib.ListN.{length}
@@ -13,13 +12,13 @@ use Rattle.tables.specs.declared.span.Span.{Span}
 use Rattle.tables.specs.declared.rows.Row.{Row}
 use Rattle.tables.specs.Span.{low}
 use Rattle.tables.specs.Rows.{rowAt, words, dirAt, dirWords, filled, dirsLowered, skip, rowMoved, rowsWithout}
-use Rattle.tables.proofs.Words.{row-words, dir-words}
+use Rattle.tables.proofs.Words.{InRange, row-in-range, row-words, dir-words}
 use Rattle.tables.proofs.Filled.{word-filled}
 
 module _ (rows : List ℕ) (g : ℕ → Row) (n k : ℕ) where
-  pub row-filled : n * 8 ≤ length rows → k < n → g k .offset < 2 ^ 48 → g k .size < 2 ^ 48 → rowAt (sets rows 0 (filled (λ i. words (g i)) 0 n)) k ≡ g k
-  row-filled f h o s =
-      row-words (sets rows 0 (filled (λ i. words (g i)) 0 n)) k (g k) o s (λ j b. word-filled 8 (λ i. words (g i)) (λ i. refl) rows n k j b f h)
+  pub row-filled : n * 8 ≤ length rows → k < n → InRange (g k) → rowAt (sets rows 0 (filled (λ i. words (g i)) 0 n)) k ≡ g k
+  row-filled f h r =
+      row-words (sets rows 0 (filled (λ i. words (g i)) 0 n)) k (g k) r (λ j b. word-filled 8 (λ i. words (g i)) (λ i. refl) rows n k j b f h)
 
 module _ (dirs : List ℕ) (g : ℕ → Span) (n k : ℕ) where
   pub dir-filled : n * 2 ≤ length dirs → k < n → dirAt (sets dirs 0 (filled (λ i. dirWords (g i)) 0 n)) k ≡ g k
@@ -42,11 +41,11 @@ length-without rows n f total c d =
 module _ (rows : List ℕ) (n f total : ℕ) (c d : Span) (k : ℕ) where
   pub row-moved : k < n → k * 8 + 8 ≤ length rows → total < 2 ^ 48 → rowAt (rowsWithout rows n f total c d) k ≡ rowMoved f total c d k (rowAt rows (skip f k))
   row-moved h b t =
-      row-filled rows (λ i. rowMoved f total c d i (rowAt rows (skip f i))) (min n (length rows / 8)) k (omega arith) (omega arith) (offset (ltb k f)) size
+      row-filled rows (λ i. rowMoved f total c d i (rowAt rows (skip f i))) (min n (length rows / 8)) k (omega arith) (omega arith) (record { offset = offset (ltb k f); size = r .size; flags = r .flags })
     where
-      size : rowAt rows (skip f k) .size < 2 ^ 48
-      size = mod-lt _ (omega arith)
+      r : InRange (rowAt rows (skip f k))
+      r = row-in-range rows (skip f k)
 
       offset : (b : Bool) → cond b (rowAt rows (skip f k) .offset) total < 2 ^ 48
-      offset true = mod-lt _ (omega arith)
+      offset true = r .offset
       offset false = t

@@ -3,8 +3,8 @@
 use mathlib.Core.Path.{_≡_, refl, sym, _∙_}
 use mathlib.Core.Logic.{_⊎_, inl, inr, ⊎-elim}
 use mathlib.Core.List.{List, [], _∷_, _++_}
-use Prim.Native.Nat.{ℕ, zero, suc, _+_, _*_, _^_, _≤_, _<_}
-use native.Mathlib.Nat.{mul-le-mul-right, mod-eq-of-lt}
+use Prim.Native.Nat.{ℕ, zero, suc, _+_, _*_, _/_, _%_, _^_, _≤_, _<_}
+use native.Mathlib.Nat.{mul-le-mul-right, mod-eq-of-lt, mod-lt}
 use native.Mathlib.Omega.{arith}
 use lib.ListN.{length, getD, set, drop, replicate, length-append, length-take, List·getD-eq-default}
 use lib.Seq.{sets, length-sets, ext-getD, getD-take, getD-drop}
@@ -12,7 +12,7 @@ use Rattle.lists.proofs.Orders.{le-or-lt}
 use Rattle.lists.proofs.Runs.{getD-sets, getD-sets-below, getD-sets-above}
 use Rattle.tables.specs.declared.span.Span.{Span}
 use Rattle.tables.specs.declared.rows.Row.{Row}
-use Rattle.tables.specs.Rows.{rowAt, words, putRow, dirAt, dirWords, putDir, rootAt, putRoot}
+use Rattle.tables.specs.Rows.{rowAt, packed, words, putRow, dirAt, dirWords, putDir, rootAt, putRoot}
 use Rattle.tables.proofs.Agree.{getD-above}
 
 -- four words stored side by side are one run
@@ -59,20 +59,37 @@ row-ext a b i k e =
     let e0 : getD a (i * 8) 0 ≡ getD b (k * 8) 0 = rw (p, q) at (e 0 (omega arith)) in
     rw (e0, e 1 (omega arith), e 2 (omega arith), e 3 (omega arith), e 4 (omega arith), e 5 (omega arith), e 6 (omega arith), e 7 (omega arith))
 
--- a row whose offset and size are below 2 ^ 48 is what its words say
-pub row-words : (a : List ℕ) (i : ℕ) (r : Row) → r .offset < 2 ^ 48 → r .size < 2 ^ 48
+-- a size and flags that are in range are read back from their word
+packed-size : (s f : ℕ) → s < 2 ^ 48 → packed s f % 2 ^ 48 ≡ s
+packed-size s f h = omega arith
+
+packed-flags : (s f : ℕ) → f < 2 ^ 16 → packed s f / 2 ^ 48 % 2 ^ 16 ≡ f
+packed-flags s f h = omega arith
+
+-- a row whose offset and size are below 2 ^ 48 and whose flags are below 2 ^ 16 is what its words say
+pub record InRange (r : Row) : Type 0 where
+  pub offset : r .offset < 2 ^ 48
+  pub size : r .size < 2 ^ 48
+  pub flags : r .flags < 2 ^ 16
+
+-- as every row that is read is
+pub row-in-range : (rows : List ℕ) (i : ℕ) → InRange (rowAt rows i)
+row-in-range rows i =
+    record { offset = mod-lt _ (omega arith); size = mod-lt _ (omega arith); flags = mod-lt _ (omega arith) }
+
+pub row-words : (a : List ℕ) (i : ℕ) (r : Row) → InRange r
     → ((j : ℕ) → j < 8 → getD a (i * 8 + j) 0 ≡ getD (words r) j 0) → rowAt a i ≡ r
-row-words a i r o s e =
+row-words a i r k e =
     let p : i * 8 + 0 ≡ i * 8 = omega arith in
     let e0 : getD a (i * 8) 0 ≡ r .offset = rw p at (e 0 (omega arith)) in
-    rw (e0, e 1 (omega arith), e 2 (omega arith), e 3 (omega arith), e 4 (omega arith), e 5 (omega arith), e 6 (omega arith), e 7 (omega arith), mod-eq-of-lt o, mod-eq-of-lt s)
+    rw (e0, e 1 (omega arith), e 2 (omega arith), e 3 (omega arith), e 4 (omega arith), e 5 (omega arith), e 6 (omega arith), e 7 (omega arith), mod-eq-of-lt (k .offset), packed-size (r .size) (r .flags) (k .size), packed-flags (r .size) (r .flags) (k .flags))
 
 module _ (rows : List ℕ) (i : ℕ) (r : Row) where
   pub length-put-row : length (putRow rows i r) ≡ length rows
   length-put-row = length-sets rows (i * 8) (words r)
 
-  pub row-back : i * 8 + 8 ≤ length rows → r .offset < 2 ^ 48 → r .size < 2 ^ 48 → rowAt (putRow rows i r) i ≡ r
-  row-back f o s = row-words (putRow rows i r) i r o s (λ j b. word-same 8 rows (words r) i refl j b f)
+  pub row-back : i * 8 + 8 ≤ length rows → InRange r → rowAt (putRow rows i r) i ≡ r
+  row-back f k = row-words (putRow rows i r) i r k (λ j b. word-same 8 rows (words r) i refl j b f)
 
   pub row-other : (k : ℕ) → (k ≡ i → ⊥) → rowAt (putRow rows i r) k ≡ rowAt rows k
   row-other k n = row-ext (putRow rows i r) rows k k (λ j b. word-other 8 rows (words r) i refl j b k n)
@@ -84,7 +101,7 @@ abbrev pub noSpan : Span
 noSpan = record { at = 0; len = 0 }
 
 abbrev pub noRow : Row
-noRow = record { offset = 0; size = 0; name = noSpan; link = noSpan; «path_index» = 0; flags = 0 }
+noRow = record { offset = 0; size = 0; name = noSpan; link = noSpan; «path_index» = 0; flags = 0; time = 0 }
 
 pub row-past : (rows : List ℕ) (i : ℕ) → length rows ≤ i * 8 → rowAt rows i ≡ noRow
 row-past rows i h = row-ext rows [] i 0 (λ j b. List·getD-eq-default rows 0 (omega arith))

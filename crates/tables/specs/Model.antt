@@ -1,17 +1,17 @@
 -- What a set's tables mean: document 01, 'The set'. A set is its files in order, each with offset, size, name,
--- directory, flags, link text and root, its directories, its times, its name, v1 or v2, and its totals. It relies on
--- the rows of Rows.antt, the texts of Span.antt and the joins of `path`.
+-- directory, flags, time, link text and root, its directories, its name, v1 or v2, and its totals. It relies on the
+-- rows of Rows.antt, the texts of Span.antt, the joins of `path` and the signed numbers of `types`.
 --
 -- Names from elsewhere: `cond t a b` is a where t is true, else b; `eqb`, `ltb` and `leb` test =, < and ≤; `a - b` is 0
 -- where b is larger. A text is its bytes, and `textAt` reads the bytes that a span (position, length) covers. `rowAt`
--- and `dirAt` read a row of a table, `rootAt` a root; `has flags bit` tests a bit. `appended` puts a name after a
--- directory, one separator between them.
+-- and `dirAt` read a row of a table, `rootAt` a root; `has flags bit` tests a bit; `unzigzag` is the signed number that
+-- a word holds. `appended` puts a name after a directory, one separator between them.
 use Prim.Native.Nat.{ℕ, zero, suc, _%_}
 use mathlib.Core.Bool.{Bool, true, false, cond}
 use mathlib.Core.List.{List, [], _∷_}
 use lib.Dec.{eqb}
 use lib.IntN.{ℤ}
-use lib.ListN.{take}
+use Rattle.types.specs.Signed.{unzigzag}
 use Rattle.path.specs.Join.{appended}
 use Rattle.tables.specs.declared.rows.Row.{Row}
 use Rattle.tables.specs.declared.storage.FileStorage.{FileStorage}
@@ -42,25 +42,25 @@ pathIn absolute name = name
 pathIn (stored d outside) name = appended d name
 
 -- 'A file has offset, size, name, directory, flags …, modified time, link text and a root of 32 bytes or none'; `made`
--- is true of a pad that an addition made. Times are held beside the files
+-- is true of a pad that an addition made. Document 02 (vi): 'The time becomes part of the file's record'
 pub record File : Type 0 where
   pub offset : ℕ
   pub size : ℕ
   pub name : List ℕ
   pub directory : Directory
   pub flags : ℕ
+  pub time : ℤ
   pub link : Optional (List ℕ)
   pub root : Optional (List ℕ)
   pub made : Bool
 
--- `links` counts link texts, a trimmed pad's too; file i has time i of `times`, and 0 where they are fewer
+-- `links` counts link texts, a trimmed pad's too
 pub record Model : Type 0 where
   pub pieceLength : ℕ
   pub v2 : Bool
   pub name : List ℕ
   pub files : List File
   pub directories : List (List ℕ)
-  pub times : List ℤ
   pub links : ℕ
   pub total : ℕ
   pub onDisk : ℕ
@@ -75,13 +75,11 @@ pub record Store : Type 0 where
   pub fs : FileStorage
   pub rows : List ℕ
   pub roots : List ℕ
-  pub times : List ℤ
   pub dirs : List ℕ
   pub text : List ℕ
 
-abbrev pub storeOf : FileStorage → List ℕ → List ℕ → List ℤ → List ℕ → List ℕ → Store
-storeOf fs rows roots times dirs text =
-    record { fs = fs; rows = rows; roots = roots; times = times; dirs = dirs; text = text }
+abbrev pub storeOf : FileStorage → List ℕ → List ℕ → List ℕ → List ℕ → Store
+storeOf fs rows roots dirs text = record { fs = fs; rows = rows; roots = roots; dirs = dirs; text = text }
 
 -- g 0, …, g (n − 1)
 unfoldable pub tabled : {A : Type 0} → ℕ → (ℕ → A) → List A
@@ -113,6 +111,7 @@ fileOf s i =
       name = textAt (s .text) (rowAt (s .rows) i .name);
       directory = directoryOf s (rowAt (s .rows) i);
       flags = rowAt (s .rows) i .flags % linkHeldBit;
+      time = unzigzag (rowAt (s .rows) i .time);
       link = presentIf (has (rowAt (s .rows) i .flags) linkHeldBit) (textAt (s .text) (rowAt (s .rows) i .link));
       root = presentIf (has (rowAt (s .rows) i .flags) rootBit) (rootAt (s .roots) i);
       made = has (rowAt (s .rows) i .flags) madeBit;
@@ -126,7 +125,6 @@ viewOf s =
       name = textAt (s .text) (s .fs .name);
       files = tabled (s .fs .«num_files») (fileOf s);
       directories = tabled (s .fs .«num_paths») (directoryText s);
-      times = take (s .fs .«num_mtimes») (s .times);
       links = s .fs .«num_symlinks»;
       total = s .fs .«total_size»;
       onDisk = s .fs .«size_on_disk»;

@@ -62,7 +62,8 @@ has flags bit = eqb (flags / bit % 2) 1
 
 -- ---- rows
 
--- row i; offset and size are read below 2 ^ 48, as the 48 bits that hold them upstream
+-- row i: offset; size and flags in one word; the spans of name and link text, two words each; path index; time. Offset
+-- and size are read below 2 ^ 48, as the 48 bits that hold them upstream, and the flags are the 16 bits above the size
 abbrev pub rowAt : List ℕ → ℕ → Row
 rowAt rows i =
     record {
@@ -71,19 +72,24 @@ rowAt rows i =
       name = record { at = getD rows (i * rowWidth + 2) 0; len = getD rows (i * rowWidth + 3) 0 };
       link = record { at = getD rows (i * rowWidth + 4) 0; len = getD rows (i * rowWidth + 5) 0 };
       «path_index» = getD rows (i * rowWidth + 6) 0;
-      flags = getD rows (i * rowWidth + 7) 0;
+      flags = getD rows (i * rowWidth + 1) 0 / 2 ^ 48 % 2 ^ 16;
+      time = getD rows (i * rowWidth + 7) 0;
     }
+
+-- a size of 48 bits and flags of 16 in one word
+abbrev pub packed : ℕ → ℕ → ℕ
+packed size flags = size % 2 ^ 48 + flags % 2 ^ 16 * 2 ^ 48
 
 abbrev pub words : Row → List ℕ
 words r =
     r .offset ∷
-    r .size ∷
+    packed (r .size) (r .flags) ∷
     r .name .at ∷
     r .name .len ∷
     r .link .at ∷
     r .link .len ∷
     r .«path_index» ∷
-    r .flags ∷
+    r .time ∷
     []
 
 abbrev pub putRow : List ℕ → ℕ → Row → List ℕ
@@ -152,6 +158,7 @@ rowMoved f total c d i r =
       link = low d (low c (r .link));
       «path_index» = r .«path_index»;
       flags = r .flags;
+      time = r .time;
     }
 
 -- n rows once row f of n + 1 is removed; the words after them are left as they were

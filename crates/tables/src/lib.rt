@@ -1,5 +1,5 @@
-// The set's tables: file rows, roots, times, directory rows and the text area, lent by the caller as
-// slices of numbers, and the set's own record. Every function answers for tables of any content and
+// The set's tables: file rows, roots, directory rows and the text area, lent by the caller as slices of
+// numbers, and the set's own record. Every function answers for tables of any content and
 // length. Relies on `lists` for total accessors; what tables mean is in specs/Model.antt.
 mod lower;
 mod rows;
@@ -38,7 +38,6 @@ pub use rows::put_dir;
 pub use rows::put_entry;
 pub use rows::put_root;
 pub use rows::put_row;
-pub use rows::put_time;
 pub use rows::root_at;
 pub use rows::row_at;
 pub use rows::size_at;

@@ -64,6 +64,7 @@ fn moved(f: usize, total: u64, c: Span, d: Span, i: usize, row: Row) -> Row
         link: low_span(d, low_span(c, row.link)),
         path_index: row.path_index,
         flags: row.flags,
+        time: row.time,
     }
 }
 

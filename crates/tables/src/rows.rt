@@ -1,12 +1,11 @@
-// File rows, roots, times and directory rows, read and written whole. Relies on `lists` and the laws
-// of proofs/Words.antt.
+// File rows, roots and directory rows, read and written whole. Relies on `lists` and the laws of proofs/Words.antt.
 ghost use mathlib.Core.Path.{_≡_};
 ghost use mathlib.Core.List.{[], _∷_};
 ghost use Prim.Native.Nat.{_+_, _<_, _^_};
-ghost use lib.ListN.{getD, set, replicate};
+ghost use lib.ListN.{replicate};
 ghost use lib.Seq.{sets};
-ghost use lib.IntN.{pos};
-ghost use Rattle.tables.specs.Rows.{rowAt, putRow, dirAt, putDir, isStored, directorySpan, rootAt, putRoot, has};
+ghost use Rattle.tables.specs.Rows.{rowAt, packed, putRow, dirAt, putDir, isStored, directorySpan};
+ghost use Rattle.tables.specs.Rows.{rootAt, putRoot, has};
 ghost use Rattle.tables.specs.Rows.{padBit, symlinkBit, linkHeldBit, outsideBit, rootBit};
 ghost use Rattle.tables.specs.Entry.{entryAt, rowsWith, rootsWith};
 use crate::span::Span;
@@ -40,6 +39,9 @@ pub const ROOT_BIT: u64 = 128;
 
 // Offsets and sizes are held in 48 bits.
 const SIZE_RANGE: u64 = 0x1_0000_0000_0000;
+
+// Flags are held in 16 bits, in one word with the size.
+const FLAGS_RANGE: u64 = 0x1_0000;
 
 // The path index of a single name, which has no directory.
 pub const NO_PATH: u64 = 1073741823;
@@ -76,6 +78,8 @@ pub struct Row {
     pub link: Span,
     pub path_index: u64,
     pub flags: u64,
+    // The modified time as a word (`types::zigzag64`).
+    pub time: u64,
 }
 
 // A file: its row, and its root beside the root's presence.
@@ -97,12 +101,14 @@ pub fn row_at(rows: &[u64], i: usize) -> Row
             link: Span { at: 0, len: 0 },
             path_index: 0,
             flags: 0,
+            time: 0,
         };
     }
     let base = i * ROW_WIDTH;
+    let packed = lists::word(rows, base + 1);
     Row {
         offset: lists::word(rows, base) % SIZE_RANGE,
-        size: lists::word(rows, base + 1) % SIZE_RANGE,
+        size: packed % SIZE_RANGE,
         name: Span {
             at: lists::word(rows, base + 2) as usize,
             len: lists::word(rows, base + 3) as usize,
@@ -112,7 +118,8 @@ pub fn row_at(rows: &[u64], i: usize) -> Row
             len: lists::word(rows, base + 5) as usize,
         },
         path_index: lists::word(rows, base + 6),
-        flags: lists::word(rows, base + 7),
+        flags: packed / SIZE_RANGE % FLAGS_RANGE,
+        time: lists::word(rows, base + 7),
     }
 }
 
@@ -143,7 +150,24 @@ pub fn flags_at(rows: &[u64], i: usize) -> u64
     if rows.len() <= i {
         return 0;
     }
+    lists::word(rows, i * ROW_WIDTH + 1) / SIZE_RANGE % FLAGS_RANGE
+}
+
+// The time of row i, as the table holds it.
+pub fn time_at(rows: &[u64], i: usize) -> u64
+    ensures { λ r. ⌜ r ≡ rowAt (now (rows .entry)) i .time ⌝ }
+{
+    if rows.len() <= i {
+        return 0;
+    }
     lists::word(rows, i * ROW_WIDTH + 7)
+}
+
+// A size and flags in one word.
+fn packed_word(size: u64, flags: u64) -> u64
+    ensures { λ r. ⌜ r ≡ packed size flags ⌝ }
+{
+    size % SIZE_RANGE + flags % FLAGS_RANGE * SIZE_RANGE
 }
 
 // Stores four words side by side from position `at` on; one test of the length serves all four where they fit.
@@ -176,7 +200,7 @@ pub fn put_row(rows: &mut [u64], i: usize, row: Row)
         rows,
         base,
         row.offset,
-        row.size,
+        packed_word(row.size, row.flags),
         row.name.at as u64,
         row.name.len as u64,
     );
@@ -186,7 +210,7 @@ pub fn put_row(rows: &mut [u64], i: usize, row: Row)
         row.link.at as u64,
         row.link.len as u64,
         row.path_index,
-        row.flags,
+        row.time,
     );
 }
 
@@ -261,25 +285,6 @@ pub fn put_root(roots: &mut [u8], i: usize, root: Sha256Hash)
     }
     let bytes = root.bytes;
     lists::copy_after(roots, i * ROOT_WIDTH, &bytes);
-}
-
-// The time of file i, 0 past the end.
-pub fn time_at(times: &[i64], i: usize) -> i64
-    ensures { λ r. ⌜ r ≡ getD (now (times .entry)) i (pos 0) ⌝ }
-{
-    if i < times.len() {
-        return times[i];
-    }
-    0
-}
-
-// Writes the time of file i, nothing past the end.
-pub fn put_time(times: &mut [i64], i: usize, time: i64)
-    ensures { λ _. ⌜ now (times .exit) ≡ set (now (times .entry)) i time ⌝ }
-{
-    if i < times.len() {
-        times[i] = time;
-    }
 }
 
 // Whether a row's flags have pad.

@@ -11,8 +11,6 @@ pub struct FileStorage {
     pub num_paths: usize,
     // Link texts counted; a trimmed pad's still counts.
     pub num_symlinks: usize,
-    // Times held; every file after them has time 0.
-    pub num_mtimes: usize,
     pub name: Span,
     // Bytes of text held: the used part of the text area.
     pub text_len: usize,

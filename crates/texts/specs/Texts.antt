@@ -27,7 +27,6 @@ storageWith fs name used =
       «num_files» = fs .«num_files»;
       «num_paths» = fs .«num_paths»;
       «num_symlinks» = fs .«num_symlinks»;
-      «num_mtimes» = fs .«num_mtimes»;
       name = name;
       «text_len» = used;
       «total_size» = fs .«total_size»;
@@ -44,6 +43,7 @@ rowWith r name link =
       link = link;
       «path_index» = r .«path_index»;
       flags = r .flags;
+      time = r .time;
     }
 
 -- the first n rows after span c is removed from the text area
@@ -61,7 +61,6 @@ cutOut s c =
       fs = storageWith (s .fs) (low c (s .fs .name)) (s .fs .«text_len» - c .len);
       rows = rowsLowered (s .rows) (s .fs .«num_files») c;
       roots = s .roots;
-      times = s .times;
       dirs = dirsLowered (s .dirs) (s .fs .«num_paths») c;
       text = slid c (s .fs .«text_len») (s .text);
     }
@@ -79,7 +78,6 @@ linked s i t =
           putRow (s .rows) i
           (rowWith (rowAt (s .rows) i) (rowAt (s .rows) i .name) (record { at = s .fs .«text_len»; len = length t }));
       roots = s .roots;
-      times = s .times;
       dirs = s .dirs;
       text = sets (s .text) (s .fs .«text_len») t;
     }

@@ -20,7 +20,6 @@ pub(crate) fn storage_with(fs: FileStorage, name: Span, used: usize) -> FileStor
         num_files: fs.num_files,
         num_paths: fs.num_paths,
         num_symlinks: fs.num_symlinks,
-        num_mtimes: fs.num_mtimes,
         name,
         text_len: used,
         total_size: fs.total_size,
@@ -40,6 +39,7 @@ pub(crate) fn row_with(row: Row, name: Span, link: Span) -> Row
         link,
         path_index: row.path_index,
         flags: row.flags,
+        time: row.time,
     }
 }
 

@@ -7,7 +7,6 @@ use mathlib.Core.List.{List, [], _∷_, _++_}
 use native.Mathlib.Nat.{zero-add, add-zero}
 use native.Mathlib.Omega.{arith}
 use lib.Dec.{eqb}
-use lib.IntN.{ℤ}
 use lib.ListN.{length}
 use borrow.Author.Tests.{eq-eqb, ne-eqb}
 use Rattle.tables.proofs.Tabled.{length-tabled, tabled-more}
@@ -78,14 +77,13 @@ found-below rows (suc n) f e = at (eqb (rowAt rows n .size) 0) (has (rowAt rows 
 -- ---- a removal
 
 -- two stores with the same parts
-same-store : (s t : Store) → s .fs ≡ t .fs → s .rows ≡ t .rows → s .roots ≡ t .roots → s .times ≡ t .times → s .dirs ≡ t .dirs → s .text ≡ t .text → s ≡ t
-same-store s t fs rows roots times dirs text =
-    ap (λ (x : FileStorage). storeOf x (s .rows) (s .roots) (s .times) (s .dirs) (s .text)) fs
-    ∙ ap (λ (x : List ℕ). storeOf (t .fs) x (s .roots) (s .times) (s .dirs) (s .text)) rows
-    ∙ ap (λ (x : List ℕ). storeOf (t .fs) (t .rows) x (s .times) (s .dirs) (s .text)) roots
-    ∙ ap (λ (x : List ℤ). storeOf (t .fs) (t .rows) (t .roots) x (s .dirs) (s .text)) times
-    ∙ ap (λ (x : List ℕ). storeOf (t .fs) (t .rows) (t .roots) (t .times) x (s .text)) dirs
-    ∙ ap (storeOf (t .fs) (t .rows) (t .roots) (t .times) (t .dirs)) text
+same-store : (s t : Store) → s .fs ≡ t .fs → s .rows ≡ t .rows → s .roots ≡ t .roots → s .dirs ≡ t .dirs → s .text ≡ t .text → s ≡ t
+same-store s t fs rows roots dirs text =
+    ap (λ (x : FileStorage). storeOf x (s .rows) (s .roots) (s .dirs) (s .text)) fs
+    ∙ ap (λ (x : List ℕ). storeOf (t .fs) x (s .roots) (s .dirs) (s .text)) rows
+    ∙ ap (λ (x : List ℕ). storeOf (t .fs) (t .rows) x (s .dirs) (s .text)) roots
+    ∙ ap (λ (x : List ℕ). storeOf (t .fs) (t .rows) (t .roots) x (s .text)) dirs
+    ∙ ap (storeOf (t .fs) (t .rows) (t .roots) (t .dirs)) text
 
 module _ (s t : Store) (f : ℕ) (r : Row) (c d : Span) where
   -- what the parts of store t are, where it is store s without row f, which is r, and without the spans c and then d
@@ -93,7 +91,6 @@ module _ (s t : Store) (f : ℕ) (r : Row) (c d : Span) where
     pub fs : t .fs ≡ storageWithout (s .fs) r c d
     pub rows : t .rows ≡ rowsWithout (s .rows) (t .fs .«num_files») f (t .fs .«total_size») c d
     pub roots : t .roots ≡ slid (record { at = f * 32; len = 32 }) (s .fs .«num_files» * 32) (s .roots)
-    pub times : t .times ≡ s .times
     pub dirs : t .dirs ≡ dirsLowered (dirsLowered (s .dirs) (s .fs .«num_paths») c) (s .fs .«num_paths») d
     pub text : t .text ≡ slid d (s .fs .«text_len» - c .len) (slid c (s .fs .«text_len») (s .text))
 
@@ -102,7 +99,6 @@ module _ (s t : Store) (f : ℕ) (r : Row) (c d : Span) where
       same-store t (storeWithout s f r c d) (w .fs)
       (w .rows ∙ ap (λ (g : FileStorage). rowsWithout (s .rows) (g .«num_files») f (g .«total_size») c d) (w .fs))
       (w .roots)
-      (w .times)
       (w .dirs)
       (w .text)
 
@@ -118,10 +114,6 @@ module _ (s t : Store) (f : ℕ) (r : Row) (c d : Span) where
 -- a set that its tables hold has at most 65535 files
 pub few-files : (s : Store) → holds s ≡ true → s .fs .«num_files» ≤ 65535
 few-files s e = let h = held (s .fs) (roomsOf s) e in omega arith
-
--- a store with other times
-abbrev pub withTimes : List ℤ → Store → Store
-withTimes times s = storeOf (s .fs) (s .rows) (s .roots) times (s .dirs) (s .text)
 
 module _ (s : Store) where
   pub trim-refused : badLength (s .fs .«piece_length») ≡ true → answering (refused 1) s ≡ trimStored s
@@ -140,6 +132,6 @@ module _ (s : Store) where
       trim-none e = trim-found absent e
 
       pub trim-done : (f : ℕ) (t : Store) → present f ≡ tailPadIn (s .rows) (s .fs .«num_files»)
-          → t ≡ storeTrimmed (withTimes [] s) f → answering (value (t .fs)) (withTimes (s .times) t) ≡ trimStored s
+          → t ≡ storeTrimmed s f → answering (value (t .fs)) t ≡ trimStored s
       trim-done f t e h =
-          ap (λ (x : Store). answering (value (x .fs)) (withTimes (s .times) x)) h ∙ trim-found (present f) e
+          ap (λ (x : Store). answering (value (x .fs)) x) h ∙ trim-found (present f) e

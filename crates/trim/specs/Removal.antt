@@ -32,7 +32,6 @@ storageWithout fs r c d =
       «num_files» = fs .«num_files» - 1;
       «num_paths» = fs .«num_paths»;
       «num_symlinks» = fs .«num_symlinks»;
-      «num_mtimes» = fs .«num_mtimes»;
       name = low d (low c (fs .name));
       «text_len» = fs .«text_len» - c .len - d .len;
       «total_size» = fs .«total_size» - r .size;
@@ -46,7 +45,6 @@ storeWithout s f r c d =
       fs = storageWithout (s .fs) r c d;
       rows = rowsWithout (s .rows) (s .fs .«num_files» - 1) f (s .fs .«total_size» - r .size) c d;
       roots = slid (record { at = f * rootWidth; len = rootWidth }) (s .fs .«num_files» * rootWidth) (s .roots);
-      times = s .times;
       dirs = dirsLowered (dirsLowered (s .dirs) (s .fs .«num_paths») c) (s .fs .«num_paths») d;
       text = slid d (s .fs .«text_len» - c .len) (slid c (s .fs .«text_len») (s .text));
     }

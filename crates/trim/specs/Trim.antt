@@ -1,5 +1,5 @@
--- Document 01, `remove_tail_padding`: 'skips empty files, removes at most one pad, and moves no modified time'.
--- All on the model; it relies on that of `tables`.
+-- Document 01, `remove_tail_padding`: 'skips empty files, removes at most one pad'; document 02 (vi): the time 'moves
+-- when the record moves'. All on the model; it relies on that of `tables`.
 use Prim.Native.Nat.{ℕ, _+_, _-_}
 use mathlib.Core.Bool.{true, cond}
 use mathlib.Core.List.{List, [], _∷_, _++_, map}
@@ -28,6 +28,7 @@ beginningAt offset g =
       name = g .name;
       directory = g .directory;
       flags = g .flags;
+      time = g .time;
       link = g .link;
       root = g .root;
       made = g .made;
@@ -42,7 +43,6 @@ withoutFile f m =
       name = m .name;
       files = take f (m .files) ++ map (beginningAt (m .total - sizeAt f (m .files))) (drop (f + 1) (m .files));
       directories = m .directories;
-      times = m .times;
       links = m .links;
       total = m .total - sizeAt f (m .files);
       onDisk = m .onDisk;

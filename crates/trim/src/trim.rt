@@ -1,7 +1,6 @@
 // The search for the pad, and what its removal writes. Relies on the writers of `tables` and the laws of
 // proofs/Trims.antt.
 ghost use mathlib.Core.Path.{_≡_};
-ghost use mathlib.Core.List.{[]};
 ghost use Prim.Native.Nat.{_-_, _*_, _<_, _≤_};
 ghost use Rattle.tables.specs.Span.{slid};
 ghost use Rattle.tables.specs.Rows.{has, dirsLowered, padBit, rootWidth};
@@ -83,7 +82,6 @@ fn storage_without(fs: FileStorage, row: Row, c: Span, d: Span) -> FileStorage
         num_files: saturating_sub_usize(fs.num_files, 1),
         num_paths: fs.num_paths,
         num_symlinks: fs.num_symlinks,
-        num_mtimes: fs.num_mtimes,
         name: tables::low_span(d, tables::low_span(c, fs.name)),
         text_len: saturating_sub_usize(saturating_sub_usize(fs.text_len, c.len), d.len),
         total_size: total_less(fs.total_size, row.size),
@@ -126,7 +124,7 @@ fn remove_root(roots: &mut [u8], n: usize, f: usize)
     );
 }
 
-// Removes file f from the tables, and gives the set's record after it; the times stay as they are.
+// Removes file f from the tables, and gives the set's record after it.
 fn remove_file(
     fs: FileStorage,
     rows: &mut [u64],
@@ -137,9 +135,9 @@ fn remove_file(
 ) -> FileStorage
     requires { ⌜ (f < fs .«num_files») × (fs .«num_files» ≤ maxEntries) ⌝ }
     ensures { λ r. ⌜
-        storeOf r (now (rows .exit)) (now (roots .exit)) [] (now (dirs .exit)) (now (text .exit))
+        storeOf r (now (rows .exit)) (now (roots .exit)) (now (dirs .exit)) (now (text .exit))
         ≡ storeTrimmed
-        (storeOf fs (now (rows .entry)) (now (roots .entry)) [] (now (dirs .entry)) (now (text .entry))) f
+        (storeOf fs (now (rows .entry)) (now (roots .entry)) (now (dirs .entry)) (now (text .entry))) f
         ⌝ }
 {
     let row = tables::row_at(rows, f);
@@ -158,22 +156,21 @@ pub fn remove_tail_padding(
     fs: FileStorage,
     rows: &mut [u64],
     roots: &mut [u8],
-    times: &mut [i64],
     dirs: &mut [u64],
     text: &mut [u8],
 ) -> StorageResult
     ensures { λ r. ⌜
         changedOf (storageSays r)
-        (now (rows .exit)) (now (roots .exit)) (now (times .exit)) (now (dirs .exit)) (now (text .exit))
+        (now (rows .exit)) (now (roots .exit)) (now (dirs .exit)) (now (text .exit))
         ≡ trimStored
         (storeOf fs
-        (now (rows .entry)) (now (roots .entry)) (now (times .entry)) (now (dirs .entry)) (now (text .entry)))
+        (now (rows .entry)) (now (roots .entry)) (now (dirs .entry)) (now (text .entry)))
         ⌝ }
 {
     if rules::is_bad_length(fs.piece_length) {
         return StorageResult::Err(Refusal::InvalidPieceLength);
     }
-    let rooms = change::rooms_in(rows.len(), roots.len(), times.len(), dirs.len(), text.len());
+    let rooms = change::rooms_in(rows.len(), roots.len(), dirs.len(), text.len());
     if !change::holds(fs, rooms) {
         return StorageResult::Err(Refusal::NoRoom);
     }

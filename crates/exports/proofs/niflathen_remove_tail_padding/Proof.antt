@@ -12,7 +12,7 @@ use Rattle.exports.proofs.niflathen_remove_tail_padding.Tie as tie
 -- what the trim makes of a set's record and the tables that the call brings
 abbrev trimmed : tie.Start → FileStorage → Changed
 trimmed c fs =
-    trimStored (record { fs = fs; rows = c .args .rows .now; roots = c .args .roots .now; times = c .args .times .now; dirs = c .args .dirs .now; text = c .args .text .now })
+    trimStored (record { fs = fs; rows = c .args .rows .now; roots = c .args .roots .now; dirs = c .args .dirs .now; text = c .args .text .now })
 
 -- what the trim left
 abbrev left : tie.After-remove-tail-padding → Changed
@@ -21,9 +21,8 @@ left c =
       says = storageSays (c .remove-tail-padding .result);
       rows = c .remove-tail-padding .last .1 .0;
       roots = c .remove-tail-padding .last .1 .1 .0;
-      times = c .remove-tail-padding .last .1 .1 .1 .0;
-      dirs = c .remove-tail-padding .last .1 .1 .1 .1 .0;
-      text = c .remove-tail-padding .last .1 .1 .1 .1 .1 .0;
+      dirs = c .remove-tail-padding .last .1 .1 .1 .0;
+      text = c .remove-tail-padding .last .1 .1 .1 .1 .0;
     }
 
 storage-at-requires : tie.Need-storage-at-requires
@@ -47,15 +46,12 @@ same-length-3 c = search needs
 same-length-4 : tie.Need-same-length-4
 same-length-4 c = search needs
 
-same-length-5 : tie.Need-same-length-5
-same-length-5 c = search needs
-
 returns : tie.Need-returns
 returns c =
-    let start = c .before .before .before .before .before .before .before .before .before .before .before .before .before .before .before .before .before .before .before .before .before .before .before in
-    let a = c .before .before .before .before .before .before .before .before .before .before .before in
+    let start = c .before .before .before .before .before .before .before .before .before .before .before .before .before .before .before .before .before .before .before .before .before in
+    let a = c .before .before .before .before .before .before .before .before .before .before in
     answered (start .args .state .now) (c .put-answer .last .0) (c .put-answer .result) (left a) (trimmed start (storageOf (start .args .state .now)))
-    (a .remove-tail-padding .ensures ∙ ap (trimmed start) (c .before .before .before .before .before .before .before .before .before .before .before .before .before .before .before .before .before .storage-at .ensures)) (c .put-answer .ensures .0) (c .put-answer .ensures .1)
+    (a .remove-tail-padding .ensures ∙ ap (trimmed start) (c .before .before .before .before .before .before .before .before .before .before .before .before .before .before .before .storage-at .ensures)) (c .put-answer .ensures .0) (c .put-answer .ensures .1)
 
 pub niflathen-remove-tail-padding-spec : {M : Type 1} → statement M
 niflathen-remove-tail-padding-spec =
@@ -68,5 +64,4 @@ niflathen-remove-tail-padding-spec =
     same-length-2
     same-length-3
     same-length-4
-    same-length-5
     returns)

@@ -5,7 +5,7 @@ use mathlib.Core.Bool.{cond}
 use mathlib.Core.List.{List}
 use mathlib.Core.Path.{_≡_}
 use lib.Dec.{ltb}
-use lib.IntN.{ℤ, pos}
+use lib.IntN.{pos}
 use lib.ListN.{length}
 use Rattle.lists.specs.Lists.{ceiling}
 use Rattle.types.specs.declared.refusal.Refusal.the-variants.{TooManyPieces, ParseFailed}
@@ -30,7 +30,7 @@ openedBy (present n) = opened (pos n)
 -- a line out of form is 17, and leaves the tables as they were
 abbrev pub obeyed : Optional FileEntry → Store → Changed
 obeyed absent s =
-    record { says = refused 17; rows = s .rows; roots = s .roots; times = s .times; dirs = s .dirs; text = s .text }
+    record { says = refused 17; rows = s .rows; roots = s .roots; dirs = s .dirs; text = s .text }
 obeyed (present e) s = addStored s (additionOf e)
 
 -- the run that a refused line ends
@@ -44,14 +44,13 @@ countedBy fs line =
     cond (ltb 2147483647 (ceiling (fs .«total_size») (fs .«piece_length»))) (Stopped TooManyPieces line) (Listed fs)
 
 -- how a run ends, by its answer and what the tables then hold
-abbrev pub runSays : RunResult → List ℕ → List ℕ → List ℤ → List ℕ → List ℕ → Run
-runSays (Listed fs) rows roots times dirs text = listed (viewOf (storeOf fs rows roots times dirs text))
-runSays (Stopped e line) rows roots times dirs text = stopped (numberOf e) line
+abbrev pub runSays : RunResult → List ℕ → List ℕ → List ℕ → List ℕ → Run
+runSays (Listed fs) rows roots dirs text = listed (viewOf (storeOf fs rows roots dirs text))
+runSays (Stopped e line) rows roots dirs text = stopped (numberOf e) line
 
--- the lengths of tables with the places of `places`: 8 words and 32 bytes a file, 2 words a directory, no times
-pub record Placed (rows roots : List ℕ) (times : List ℤ) (dirs text : List ℕ) : Type 0 where
+-- the lengths of tables with the places of `places`: 8 words and 32 bytes a file, 2 words a directory
+pub record Placed (rows roots dirs text : List ℕ) : Type 0 where
   pub rows-are : length rows ≡ 3200
   pub roots-are : length roots ≡ 12800
-  pub times-are : length times ≡ 0
   pub dirs-are : length dirs ≡ 800
   pub text-is : length text ≡ 65536

@@ -1,11 +1,12 @@
 -- The steps that the code takes to a plan: directories, counts, spans of the new texts. proofs/Plans.antt ties them to
 -- `plannedFor` of Plan.antt.
-use Prim.Native.Nat.{ℕ, _+_, _≤_, _<_, max}
+use Prim.Native.Nat.{ℕ, _+_, _≤_, _<_}
 use mathlib.Core.Bool.{Bool, true, cond, not, _&&_, _||_}
 use Rattle.types.specs.Refusals.{Outcome}
+use Rattle.types.specs.Signed.{zigzag}
 use Rattle.tables.specs.Model.{Optional, absent, present, Directory, isPad, Model, tabled}
 use Rattle.rules.specs.Rules.{outcomeOf}
-use Rattle.additions.specs.Addition.{Addition, flagsKept, keepsLink, isZero}
+use Rattle.additions.specs.Addition.{Addition, flagsKept, keepsLink}
 use Rattle.additions.specs.Addition.{padDirectory, withDirectoryOf, withDirectory, directoryAdded}
 use Rattle.additions.specs.private.Texts.{isHere, nameFrom, linkTextOf, directoryAt}
 use Rattle.plan.specs.Write.{directoryIndex, pathIndexOf, textIfNew, newTextOf, isNew, isNewDirectory}
@@ -29,6 +30,7 @@ use Rattle.additions.specs.declared.parts.PathParts.{PathParts}
 use Rattle.plan.specs.declared.dirs.DirPlan.{DirPlan}
 use Rattle.plan.specs.declared.counts.Counts.{Counts}
 use Rattle.plan.specs.declared.counts.FileFacts.{FileFacts}
+use Rattle.plan.specs.declared.counts.RowFacts.{RowFacts}
 use Rattle.plan.specs.declared.plan.TextSpans.{TextSpans}
 use Rattle.plan.specs.declared.plan.TextSpansResult.{TextSpansResult}
 use Rattle.plan.specs.declared.plan.TextSpansResult.the-variants as laid
@@ -80,14 +82,18 @@ rowFlags f outside =
     + cond outside outsideBit 0
     + cond (f .«has_root») rootBit 0
 
+-- what a file's row says besides where things are
+abbrev pub rowFactsOf : FileFacts → Bool → RowFacts
+rowFactsOf f outside = record { flags = rowFlags f outside; time = f .time }
+
 -- the facts of a file and its link text, where a set is added to
 abbrev pub factsOf : FileStorage → FileInfo → List ℕ → FileFacts
 factsOf fs file link =
     record {
       flags = file .flags;
       «keeps_link» = keepsLink (fs .«num_symlinks») link;
-      untimed = isZero (file .mtime);
       «has_root» = isHere (file .rooted);
+      time = zigzag (file .mtime);
     }
 
 -- counts and sums that fit
@@ -101,16 +107,14 @@ countsOf fs z f =
     record {
       «num_files» = fs .«num_files» + cond (eqb (z .pad) 0) 1 2;
       «num_symlinks» = fs .«num_symlinks» + cond (f .«keeps_link») 1 0;
-      «num_mtimes» = cond (f .untimed) (fs .«num_mtimes») (max (fs .«num_mtimes») (fs .«num_files» + 1));
       «file_end» = fs .«total_size» + z .size;
       «total_size» = fs .«total_size» + z .size + z .pad;
       «size_on_disk» = onDiskAdded (fs .«size_on_disk») (cond (isPad (f .flags)) 0 (z .size));
     }
 
--- the tables have too few rows or times for these counts of files, directories and times
-abbrev pub shortOf : Rooms → ℕ → ℕ → ℕ → Bool
-shortOf rooms files dirs times =
-    ltb (filesRoom rooms) files || (ltb (dirsRoom rooms) dirs || ltb (rooms .times) times)
+-- the tables have too few rows for these counts of files and directories
+abbrev pub shortOf : Rooms → ℕ → ℕ → Bool
+shortOf rooms files dirs = ltb (filesRoom rooms) files || ltb (dirsRoom rooms) dirs
 
 -- texts of these lengths, one after the other from `start` on
 abbrev pub textSpansOf : ℕ → ℕ → ℕ → ℕ → ℕ → ℕ → ℕ → TextSpans
@@ -135,8 +139,9 @@ spansWithin room p = cond (ltb room (p .end)) absent (present p)
 
 -- ---- the plan
 
-abbrev pub planFrom : FileStorage → Sizes → Counts → ℕ → DirPlan → DirPlan → TextSpans → Span → PathParts → AddPlan
-planFrom fs z counts flags first second spans old parts =
+abbrev pub planFrom : FileStorage → Sizes → Counts → RowFacts → DirPlan → DirPlan → TextSpans → Span → PathParts
+    → AddPlan
+planFrom fs z counts file first second spans old parts =
     record {
       before = fs;
       after = record {
@@ -145,7 +150,6 @@ planFrom fs z counts flags first second spans old parts =
         «num_files» = counts .«num_files»;
         «num_paths» = second .count;
         «num_symlinks» = counts .«num_symlinks»;
-        «num_mtimes» = counts .«num_mtimes»;
         name = cond (eqb (fs .«num_files») 0) (spans .set) (fs .name);
         «text_len» = spans .end;
         «total_size» = counts .«total_size»;
@@ -158,7 +162,8 @@ planFrom fs z counts flags first second spans old parts =
         name = spans .name;
         link = spans .link;
         «path_index» = first .index;
-        flags = flags;
+        flags = file .flags;
+        time = file .time;
       };
       «pad_row» = record {
         offset = counts .«file_end»;
@@ -167,6 +172,7 @@ planFrom fs z counts flags first second spans old parts =
         link = record { at = spans .end; len = 0 };
         «path_index» = second .index;
         flags = madePadFlags;
+        time = 0;
       };
       dir = record { new = first .new; slot = fs .«num_paths»; text = spans .directory };
       «pad_dir» = record {
@@ -186,22 +192,22 @@ textSpansFor fs z first second l =
     (l .«set_name») (first .len) (l .name) (l .link) (second .len) (length (padDigits (z .pad)))
 
 -- the plan where there is room, else refusal 10
-abbrev pub plannedIn : FileStorage → Rooms → Sizes → Counts → ℕ → DirPlan → DirPlan → TextLengths → PathParts
+abbrev pub plannedIn : FileStorage → Rooms → Sizes → Counts → RowFacts → DirPlan → DirPlan → TextLengths → PathParts
     → Outcome AddPlan
-plannedIn fs rooms z counts flags first second l parts =
+plannedIn fs rooms z counts file first second l parts =
     outcomeOf
     (cond
-    (shortOf rooms (counts .«num_files») (second .count) (counts .«num_mtimes»)
+    (shortOf rooms (counts .«num_files») (second .count)
     || ltb (rooms .text) (textSpansFor fs z first second l .end))
     10
     0)
-    (planFrom fs z counts flags first second (textSpansFor fs z first second l) (oldName fs) parts)
+    (planFrom fs z counts file first second (textSpansFor fs z first second l) (oldName fs) parts)
 
 -- the same of a directory's text beside the directories that are stored
 abbrev pub plannedBeside : FileStorage → Rooms → List (List ℕ) → Sizes → FileFacts → Bool → Directory → TextLengths
     → PathParts → Outcome AddPlan
 plannedBeside fs rooms ds z f outside d l parts =
-    plannedIn fs rooms z (countsOf fs z f) (rowFlags f outside)
+    plannedIn fs rooms z (countsOf fs z f) (rowFactsOf f outside)
     (dirPlanOf d ds) (padDirPlanOf (z .pad) (withDirectoryOf d ds)) l parts
 
 -- the lengths of the texts of an addition, whose path has these parts

@@ -7,7 +7,7 @@ use mathlib.Core.Bool.{Bool, true, false, cond}
 use mathlib.Core.Logic.{_⊎_, inl, inr}
 use mathlib.Core.List.{List, []}
 use Prim.Native.Nat.{ℕ, _+_, _-_, _*_, _/_, _≤_, _<_, min}
-use native.Mathlib.Nat.{mod-lt, add-zero}
+use native.Mathlib.Nat.{add-zero}
 use native.Mathlib.Omega.{arith}
 use lib.Dec.{eqb, ltb}
 use lib.ListN.{length}
@@ -21,7 +21,7 @@ use Rattle.tables.specs.Span.{endOf, textAt, Apart, low}
 use Rattle.tables.specs.Rows.{rowAt, words, dirAt, putRow, has, filled}
 use Rattle.tables.specs.Model.{present, File, Store, fileOf}
 use Rattle.tables.proofs.Spans.{apart-kept, within-kept, read-kept, apart-empty, apart-before, apart-sym, clip-same, length-slid, read-before, read-new}
-use Rattle.tables.proofs.Words.{row-back, row-other, length-put-row}
+use Rattle.tables.proofs.Words.{InRange, row-in-range, row-back, row-other, length-put-row}
 use Rattle.tables.proofs.Moves.{row-filled, dir-lowered, length-lowered}
 use Rattle.links.specs.Clean.{linkedTo}
 use Rattle.texts.specs.Texts.{storageWith, rowWith, rowLowered, rowsLowered, cutOut, goneAt, linked, relinked}
@@ -32,13 +32,19 @@ use Rattle.reached.proofs.Cleaned.Texts.{isLink, link-is, link-not, Are
 
 -- ---- rows once a span is removed
 
+-- a row that is read is in range, whichever its spans are
+with-in-range : (rows : List ℕ) (i : ℕ) (x y : Span) → InRange (rowWith (rowAt rows i) x y)
+with-in-range rows i x y =
+    let k = row-in-range rows i in
+    record { offset = k .offset; size = k .size; flags = k .flags }
+
 module _ (rows : List ℕ) (n : ℕ) (c : Span) where
   length-rows-lowered : length (rowsLowered rows n c) ≡ length rows
   length-rows-lowered = length-sets rows 0 (filled (λ i. words (rowLowered c (rowAt rows i))) 0 (min n (length rows / 8)))
 
   row-lowered : (k : ℕ) → k < n → k * 8 + 8 ≤ length rows → rowAt (rowsLowered rows n c) k ≡ rowLowered c (rowAt rows k)
   row-lowered k h f =
-      row-filled rows (λ i. rowLowered c (rowAt rows i)) (min n (length rows / 8)) k (omega arith) (omega arith) (mod-lt _ (omega arith)) (mod-lt _ (omega arith))
+      row-filled rows (λ i. rowLowered c (rowAt rows i)) (min n (length rows / 8)) k (omega arith) (omega arith) (with-in-range rows k _ _)
 
 -- a row is what it was but for its spans, whichever these are
 row-form : (r q : Row) (x y : Span) → r ≡ rowWith q x y → r ≡ rowWith q (r .name) (r .link)
@@ -47,7 +53,7 @@ row-form r q x y e = e ∙ sym (ap (λ (z : Row). rowWith q (z .name) (z .link))
 -- an empty text put first makes no difference
 linked-twice : (x : Store) (i : ℕ) (l : List ℕ) → i * 8 + 8 ≤ length (x .rows) → linked (linked x i []) i l ≡ linked x i l
 linked-twice x i l h =
-    ap (λ (r : Row). by (x .fs .«text_len» + 0) (putRow (putRow (x .rows) i old) i (rowWith r (r .name) (new (x .fs .«text_len» + 0))))) (row-back (x .rows) i old h (mod-lt _ (omega arith)) (mod-lt _ (omega arith)))
+    ap (λ (r : Row). by (x .fs .«text_len» + 0) (putRow (putRow (x .rows) i old) i (rowWith r (r .name) (new (x .fs .«text_len» + 0))))) (row-back (x .rows) i old h (with-in-range (x .rows) i _ _))
     ∙ ap (by (x .fs .«text_len» + 0)) (sets-over (words old) (words (rowWith old (old .name) (new (x .fs .«text_len» + 0)))) (x .rows) (i * 8) (omega arith))
     ∙ ap (λ (v : ℕ). by v (putRow (x .rows) i (rowWith old (old .name) (new v)))) (add-zero (x .fs .«text_len»))
   where
@@ -63,7 +69,6 @@ linked-twice x i l h =
           fs = storageWith (x .fs) (x .fs .name) (v + length l);
           rows = rows;
           roots = x .roots;
-          times = x .times;
           dirs = x .dirs;
           text = sets (x .text) v l;
         }
@@ -133,7 +138,7 @@ module _ (s : Store) (ok : Sound s) (i : ℕ) (h : i < s .fs .«num_files») whe
   -- its row, every other row, and any row but for its spans
   row-here : rowAt (without .rows) i ≡ rowWith (rowAt (s .rows) i) (low c (rowAt (s .rows) i .name)) (record { at = u - c .len; len = 0 })
   row-here =
-      row-back lowered i (rowWith (rowAt lowered i) (rowAt lowered i .name) (record { at = u - c .len; len = 0 })) (omega (arith, bound i h, length-rows-lowered (s .rows) n c)) (mod-lt _ (omega arith)) (mod-lt _ (omega arith))
+      row-back lowered i (rowWith (rowAt lowered i) (rowAt lowered i .name) (record { at = u - c .len; len = 0 })) (omega (arith, bound i h, length-rows-lowered (s .rows) n c)) (with-in-range lowered i _ _)
       ∙ ap (λ (x : Row). rowWith x (x .name) (record { at = u - c .len; len = 0 })) (row-lowered (s .rows) n c i h (bound i h))
 
   row-there : (k : ℕ) → k < n → (k ≡ i → ⊥) → rowAt (without .rows) k ≡ rowLowered c (rowAt (s .rows) k)
@@ -226,7 +231,7 @@ module _ (s : Store) (ok : Sound s) (i : ℕ) (h : i < s .fs .«num_files») whe
 
     -- its row, every other row, and any row but for its spans
     put-here : rowAt (put .rows) i ≡ newRow
-    put-here = row-back (s .rows) i newRow (bound i h) (mod-lt _ (omega arith)) (mod-lt _ (omega arith))
+    put-here = row-back (s .rows) i newRow (bound i h) (with-in-range (s .rows) i _ _)
 
     put-there : (k : ℕ) → (k ≡ i → ⊥) → rowAt (put .rows) k ≡ rowAt (s .rows) k
     put-there k d = row-other (s .rows) i newRow k d

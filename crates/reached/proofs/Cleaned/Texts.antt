@@ -9,7 +9,7 @@ use mathlib.Core.List.{List}
 use Prim.Native.Nat.{ℕ, _+_, _-_, _≤_, _<_}
 use native.Mathlib.Omega.{arith}
 use lib.Dec.{eqb}
-use lib.ListN.{length, take}
+use lib.ListN.{length}
 use borrow.Author.Tests.{lt-ltb, eq-eqb, ne-eqb, eqb-true, eqb-false}
 use Rattle.tables.specs.declared.span.Span.{Span}
 use Rattle.tables.specs.declared.rows.Row.{Row}
@@ -75,7 +75,6 @@ over s a =
       fs = storageWith (s .fs) (a .name) (a .used);
       rows = a .rows;
       roots = s .roots;
-      times = s .times;
       dirs = a .dirs;
       text = a .text;
     }
@@ -100,7 +99,6 @@ pub record Turned (s t : Store) (g : ℕ → File → File) : Type 0 where
   pub sound : Sound t
   pub record-is : t .fs ≡ storageWith (s .fs) (t .fs .name) (t .fs .«text_len»)
   pub long : length (t .text) ≡ length (s .text)
-  pub times : t .times ≡ s .times
   pub name : textAt (t .text) (t .fs .name) ≡ textAt (s .text) (s .fs .name)
   pub directories : (k : ℕ) → k < s .fs .«num_paths» → directoryText t k ≡ directoryText s k
   pub files : (k : ℕ) → k < s .fs .«num_files» → fileOf t k ≡ g k (fileOf s k)
@@ -112,7 +110,6 @@ turned-self s ok =
       sound = ok;
       record-is = refl;
       long = refl;
-      times = refl;
       name = refl;
       directories = λ k h. refl;
       files = λ k h. refl;
@@ -125,7 +122,6 @@ turned-same {s} {t} {g} {h} e p =
       sound = p .sound;
       record-is = p .record-is;
       long = p .long;
-      times = p .times;
       name = p .name;
       directories = p .directories;
       files = λ k b. p .files k b ∙ e k b;
@@ -140,7 +136,6 @@ turned-then {s} {t} {u} {g} {h} p q =
       sound = q .sound;
       record-is = q .record-is ∙ ap (λ (x : FileStorage). storageWith x (u .fs .name) (u .fs .«text_len»)) (p .record-is);
       long = q .long ∙ p .long;
-      times = q .times ∙ p .times;
       name = q .name ∙ p .name;
       directories = λ k b. q .directories k (omega arith) ∙ p .directories k b;
       files = λ k b. q .files k (omega arith) ∙ ap (h k) (p .files k b);
@@ -155,7 +150,6 @@ pub turned-view : {s t : Store} {g : ℕ → File → File} → Turned s t g
       name = viewOf s .name;
       files = tabled (s .fs .«num_files») (λ k. g k (fileOf s k));
       directories = viewOf s .directories;
-      times = viewOf s .times;
       links = viewOf s .links;
       total = viewOf s .total;
       onDisk = viewOf s .onDisk;
@@ -167,7 +161,6 @@ turned-view {s} {t} {g} p =
       p .name,
       tabled-same (s .fs .«num_files») (fileOf t) (λ k. g k (fileOf s k)) (p .files),
       tabled-same (s .fs .«num_paths») (directoryText t) (directoryText s) (p .directories),
-      p .times,
     )
   where
     by : FileStorage → Model
@@ -178,7 +171,6 @@ turned-view {s} {t} {g} p =
           name = textAt (t .text) (t .fs .name);
           files = tabled (fs .«num_files») (fileOf t);
           directories = tabled (fs .«num_paths») (directoryText t);
-          times = take (fs .«num_mtimes») (t .times);
           links = fs .«num_symlinks»;
           total = fs .«total_size»;
           onDisk = fs .«size_on_disk»;
@@ -248,7 +240,6 @@ module _ (s : Store) (ok : Sound s) (i : ℕ) (h : i < s .fs .«num_files») (l 
         rows-hold = omega (arith, ok .rows-hold, r .rows-long);
         roots-hold = ok .roots-hold;
         dirs-hold = omega (arith, ok .dirs-hold, r .dirs-long);
-        times-hold = ok .times-hold;
         text-holds = omega (arith, r .holds, r .text-long);
         few-files = ok .few-files;
         few-paths = ok .few-paths;
@@ -305,7 +296,6 @@ module _ (s : Store) (ok : Sound s) (i : ℕ) (h : i < s .fs .«num_files») (l 
         sound = sound-after;
         record-is = refl;
         long = r .text-long;
-        times = refl;
         name = r .reads setName refl;
         directories = directory-kept;
         files = files-after;

@@ -25,7 +25,6 @@ module _ (s : Store) (ok : Sound s) where
       rw (
         le-leb (s .fs .«num_files») (min 65535 (roomsOf s .files)) (omega (arith, ok .rows-hold, ok .roots-hold, ok .few-files)),
         le-leb (s .fs .«num_paths») (min 65535 (roomsOf s .directories)) (omega (arith, ok .dirs-hold, ok .few-paths)),
-        le-leb (s .fs .«num_mtimes») (roomsOf s .times) (ok .times-hold),
       )
       (le-leb (s .fs .«text_len») (roomsOf s .text) (ok .text-holds))
 
@@ -54,7 +53,6 @@ pub record Fits (s : Store) (m : Model) (a : Addition) : Type 0 where
   pub roots-hold : filesOf (added m a) * 32 ≤ length (s .roots)
   pub few-paths : length (added m a .directories) ≤ 65535
   pub dirs-hold : length (added m a .directories) * 2 ≤ length (s .dirs)
-  pub times-hold : length (added m a .times) ≤ length (s .times)
   pub text-holds : textAfter (s .fs) m a ≤ length (s .text)
 
 few-rows : (f r t : ℕ) → f ≤ min 65535 (min (r / 8) (t / 32)) → (f ≤ 65535) × (f * 8 ≤ r) × (f * 32 ≤ t)
@@ -67,7 +65,6 @@ room : (s : Store) (m : Model) (a : Addition) → m .total + sizeAdded a + padOf
 room s m a h e =
     let p = neither (ltb (min 65535 (roomsOf s .files)) (filesOf (added m a))) _ e in
     let q = neither (ltb (min 65535 (roomsOf s .directories)) (length (added m a .directories))) _ (p .1) in
-    let r = neither (ltb (roomsOf s .times) (length (added m a .times))) _ (q .1) in
     let f = few-rows (filesOf (added m a)) (length (s .rows)) (length (s .roots)) (ltb-false _ _ (p .0)) in
     let d = few-dirs (length (added m a .directories)) (length (s .dirs)) (ltb-false _ _ (q .0)) in
     record {
@@ -77,8 +74,7 @@ room s m a h e =
       roots-hold = f .2;
       few-paths = d .0;
       dirs-hold = d .1;
-      times-hold = ltb-false _ _ (r .0);
-      text-holds = ltb-false _ _ (r .1);
+      text-holds = ltb-false _ _ (q .1);
     }
 
 pub fits : (s : Store) (m : Model) (a : Addition) → addingNumber s m a ≡ 0 → Fits s m a

@@ -33,7 +33,6 @@ dirStage b s d =
         «num_files» = s .fs .«num_files»;
         «num_paths» = s .fs .«num_paths» + cond b 1 0;
         «num_symlinks» = s .fs .«num_symlinks»;
-        «num_mtimes» = s .fs .«num_mtimes»;
         name = s .fs .name;
         «text_len» = s .fs .«text_len» + length d;
         «total_size» = s .fs .«total_size»;
@@ -42,7 +41,6 @@ dirStage b s d =
       };
       rows = s .rows;
       roots = s .roots;
-      times = s .times;
       dirs = putDirIf b (s .dirs) (s .fs .«num_paths») (record { at = s .fs .«text_len»; len = length d });
       text = sets (s .text) (s .fs .«text_len») d;
     }
@@ -104,7 +102,6 @@ module _ (s : Store) (d : List ℕ) (ok : Sound s) (few : s .fs .«num_paths» +
         rows-hold = ok .rows-hold;
         roots-hold = ok .roots-hold;
         dirs-hold = rw length-sets room;
-        times-hold = ok .times-hold;
         text-holds = rw length-sets space;
         few-files = ok .few-files;
         few-paths = few;

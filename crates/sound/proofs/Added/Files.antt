@@ -4,7 +4,7 @@ use mathlib.Core.Path.{_≡_, refl, sym, ap, _∙_}
 use mathlib.Core.Logic.{_⊎_, inl, inr}
 use mathlib.Core.Bool.{Bool, true, false, cond}
 use mathlib.Core.List.{List, [], _∷_, _++_}
-use Prim.Native.Nat.{ℕ, _+_, _*_, _≤_, _<_}
+use Prim.Native.Nat.{ℕ, _+_, _*_, _^_, _≤_, _<_}
 use native.Mathlib.Omega.{arith}
 use native.Mathlib.Numerals.{add-one}
 use lib.Dec.{ltb}
@@ -18,7 +18,7 @@ use Rattle.tables.specs.Span.{textAt}
 use Rattle.tables.specs.Rows.{rowAt, putRow, rootAt, has}
 use Rattle.tables.specs.Model.{Optional, absent, present, presentIf, File, Store, tabled, directoryOf, fileOf, viewOf}
 use Rattle.tables.proofs.Spans.{read-before, read-new}
-use Rattle.tables.proofs.Words.{row-back, row-other, root-back, root-other}
+use Rattle.tables.proofs.Words.{InRange, row-back, row-other, root-back, root-other}
 use Rattle.tables.proofs.Tabled.{tabled-more}
 use Rattle.rules.specs.Bounds.{limit}
 use Rattle.additions.specs.Addition.{isPresent}
@@ -34,6 +34,7 @@ pub record NewFile : Type 0 where
   pub link : List ℕ
   pub index : ℕ
   pub flags : ℕ
+  pub time : ℕ
   pub root : Optional (List ℕ)
 
 -- the row of a new file that begins at byte o and whose texts begin at byte u of the text area
@@ -46,6 +47,7 @@ rowFor o u f =
       link = record { at = u + length (f .name); len = length (f .link) };
       «path_index» = f .index;
       flags = f .flags;
+      time = f .time;
     }
 
 -- the set as it was, as where there is no pad, or with one more file
@@ -58,7 +60,6 @@ padStage b s f =
         «num_files» = s .fs .«num_files» + cond b 0 1;
         «num_paths» = s .fs .«num_paths»;
         «num_symlinks» = s .fs .«num_symlinks»;
-        «num_mtimes» = s .fs .«num_mtimes»;
         name = s .fs .name;
         «text_len» = s .fs .«text_len» + length (f .name) + length (f .link);
         «total_size» = s .fs .«total_size» + f .size;
@@ -67,7 +68,6 @@ padStage b s f =
       };
       rows = cond b (s .rows) (putRow (s .rows) (s .fs .«num_files») (rowFor (s .fs .«total_size») (s .fs .«text_len») f));
       roots = cond b (s .roots) (rootsAdded (s .roots) (s .fs .«num_files») (f .root));
-      times = s .times;
       dirs = s .dirs;
       text = sets (sets (s .text) (s .fs .«text_len») (f .name)) (s .fs .«text_len» + length (f .name)) (f .link);
     }
@@ -82,6 +82,7 @@ pub record Fitting (s : Store) (f : NewFile) : Type 0 where
   pub roots-hold : (s .fs .«num_files» + 1) * 32 ≤ length (s .roots)
   pub text-holds : s .fs .«text_len» + length (f .name) + length (f .link) ≤ length (s .text)
   pub limited : s .fs .«total_size» + f .size ≤ limit
+  pub flagged : f .flags < 2 ^ 16
   pub rooted : (root : List ℕ) → f .root ≡ present root → length root ≡ 32
   pub unlinked : has (f .flags) 16 ≡ false → length (f .link) ≡ 0
   pub placed : f .index < 1073741822 → f .index < s .fs .«num_paths»
@@ -113,8 +114,11 @@ module _ (s : Store) (f : NewFile) (ok : Sound s) (fit : Fitting s f) where
   abbrev row : Row
   row = rowFor (s .fs .«total_size») u f
 
+  in-range : InRange row
+  in-range = record { offset = omega (arith, fit .limited); size = omega (arith, fit .limited); flags = fit .flagged }
+
   row-new : rowAt (new .rows) n ≡ row
-  row-new = row-back (s .rows) n row (omega (arith, fit .rows-hold)) (omega (arith, fit .limited)) (omega (arith, fit .limited))
+  row-new = row-back (s .rows) n row (omega (arith, fit .rows-hold)) in-range
 
   more : Extends s new
   more =
@@ -207,7 +211,6 @@ module _ (s : Store) (f : NewFile) (ok : Sound s) (fit : Fitting s f) where
         rows-hold = rw length-sets (fit .rows-hold);
         roots-hold = rw (length-roots (s .roots) n (f .root)) (fit .roots-hold);
         dirs-hold = ok .dirs-hold;
-        times-hold = ok .times-hold;
         text-holds = rw (length-sets, length-sets) (fit .text-holds);
         few-files = fit .few;
         few-paths = ok .few-paths;

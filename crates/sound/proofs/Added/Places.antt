@@ -3,7 +3,7 @@
 use mathlib.Core.Path.{_≡_, refl, sym, ap, _∙_}
 use mathlib.Core.Bool.{Bool, true, false, cond, false≢true}
 use mathlib.Core.List.{List, [], _∷_}
-use Prim.Native.Nat.{ℕ, suc, _+_, _-_, _*_, _/_, _%_, _≤_, _<_}
+use Prim.Native.Nat.{ℕ, suc, _+_, _-_, _*_, _/_, _%_, _^_, _≤_, _<_}
 use native.Mathlib.Omega.{arith}
 use lib.Dec.{eqb}
 use lib.ListN.{length, getD, length-append}
@@ -126,6 +126,9 @@ abbrev bitsOf : ℕ → ℕ → ℕ → ℕ → ℕ
 bitsOf x k o r = x + k * 16 + o * 32 + r * 128
 
 module _ (x k o r : ℕ) (small : x < 16) (hk : k ≤ 1) (ho : o ≤ 1) (hr : r ≤ 1) where
+  bits-small : bitsOf x k o r < 2 ^ 16
+  bits-small = omega arith
+
   bits-low : bitsOf x k o r % 16 ≡ x
   bits-low = omega arith
 
@@ -151,6 +154,9 @@ flagsOf x k o r = x + cond k 16 0 + cond o 32 0 + cond r 128 0
 module _ (x : ℕ) (k o r : Bool) (small : x < 16) where
   flags-bits : flagsOf x k o r ≡ bitsOf x (one k) (one o) (one r)
   flags-bits = omega (arith, times-one k 16, times-one o 32, times-one r 128)
+
+  pub flags-small : flagsOf x k o r < 2 ^ 16
+  flags-small = rw flags-bits (bits-small x (one k) (one o) (one r) small (one-small k) (one-small o) (one-small r))
 
   pub flags-low : flagsOf x k o r % 16 ≡ x
   flags-low = rw flags-bits (bits-low x (one k) (one o) (one r) small (one-small k) (one-small o) (one-small r))

@@ -32,7 +32,6 @@ nameStage b s c t =
         «num_files» = s .fs .«num_files»;
         «num_paths» = s .fs .«num_paths»;
         «num_symlinks» = s .fs .«num_symlinks»;
-        «num_mtimes» = s .fs .«num_mtimes»;
         name = cond b (record { at = s .fs .«text_len» - c .len; len = length t }) (s .fs .name);
         «text_len» = s .fs .«text_len» - c .len + length t;
         «total_size» = s .fs .«total_size»;
@@ -41,7 +40,6 @@ nameStage b s c t =
       };
       rows = s .rows;
       roots = s .roots;
-      times = s .times;
       dirs = cond b (dirsLowered (s .dirs) (s .fs .«num_paths») c) (s .dirs);
       text = sets (cond b (slid c (s .fs .«text_len») (s .text)) (s .text)) (s .fs .«text_len» - c .len) t;
     }
@@ -127,7 +125,6 @@ module _ (s : Store) (t : List ℕ) (ok : Sound s) (none : s .fs .«num_files» 
         rows-hold = ok .rows-hold;
         roots-hold = ok .roots-hold;
         dirs-hold = rw length-sets (ok .dirs-hold);
-        times-hold = ok .times-hold;
         text-holds = rw (length-sets, length-slid) space;
         few-files = ok .few-files;
         few-paths = ok .few-paths;

@@ -6,7 +6,6 @@ use mathlib.Core.Bool.{Bool, true, false, cond}
 use mathlib.Core.List.{List, [], _∷_, _++_, append-nil}
 use Prim.Native.Nat.{ℕ, _+_, _-_, _*_, _≤_}
 use native.Mathlib.Omega.{arith}
-use lib.IntN.{ℤ}
 use lib.ListN.{length}
 use Rattle.tables.specs.declared.span.Span.{Span}
 use Rattle.tables.specs.Rows.{rootAt, has}
@@ -129,8 +128,8 @@ module _ (s : Store) (f : NewFile) (ok : Sound s) where
 
 -- ---- what no text or row depends on
 
-abbrev pub settled : Store → Bool → ℕ → ℕ → List ℤ → Store
-settled s v2 links held times =
+abbrev pub settled : Store → Bool → ℕ → Store
+settled s v2 links =
     record {
       fs = record {
         «piece_length» = s .fs .«piece_length»;
@@ -138,7 +137,6 @@ settled s v2 links held times =
         «num_files» = s .fs .«num_files»;
         «num_paths» = s .fs .«num_paths»;
         «num_symlinks» = links;
-        «num_mtimes» = held;
         name = s .fs .name;
         «text_len» = s .fs .«text_len»;
         «total_size» = s .fs .«total_size»;
@@ -147,29 +145,27 @@ settled s v2 links held times =
       };
       rows = s .rows;
       roots = s .roots;
-      times = times;
       dirs = s .dirs;
       text = s .text;
     }
 
-span-settled : (s : Store) (v2 : Bool) (links held : ℕ) (times : List ℤ) (p : TextId) → spanOf (settled s v2 links held times) p ≡ spanOf s p
-span-settled s v2 links held times setName = refl
-span-settled s v2 links held times (dirName k) = refl
-span-settled s v2 links held times (fileName k) = refl
-span-settled s v2 links held times (linkText k) = refl
+span-settled : (s : Store) (v2 : Bool) (links : ℕ) (p : TextId) → spanOf (settled s v2 links) p ≡ spanOf s p
+span-settled s v2 links setName = refl
+span-settled s v2 links (dirName k) = refl
+span-settled s v2 links (fileName k) = refl
+span-settled s v2 links (linkText k) = refl
 
-pub sound-settled : (s : Store) (v2 : Bool) (links held : ℕ) (times : List ℤ) → Sound s → held ≤ length times → Sound (settled s v2 links held times)
-sound-settled s v2 links held times ok h =
+pub sound-settled : (s : Store) (v2 : Bool) (links : ℕ) → Sound s → Sound (settled s v2 links)
+sound-settled s v2 links ok =
     record {
       rows-hold = ok .rows-hold;
       roots-hold = ok .roots-hold;
       dirs-hold = ok .dirs-hold;
-      times-hold = h;
       text-holds = ok .text-holds;
       few-files = ok .few-files;
       few-paths = ok .few-paths;
-      within = λ p. rw (span-settled s v2 links held times p) (ok .within p);
-      apart = λ p q d. rw (span-settled s v2 links held times p, span-settled s v2 links held times q) (ok .apart p q d);
+      within = λ p. rw (span-settled s v2 links p) (ok .within p);
+      apart = λ p q d. rw (span-settled s v2 links p, span-settled s v2 links q) (ok .apart p q d);
       full = ok .full;
       offsets = ok .offsets;
       total = ok .total;

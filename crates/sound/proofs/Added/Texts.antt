@@ -4,6 +4,7 @@ use mathlib.Core.Path.{_≡_, sym, ap, _∙_}
 use mathlib.Core.List.{List}
 use Prim.Native.Nat.{ℕ, _+_, _%_, _≤_, _<_}
 use native.Mathlib.Omega.{arith}
+use Rattle.types.specs.Signed.{unzigzag}
 use Rattle.tables.specs.declared.span.Span.{Span}
 use Rattle.tables.specs.declared.rows.Row.{Row}
 use Rattle.tables.specs.Span.{endOf, textAt, Apart}
@@ -53,6 +54,7 @@ fileFrom r name directory link root =
       name = name;
       directory = directory;
       flags = r .flags % 16;
+      time = unzigzag (r .time);
       link = presentIf (has (r .flags) 16) link;
       root = presentIf (has (r .flags) 128) root;
       made = has (r .flags) 64;

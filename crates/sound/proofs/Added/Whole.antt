@@ -5,21 +5,20 @@ use mathlib.Core.List.{List, [], _∷_, _++_}
 use Prim.Native.Nat.{ℕ, _+_, _%_}
 use native.Mathlib.Omega.{arith}
 use lib.Dec.{eqb}
-use lib.IntN.{ℤ}
 use lib.ListN.{length, length-append}
+use Rattle.types.specs.Signed.{zigzag}
 use Rattle.tables.specs.declared.storage.FileStorage.{FileStorage}
 use Rattle.tables.specs.Span.{slid}
 use Rattle.tables.specs.Rows.{has}
 use Rattle.tables.specs.Model.{absent, Directory, single, absolute, stored, Model, Store}
-use Rattle.additions.specs.Addition.{Addition, added, filesOf, sizeAdded, keeps, isV2, padOf, directoryAdded, fileAdded, padAdded, padDirectory, flagsKept, isAmong, withDirectory, withDirectoryOf, isPresent, isZero}
-use Rattle.plan.specs.Write.{directoryIndex, pathIndexOf, isOutside, textIfNew, newTexts, setText, directoryNew, nameText, linkNew, padDirectoryNew, padText, oldName, textKept, putDirIf, isNew, isNewDirectory, isNewPad, rootsAdded, timesAdded, storageAdded, storeAdded}
+use Rattle.additions.specs.Addition.{Addition, added, filesOf, sizeAdded, keeps, isV2, padOf, directoryAdded, fileAdded, padAdded, padDirectory, flagsKept, isAmong, withDirectory, withDirectoryOf, isPresent}
+use Rattle.plan.specs.Write.{directoryIndex, pathIndexOf, isOutside, textIfNew, newTexts, setText, directoryNew, nameText, linkNew, padDirectoryNew, padText, oldName, textKept, putDirIf, isNew, isNewDirectory, isNewPad, rootsAdded, storageAdded, storeAdded}
 use Rattle.plan.proofs.Joined.{sets-joined}
 use Rattle.sound.proofs.Added.SetName.{nameStage}
 use Rattle.sound.proofs.Added.Directories.{dirStage}
 use Rattle.sound.proofs.Added.Files.{NewFile, withFile, padStage}
 use Rattle.sound.proofs.Added.Stages.{settled}
 use Rattle.sound.proofs.Added.Places.{flagsOf, flags-one, kept-small, kept-one}
-use Rattle.sound.proofs.Added.Times.{heldAfter}
 
 -- ---- the stages
 
@@ -31,6 +30,7 @@ newFile m a =
       link = linkNew m a;
       index = pathIndexOf (directoryAdded m a) (m .directories);
       flags = flagsOf (flagsKept (a .flags) (keeps m a)) (keeps m a) (isOutside (directoryAdded m a)) (isPresent (a .root));
+      time = zigzag (a .time);
       root = a .root;
     }
 
@@ -42,6 +42,7 @@ newPad m a =
       link = [];
       index = directoryIndex padDirectory (withDirectoryOf (directoryAdded m a) (m .directories));
       flags = 65;
+      time = 0;
       root = absent;
     }
 
@@ -66,8 +67,6 @@ stage6 s m a =
     (stage5 s m a)
     (isV2 m a)
     (s .fs .«num_symlinks» + cond (keeps m a) 1 0)
-    (heldAfter (isZero (a .time)) (s .fs .«num_mtimes») (s .fs .«num_files»))
-    (timesAdded (s .times) (s .fs .«num_mtimes») (s .fs .«num_files») (a .time))
 
 -- ---- counts
 
@@ -103,12 +102,12 @@ always : {A : Type 0} (b : Bool) (x : A) → x ≡ cond b x x
 always true x = refl
 always false x = refl
 
-abbrev store : FileStorage → List ℕ → List ℕ → List ℤ → List ℕ → List ℕ → Store
-store fs rows roots times dirs text =
-    record { fs = fs; rows = rows; roots = roots; times = times; dirs = dirs; text = text }
+abbrev store : FileStorage → List ℕ → List ℕ → List ℕ → List ℕ → Store
+store fs rows roots dirs text =
+    record { fs = fs; rows = rows; roots = roots; dirs = dirs; text = text }
 
-same-store : {f f′ : FileStorage} {r r′ o o′ d d′ x x′ : List ℕ} {t t′ : List ℤ} → f ≡ f′ → r ≡ r′ → o ≡ o′ → t ≡ t′ → d ≡ d′ → x ≡ x′ → store f r o t d x ≡ store f′ r′ o′ t′ d′ x′
-same-store ef er eo et ed ex = cc
+same-store : {f f′ : FileStorage} {r r′ o o′ d d′ x x′ : List ℕ} → f ≡ f′ → r ≡ r′ → o ≡ o′ → d ≡ d′ → x ≡ x′ → store f r o d x ≡ store f′ r′ o′ d′ x′
+same-store ef er eo ed ex = cc
 
 pad-dirs : (b : Bool) (dirs : List ℕ) (i j at : ℕ) (t : List ℕ) → i ≡ j → (b ≡ true → length t ≡ 4)
     → putDirIf b dirs i (record { at = at; len = 4 }) ≡ putDirIf b dirs j (record { at = at; len = length t })
@@ -160,7 +159,6 @@ module _ (s : Store) (m : Model) (a : Addition) (e : length (m .directories) ≡
           «num_files» = files;
           «num_paths» = paths;
           «num_symlinks» = s .fs .«num_symlinks» + cond (keeps m a) 1 0;
-          «num_mtimes» = heldAfter (isZero (a .time)) (s .fs .«num_mtimes») (s .fs .«num_files»);
           name = cond (eqb (s .fs .«num_files») 0) (record { at = textKept (s .fs); len = length (setText m a) }) (s .fs .name);
           «text_len» = text;
           «total_size» = s .fs .«total_size» + sizeAdded a + padOf m a;
@@ -179,4 +177,4 @@ module _ (s : Store) (m : Model) (a : Addition) (e : length (m .directories) ≡
     fs-is = same-storage (rows-count (eqb (padOf m a) 0) (s .fs .«num_files»)) paths-is (omega arith) (plain ∙ on-disk-is)
 
     pub whole : storeAdded s m a ≡ stage6 s m a
-    whole = same-store fs-is refl (always (eqb (padOf m a) 0) (rootsAdded (s .roots) (s .fs .«num_files») (a .root))) refl dirs-is text-is
+    whole = same-store fs-is refl (always (eqb (padOf m a) 0) (rootsAdded (s .roots) (s .fs .«num_files») (a .root))) dirs-is text-is

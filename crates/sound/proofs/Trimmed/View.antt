@@ -7,10 +7,12 @@ use mathlib.Core.Logic.{_⊎_, inl, inr}
 use Prim.Native.Nat.{ℕ, suc, _+_, _-_, _*_, _%_, _≤_, _<_}
 use native.Mathlib.Omega.{arith}
 use lib.Dec.{eqb, ltb}
+use lib.IntN.{ℤ}
 use lib.ListN.{length, take, drop, replicate, length-drop}
 use lib.Seq.{take-append-le}
 use borrow.Author.Tests.{lt-ltb, le-ltb, eqb-false}
 use Rattle.lists.proofs.Orders.{le-or-lt}
+use Rattle.types.specs.Signed.{unzigzag}
 use Rattle.tables.specs.declared.span.Span.{Span}
 use Rattle.tables.specs.declared.rows.Row.{Row}
 use Rattle.tables.specs.Span.{textAt, Apart, low, lower, slid}
@@ -65,12 +67,13 @@ module _ (roots : List ℕ) (n f k : ℕ) (hf : f < n) (hk : k < n - 1) (hold : 
 
 -- ---- equal records from equal fields
 
-abbrev file : ℕ → ℕ → List ℕ → Directory → ℕ → Optional (List ℕ) → Optional (List ℕ) → Bool → File
-file o s n d g l r m = record { offset = o; size = s; name = n; directory = d; flags = g; link = l; root = r; made = m }
+abbrev file : ℕ → ℕ → List ℕ → Directory → ℕ → ℤ → Optional (List ℕ) → Optional (List ℕ) → Bool → File
+file o s n d g t l r m =
+    record { offset = o; size = s; name = n; directory = d; flags = g; time = t; link = l; root = r; made = m }
 
-same-file : {o o′ s s′ g g′ : ℕ} {n n′ : List ℕ} {d d′ : Directory} {l l′ r r′ : Optional (List ℕ)} {m m′ : Bool}
-    → o ≡ o′ → s ≡ s′ → n ≡ n′ → d ≡ d′ → g ≡ g′ → l ≡ l′ → r ≡ r′ → m ≡ m′ → file o s n d g l r m ≡ file o′ s′ n′ d′ g′ l′ r′ m′
-same-file o s n d g l r m = cc
+same-file : {o o′ s s′ g g′ : ℕ} {n n′ : List ℕ} {d d′ : Directory} {t t′ : ℤ} {l l′ r r′ : Optional (List ℕ)} {m m′ : Bool}
+    → o ≡ o′ → s ≡ s′ → n ≡ n′ → d ≡ d′ → g ≡ g′ → t ≡ t′ → l ≡ l′ → r ≡ r′ → m ≡ m′ → file o s n d g t l r m ≡ file o′ s′ n′ d′ g′ t′ l′ r′ m′
+same-file o s n d g t l r m = cc
 
 -- a file's directory by its path index and flags
 abbrev placeAt : Store → ℕ → ℕ → Directory
@@ -129,6 +132,7 @@ module _ (s : Store) (f : ℕ) (h : f < s .fs .«num_files») (ok : Sound s) whe
       ∙ ap (placeAt after (rowAt (s .rows) (skip f k) .«path_index»)) g
       ∙ place-kept (skip f k) (rowAt (s .rows) (skip f k) .flags) (omega arith))
       (ap (λ (x : ℕ). x % 16) g)
+      (ap (λ (x : Row). unzigzag (x .time)) r)
       (ap (λ (x : ℕ). presentIf (has x 16) (textAt (after .text) (rowAt (after .rows) k .link))) g ∙ ap (presentIf (has (rowAt (s .rows) (skip f k) .flags) 16)) (link-kept k b))
       (ap (λ (x : ℕ). presentIf (has x 128) (rootAt (after .roots) k)) g
       ∙ ap (presentIf (has (rowAt (s .rows) (skip f k) .flags) 128)) (root-after (s .roots) (s .fs .«num_files») f k h b (ok .roots-hold)))

@@ -4,7 +4,7 @@ use mir.Syntax.{w64}
 use mir.Val.{SFits}
 use mir.Facts.{toZ-ofZ}
 use borrow.Author.Needs.{needs}
-use Rattle.rules.specs.Questions.{timesHeld}
+use Rattle.rules.specs.Questions.{rowsHeld}
 use Rattle.answers.specs.Answers.{timeOf}
 use Rattle.rules.proofs.Deciding.{file-value, file-refused}
 use Rattle.answers.proofs.file.mtime.Statement.{statement}
@@ -27,20 +27,20 @@ enum-known-e c = search needs
 
 returns : tie.Need-returns
 returns c =
-    let a = c .before .before .before .before .before .before .args in
+    let a = c .before .before .before .before .before .before .before .args in
     let h = c .before .before .before .before .before .is-held in
     let d = c .before .before .before .before .file-in in
     let k = c .before .before .k .given in
     let fits : SFits w64 (c .time-of .result) = search needs in
-    file-value (a .fs) (a .index .0) (timeOf (a .fs) (a .times .now)) (h .result) (timesHeld (a .fs) (a .times .now)) (d .result) (d .ensures) (h .ensures) (k .0 .0) (k .1)
+    file-value (a .fs) (a .index .0) (timeOf (a .rows .now)) (h .result) (rowsHeld (a .fs) (a .rows .now)) (d .result) (d .ensures) (h .ensures) (k .0 .0) (k .1)
     _ (toZ-ofZ fits ∙ c .time-of .ensures)
 
 returns-2 : tie.Need-returns-2
 returns-2 c =
-    let a = c .before .before .before .before .before .args in
+    let a = c .before .before .before .before .before .before .args in
     let h = c .before .before .before .before .is-held in
     let d = c .before .before .before .file-in in
-    file-refused (a .fs) (a .index .0) (timeOf (a .fs) (a .times .now)) (h .result) (timesHeld (a .fs) (a .times .now)) (d .result) (d .ensures) (h .ensures) _ (c .before .e .given .1)
+    file-refused (a .fs) (a .index .0) (timeOf (a .rows .now)) (h .result) (rowsHeld (a .fs) (a .rows .now)) (d .result) (d .ensures) (h .ensures) _ (c .before .e .given .1)
 
 pub mtime-spec : {M : Type 1} → statement M
 mtime-spec =

@@ -22,18 +22,13 @@ returns-2 c =
     let a = c .before .before .before .before .before .before .args in
     rw (le-leb (a .fs .«num_files») (filesRoom (a .rooms)) (omega arith), lt-leb (a .fs .«num_paths») (dirsRoom (a .rooms)) (omega arith))
 
-returns-3 : tie.Need-returns-3
-returns-3 c =
-    let a = c .before .before .before .before .before .before .before .before .before .args in
-    rw (le-leb (a .fs .«num_files») (filesRoom (a .rooms)) (omega arith), le-leb (a .fs .«num_paths») (dirsRoom (a .rooms)) (omega arith), lt-leb (a .fs .«num_mtimes») (a .rooms .times) (c .if3 .taken))
-
 holds-text-requires : tie.Need-holds-text-requires
 holds-text-requires c κs = search needs
 
-returns-4 : tie.Need-returns-4
-returns-4 c =
-    let a = c .before .before .before .before .before .before .before .before .before .before .args in
-    rw (le-leb (a .fs .«num_files») (filesRoom (a .rooms)) (omega arith), le-leb (a .fs .«num_paths») (dirsRoom (a .rooms)) (omega arith), le-leb (a .fs .«num_mtimes») (a .rooms .times) (c .before .if3 .left)) (c .holds-text .ensures)
+returns-3 : tie.Need-returns-3
+returns-3 c =
+    let a = c .before .before .before .before .before .before .before .args in
+    rw (le-leb (a .fs .«num_files») (filesRoom (a .rooms)) (omega arith), le-leb (a .fs .«num_paths») (dirsRoom (a .rooms)) (omega arith)) (c .holds-text .ensures)
 
 pub holds-spec : {M : Type 1} → statement M
 holds-spec =
@@ -43,6 +38,5 @@ holds-spec =
     returns
     dirs-room-requires
     returns-2
-    returns-3
     holds-text-requires
-    returns-4)
+    returns-3)

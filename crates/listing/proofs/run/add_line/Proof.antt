@@ -40,7 +40,7 @@ enum-told c = search needs
 returns : tie.Need-returns
 returns c =
     let a = c .before .before .before .before .before .before .before .before .args in
-    ap (λ (o : Optional FileEntry). obeyed o (storeOf (a .fs) (a .rows .now) (a .roots .now) (a .times .now) (a .dirs .now) (a .text .now))) (sym (ap (λ (f : FileLine). fileSays f (a .line .now)) (c .enum-told .given .1)) ∙ c .before .before .file-in .ensures)
+    ap (λ (o : Optional FileEntry). obeyed o (storeOf (a .fs) (a .rows .now) (a .roots .now) (a .dirs .now) (a .text .now))) (sym (ap (λ (f : FileLine). fileSays f (a .line .now)) (c .enum-told .given .1)) ∙ c .before .before .file-in .ensures)
 
 part-requires : tie.Need-part-requires
 part-requires c κs = search needs
@@ -51,8 +51,8 @@ part-requires-2 c κs = search needs
 signed64-requires : tie.Need-signed64-requires
 signed64-requires c κs = search needs
 
-cast-t20 : tie.Need-cast-t20
-cast-t20 c = search needs
+cast-t19 : tie.Need-cast-t19
+cast-t19 c = search needs
 
 rooted-by-requires : tie.Need-rooted-by-requires
 rooted-by-requires c κs = search needs
@@ -72,22 +72,19 @@ same-length-3 c = search needs
 same-length-4 : tie.Need-same-length-4
 same-length-4 c = search needs
 
-same-length-5 : tie.Need-same-length-5
-same-length-5 c = search needs
-
 returns-2 : tie.Need-returns-2
 returns-2 c =
-    let a = c .before .before .before .before .before .before .before .before .before .before .before .before .before .before .before .before .before .before .before .before .before .before .before .before .before .before .before .before .args in
-    let s = storeOf (a .fs) (a .rows .now) (a .roots .now) (a .times .now) (a .dirs .now) (a .text .now) in
-    let size = c .before .before .before .before .before .before .before .before .before .before .before .before .before .before .before .before .before .before .before .before .size .given .0 .0 in
-    let flags = c .before .before .before .before .before .before .before .before .before .before .before .before .before .before .before .before .before .before .before .before .size .given .0 .1 .0 in
-    let told = sym (ap (λ (f : FileLine). fileSays f (a .line .now)) (c .before .before .before .before .before .before .before .before .before .before .before .before .before .before .before .before .before .before .before .before .size .given .1)) ∙ c .before .before .before .before .before .before .before .before .before .before .before .before .before .before .before .before .before .before .before .before .before .before .file-in .ensures in
-    let f : SFits w64 (c .before .before .before .before .before .before .before .before .before .before .before .before .before .before .before .before .signed64 .result) = record { sfits = c .before .before .before .before .before .before .before .before .before .before .before .before .before .before .before .before .signed64 .ok } in
-    c .before .before .before .before .before .before .before .before .before .add-file .ensures
+    let a = c .before .before .before .before .before .before .before .before .before .before .before .before .before .before .before .before .before .before .before .before .before .before .before .before .before .before .args in
+    let s = storeOf (a .fs) (a .rows .now) (a .roots .now) (a .dirs .now) (a .text .now) in
+    let size = c .before .before .before .before .before .before .before .before .before .before .before .before .before .before .before .before .before .before .size .given .0 .0 in
+    let flags = c .before .before .before .before .before .before .before .before .before .before .before .before .before .before .before .before .before .before .size .given .0 .1 .0 in
+    let told = sym (ap (λ (f : FileLine). fileSays f (a .line .now)) (c .before .before .before .before .before .before .before .before .before .before .before .before .before .before .before .before .before .before .size .given .1)) ∙ c .before .before .before .before .before .before .before .before .before .before .before .before .before .before .before .before .before .before .before .before .file-in .ensures in
+    let f : SFits w64 (c .before .before .before .before .before .before .before .before .before .before .before .before .before .before .signed64 .result) = record { sfits = c .before .before .before .before .before .before .before .before .before .before .before .before .before .before .signed64 .ok } in
+    c .before .before .before .before .before .before .before .before .add-file .ensures
     ∙ ap (addStored s)
-    (addition-is size flags (c .before .before .before .before .before .before .before .before .before .before .before .before .before .before .before .before .before .before .part .result .now) (c .before .before .before .before .before .before .before .before .before .before .before .before .before .before .before .before .before .part2 .result .now) (a .line .now) _ _ _ (c .before .before .before .before .before .before .before .before .before .before .before .before .before .before .before .before .before .before .part .ensures) (c .before .before .before .before .before .before .before .before .before .before .before .before .before .before .before .before .before .part2 .ensures ∙ part-rest (a .line .now) 19)
-    (toZ-ofZ f ∙ c .before .before .before .before .before .before .before .before .before .before .before .before .before .before .before .before .signed64 .ensures ∙ ap pos (size-is (a .line .now) size flags told)) refl
-    (ap (λ (r : Presence). optionalOf r (replicate 32 1)) (c .before .before .before .before .before .before .before .before .before .before .before .before .before .before .before .rooted-by .ensures) ∙ root-by (leb 16 flags) (replicate 32 1)))
+    (addition-is size flags (c .before .before .before .before .before .before .before .before .before .before .before .before .before .before .before .before .part .result .now) (c .before .before .before .before .before .before .before .before .before .before .before .before .before .before .before .part2 .result .now) (a .line .now) _ _ _ (c .before .before .before .before .before .before .before .before .before .before .before .before .before .before .before .before .part .ensures) (c .before .before .before .before .before .before .before .before .before .before .before .before .before .before .before .part2 .ensures ∙ part-rest (a .line .now) 19)
+    (toZ-ofZ f ∙ c .before .before .before .before .before .before .before .before .before .before .before .before .before .before .signed64 .ensures ∙ ap pos (size-is (a .line .now) size flags told)) refl
+    (ap (λ (r : Presence). optionalOf r (replicate 32 1)) (c .before .before .before .before .before .before .before .before .before .before .before .before .before .rooted-by .ensures) ∙ root-by (leb 16 flags) (replicate 32 1)))
     ∙ ap (λ (o : Optional FileEntry). obeyed o s) told
 
 pub add-line-spec : {M : Type 1} → statement M
@@ -101,12 +98,11 @@ add-line-spec =
     part-requires
     part-requires-2
     signed64-requires
-    cast-t20
+    cast-t19
     rooted-by-requires
     add-file-requires
     same-length
     same-length-2
     same-length-3
     same-length-4
-    same-length-5
     returns-2)

@@ -59,7 +59,7 @@ returns-3 : tie.Need-returns-3
 returns-3 c =
     let a = c .before .before .before .before .before .before .before .before .before .before .before .before .before .args in
     let told = c .before .enum-told .given .1 in
-    ap (λ (x : RunResult). runSays x (a .rows .now) (a .roots .now) (a .times .now) (a .dirs .now) (a .text .now)) (c .stopped-by .ensures ∙ ap (λ (r : StorageResult). stoppedBy r 1) told)
+    ap (λ (x : RunResult). runSays x (a .rows .now) (a .roots .now) (a .dirs .now) (a .text .now)) (c .stopped-by .ensures ∙ ap (λ (r : StorageResult). stoppedBy r 1) told)
     ∙ first-stops (a .input .now) (c .before .before .before .before .before .line-length .result) (c .before .before .before .before .before .before .before .if1 .left) (c .before .before .before .before .before .before .if2 .left) (c .before .before .before .before .before .line-length .ensures) _ (sym (said (c .before .before .before)) ∙ ap storageSays told)
 
 add-add-lines : tie.Need-add-add-lines
@@ -67,12 +67,12 @@ add-add-lines c = omega (arith, c .before .before .before .before .before .line-
 
 add-lines-requires : tie.Need-add-lines-requires
 add-lines-requires c κs =
-    let a = c .before .before .before .before .before .before .before .before .before .before .before .before .before .before .before .before .before .before .args in
-    let b = begun (c .before .before .before .before .before) in (
-      c .before .before .before .before .before .before .before .before .before .before .before .before .before .before .before .before .before .before .pre,
+    let a = c .before .before .before .before .before .before .before .before .before .before .before .before .before .before .before .before .before .args in
+    let b = begun (c .before .before .before .before) in (
+      c .before .before .before .before .before .before .before .before .before .before .before .before .before .before .before .before .before .pre,
       (
-        subst (λ (f : FileStorage). Sound (storeOf f (a .rows .now) (a .roots .now) (a .times .now) (a .dirs .now) (a .text .now))) (sym (b .1)) (sound-opened (b .0) (a .rows .now) (a .roots .now) (a .times .now) (a .dirs .now) (a .text .now)),
-        (omega arith, omega (arith, c .before .before .before .before .before .before .before .before .before .before .line-length .ensures, line-few (a .input .now) 0)),
+        subst (λ (f : FileStorage). Sound (storeOf f (a .rows .now) (a .roots .now) (a .dirs .now) (a .text .now))) (sym (b .1)) (sound-opened (b .0) (a .rows .now) (a .roots .now) (a .dirs .now) (a .text .now)),
+        (omega arith, omega (arith, c .before .before .before .before .before .before .before .before .before .line-length .ensures, line-few (a .input .now) 0)),
       ),
     )
 
@@ -88,16 +88,13 @@ same-length-3 c = search needs
 same-length-4 : tie.Need-same-length-4
 same-length-4 c = search needs
 
-same-length-5 : tie.Need-same-length-5
-same-length-5 c = search needs
-
 returns-4 : tie.Need-returns-4
 returns-4 c =
-    let a = c .before .before .before .before .before .before .before .before .before .before .before .before .before .before .before .before .before .before .before .before .before .before .before .before .before .before .before .before .args in
-    let b = begun (c .before .before .before .before .before .before .before .before .before .before .before .before .before .before .before) in
-    c .before .before .before .before .before .before .before .before .before .add-lines .ensures
-    ∙ ap (λ (f : FileStorage). runFrom places 1 (viewOf (storeOf f (a .rows .now) (a .roots .now) (a .times .now) (a .dirs .now) (a .text .now))) (lines (drop (c .before .before .before .before .before .before .before .before .before .before .before .before .before .before .before .before .before .before .before .before .line-length .result + 1) (a .input .now)))) (b .1)
-    ∙ ap (λ (m : Model). runFrom places 1 m (lines (drop (c .before .before .before .before .before .before .before .before .before .before .before .before .before .before .before .before .before .before .before .before .line-length .result + 1) (a .input .now)))) (view-opened (b .0) (a .rows .now) (a .roots .now) (a .times .now) (a .dirs .now) (a .text .now))
+    let a = c .before .before .before .before .before .before .before .before .before .before .before .before .before .before .before .before .before .before .before .before .before .before .before .before .before .before .args in
+    let b = begun (c .before .before .before .before .before .before .before .before .before .before .before .before .before) in
+    c .before .before .before .before .before .before .before .before .add-lines .ensures
+    ∙ ap (λ (f : FileStorage). runFrom places 1 (viewOf (storeOf f (a .rows .now) (a .roots .now) (a .dirs .now) (a .text .now))) (lines (drop (c .before .before .before .before .before .before .before .before .before .before .before .before .before .before .before .before .before .before .line-length .result + 1) (a .input .now)))) (b .1)
+    ∙ ap (λ (m : Model). runFrom places 1 m (lines (drop (c .before .before .before .before .before .before .before .before .before .before .before .before .before .before .before .before .before .before .line-length .result + 1) (a .input .now)))) (view-opened (b .0) (a .rows .now) (a .roots .now) (a .dirs .now) (a .text .now))
     ∙ b .2
 
 pub run-input-spec : {M : Type 1} → statement M
@@ -119,5 +116,4 @@ run-input-spec =
     same-length-2
     same-length-3
     same-length-4
-    same-length-5
     returns-4)

@@ -2,7 +2,7 @@
 use native.Mathlib.Omega.{arith}
 use borrow.Author.Needs.{needs}
 use borrow.Author.Tests.{lt-ltb, le-ltb}
-use Rattle.change.specs.Rooms.{filesRoom, dirsRoom}
+use Rattle.change.specs.Rooms.{filesRoom}
 use Rattle.plan.proofs.counts.is_short.Statement.{statement}
 use Rattle.plan.proofs.counts.is_short.Tie as tie
 
@@ -19,13 +19,8 @@ dirs-room-requires c κs = search needs
 
 returns-2 : tie.Need-returns-2
 returns-2 c =
-    let a = c .before .before .before .before .args in
-    rw (le-ltb (filesRoom (a .rooms)) (a .files) (omega arith), lt-ltb (dirsRoom (a .rooms)) (a .dirs) (omega arith))
-
-returns-3 : tie.Need-returns-3
-returns-3 c =
-    let a = c .before .before .before .before .before .args in
-    rw (le-ltb (filesRoom (a .rooms)) (a .files) (omega arith), le-ltb (dirsRoom (a .rooms)) (a .dirs) (omega arith))
+    let a = c .before .before .before .args in
+    rw (le-ltb (filesRoom (a .rooms)) (a .files) (omega arith), c .dirs-room .ensures)
 
 pub is-short-spec : {M : Type 1} → statement M
-is-short-spec = tie.close (tie.spec files-room-requires returns dirs-room-requires returns-2 returns-3)
+is-short-spec = tie.close (tie.spec files-room-requires returns dirs-room-requires returns-2)

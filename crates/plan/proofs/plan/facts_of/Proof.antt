@@ -4,15 +4,15 @@ use mathlib.Core.Bool.{Bool}
 use Prim.Native.Nat.{ℕ}
 use mir.Syntax.{w64}
 use mir.Facts.{toZ-ofZ}
-use Rattle.additions.specs.Addition.{isZero}
+use Rattle.types.specs.Signed.{zigzag}
 use Rattle.plan.specs.declared.counts.FileFacts.{FileFacts}
 use borrow.Author.Needs.{needs}
 use Rattle.plan.proofs.plan.facts_of.Statement.{statement}
 use Rattle.plan.proofs.plan.facts_of.Tie as tie
 
-same : {f : ℕ} {k k' u u' r r' : Bool} → k ≡ k' → u ≡ u' → r ≡ r'
-    → _≡_ {A = FileFacts} (record { flags = f; «keeps_link» = k; untimed = u; «has_root» = r })
-    (record { flags = f; «keeps_link» = k'; untimed = u'; «has_root» = r' })
+same : {f t t' : ℕ} {k k' r r' : Bool} → k ≡ k' → r ≡ r' → t ≡ t'
+    → _≡_ {A = FileFacts} (record { flags = f; «keeps_link» = k; «has_root» = r; time = t })
+    (record { flags = f; «keeps_link» = k'; «has_root» = r'; time = t' })
 same e f g = cc
 
 cast-t5 : tie.Need-cast-t5
@@ -21,16 +21,16 @@ cast-t5 c = search needs
 keeps-link-requires : tie.Need-keeps-link-requires
 keeps-link-requires c κs = search needs
 
-is-zero-requires : tie.Need-is-zero-requires
-is-zero-requires c κs = search needs
-
 is-here-requires : tie.Need-is-here-requires
 is-here-requires c κs = search needs
+
+zigzag64-requires : tie.Need-zigzag64-requires
+zigzag64-requires c κs = search needs
 
 returns : tie.Need-returns
 returns c =
     let i = c .before .before .before .before .before .before .args .file in
-    same (c .before .before .before .keeps-link .ensures) (c .before .is-zero .ensures ∙ ap isZero (toZ-ofZ {w = w64} {z = i .mtime} (record { sfits = c .before .before .struct-told .given .1 .1 .1 .0 .1 }))) (c .is-here .ensures)
+    same (c .before .before .before .keeps-link .ensures) (c .before .before .is-here .ensures) (c .zigzag64 .ensures ∙ ap zigzag (toZ-ofZ {w = w64} {z = i .mtime} (record { sfits = c .before .struct-told .given .1 .1 .1 .0 .1 })))
 
 pub facts-of-spec : {M : Type 1} → statement M
-facts-of-spec = tie.close (tie.spec cast-t5 keeps-link-requires is-zero-requires is-here-requires returns)
+facts-of-spec = tie.close (tie.spec cast-t5 keeps-link-requires is-here-requires zigzag64-requires returns)

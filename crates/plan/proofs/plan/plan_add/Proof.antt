@@ -6,6 +6,7 @@ use mathlib.Core.Bool.{Bool, true}
 use Prim.Native.Nat.{ℕ}
 use borrow.Author.Tests.{not-true, not-false}
 use lib.ListN.{length}
+use Rattle.types.specs.Signed.{zigzag}
 use Rattle.tables.specs.Span.{textAt}
 use Rattle.tables.specs.Model.{Store, storeOf, viewOf}
 use Rattle.rules.specs.Rules.{firstOf, outcomeOf}
@@ -14,7 +15,7 @@ use Rattle.change.specs.Rooms.{holds}
 use Rattle.additions.specs.declared.checks.Sizes.{Sizes}
 use Rattle.additions.specs.declared.checks.SizesResult.the-variants.{Ok}
 use Rattle.additions.specs.declared.parts.PathParts.{PathParts}
-use Rattle.additions.specs.Addition.{Addition, isPresent, isZero, keepsLink, additionOf}
+use Rattle.additions.specs.Addition.{Addition, isPresent, keepsLink, additionOf}
 use Rattle.additions.specs.private.Texts.{isHere, nameFrom, linkTextOf, PartsWithin}
 use Rattle.additions.specs.Parts.{partsOf}
 use Rattle.additions.specs.private.Checks.{sizesSays, sizesFor, numberRules}
@@ -27,7 +28,7 @@ use Rattle.plan.proofs.plan.plan_add.Statement.{statement}
 use Rattle.plan.proofs.plan.plan_add.Tie as tie
 
 abbrev tables : tie.Start → Store
-tables c = storeOf (c .args .fs) (c .args .rows .now) (c .args .roots .now) (c .args .times .now) (c .args .dirs .now) (c .args .text .now)
+tables c = storeOf (c .args .fs) (c .args .rows .now) (c .args .roots .now) (c .args .dirs .now) (c .args .text .now)
 
 abbrev call : tie.Start → Addition
 call c = additionOf (c .args .file) (c .args .filename .now) (c .args .path .now) (c .args .symlink-path .now)
@@ -69,8 +70,8 @@ with-root c root =
     record {
       flags = call c .flags;
       «keeps_link» = keepsLink (c .args .fs .«num_symlinks») (call c .link);
-      untimed = isZero (call c .time);
       «has_root» = root;
+      time = zigzag (call c .time);
     }
 
 facts-are : (c : tie.Start) → factsOf (c .args .fs) (c .args .file) (c .args .symlink-path .now) ≡ with-root c (isPresent (call c .root))

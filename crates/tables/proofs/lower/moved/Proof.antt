@@ -17,7 +17,7 @@ moved-is : (f total : ℕ) (c d : Span) (i : ℕ) (row : Row) {o : ℕ} {n n′ 
     → n′ ≡ low d n
     → l ≡ low c (row .link)
     → l′ ≡ low d l
-    → _≡_ {A = Row} (record { offset = o; size = row .size; name = n′; link = l′; «path_index» = row .«path_index»; flags = row .flags }) (rowMoved f total c d i row)
+    → _≡_ {A = Row} (record { offset = o; size = row .size; name = n′; link = l′; «path_index» = row .«path_index»; flags = row .flags; time = row .time }) (rowMoved f total c d i row)
 moved-is f total c d i row p q q′ r r′ = rw (p, q′, q, r′, r)
 
 offset-moved-requires : tie.Need-offset-moved-requires

@@ -5,7 +5,7 @@ use mathlib.Core.List.{[], _∷_}
 use Prim.Native.Nat.{_*_}
 use native.Mathlib.Omega.{arith}
 use Rattle.lists.proofs.Runs.{sets-past, sets-append}
-use Rattle.tables.specs.Rows.{words}
+use Rattle.tables.specs.Rows.{packed, words}
 use Rattle.tables.proofs.rows.put_row.Statement.{statement}
 use Rattle.tables.proofs.rows.put_row.Tie as tie
 
@@ -16,6 +16,9 @@ returns c =
 
 mul-base : tie.Need-mul-base
 mul-base c = search needs
+
+packed-word-requires : tie.Need-packed-word-requires
+packed-word-requires c κs = search needs
 
 put-four-requires : tie.Need-put-four-requires
 put-four-requires c κs = search needs
@@ -31,11 +34,11 @@ same-length c = search needs
 
 returns-2 : tie.Need-returns-2
 returns-2 c =
-    let a = c .before .before .before .before .before .before .before .before .before .before .args in
+    let a = c .before .before .before .before .before .before .before .before .before .before .before .args in
     let r = a .row in
-    let first = r .offset ∷ r .size ∷ r .name .at ∷ r .name .len ∷ [] in
-    let last = r .link .at ∷ r .link .len ∷ r .«path_index» ∷ r .flags ∷ [] in
-    c .before .before .put-four2 .ensures ∙ rw (c .before .before .before .before .before .before .put-four .ensures) (sym (sets-append first last (a .rows .now) (a .i * 8)))
+    let first = r .offset ∷ packed (r .size) (r .flags) ∷ r .name .at ∷ r .name .len ∷ [] in
+    let last = r .link .at ∷ r .link .len ∷ r .«path_index» ∷ r .time ∷ [] in
+    c .before .before .put-four2 .ensures ∙ rw (c .before .before .before .before .before .before .put-four .ensures, c .before .before .before .before .before .before .before .packed-word .ensures) (sym (sets-append first last (a .rows .now) (a .i * 8)))
 
 pub put-row-spec : {M : Type 1} → statement M
 put-row-spec =
@@ -43,6 +46,7 @@ put-row-spec =
     (tie.spec
     returns
     mul-base
+    packed-word-requires
     put-four-requires
     add-put-four
     put-four-requires-2

@@ -14,11 +14,11 @@ returns c =
 mul-base : tie.Need-mul-base
 mul-base c = search needs
 
-word-requires : tie.Need-word-requires
-word-requires c κs = search needs
-
 add-word : tie.Need-add-word
 add-word c = search needs
+
+word-requires : tie.Need-word-requires
+word-requires c κs = search needs
 
 word-requires-2 : tie.Need-word-requires-2
 word-requires-2 c κs = search needs
@@ -60,9 +60,7 @@ word-requires-8 : tie.Need-word-requires-8
 word-requires-8 c κs = search needs
 
 returns-2 : tie.Need-returns-2
-returns-2 c =
-    let a = c .before .before .before .before .before .before .before .before .before .before .args in
-    cc
+returns-2 c = cc
 
 pub row-at-spec : {M : Type 1} → statement M
 row-at-spec =
@@ -70,8 +68,8 @@ row-at-spec =
     (tie.spec
     returns
     mul-base
-    word-requires
     add-word
+    word-requires
     word-requires-2
     add-word-2
     word-requires-3

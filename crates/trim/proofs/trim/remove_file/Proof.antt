@@ -1,6 +1,4 @@
 -- `storage::trim::remove_file` meets its contract.
-use mathlib.Core.Path.{refl}
-use mathlib.Core.List.{[]}
 use Rattle.tables.specs.Model.{Store}
 use Rattle.trim.proofs.Trims.{trimmed}
 use borrow.Author.Needs.{needs}
@@ -50,13 +48,12 @@ returns c =
     let first = c .before .before .before .before .before .before .before .before .before .before .before .before .before .before .before .before .before .before .first-gone in
     let second = c .before .before .before .before .before .before .before .before .before .before .before .before .before .before .before .before .before .second-gone in
     let left = c .before .before .before .before .before .before .before .before .before .before .before .before .before .before .before .before .storage-without in
-    let s : Store = record { fs = a .fs; rows = a .rows .now; roots = a .roots .now; times = []; dirs = a .dirs .now; text = a .text .now } in
+    let s : Store = record { fs = a .fs; rows = a .rows .now; roots = a .roots .now; dirs = a .dirs .now; text = a .text .now } in
     let t : Store =
     record {
       fs = left .result;
       rows = c .before .before .before .before .before .before .before .before .before .before .before .before .before .before .remove-row .last .0;
       roots = c .before .before .before .before .before .before .before .before .before .before .remove-root .last .0;
-      times = [];
       dirs = c .before .before .before .before .before .before .lower-spans .last .0;
       text = c .before .before .remove-texts .last .0;
     } in
@@ -65,7 +62,6 @@ returns c =
       fs = left .ensures;
       rows = c .before .before .before .before .before .before .before .before .before .before .before .before .before .before .remove-row .ensures;
       roots = c .before .before .before .before .before .before .before .before .before .before .remove-root .ensures;
-      times = refl;
       dirs = c .before .before .before .before .before .before .lower-spans .ensures;
       text = c .before .before .remove-texts .ensures;
     })

@@ -1,7 +1,6 @@
 -- `storage::trim::remove_tail_padding` meets its contract.
 use mathlib.Core.Path.{_≡_, sym, ap, _∙_}
 use mathlib.Core.Bool.{true, false}
-use mathlib.Core.List.{[]}
 use borrow.Author.Needs.{needs}
 use borrow.Author.Tests.{not-true, not-false}
 use Rattle.tables.specs.Model.{Store}
@@ -19,7 +18,6 @@ lent c =
       fs = c .args .fs;
       rows = c .args .rows .now;
       roots = c .args .roots .now;
-      times = c .args .times .now;
       dirs = c .args .dirs .now;
       text = c .args .text .now;
     }
@@ -88,7 +86,6 @@ returns-4 c =
       fs = c .before .before .before .before .before .before .before .before .remove-file .result;
       rows = c .before .before .before .before .before .before .before .before .remove-file .last .1 .0;
       roots = c .before .before .before .before .before .before .before .before .remove-file .last .1 .1 .0;
-      times = [];
       dirs = c .before .before .before .before .before .before .before .before .remove-file .last .1 .1 .1 .0;
       text = c .before .before .before .before .before .before .before .before .remove-file .last .1 .1 .1 .1 .0;
     } in
