@@ -1,5 +1,6 @@
 -- What the layout answers mean, proved: numbers of pieces, the answers on tables that hold files of given sizes, and the same
--- for every list of calls.
+-- for every list of calls; and what `mtime` means.
 pub mod Numbers
 pub mod Tables
 pub mod Answers
+pub mod Times

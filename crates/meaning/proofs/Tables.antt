@@ -47,7 +47,7 @@ use Rattle.meaning.specs.Layout.{mappedStart, inclusiveBegin, pieceAfter
 use Rattle.meaning.proofs.Numbers.{end-is, end-low, some-file, next, piece-of, quotient-low, round-up, size-of}
 
 -- no rule holds
-given : {A : Type 0} (rs : List Rule) → Passed rs → (a : A) → answered rs a ≡ value a
+pub given : {A : Type 0} (rs : List Rule) → Passed rs → (a : A) → answered rs a ≡ value a
 given rs p a = rw (first-none rs p)
 
 -- a number that 31 bits hold
