@@ -6,7 +6,7 @@ use bitdaemon_core::file_storage::{FileFlags, FileStorage};
 
 use crate::best::{Best, STRETCH};
 use crate::compare;
-use crate::inputs::{Case, Input, PIECE_LENGTH, inputs};
+use crate::inputs::{self, Case, Input, PIECE_LENGTH};
 use crate::port::Set;
 
 /// So many files, so many sets at a time, and so many repetitions.
@@ -64,7 +64,8 @@ pub fn add_port(set: &mut Set, i: &Input) {
 
 /// Runs a case: in each repetition the Rust, the Rust with `reserve`, the port, and the comparison.
 fn run(case: Case, sets: usize, repetitions: usize) -> Times {
-    let inputs = inputs(case);
+    let inputs = inputs::inputs(case);
+    let given = inputs::times(&inputs);
     let text = inputs.iter().map(|i| i.path.len() + 8).sum::<usize>() + 64;
     let mut port: Vec<Set> = (0..sets).map(|_| Set::new(case.files, case.directories + 1, text)).collect();
     let mut times = Times::default();
@@ -76,8 +77,9 @@ fn run(case: Case, sets: usize, repetitions: usize) -> Times {
         port.iter_mut().for_each(Set::clear);
         times.port.keep(stretches(&mut port, &inputs, add_port));
         for (rust, port) in rust.iter_mut().zip(&mut port) {
-            compare::compare(rust, port);
-            compare::compare_trimmed(rust, port);
+            compare::compare(rust, &given, port);
+            compare::compare_times(rust, &given);
+            compare::compare_trimmed(rust, &mut given.clone(), port);
         }
     }
     times

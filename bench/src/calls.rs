@@ -1,6 +1,7 @@
-//! Additions with given names, link texts and flags, layout questions, and refused calls, on both sides: what is refused is compared by
-//! document 01's number, and what is built by its rows. 2, 6 and 7, where the Rust has assertions, and 1 and 10
-//! to 14, where it has no counterpart, are those that document 01's words ask for.
+//! Additions with given names, link texts, flags and times, trims, layout questions, and refused calls, on both sides:
+//! what is refused is compared by document 01's number, and must leave all that is lent as it was; what is built is
+//! compared by its rows. 2, 6 and 7, where the Rust has assertions, and 1 and 10 to 14, where it has no counterpart, are
+//! those that document 01's words ask for; times are those that the additions gave.
 
 use bitdaemon_common::{FileIndex, PieceIndex, Sha256Hash};
 use bitdaemon_core::Error;
@@ -39,6 +40,8 @@ const NAMES: [&[u8]; 5] = [b"", b"n", b"m/n", b"/n", b"."];
 
 const LINKS: [&[u8]; 5] = [b"a", b"x/a", b"/etc", b"..", b"."];
 
+const TIMES: [i64; 10] = [0, 0, 0, 1, -1, -2, i64::MIN, i64::MIN + 1, i64::MAX, i64::MAX - 1];
+
 /// Plays random sets on both sides, and asks the port what is refused.
 pub fn check() {
     let mut random = Random::new();
@@ -74,32 +77,47 @@ fn addition(random: &mut Random, rooted: u64, total: i64) -> Addition {
         path,
         size: one_of(random, &sizes[..usual]),
         flags: if once_in(random, 3) { random.next() as u8 } else { 0 },
-        time: if once_in(random, 4) { random.next() as i64 } else { 0 },
+        time: if once_in(random, 4) { random.next() as i64 } else { one_of(random, &TIMES) },
         link: if once_in(random, 4) { one_of(random, &LINKS).to_vec() } else { Vec::new() },
         root: once_in(random, rooted).then(|| [random.next() as u8; 32]),
     }
 }
 
-/// One set: each addition on both sides, then the trim.
+/// One set: additions on both sides, with trims among them and one at the end.
 fn play(random: &mut Random) {
     let mut rust = FileStorage::new();
     rust.set_piece_length(PIECE_LENGTH);
     let mut port = Set::new(64, 64, 65536);
+    let (mut times, mut is_trimmed) = (Vec::new(), false);
     let rooted = one_of(random, &[1, 1, 2, 1000]);
+    let trims = one_of(random, &[2, 4, 1000]);
     for _ in 0..1 + random.next() % ADDITIONS {
+        if once_in(random, trims) {
+            is_trimmed |= compare::compare_trimmed(&mut rust, &mut times, &mut port);
+        }
         let addition = addition(random, rooted, rust.total_size());
         let mut after = rust.clone();
         let refusal = add(&mut after, &addition);
+        port.set_unused(7);
+        let before = port.clone();
         assert_eq!(port.add(&addition), refusal, "the number of the refusal");
         if refusal == 0 {
             rust = after;
+            times.push(addition.time);
+            times.resize(rust.num_files() as usize, 0);
+            assert_eq!(port.unused(), 0, "the word that is not used");
+        } else {
+            assert!(port == before, "a refusal changes what was lent");
         }
         rust.set_num_pieces(calc_num_pieces(&rust));
-        compare::compare(&rust, &port);
+        compare::compare(&rust, &times, &port);
         compare::compare_links(&rust, &port);
+        if !is_trimmed {
+            compare::compare_times(&rust, &times);
+        }
         ask(random, &rust, &port);
     }
-    compare::compare_trimmed(&mut rust, &mut port);
+    compare::compare_trimmed(&mut rust, &mut times, &mut port);
 }
 
 /// Random blocks, into columns and into records that may be too short, random places of files, and random offsets.
@@ -252,7 +270,10 @@ fn refusals() {
     assert_eq!(short.add(&plain(b"s/abc", 1)), 10, "four bytes of text");
     assert_eq!(short.add(&plain(b"s/ab", 1)), 0, "three bytes of text");
     set.set_piece_length(0);
+    set.set_unused(7);
+    let before = set.clone();
     assert_eq!(set.add(&plain(b"s/d", 1)), 1, "no piece length");
     assert_eq!(set.remove_tail_padding(), 1, "no piece length");
     assert_eq!(set.map_file(0, 0, 1).refusal, 1, "no piece length");
+    assert!(set == before, "a refusal changes what was lent");
 }

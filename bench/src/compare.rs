@@ -5,9 +5,13 @@ use bitdaemon_core::file_storage::FileStorage;
 
 use crate::port::Set;
 
-/// The counts, the totals, the set's name, the directories, and each file's row, name, time and root.
-pub fn compare(rust: &FileStorage, port: &Set) {
-    counts(rust, port);
+/// The counts, the totals, the set's name, the directories, and each file's row, name, time and root. The times are
+/// those that additions gave, also where the Rust has others after a trim.
+pub fn compare(rust: &FileStorage, times: &[i64], port: &Set) {
+    assert_eq!(rust.num_files() as usize, port.num_files(), "number of files");
+    assert_eq!(rust.total_size() as u64, port.total_size(), "total size");
+    assert_eq!(rust.size_on_disk() as u64, port.size_on_disk(), "size on disk");
+    assert_eq!(times.len(), port.num_files(), "number of times given");
     assert_eq!(rust.v2(), port.v2(), "v2");
     assert_eq!(rust.name(), port.name(), "the set's name");
     assert_eq!(rust.paths().len(), port.num_paths(), "number of directories");
@@ -20,7 +24,7 @@ pub fn compare(rust: &FileStorage, port: &Set) {
         assert_eq!(rust.file_size(file) as u64, row.size, "size of file {i}");
         assert_eq!(rust.file_name(file), port.part(row.name.0, row.name.1), "name of file {i}");
         assert_eq!(rust.pad_file_at(file), row.flags & 1 == 1, "pad of file {i}");
-        assert_eq!(rust.mtime(file), port.time(i), "time of file {i}");
+        assert_eq!(times[i], row.time, "time of file {i}");
         assert_eq!(rust.root(file).as_bytes(), port.root(i), "root of file {i}");
     }
 }
@@ -38,16 +42,24 @@ pub fn compare_links(rust: &FileStorage, port: &Set) {
     }
 }
 
-/// The number of files and both totals.
-fn counts(rust: &FileStorage, port: &Set) {
-    assert_eq!(rust.num_files() as usize, port.num_files(), "number of files");
-    assert_eq!(rust.total_size() as u64, port.total_size(), "total size");
-    assert_eq!(rust.size_on_disk() as u64, port.size_on_disk(), "size on disk");
+/// The times that additions gave, beside the Rust's: both are the same until a trim has removed a pad.
+pub fn compare_times(rust: &FileStorage, times: &[i64]) {
+    for (i, &time) in times.iter().enumerate() {
+        assert_eq!(rust.mtime(FileIndex(i as i32)), time, "the Rust's time of file {i}");
+    }
 }
 
-/// The same once the pad at the end is removed.
-pub fn compare_trimmed(rust: &mut FileStorage, port: &mut Set) {
+/// The same once the pad at the end is removed, if there is one, and its time; says whether there was one.
+pub fn compare_trimmed(rust: &mut FileStorage, times: &mut Vec<i64>, port: &mut Set) -> bool {
+    let last = (0..rust.num_files()).rev().find(|&i| rust.file_size(FileIndex(i)) > 0);
+    let pad = last.filter(|&i| rust.pad_file_at(FileIndex(i)));
+    if let Some(i) = pad {
+        times.remove(i as usize);
+    }
     rust.remove_tail_padding();
+    port.set_unused(7);
     assert_eq!(port.remove_tail_padding(), 0, "the trim is refused");
-    counts(rust, port);
+    assert_eq!(port.unused(), 0, "the word that is not used");
+    compare(rust, times, port);
+    pad.is_some()
 }

@@ -58,6 +58,11 @@ pub fn inputs(case: Case) -> Vec<Input> {
         .collect()
 }
 
+/// The times of the set's files: an addition's own, and 0 for the pad behind each file of a v2 set.
+pub fn times(inputs: &[Input]) -> Vec<i64> {
+    inputs.iter().flat_map(|i| [Some(i.time), i.root.map(|_| 0)]).flatten().collect()
+}
+
 /// Random numbers, the same in every run (the generator SplitMix64).
 pub struct Random(u64);
 

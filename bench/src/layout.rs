@@ -10,7 +10,7 @@ use bitdaemon_core::file_storage::{FileSlice, FileStorage, calc_num_pieces};
 use crate::additions::{add_port, add_rust, rust_sets};
 use crate::best::{Best, STRETCH};
 use crate::compare;
-use crate::inputs::{Input, PIECE_LENGTH, Random, layout_inputs};
+use crate::inputs::{self, Input, PIECE_LENGTH, Random, layout_inputs};
 use crate::port::{Columns, Set, Slice};
 
 /// How many files the sets have.
@@ -84,7 +84,7 @@ fn sets(files: usize, length: i32) -> Sets {
         add_port(&mut port, input);
     }
     rust.set_num_pieces(calc_num_pieces(&rust));
-    compare::compare(&rust, &port);
+    compare::compare(&rust, &inputs::times(&inputs), &port);
     let (blocks, places, offsets) = questions(&inputs, i64::from(length));
     Sets { rust, port, blocks, places, offsets }
 }

@@ -1,5 +1,5 @@
-//! `sanitize_symlinks` of the unchanged Rust and of the port on the same sets; flags and texts are compared afterwards. A refusal must
-//! leave all that was lent as it was.
+//! `sanitize_symlinks` of the unchanged Rust and of the port on the same sets; flags, texts and times are compared
+//! afterwards. A refusal must leave all that was lent as it was.
 
 use std::time::{Duration, Instant};
 
@@ -13,6 +13,9 @@ use crate::port::{Addition, Set};
 const SIZES: [(usize, usize, usize); 4] = [(0, 1000, 50), (100, 50, 50), (1_000, 2, 20), (10_000, 1, 3)];
 
 const SYMLINK: u8 = 8;
+
+/// The times of files, in turn.
+const TIMES: [i64; 5] = [1_700_000_000, 0, -1, i64::MIN, i64::MAX];
 
 /// Files, links to directories, and links of four kinds in turn: to a file, to a link beside it, to a file through a link, and to
 /// nothing in the set.
@@ -35,11 +38,12 @@ fn additions(links: usize) -> Vec<Addition> {
         };
         link(format!("set/links/link{i:06}"), text)
     });
-    files.chain(ways).chain(others).collect()
+    let timed = |(i, a): (usize, Addition)| Addition { time: TIMES[i % TIMES.len()], ..a };
+    files.chain(ways).chain(others).enumerate().map(timed).collect()
 }
 
-/// The sets before a cleaning, with room for each link's own path.
-fn sets(links: usize) -> (FileStorage, Set) {
+/// The sets before a cleaning, with room for each link's own path, and the times that were given.
+fn sets(links: usize) -> (FileStorage, Vec<i64>, Set) {
     let all = additions(links);
     let text = all.iter().map(|a| 2 * a.path.len() + a.link.len() + 8).sum::<usize>() + 64;
     let mut port = Set::new(all.len(), 16, text);
@@ -47,15 +51,16 @@ fn sets(links: usize) -> (FileStorage, Set) {
     rust.set_piece_length(PIECE_LENGTH);
     for a in &all {
         assert_eq!(port.add(a), 0, "the port refuses");
-        let answer = rust.add_file(None, &a.path, a.size, FileFlags::from_bits(a.flags), 0, &a.link, None);
+        let answer = rust.add_file(None, &a.path, a.size, FileFlags::from_bits(a.flags), a.time, &a.link, None);
         assert!(answer.is_ok(), "the Rust refuses");
     }
-    (rust, port)
+    (rust, all.iter().map(|a| a.time).collect(), port)
 }
 
 /// The best times of so many cleanings by the Rust and by the port.
 fn run(links: usize, count: usize, repetitions: usize) -> (Duration, Duration) {
-    let (rust, port) = sets(links);
+    let (rust, times, mut port) = sets(links);
+    port.set_unused(7);
     let (mut best_rust, mut best_port) = (Duration::MAX, Duration::MAX);
     for _ in 0..repetitions {
         let mut cleaned = vec![rust.clone(); count];
@@ -70,7 +75,9 @@ fn run(links: usize, count: usize, repetitions: usize) -> (Duration, Duration) {
         }
         best_port = best_port.min(start.elapsed());
         assert!(work == port.work_space(0), "the work space is not cleared");
-        compare::compare(&cleaned[0], &ours[0]);
+        assert_eq!(ours[0].unused(), 0, "the word that is not used");
+        compare::compare(&cleaned[0], &times, &ours[0]);
+        compare::compare_times(&cleaned[0], &times);
         compare::compare_links(&cleaned[0], &ours[0]);
     }
     (best_rust, best_port)
@@ -89,6 +96,7 @@ fn refusals() {
     let mut set = Set::new(1, 1, 4);
     let link = Addition { path: b"s/d/n".to_vec(), link: b"/".to_vec(), flags: SYMLINK, ..Addition::default() };
     assert_eq!(set.add(&link), 0);
+    set.set_unused(7);
     let refused = |set: &Set, short: fn(&mut crate::port::WorkSpace), number: u32, why: &str| {
         let (mut ours, mut work, mut lent) = (set.clone(), set.work_space(7), set.work_space(7));
         short(&mut work);

@@ -10,8 +10,6 @@ unsafe extern "C" {
         rows_len: usize,
         roots: *mut u8,
         roots_len: usize,
-        times: *mut i64,
-        times_len: usize,
         dirs: *mut u64,
         dirs_len: usize,
         text: *mut u8,
@@ -36,8 +34,6 @@ unsafe extern "C" {
         rows_len: usize,
         roots: *mut u8,
         roots_len: usize,
-        times: *mut i64,
-        times_len: usize,
         dirs: *mut u64,
         dirs_len: usize,
         text: *mut u8,
@@ -112,6 +108,9 @@ unsafe extern "C" {
     ) -> i64;
 }
 
+/// The bit of a row's flags that says whether the file has a root.
+const ROOT: u64 = 128;
+
 /// A file as its row says it.
 pub struct Row {
     pub offset: u64,
@@ -120,6 +119,7 @@ pub struct Row {
     pub link: (usize, usize),
     pub directory: usize,
     pub flags: u64,
+    pub time: i64,
 }
 
 /// The arguments of an addition.
@@ -186,7 +186,6 @@ pub struct Set {
     state: [u64; 12],
     rows: Vec<u64>,
     roots: Vec<u8>,
-    times: Vec<i64>,
     dirs: Vec<u64>,
     text: Vec<u8>,
 }
@@ -198,7 +197,6 @@ impl Set {
             state: [0; 12],
             rows: vec![0; files * 8],
             roots: vec![0; files * 32],
-            times: vec![0; files],
             dirs: vec![0; directories * 2],
             text: vec![0; text],
         };
@@ -212,7 +210,6 @@ impl Set {
         self.state[0] = PIECE_LENGTH as u64;
         self.rows.fill(0);
         self.roots.fill(0);
-        self.times.fill(0);
         self.dirs.fill(0);
         self.text.fill(0);
     }
@@ -229,8 +226,6 @@ impl Set {
                 self.rows.len(),
                 self.roots.as_mut_ptr(),
                 self.roots.len(),
-                self.times.as_mut_ptr(),
-                self.times.len(),
                 self.dirs.as_mut_ptr(),
                 self.dirs.len(),
                 self.text.as_mut_ptr(),
@@ -262,8 +257,6 @@ impl Set {
                 self.rows.len(),
                 self.roots.as_mut_ptr(),
                 self.roots.len(),
-                self.times.as_mut_ptr(),
-                self.times.len(),
                 self.dirs.as_mut_ptr(),
                 self.dirs.len(),
                 self.text.as_mut_ptr(),
@@ -294,8 +287,6 @@ impl Set {
                 self.rows.len(),
                 self.roots.as_mut_ptr(),
                 self.roots.len(),
-                self.times.as_mut_ptr(),
-                self.times.len(),
                 self.dirs.as_mut_ptr(),
                 self.dirs.len(),
                 self.text.as_mut_ptr(),
@@ -304,10 +295,9 @@ impl Set {
         }
     }
 
-    /// Puts a block's slices into the columns, and gives their number, or minus the number of the refusal.
-    #[inline]
-    /// Cleans the links of the set, with a work space that is lent.
+    /// Cleans the links of the set with a work space that is lent, and gives the number of the refusal, 0 for none.
     pub fn sanitize_symlinks(&mut self, work: &mut WorkSpace) -> u32 {
+        // SAFETY: as above.
         unsafe {
             niflathen_sanitize_symlinks(
                 &mut self.state,
@@ -338,6 +328,8 @@ impl Set {
         if row.directory < self.num_paths() { self.directory(row.directory).len() } else { 0 }
     }
 
+    /// Puts a block's slices into the columns, and gives their number, or minus the number of the refusal.
+    #[inline]
     pub fn map_block(&self, piece: i32, offset: i64, size: i64, out: &mut Columns) -> i64 {
         // SAFETY: as above.
         unsafe {
@@ -416,6 +408,15 @@ impl Set {
         self.state[0] = length;
     }
 
+    /// The word of the record that is not used.
+    pub fn unused(&self) -> u64 {
+        self.state[5]
+    }
+
+    pub fn set_unused(&mut self, word: u64) {
+        self.state[5] = word;
+    }
+
     pub fn v2(&self) -> bool {
         self.state[1] != 0
     }
@@ -443,15 +444,20 @@ impl Set {
     pub fn row(&self, i: usize) -> Row {
         let w = &self.rows[i * 8..i * 8 + 8];
         let part = |i| (w[i] as usize, w[i + 1] as usize);
-        Row { offset: w[0], size: w[1], name: part(2), link: part(4), directory: w[6] as usize, flags: w[7] }
+        Row {
+            offset: w[0],
+            size: w[1] & ((1 << 48) - 1),
+            name: part(2),
+            link: part(4),
+            directory: w[6] as usize,
+            flags: w[1] >> 48,
+            time: unzigzag(w[7]),
+        }
     }
 
+    /// The root of a file, zeros where it has none: its place may hold that of a pad that a trim removed.
     pub fn root(&self, i: usize) -> &[u8] {
-        &self.roots[i * 32..i * 32 + 32]
-    }
-
-    pub fn time(&self, i: usize) -> i64 {
-        if i < self.state[5] as usize { self.times[i] } else { 0 }
+        if self.row(i).flags & ROOT == 0 { &[0; 32] } else { &self.roots[i * 32..i * 32 + 32] }
     }
 
     pub fn directory(&self, i: usize) -> &[u8] {
@@ -461,4 +467,9 @@ impl Set {
     pub fn part(&self, at: usize, len: usize) -> &[u8] {
         &self.text[at..at + len]
     }
+}
+
+/// The time that a row's word stands for: 0, 1, 2, 3, … are 0, −1, 1, −2, ….
+fn unzigzag(word: u64) -> i64 {
+    (word >> 1) as i64 ^ -((word & 1) as i64)
 }

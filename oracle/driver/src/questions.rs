@@ -98,7 +98,7 @@ pub fn on_file(set: &Set, question: &FileQuestion, file: FileIndex) -> Answer {
         FileQuestion::FileOffset => number(files.file_offset(file)),
         FileQuestion::PadFileAt => boolean(files.pad_file_at(file)),
         FileQuestion::FileFlags => number(files.file_flags(file).bits()),
-        FileQuestion::Mtime => number(files.mtime(file)),
+        FileQuestion::Mtime => number(set.time(file)),
         FileQuestion::Root => one(Value::Root(*files.root(file).as_bytes())),
         FileQuestion::FileAbsolutePath => boolean(files.file_absolute_path(file)),
         FileQuestion::InternalFilePath => composed(set, &files.internal_file_path(file)),

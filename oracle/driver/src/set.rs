@@ -1,6 +1,6 @@
-//! One set: a `FileStorage` and a `RenamedFiles` of the Rust, the room lent, and which files hold a link text.
-//! The Rust can't take back what a refused call has changed, so the set is then built again from the changes that
-//! were made.
+//! One set: a `FileStorage` and a `RenamedFiles` of the Rust, the room lent, which files hold a link text, and the time of
+//! each file. The Rust can't take back what a refused call has changed, so the set is then built again from the changes
+//! that were made.
 
 use std::mem;
 
@@ -70,12 +70,16 @@ enum Change {
     Clean,
 }
 
-/// A set. The Rust has no way to ask whether a file holds a link text, so that is kept beside it.
+/// A set. The Rust has no way to ask whether a file holds a link text, so that is kept beside it, and so are the times,
+/// which the Rust leaves in their places where a trim moves files.
 pub struct Set {
     pub files: FileStorage,
     pub renames: RenamedFiles,
     pub lent: Lent,
     holds_link: Vec<bool>,
+    times: Vec<i64>,
+    /// Whether a trim has removed a pad.
+    is_trimmed: bool,
     room: Room,
     changes: Vec<Change>,
 }
@@ -89,8 +93,16 @@ impl Set {
     fn empty(piece_length: i32, room: Room, lent: Lent) -> Self {
         let mut files = FileStorage::new();
         files.set_piece_length(piece_length);
-        let mut set =
-            Self { files, renames: RenamedFiles::default(), lent, holds_link: Vec::new(), room, changes: Vec::new() };
+        let mut set = Self {
+            files,
+            renames: RenamedFiles::default(),
+            lent,
+            holds_link: Vec::new(),
+            times: Vec::new(),
+            is_trimmed: false,
+            room,
+            changes: Vec::new(),
+        };
         set.count_pieces();
         set
     }
@@ -114,6 +126,8 @@ impl Set {
         self.files.remove_tail_padding();
         if let Some(file) = last.filter(|_| self.files.num_files() < before) {
             self.holds_link.remove(file.get());
+            self.times.remove(file.get());
+            self.is_trimmed = true;
         }
         self.count_pieces();
         self.changes.push(Change::Trim);
@@ -190,6 +204,16 @@ impl Set {
         self.holds_link[file.get()].then(|| self.files.internal_symlink(file))
     }
 
+    /// The time that a file's addition gave, 0 for a pad that an addition made. Until a trim has removed a pad the Rust
+    /// is asked too, and must agree.
+    pub fn time(&self, file: FileIndex) -> i64 {
+        let time = self.times[file.get()];
+        if !self.is_trimmed {
+            assert_eq!(self.files.mtime(file), time, "the Rust's time of file {}, and the one that was given", file.0);
+        }
+        time
+    }
+
     /// The flagged links, and the sum over them of directory length, text length and 2.
     pub fn work_space(&self) -> (usize, usize) {
         let is_flagged = |file: &FileIndex| self.files.file_flags(*file).contains(FileFlags::SYMLINK);
@@ -231,6 +255,7 @@ impl Set {
             asked => names.and(asked)?,
         }
         self.keep_links();
+        self.keep_times(addition.time);
         self.count_pieces();
         if self.is_beyond_room() { Err(Refusal::NoRoom) } else { Ok(()) }
     }
@@ -275,6 +300,12 @@ impl Set {
         for file in self.places().skip(self.holds_link.len()) {
             self.holds_link.push(!self.files.symlink(file).is_empty());
         }
+    }
+
+    /// Notes the time of the new file, and 0 for the pad behind it, if one was made.
+    fn keep_times(&mut self, time: i64) {
+        self.times.push(time);
+        self.times.resize(self.files.num_files() as usize, 0);
     }
 
     /// Sets the number of pieces, as the Rust's callers do after a change.

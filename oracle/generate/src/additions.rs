@@ -10,6 +10,9 @@ use crate::script::{Word, call, is_short};
 /// The largest size and total.
 const LIMIT: i64 = 281_474_976_710_655;
 
+/// Times: none, small ones, and those at the limits.
+pub const TIMES: [i64; 9] = [3, 0, -1, i64::MAX, i64::MIN, 1, -2, i64::MAX - 1, i64::MIN + 1];
+
 /// Which files get a root.
 #[derive(Clone, Copy)]
 enum Roots {
@@ -65,7 +68,7 @@ pub fn addition(random: &mut Random, taste: &Taste, set: &Set) -> Vec<u8> {
                 Word::Bytes(&path(random, taste.odd_paths)),
                 Word::Number(size(random, taste.sizes, set).into()),
                 Word::Number(flags(random, taste.flags).into()),
-                Word::Number(time(random, taste.times).into()),
+                Word::Number(if random.once_in(taste.times) { time(random) } else { 0 }.into()),
                 Word::Bytes(&link),
                 Word::Plain(root.as_deref().unwrap_or(b"-")),
             ],
@@ -83,10 +86,13 @@ pub fn plain(path: &[u8], size: i64, flags: u8, link: &[u8]) -> Vec<u8> {
 
 /// The line of an addition without a given name and a time.
 pub fn unnamed(path: &[u8], size: i64, flags: u8, link: &[u8], root: &[u8]) -> Vec<u8> {
-    let (size, flags) = (Word::Number(size.into()), Word::Number(flags.into()));
-    let words =
-        [Word::Plain(b"-"), Word::Bytes(path), size, flags, Word::Number(0), Word::Bytes(link), Word::Plain(root)];
-    call("add", &words)
+    timed(path, size, flags, 0, link, root)
+}
+
+/// The line of an addition without a given name.
+pub fn timed(path: &[u8], size: i64, flags: u8, time: i64, link: &[u8], root: &[u8]) -> Vec<u8> {
+    let (size, flags, time) = (Word::Number(size.into()), Word::Number(flags.into()), Word::Number(time.into()));
+    call("add", &[Word::Plain(b"-"), Word::Bytes(path), size, flags, time, Word::Bytes(link), Word::Plain(root)])
 }
 
 /// A string of one byte many times, of a length around the limit of names.
@@ -167,12 +173,16 @@ fn flags(random: &mut Random, odd: usize) -> u8 {
     random.one_of(&[1, 1, 2, 4, 8, 8, 9, 15, 16, 255, any])
 }
 
-fn time(random: &mut Random, odd: usize) -> i64 {
-    if !random.once_in(odd) {
-        return 0;
+/// A time of any kind.
+pub fn time(random: &mut Random) -> i64 {
+    match random.below(8) {
+        0 => 0,
+        1 => random.next() as i64,
+        2 => random.number() as i64,
+        3 => !(random.number() as i64),
+        4 => random.one_of(&[1_600_000_000, -1_600_000_000]),
+        _ => random.one_of(&TIMES),
     }
-    let any = random.next() as i64;
-    random.one_of(&[1, -1, 1_600_000_000, i64::MIN, i64::MAX, any])
 }
 
 fn link(random: &mut Random) -> Vec<u8> {

@@ -83,6 +83,11 @@ pub fn few(script: &mut Script, random: &mut Random) -> io::Result<()> {
     compatible(script, random.below(SETS), random.below(SETS))
 }
 
+/// The time of every file.
+pub fn times(script: &mut Script, set: &Set) -> io::Result<()> {
+    (0..set.files.num_files()).try_for_each(|file| one(script, "mtime", file))
+}
+
 /// Whether the sets at two places are compatible.
 pub fn compatible(script: &mut Script, first: usize, second: usize) -> io::Result<()> {
     script.call("compat", &[Word::Number(first as i128), Word::Number(second as i128)])

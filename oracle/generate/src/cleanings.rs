@@ -1,12 +1,12 @@
 //! Scripts on cleanings: small sets of files, directories and links whose texts loop, repeat, climb, are absolute or
-//! run through one another, each cleaned and then asked for every link text and about its layout. Some stand beside a
-//! set that was built by the same changes, with which they are compared.
+//! run through one another, each cleaned and then asked for every link text and time and about its layout. Some stand
+//! beside a set that was built by the same changes, with which they are compared.
 
 use std::io;
 
 use driver::Sets;
 
-use crate::additions::{plain, unnamed};
+use crate::additions::{plain, time, timed};
 use crate::asking;
 use crate::layout_questions;
 use crate::playing::{ask, current, play, turn_to};
@@ -65,7 +65,7 @@ fn addition(random: &mut Random, taste: &Taste) -> Vec<u8> {
         _ => parts(random, taste, 4),
     };
     let flags = if is_link { random.one_of(&[8, 8, 8, 8, 8, 0, 9]) } else { random.one_of(&[0, 0, 0, 1, 8]) };
-    unnamed(&path, random.one_of(&[0, 0, 3]), flags, &text, taste.root)
+    timed(&path, random.one_of(&[0, 0, 3]), flags, time(random), &text, taste.root)
 }
 
 /// Links in one long directory: as many as a set has places for, and a few whose directory is longer.
@@ -192,6 +192,7 @@ fn cleaned(script: &mut Script, random: &mut Random, sets: &mut Sets, places: &[
     } else {
         texts(script, set.files.num_files())?;
     }
+    asking::times(script, set)?;
     layout_questions::some(script, random, set, 3, 60)?;
     for &first in places {
         places

@@ -5,6 +5,8 @@ use std::io;
 
 use driver::{Set, Sets};
 
+use crate::additions::{time, timed};
+use crate::asking;
 use crate::layout_questions as questions;
 use crate::layout_scenes::SCENES;
 use crate::playing::{self, ask, current};
@@ -98,7 +100,8 @@ fn answered(script: &mut Script, random: &mut Random, set: &Set) -> io::Result<(
         questions::every(script, set)?;
     }
     questions::boundary(script, random, set)?;
-    questions::random(script, random, set, ASKED)
+    questions::random(script, random, set, ASKED)?;
+    asking::times(script, set)
 }
 
 /// Whether a set is small enough for every small question.
@@ -175,8 +178,8 @@ impl Taste {
         let root = if has_root { random.one_of(&["*00", "*01", "*02", "*FF"]) } else { "-" };
         let (flags, link) =
             (u8::from(is_pad) + 8 * u8::from(is_link), if is_link { random.one_of(&LINKS) } else { "" });
-        let directory = random.one_of(&["", "", "x/", "x/y/"]);
-        format!("add - :s/{directory}{i} {size} {flags} 0 :{link} {root}").into_bytes()
+        let path = format!("s/{}{i}", random.one_of(&["", "", "x/", "x/y/"]));
+        timed(path.as_bytes(), size, flags, time(random), link.as_bytes(), root.as_bytes())
     }
 
     fn size(&self, random: &mut Random, set: &Set) -> i64 {

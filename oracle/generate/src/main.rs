@@ -22,6 +22,7 @@ mod sample;
 mod scenes;
 mod script;
 mod sets;
+mod times;
 mod twins;
 mod widths;
 
@@ -71,12 +72,14 @@ fn with_numbers(seed: &str, count: &str, write: impl FnOnce(u64, usize) -> io::R
     }
 }
 
-/// Lines out of form, then sets that show one rule each, then random changes.
+/// Lines out of form, then sets that show one rule each, then all short rows of changes that move times, then random
+/// changes.
 fn sets(script: &mut Script, seed: u64, count: usize) -> io::Result<()> {
     let mut random = Random::new(seed);
     malformed::fixed_sets(script)?;
     sets::scenes(script, &mut random)?;
     sets::long_scenes(script, &mut random)?;
+    times::small(script, 5)?;
     sets::random(script, &mut random, count)
 }
 

@@ -9,6 +9,7 @@ use crate::malformed;
 use crate::random::Random;
 use crate::script::Script;
 use crate::sets;
+use crate::times;
 use crate::widths;
 
 const HEAD: &[&str] = &[
@@ -22,14 +23,16 @@ const JOINED: [&[u8]; 12] = [b"", b".", b"/", b"a", b"\\", b"..", b"a/", b"/a", 
 
 const SETS_HEAD: &[&str] = &[
     "# A sample of calls on sets, printed by `generate sample sets` of the folder oracle; the answers beside it are those of",
-    "# the Rust, unchanged but for the line that ends a walk (oracle/README.md). `oracle/store` writes both files. First come",
-    "# the lines out of form, then sets that show one rule each, then random ones, then cleanings.",
+    "# the Rust, unchanged but for the line that ends a walk, and of the times kept beside it (oracle/README.md).",
+    "# `oracle/store` writes both files. First come the lines out of form, then sets that show one rule each, then all rows of",
+    "# at most three changes that move times, then random changes, then cleanings.",
 ];
 
 pub fn write_sets(script: &mut Script) -> io::Result<()> {
     let mut random = start(script, SETS_HEAD)?;
     malformed::fixed_sets(script)?;
     sets::scenes(script, &mut random)?;
+    times::small(script, 3)?;
     long_names(script)?;
     sets::random(script, &mut random, 50)?;
     cleanings::random(script, &mut random, 50)

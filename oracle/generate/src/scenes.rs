@@ -46,7 +46,7 @@ pub const SCENES: &[&[&str]] = &[
     &["open 10", "add - :s/l 5 8 0 :t -", "add - :s/a 5 0 0 : *01", "add - :s/b 5 0 0 : -", "add - :s/m 5 8 0 :t -"],
     &["open 10", "add - :s/a 5 0 0 : -", "add - :s/b 5 0 0 : *01", "add - :s/c 0 0 0 : *01"],
     &["open 10", "add - :s/a 5 0 0 : -", "add - :s/p 5 1 0 :t -", "trim", "add - :s/b 5 0 0 : *01"],
-    // Flags, link texts and times; a trim skips empty files and moves no time.
+    // Flags, link texts and times; a trim skips empty files, which keep their times.
     &[
         "open 10",
         "add - :s/a 1 255 -5 : *00",
@@ -56,6 +56,30 @@ pub const SCENES: &[&[&str]] = &[
     ],
     &["open 10", "add - :s/a 5 0 1 : *01", "add - :s/b 0 0 2 : -", "trim", "add - :s/c 0 0 0 : -", "trim", "trim"],
     &["open 10", "add - :s/p 5 1 3 :t -", "trim", "add - :r 5 0 0 : -", "trim"],
+    &[
+        "open 10",
+        "add - :s/a 7 0 5 : -",
+        "add - :s/x/c 15 0 0 : -",
+        "add - :s/x/p 18 1 9 : -",
+        "add - :s/e 0 0 3 : -",
+        "trim",
+    ],
+    &[
+        "open 10",
+        "add - :s/a 5 0 -9223372036854775808 : *01",
+        "add - :s/p 10 1 -1 : *01",
+        "add - :s/e 0 0 9223372036854775807 : -",
+        "add - :s/l 0 8 -2 :/etc -",
+        "clean",
+        "trim",
+        "trim",
+        "add - :s/f 0 0 0 : -",
+        "add - :s/b 1 0 1 : *01",
+        "rename 1 :n",
+        "trim",
+        "clean",
+        "trim",
+    ],
     &["open 10", "add - :s/p 5 1 0 : *01", "trim", "trim", "trim"],
     // Renames: each way of reading, one instead of another, through a trim and a refused addition, and of no such file.
     &[

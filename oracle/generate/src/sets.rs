@@ -14,6 +14,7 @@ use crate::random::Random;
 use crate::renames;
 use crate::scenes::SCENES;
 use crate::script::{Script, Word, call};
+use crate::times;
 use crate::twins;
 
 /// Piece lengths: the smallest, small ones, some by which the largest total can be divided, usual ones, the largest.
@@ -101,7 +102,11 @@ fn build(script: &mut Script, random: &mut Random, sets: &mut Sets, plans: &[Pla
         made[i] += 1;
         let asked = if is_made { asking::all } else { asking::some };
         asked(script, random, current(sets))?;
-        let rarely = if line.starts_with(b"add ") { 30 } else { 5 };
+        let is_addition = line.starts_with(b"add ");
+        if !is_addition {
+            asking::times(script, current(sets))?;
+        }
+        let rarely = if is_addition { 30 } else { 5 };
         layout_questions::some(script, random, current(sets), 5, rarely)?;
         if random.once_in(6) {
             asking::compatible(script, random.below(SETS), random.below(SETS))?;
@@ -127,6 +132,10 @@ impl Plan {
                     3 | 4 => renames::rename(random, set),
                     _ => renames::import(random, set),
                 })
+            }
+            40..60 => {
+                let count = 1 + random.below(30);
+                Self::by(random, most, count, times::random)
             }
             0 => Self::by(random, most, 300, |random, set, _| addition(random, &taste, set)),
             1 => Self::by(random, most, 600, many_directories),

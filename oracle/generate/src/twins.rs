@@ -95,6 +95,7 @@ pub fn random(
         turn_to(script, sets, random.below(SETS))?;
         let line = other(random, current(sets));
         ask(script, sets, &line)?;
+        asking::times(script, current(sets))?;
         layout_questions::some(script, random, current(sets), 5, 5)?;
         compare(script)?;
     }
@@ -112,7 +113,7 @@ const OTHERS: [&[&[u8]]; 7] = [
     &[b":s/a", b":s//a", b":s/x/a", b":s/A", b":t/a", b":/s/a", b":s/a/", b":", b"://a"],
     &[b"0", b"1", b"5"],
     &[b"0", b"1", b"2", b"4", b"8", b"9"],
-    &[b"0", b"1"],
+    &[b"0", b"1", b"-1", b"9223372036854775807", b"-9223372036854775808"],
     &[b":", b":t", b":/t", b":t/", b":x/t"],
     &[b"-", b"*01", b"*02"],
 ];
