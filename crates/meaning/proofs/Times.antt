@@ -2,13 +2,13 @@
 -- the set (book, proofs/Agree.antt, `times-given`).
 --     mtime-given     of each row of the book its time
 --     mtime-none      11 past the last row
-use Prim.Native.Nat.{ℕ, suc, _≤_, _<_}
-use mathlib.Core.Path.{_≡_, refl, sym, ap, _∙_}
+use Prim.Native.Nat.{ℕ, _≤_, _<_}
+use mathlib.Core.Path.{_≡_, sym, ap, _∙_}
 use mathlib.Core.Bool.{_&&_}
-use mathlib.Core.List.{List, [], _∷_, map}
+use mathlib.Core.List.{List, [], _∷_}
 use native.Mathlib.Omega.{arith}
 use lib.IntN.{ℤ, pos}
-use lib.ListN.{length, getD}
+use lib.ListN.{length, getD, length-map}
 use borrow.Author.Tests.{le-ltb}
 use Rattle.types.specs.Refusals.{value, refused}
 use Rattle.tables.specs.Model.{File, Store, fileOf, viewOf}
@@ -26,19 +26,14 @@ use Rattle.book.proofs.Demand.{is-open, all-held, file-there}
 use Rattle.book.proofs.Theorem.{holds}
 use Rattle.meaning.proofs.Tables.{given}
 
--- a list and what is read off its elements are as long
-length-map : {A B : Type 0} (f : A → B) (xs : List A) → length (map f xs) ≡ length xs
-length-map f [] = refl
-length-map f (x ∷ xs) = ap suc (length-map f xs)
-
 module _ {n : ℕ} {made : List Made} {s : Store} {r : Renames} (l : Leads n made s r) where
   -- as many times as files
   count : s .fs .«num_files» ≡ length (timedRows n made)
   count =
       holds l .count
-      ∙ length-map (λ (x : Row). x .size) (book n made .rows)
+      ∙ length-map (book n made .rows) (λ (x : Row). x .size)
       ∙ ap length (sym (rows-timed n made))
-      ∙ length-map (λ (t : Timed). t .row) (timedRows n made)
+      ∙ length-map (timedRows n made) (λ (t : Timed). t .row)
 
   long : length (sizesOf (book n made .rows)) ≡ length (timedRows n made)
   long = sym (holds l .count) ∙ count
