@@ -72,7 +72,7 @@ fn trim_either(path: &[u8]) -> &[u8]
     path
 }
 
-// Where the leaf begins: after the last separator, or at 0.
+// Where the leaf begins: after the last separator, or at 0. Two bytes are looked at in a turn.
 fn leaf_start(path: &[u8]) -> usize
     ensures { λ r. ⌜
         (take (r - 1) (now (path .entry)) ≡ beforeLast (now (path .entry)))
@@ -80,11 +80,19 @@ fn leaf_start(path: &[u8]) -> usize
         ⌝ }
 {
     let mut i = path.len();
-    while 0 < i {
+    while 1 < i {
         if path[i - 1] == b'/' {
             return i;
         }
-        i -= 1;
+        if path[i - 2] == b'/' {
+            return i - 1;
+        }
+        i -= 2;
+    }
+    if i == 1 {
+        if path[0] == b'/' {
+            return 1;
+        }
     }
     0
 }

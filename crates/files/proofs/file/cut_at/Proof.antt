@@ -1,16 +1,11 @@
 -- `files::file::cut_at` meets its contract: where the unit is the piece length, the shift divides by it.
-use mathlib.Core.Path.{_≡_, sym, ap, _∙_}
-use Prim.Native.Nat.{ℕ, _*_, _/_, _%_, _^_, _<_}
-use native.Mathlib.Nat.{mod-eq-of-lt, one-mul}
+use mathlib.Core.Path.{sym, ap, _∙_}
+use Prim.Native.Nat.{ℕ, _/_, _%_}
 use native.Mathlib.Omega.{arith}
-use lib.Pow.{pow-lt}
+use Rattle.lists.proofs.Quotients.{one-shifted}
 use borrow.Author.Needs.{needs}
 use Rattle.files.proofs.file.cut_at.Statement.{statement}
 use Rattle.files.proofs.file.cut_at.Tie as tie
-
--- one shifted by fewer than 64 places is that power of two
-power : (k : ℕ) → k < 64 → 1 * 2 ^ k % 2 ^ 64 ≡ 2 ^ k
-power k h = ap (λ (n : ℕ). n % 2 ^ 64) (one-mul (2 ^ k)) ∙ mod-eq-of-lt (pow-lt h)
 
 cast-unit : tie.Need-cast-unit
 cast-unit c = search needs
@@ -29,7 +24,7 @@ rem-t10 c = search needs
 
 returns : tie.Need-returns
 returns c =
-    let e = sym (power _ (omega arith)) ∙ c .if1 .taken in
+    let e = sym (one-shifted _ (omega arith)) ∙ c .if1 .taken in
     (ap (λ (n : ℕ). c .before .args .at / n) e, ap (λ (n : ℕ). c .before .args .at % n) (c .if1 .taken))
 
 div-t6 : tie.Need-div-t6

@@ -1,18 +1,12 @@
 -- `lists::number::div_ceil` meets its contract: n − 1 divided, and one more.
 use borrow.Author.Needs.{needs}
-use native.Mathlib.Nat.{div-zero, div-le-self, add-div-right}
+use native.Mathlib.Nat.{div-zero, div-le-self}
 use native.Mathlib.Omega.{arith}
-use mathlib.Core.Path.{_≡_, sym, ap, _∙_}
-use Prim.Native.Nat.{ℕ, _+_, _-_, _/_, _<_}
-use Rattle.lists.specs.Lists.{ceiling}
-use Rattle.lists.proofs.Quotients.{ceiling-zero}
+use mathlib.Core.Path.{sym}
+use Prim.Native.Nat.{_-_}
+use Rattle.lists.proofs.Quotients.{ceiling-zero, ceiling-less}
 use Rattle.lists.proofs.number.div_ceil.Statement.{statement}
 use Rattle.lists.proofs.number.div_ceil.Tie as tie
-
-one-more : (n d : ℕ) → 0 < n → 0 < d → (n - 1) / d + 1 ≡ ceiling n d
-one-more n d h k =
-    let e : n - 1 + d ≡ n + (d - 1) = omega arith in
-    sym (add-div-right (n - 1) k) ∙ ap (λ (m : ℕ). m / d) e
 
 returns : tie.Need-returns
 returns c =
@@ -32,7 +26,7 @@ add-result : tie.Need-add-result
 add-result c = omega (arith, div-le-self (c .before .before .args .n - 1) (c .before .before .args .d))
 
 returns-3 : tie.Need-returns-3
-returns-3 c = one-more (c .before .before .args .n) (c .before .before .args .d) (omega arith) (omega arith)
+returns-3 c = ceiling-less (c .before .before .args .n) (c .before .before .args .d) (omega arith) (omega arith)
 
 pub div-ceil-spec : {M : Type 1} → statement M
 div-ceil-spec = tie.close (tie.spec returns returns-2 sub-result div-result add-result returns-3)
