@@ -18,15 +18,17 @@ pub record Changed : Type 0 where
   pub says : Outcome FileStorage
   pub rows : List ℕ
   pub roots : List ℕ
+  pub firsts : List ℕ
   pub dirs : List ℕ
   pub text : List ℕ
 
-abbrev pub changedOf : Outcome FileStorage → List ℕ → List ℕ → List ℕ → List ℕ → Changed
-changedOf says rows roots dirs text = record { says = says; rows = rows; roots = roots; dirs = dirs; text = text }
+abbrev pub changedOf : Outcome FileStorage → List ℕ → List ℕ → List ℕ → List ℕ → List ℕ → Changed
+changedOf says rows roots firsts dirs text =
+    record { says = says; rows = rows; roots = roots; firsts = firsts; dirs = dirs; text = text }
 
 -- an answer with the tables of a store
 abbrev pub answering : Outcome FileStorage → Store → Changed
-answering says s = changedOf says (s .rows) (s .roots) (s .dirs) (s .text)
+answering says s = changedOf says (s .rows) (s .roots) (s .firsts) (s .dirs) (s .text)
 
 -- a refusal leaves every table as it was
 abbrev pub changedIf : ℕ → Store → Store → Changed

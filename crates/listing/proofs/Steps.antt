@@ -25,7 +25,7 @@ use Rattle.change.specs.Rooms.{roomsOf}
 use Rattle.plan.specs.Outcomes.{addingNumber, addStored}
 use Rattle.storage.specs.Opening.{newStorage, newModel}
 use Rattle.sound.specs.Sound.{Sound}
-use Rattle.sound.proofs.Added.Answer.{adding}
+use Rattle.sound.proofs.Added.Answer.{unindexed, adding}
 use Rattle.sound.proofs.Added.{view-added, sound-added}
 use Rattle.listing_input.specs.Form.{FileEntry, lines, provided, onlyIf, numberIn, pieceLengthIn, areFlags, entryOf, fileIn}
 use Rattle.listing.specs.Run.{additionOf, counted, goOn, openedAs, readAs, runFrom, run, places}
@@ -34,6 +34,11 @@ use Rattle.listing_input.specs.Answers.{firstLine}
 use Rattle.listing.specs.declared.run.RunResult.the-variants.{Listed, Stopped}
 use Rattle.listing.specs.private.Steps.{openedBy, obeyed, countedBy, runSays, Placed}
 use Rattle.listing_input.proofs.Reading.{number-small, first-take, lines-next}
+
+-- a list of no elements
+pub nil-is : (l : List ℕ) → length l ≡ 0 → l ≡ []
+nil-is [] e = refl
+nil-is (c ∷ l) e = absurd (omega arith)
 
 -- a number that passed the test of the piece length
 length-small : (b : Bool) (o : Optional ℕ) (n : ℕ) → present n ≡ provided b (onlyIf (λ m. leb m 2147483647) o) → n ≤ 2147483647
@@ -97,10 +102,10 @@ root-by false root = refl
 
 -- the run after the last line
 pub counted-is : (fs : FileStorage) (rows roots dirs text : List ℕ) (line : ℕ)
-    → runSays (countedBy fs line) rows roots dirs text ≡ counted line (viewOf (storeOf fs rows roots dirs text))
+    → runSays (countedBy fs line) rows roots dirs text ≡ counted line (viewOf (storeOf fs rows roots [] dirs text))
 counted-is fs rows roots dirs text line = at (ltb 2147483647 (ceiling (fs .«total_size») (fs .«piece_length»)))
   where
-    at : (b : Bool) → runSays (cond b (Stopped TooManyPieces line) (Listed fs)) rows roots dirs text ≡ cond b (stopped 13 line) (listed (viewOf (storeOf fs rows roots dirs text)))
+    at : (b : Bool) → runSays (cond b (Stopped TooManyPieces line) (Listed fs)) rows roots dirs text ≡ cond b (stopped 13 line) (listed (viewOf (storeOf fs rows roots [] dirs text)))
     at true = refl
     at false = refl
 
@@ -111,16 +116,16 @@ rooms-are s p = rw (p .rows-are, p .roots-are, p .dirs-are, p .text-is)
 -- what a change leaves, by whether its number is 0
 abbrev changedBy : Bool → ℕ → Store → Store → Changed
 changedBy b k s t =
-    cond b (record { says = value (t .fs); rows = t .rows; roots = t .roots; dirs = t .dirs; text = t .text })
-    (record { says = refused k; rows = s .rows; roots = s .roots; dirs = s .dirs; text = s .text })
+    cond b (record { says = value (t .fs); rows = t .rows; roots = t .roots; firsts = t .firsts; dirs = t .dirs; text = t .text })
+    (record { says = refused k; rows = s .rows; roots = s .roots; firsts = s .firsts; dirs = s .dirs; text = s .text })
 
 -- a line that is read and obeyed, or refused
 abbrev pub newStore : FileStorage → Changed → Store
-newStore fs t = storeOf fs (t .rows) (t .roots) (t .dirs) (t .text)
+newStore fs t = storeOf fs (t .rows) (t .roots) (t .firsts) (t .dirs) (t .text)
 
-module _ (s : Store) (p : Placed (s .rows) (s .roots) (s .dirs) (s .text)) (ok : Sound s) (line : ℕ) (l : List ℕ) (ls : List (List ℕ)) where
+module _ (s : Store) (p : Placed (s .rows) (s .roots) (s .dirs) (s .text)) (ok : Sound s) (plain : s .fs .indexed ≡ false) (line : ℕ) (l : List ℕ) (ls : List (List ℕ)) where
   adding-is : (a : Addition) → addedTo places (viewOf s) a ≡ outcomeOf (addingNumber s (viewOf s) a) (added (viewOf s) a)
-  adding-is a = ap (λ (r : Rooms). addedTo r (viewOf s) a) (sym (rooms-are s p)) ∙ adding s ok a
+  adding-is a = ap (λ (r : Rooms). addedTo r (viewOf s) a) (sym (rooms-are s p)) ∙ adding s ok a (unindexed s (viewOf s) a plain)
 
   next-is : runFrom places line (viewOf s) (l ∷ ls) ≡ readAs (fileIn l) (line + 1) (λ e. goOn (addedTo places (viewOf s) (additionOf e)) (line + 1) (λ next. runFrom places (line + 1) next ls))
   unfolding runFrom
@@ -149,17 +154,18 @@ module _ (s : Store) (p : Placed (s .rows) (s .roots) (s .dirs) (s .text)) (ok :
         at false q = let z : k ≡ addingNumber s (viewOf s) a = cc in ap (λ (n : ℕ). stopped n (line + 1)) z
 
     go-added : ((r : List ℕ) → a .root ≡ present r → length r ≡ 32) → (fs : FileStorage) → addStored s a .says ≡ value fs
-        → Sound (newStore fs (addStored s a)) × (runFrom places (line + 1) (viewOf (newStore fs (addStored s a))) ls ≡ onward (addedTo places (viewOf s) a))
+        → Sound (newStore fs (addStored s a)) × (fs .indexed ≡ false) × (runFrom places (line + 1) (viewOf (newStore fs (addStored s a))) ls ≡ onward (addedTo places (viewOf s) a))
     go-added root fs e =
-        let r = at (eqb (addingNumber s (viewOf s) a) 0) refl e in (r .0, r .1 ∙ sym (ap onward (adding-is a)))
+        let r = at (eqb (addingNumber s (viewOf s) a) 0) refl e in (r .0, r .1, r .2 ∙ sym (ap onward (adding-is a)))
       where
         at : (b : Bool) → eqb (addingNumber s (viewOf s) a) 0 ≡ b → changed b .says ≡ value fs
-            → Sound (newStore fs (changed b)) × (runFrom places (line + 1) (viewOf (newStore fs (changed b))) ls ≡ onward (answered b))
+            → Sound (newStore fs (changed b)) × (fs .indexed ≡ false) × (runFrom places (line + 1) (viewOf (newStore fs (changed b))) ls ≡ onward (answered b))
         at true t q =
             let zero = eqb-true (addingNumber s (viewOf s) a) 0 t in
             let z : fs ≡ storeAdded s (viewOf s) a .fs = cc in
             let same : newStore fs (changed true) ≡ storeAdded s (viewOf s) a = ap (λ (f : FileStorage). newStore f (changed true)) z in (
               subst (λ (x : Store). Sound x) (sym same) (sound-added s a ok zero root),
+              ap (λ (f : FileStorage). f .indexed) z ∙ plain,
               ap (λ (x : Store). runFrom places (line + 1) (viewOf x) ls) same ∙ ap (λ (m : Model). runFrom places (line + 1) m ls) (view-added s a ok zero root),
             )
         at false t q = let z : _≡_ {A = ℕ} 0 1 = cc in absurd (omega arith)
@@ -169,7 +175,7 @@ module _ (s : Store) (p : Placed (s .rows) (s .roots) (s .dirs) (s .text)) (ok :
   stop-at (present f) k e = stop-added (additionOf f) k e
 
   go-at : (o : Optional FileEntry) (fs : FileStorage) → obeyed o s .says ≡ value fs
-      → Sound (newStore fs (obeyed o s)) × (runFrom places (line + 1) (viewOf (newStore fs (obeyed o s))) ls ≡ after o)
+      → Sound (newStore fs (obeyed o s)) × (fs .indexed ≡ false) × (runFrom places (line + 1) (viewOf (newStore fs (obeyed o s))) ls ≡ after o)
   go-at absent fs e = let z : _≡_ {A = ℕ} 0 1 = cc in absurd (omega arith)
   go-at (present f) fs e = go-added (additionOf f) (root-is f) fs e
 
@@ -185,6 +191,7 @@ pub record Going (input : List ℕ) (whole : Run) (at line : ℕ) (s : Store) : 
   pub within : at ≤ length input + 1
   pub placed : Placed (s .rows) (s .roots) (s .dirs) (s .text)
   pub sound : Sound s
+  pub unindexed : s .fs .indexed ≡ false
   pub rest : runFrom places line (viewOf s) (lines (drop at input)) ≡ whole
 
 module _ (input : List ℕ) (whole : Run) (at line : ℕ) (s : Store) (g : Going input whole at line s) where
@@ -204,8 +211,8 @@ module _ (input : List ℕ) (whole : Run) (at line : ℕ) (s : Store) (g : Going
       run-stops k r =
           let l = partOf input at n in
           let ls = lines (drop (at + n + 1) input) in
-          stop-at s (g .placed) (g .sound) line l ls (fileIn l) k (sym (ap (λ (x : Changed). x .says) q) ∙ r)
-          ∙ sym (next-is s (g .placed) (g .sound) line l ls)
+          stop-at s (g .placed) (g .sound) (g .unindexed) line l ls (fileIn l) k (sym (ap (λ (x : Changed). x .says) q) ∙ r)
+          ∙ sym (next-is s (g .placed) (g .sound) (g .unindexed) line l ls)
           ∙ rest-next
 
       -- a line is obeyed
@@ -213,16 +220,17 @@ module _ (input : List ℕ) (whole : Run) (at line : ℕ) (s : Store) (g : Going
       run-goes fs r p =
           let l = partOf input at n in
           let ls = lines (drop (at + n + 1) input) in
-          let m = go-at s (g .placed) (g .sound) line l ls (fileIn l) fs (sym (ap (λ (x : Changed). x .says) q) ∙ r) in
+          let m = go-at s (g .placed) (g .sound) (g .unindexed) line l ls (fileIn l) fs (sym (ap (λ (x : Changed). x .says) q) ∙ r) in
           record {
             after-line = omega (arith, g .after-line);
             within = omega (arith, line-few input at);
             placed = p;
             sound = subst (λ (x : Changed). Sound (newStore fs x)) (sym q) (m .0);
+            unindexed = m .1;
             rest =
                 ap (λ (x : Changed). runFrom places (line + 1) (viewOf (newStore fs x)) ls) q
-                ∙ m .1
-                ∙ sym (next-is s (g .placed) (g .sound) line l ls)
+                ∙ m .2
+                ∙ sym (next-is s (g .placed) (g .sound) (g .unindexed) line l ls)
                 ∙ rest-next;
           }
 
@@ -232,11 +240,7 @@ module _ (input : List ℕ) where
   run-long h = rw (lt-ltb 65536 (length input) h)
 
   pub run-none : length input ≤ 65536 → length input ≡ 0 → stopped 17 1 ≡ run places input
-  run-none h e = rw (le-ltb 65536 (length input) h, none input e)
-    where
-      none : (l : List ℕ) → length l ≡ 0 → l ≡ []
-      none [] q = refl
-      none (c ∷ l) q = absurd (omega arith)
+  run-none h e = rw (le-ltb 65536 (length input) h, nil-is input e)
 
   module _ (n : ℕ) (h : length input ≤ 65536) (k : length input ≡ 0 → ⊥) (e : n ≡ length (firstLine input)) where
     run-first : readAs (pieceLengthIn (partOf input 0 n)) 1 (λ m. goOn (openedAs m) 1 (λ x. runFrom places 1 x (lines (drop (n + 1) input)))) ≡ run places input
@@ -253,17 +257,17 @@ module _ (input : List ℕ) where
         stop absent q = let z : j ≡ 17 = cc in ap (λ (i : ℕ). stopped i 1) z
         stop (present m) q = at (eqb m 0) q
           where
-            at : (b : Bool) → cond b (refused 1) (value (newStorage m)) ≡ refused j → stopped j 1 ≡ goOn (cond b (refused 1) (value (newModel m))) 1 (λ y. runFrom places 1 y (lines (drop (n + 1) input)))
+            at : (b : Bool) → cond b (refused 1) (value (newStorage m false)) ≡ refused j → stopped j 1 ≡ goOn (cond b (refused 1) (value (newModel m))) 1 (λ y. runFrom places 1 y (lines (drop (n + 1) input)))
             at true r = let z : j ≡ 1 = cc in ap (λ (i : ℕ). stopped i 1) z
             at false r = let z : _≡_ {A = ℕ} 0 1 = cc in absurd (omega arith)
 
-    pub first-goes : (fs : FileStorage) → openedBy (pieceLengthIn (partOf input 0 n)) ≡ value fs → (m : ℕ) × (fs ≡ newStorage m) × (runFrom places 1 (newModel m) (lines (drop (n + 1) input)) ≡ run places input)
+    pub first-goes : (fs : FileStorage) → openedBy (pieceLengthIn (partOf input 0 n)) ≡ value fs → (m : ℕ) × (fs ≡ newStorage m false) × (runFrom places 1 (newModel m) (lines (drop (n + 1) input)) ≡ run places input)
     first-goes fs o = let r = go (pieceLengthIn (partOf input 0 n)) o in (r .0, r .1, r .2 ∙ run-first)
       where
-        go : (x : Optional ℕ) → openedBy x ≡ value fs → (m : ℕ) × (fs ≡ newStorage m) × (runFrom places 1 (newModel m) (lines (drop (n + 1) input)) ≡ readAs x 1 (λ i. goOn (openedAs i) 1 (λ y. runFrom places 1 y (lines (drop (n + 1) input)))))
+        go : (x : Optional ℕ) → openedBy x ≡ value fs → (m : ℕ) × (fs ≡ newStorage m false) × (runFrom places 1 (newModel m) (lines (drop (n + 1) input)) ≡ readAs x 1 (λ i. goOn (openedAs i) 1 (λ y. runFrom places 1 y (lines (drop (n + 1) input)))))
         go absent q = let z : _≡_ {A = ℕ} 0 1 = cc in absurd (omega arith)
         go (present m) q = let r = at (eqb m 0) q in (m, r .0, r .1)
           where
-            at : (b : Bool) → cond b (refused 1) (value (newStorage m)) ≡ value fs → (fs ≡ newStorage m) × (runFrom places 1 (newModel m) (lines (drop (n + 1) input)) ≡ goOn (cond b (refused 1) (value (newModel m))) 1 (λ y. runFrom places 1 y (lines (drop (n + 1) input))))
+            at : (b : Bool) → cond b (refused 1) (value (newStorage m false)) ≡ value fs → (fs ≡ newStorage m false) × (runFrom places 1 (newModel m) (lines (drop (n + 1) input)) ≡ goOn (cond b (refused 1) (value (newModel m))) 1 (λ y. runFrom places 1 y (lines (drop (n + 1) input))))
             at true r = let z : _≡_ {A = ℕ} 0 1 = cc in absurd (omega arith)
-            at false r = let z : fs ≡ newStorage m = cc in (z, refl)
+            at false r = let z : fs ≡ newStorage m false = cc in (z, refl)

@@ -1,6 +1,8 @@
 // The run: lines are obeyed one by one, and the first refusal of any kind ends it. Relies on `listing_input`
 // for the lines, on `storage` for opening and additions, and on the laws of proofs/Steps.antt.
 ghost use mathlib.Core.Path.{_≡_};
+ghost use mathlib.Core.Bool.{false};
+ghost use mathlib.Core.List.{[]};
 ghost use lib.Dec.{leb};
 ghost use Prim.Native.Nat.{_+_, _≤_};
 ghost use lib.ListN.{length, drop};
@@ -55,7 +57,7 @@ fn rooted_by(flags: u64) -> Presence
     Presence::Absent
 }
 
-// Obeys a file line: adds its file.
+// Obeys a file line: adds its file. The set keeps no table of first files, so one of no places is lent.
 fn add_line(
     fs: FileStorage,
     rows: &mut [u64],
@@ -69,11 +71,12 @@ fn add_line(
           says = storageSays r;
           rows = now (rows .exit);
           roots = now (roots .exit);
+          firsts = [];
           dirs = now (dirs .exit);
           text = now (text .exit);
         })
         (obeyed (fileIn (now (line .entry)))
-        (storeOf fs (now (rows .entry)) (now (roots .entry)) (now (dirs .entry))
+        (storeOf fs (now (rows .entry)) (now (roots .entry)) [] (now (dirs .entry))
         (now (text .entry)))) ⌝ }
 {
     let FileLine::Of(size, flags) = file_in(line) else {
@@ -90,7 +93,19 @@ fn add_line(
         rooted: rooted_by(flags),
         root: Sha256Hash { bytes },
     };
-    storage::add_file(fs, rows, roots, dirs, text, file, none, path, none)
+    let mut firsts = [0u16; 0];
+    storage::add_file(
+        fs,
+        rows,
+        roots,
+        &mut firsts,
+        dirs,
+        text,
+        file,
+        none,
+        path,
+        none,
+    )
 }
 
 // The run that a refused line ends. Its callers hand on refusals only, but `let else` hands on the whole answer: the
@@ -125,13 +140,14 @@ fn add_lines(
     text: &mut [u8],
 ) -> RunResult
     requires { ⌜ Placed (now rows) (now roots) (now dirs) (now text) ⌝ }
-    requires { ⌜ Sound (storeOf fs (now rows) (now roots) (now dirs) (now text)) ⌝ }
+    requires { ⌜ Sound (storeOf fs (now rows) (now roots) [] (now dirs) (now text)) ⌝ }
+    requires { ⌜ fs .indexed ≡ false ⌝ }
     requires { ⌜ (1 ≤ from) × (from ≤ length (now input) + 1) ⌝ }
     ensures { λ r. ⌜
         runSays r (now (rows .exit)) (now (roots .exit)) (now (dirs .exit)) (now (text .exit)) ≡
         runFrom places 1
         (viewOf
-        (storeOf fs (now (rows .entry)) (now (roots .entry)) (now (dirs .entry))
+        (storeOf fs (now (rows .entry)) (now (roots .entry)) [] (now (dirs .entry))
         (now (text .entry))))
         (lines (drop from (now (input .entry)))) ⌝ }
 {

@@ -4,11 +4,11 @@ use Prim.Native.Nat.{ℕ}
 use mathlib.Core.List.{List, []}
 use Rattle.path.specs.Join.{Joined, joinedIf, fits}
 use Rattle.tables.specs.declared.storage.FileStorage.{FileStorage}
-use Rattle.tables.specs.Model.{Model, Store, viewOf}
+use Rattle.tables.specs.Model.{Model, Store, storeOf, viewOf}
 
--- a set without its roots, which no line shows
+-- a set without its roots and first files, which no line shows
 abbrev pub bare : FileStorage → List ℕ → List ℕ → List ℕ → Store
-bare fs rows dirs text = record { fs = fs; rows = rows; roots = []; dirs = dirs; text = text }
+bare fs rows dirs text = storeOf fs rows [] [] dirs text
 
 -- the set that the tables hold, as far as it is printed
 abbrev pub shown : FileStorage → List ℕ → List ℕ → List ℕ → Model

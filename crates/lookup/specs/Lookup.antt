@@ -9,7 +9,8 @@ use Rattle.lists.specs.Lists.{equal}
 use Rattle.path.specs.Split.{isSeparator}
 use Rattle.tables.specs.declared.storage.FileStorage.{FileStorage}
 use Rattle.tables.specs.Rows.{has, linkHeldBit, symlinkBit}
-use Rattle.tables.specs.Model.{Optional, absent, present, Directory, pathIn, File, Store, fileOf, directoryText, tabled}
+use Rattle.tables.specs.Model.{Optional, absent, present, Directory, pathIn, File, Store, storeOf, fileOf}
+use Rattle.tables.specs.Model.{directoryText, tabled}
 
 -- ---- a file
 
@@ -97,9 +98,9 @@ known files dirs p = cond (isThere (fileAt files p)) true (isDirectory dirs p)
 abbrev pub isFlagged : ℕ → Bool
 isFlagged flags = cond (has flags symlinkBit) (has flags linkHeldBit) false
 
--- roots are not looked at
+-- roots and first files are not looked at
 abbrev pub lent : FileStorage → List ℕ → List ℕ → List ℕ → Store
-lent fs rows dirs text = record { fs = fs; rows = rows; roots = []; dirs = dirs; text = text }
+lent fs rows dirs text = storeOf fs rows [] [] dirs text
 
 abbrev pub entriesOf : Store → List Entry
 entriesOf s = tabled (s .fs .«num_files») (λ i. entryOf (fileOf s i))

@@ -2,7 +2,7 @@
 -- tables mean. They rely on the laws of rules and of directories.
 use Prim.Native.Nat.{ℕ, suc, _+_, _≤_}
 use mathlib.Core.Path.{_≡_, refl, sym, ap, _∙_}
-use mathlib.Core.Bool.{Bool, true, false, cond, not, _||_}
+use mathlib.Core.Bool.{Bool, true, false, cond, not, _||_, or-assoc}
 use mathlib.Core.List.{List, [], _∷_, _++_}
 use native.Mathlib.Omega.{arith}
 use lib.Dec.{eqb, ltb}
@@ -22,7 +22,7 @@ use Rattle.tables.specs.Span.{textAt}
 use Rattle.tables.specs.Model.{Optional, Directory, single, absolute, stored, File, Model, Store, tabled, fileOf, viewOf}
 use Rattle.tables.proofs.Tabled.{length-tabled}
 use Rattle.rules.specs.Rules.{Rule, when, firstOf, outcomeOf}
-use Rattle.rules.specs.Bounds.{isNegative}
+use Rattle.rules.specs.Bounds.{isNegative, badLength}
 use Rattle.rules.proofs.Rules.{orElse, first-append, outcome-refused, either-false, passed}
 use Rattle.change.specs.declared.rooms.Rooms.{Rooms}
 use Rattle.change.specs.Rooms.{roomsOf, holds, filesRoom, dirsRoom}
@@ -43,8 +43,8 @@ use Rattle.plan.specs.declared.plan.TextSpans.{TextSpans}
 use Rattle.plan.specs.declared.plan.TextLengths.{TextLengths}
 use Rattle.plan.specs.declared.plan.AddPlan.{AddPlan}
 use Rattle.plan.specs.Write.{setText, nameText, linkNew, isNewDirectory, isOutside, textAfter}
-use Rattle.plan.specs.Outcomes.{addingNumber}
-use Rattle.plan.specs.private.Steps.{dirPlanOf, dirsWith, padDirPlanOf, countsOf, shortOf, textSpansFor, dirTexts, plannedBeside, TextsOf}
+use Rattle.plan.specs.Outcomes.{lacksPlaces, addingNumber}
+use Rattle.plan.specs.private.Steps.{dirPlanOf, dirsWith, padDirPlanOf, countsOf, shortOf, placesLack, textSpansFor, dirTexts, plannedBeside, TextsOf}
 use Rattle.plan.specs.Plan.{planOf, plannedFor}
 
 -- ---- the texts
@@ -223,8 +223,15 @@ module _ (s : Store) (a : Addition) where
   abbrev result : Outcome AddPlan
   result = plannedFor s a
 
+  -- the tables do not hold what the set counts, or the table of first files is too short
+  abbrev pub full : Bool
+  full = not (holds s) || lacksPlaces s (viewOf s) a
+
+  abbrev lacking : Bool
+  lacking = lacks (roomsOf s) (added (viewOf s) a) (textAfter (s .fs) (viewOf s) a)
+
   abbrev unheld : Bool
-  unheld = not (holds s) || lacks (roomsOf s) (added (viewOf s) a) (textAfter (s .fs) (viewOf s) a)
+  unheld = not (holds s) || (lacksPlaces s (viewOf s) a || lacking)
 
   count : length (tabled (s .fs .«num_files») (fileOf s)) ≡ s .fs .«num_files»
   count = length-tabled (s .fs .«num_files») (fileOf s)
@@ -238,7 +245,7 @@ module _ (s : Store) (a : Addition) where
   add-held e =
       let p = passed (addingRules (viewOf s) a unheld) refl (sym e) in
       let u : unheld ≡ false = p .1 .1 .1 .1 .1 .1 .1 .1 .1 .1 .0 in
-      let h = store-held s (not-false (holds s) (either-false (not (holds s)) (lacks (roomsOf s) (added (viewOf s) a) (textAfter (s .fs) (viewOf s) a)) u .0)) in
+      let h = store-held s (not-false (holds s) (either-false (not (holds s)) (lacksPlaces s (viewOf s) a || lacking) u .0)) in
       omega arith
 
   -- a rule before that of room stops
@@ -247,14 +254,37 @@ module _ (s : Store) (a : Addition) where
       let k : before ≡ numberOf x = outcome-refused before (numberOf x) z h in
       rw (number-is, k, numbered x, numbered x)
 
-  module _ (p : before ≡ 0) where
-    -- the tables do not hold what the set counts
-    pub add-unheld : holds s ≡ false → refused 10 ≡ result
-    add-unheld h = rw (number-is, p, h)
+  -- the test of the code, by the sizes that it decided
+  pub full-is : (z : Sizes) → z ≡ sizesFor (s .fs) (a .size) (a .link) (isPresent (a .root))
+      → (not (holds s) || placesLack (s .fs) (length (s .firsts)) (s .fs .«total_size» + z .size + z .pad)) ≡ full
+  full-is z e =
+      ap (λ (v : Sizes). not (holds s) || placesLack (s .fs) (length (s .firsts)) (s .fs .«total_size» + v .size + v .pad))
+      (e ∙ sizes-are (s .fs) (textAt (s .text) (s .fs .name)) (tabled (s .fs .«num_files») (fileOf s)) dirs count a)
 
-    module _ (h : holds s ≡ true) where
-      number-held : addingNumber s (viewOf s) a ≡ cond (lacks (roomsOf s) (added (viewOf s) a) (textAfter (s .fs) (viewOf s) a)) 10 0
-      number-held = number-is ∙ rw (p, h)
+  pub full-not : full ≡ false → holds s ≡ true
+  full-not h = not-false (holds s) (either-false (not (holds s)) (lacksPlaces s (viewOf s) a) h .0)
+
+  module _ (p : before ≡ 0) where
+    -- the piece length is in range
+    pub add-length : badLength (s .fs .«piece_length») ≡ false
+    add-length =
+        passed (numberRules (s .fs) (a .given) (partsOf (s .fs .«num_files») (viewOf s .name) (a .path)) (a .size) (a .link) (isPresent (a .root))) refl (sym p) .0
+
+    -- the test of room alone decides
+    number-by : (t : Bool) → full ≡ t → addingNumber s (viewOf s) a ≡ cond (t || lacking) 10 0
+    number-by t h =
+        number-is
+        ∙ ap (λ (n : ℕ). orElse n (cond unheld 10 0)) p
+        ∙ ap (λ (b : Bool). cond b 10 0) (sym (or-assoc (not (holds s)) (lacksPlaces s (viewOf s) a) lacking))
+        ∙ ap (λ (b : Bool). cond (b || lacking) 10 0) h
+
+    -- the tables do not hold what the set counts, or the table of first files lacks places
+    pub add-full : full ≡ true → refused 10 ≡ result
+    add-full h = rw (number-by true h)
+
+    module _ (h : full ≡ false) where
+      number-held : addingNumber s (viewOf s) a ≡ cond lacking 10 0
+      number-held = number-by false h
 
       -- what the code decides, by sizes, facts, the directory, the lengths of the texts and the parts of the path
       abbrev decided : Sizes → FileFacts → Bool → Directory → TextLengths → PathParts → Outcome AddPlan

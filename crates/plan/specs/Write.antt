@@ -4,7 +4,7 @@ use Prim.Native.Nat.{ℕ, _+_, _-_, _%_, _^_}
 use mathlib.Core.Bool.{Bool, false, cond, not, _&&_}
 use mathlib.Core.List.{List, [], _∷_, _++_}
 use lib.Dec.{eqb}
-use lib.ListN.{length, take}
+use lib.ListN.{length, take, replicate}
 use lib.Seq.{sets}
 use Rattle.lists.specs.Lists.{equal}
 use Rattle.lists.specs.Decimal.{decimal}
@@ -16,6 +16,7 @@ use Rattle.tables.specs.Span.{clip, slid}
 use Rattle.tables.specs.Rows.{putRow, putDir, noPath, pathIsAbsolute, putRoot, dirsLowered}
 use Rattle.tables.specs.Rows.{linkHeldBit, outsideBit, rootBit, madePadFlags}
 use Rattle.tables.specs.Model.{Optional, absent, present, Directory, single, absolute, stored, isPad, Model, Store}
+use Rattle.rules.specs.Questions.{numPieces}
 use Rattle.additions.specs.Addition.{Addition, filesOf, sizeAdded, keeps, isV2, padOf, directoryAdded, storedName}
 use Rattle.additions.specs.Addition.{setNameOf, flagsKept, padDirectory, isAmong}
 use Rattle.additions.specs.Addition.{withDirectoryOf, added, isPresent}
@@ -222,7 +223,17 @@ storageAdded fs m a =
       «total_size» = fs .«total_size» + sizeAdded a + padOf m a;
       «size_on_disk» = onDiskAdded (fs .«size_on_disk») (cond (isPad (a .flags)) 0 (sizeAdded a));
       trimmed = fs .trimmed;
+      indexed = fs .indexed;
     }
+
+-- document 02 (v): 'the file in which each piece begins': a piece that begins in what is added begins in the file, as a
+-- pad ends where a piece does; a set that keeps no such table leaves it
+abbrev pub firstsAdded : Store → Model → Addition → List ℕ
+firstsAdded s m a =
+    cond (s .fs .indexed)
+    (sets (s .firsts) (numPieces (s .fs))
+    (replicate (numPieces (storageAdded (s .fs) m a) - numPieces (s .fs)) (s .fs .«num_files»)))
+    (s .firsts)
 
 abbrev pub storeAdded : Store → Model → Addition → Store
 storeAdded s m a =
@@ -230,6 +241,7 @@ storeAdded s m a =
       fs = storageAdded (s .fs) m a;
       rows = rowsAdded s m a;
       roots = rootsAdded (s .roots) (s .fs .«num_files») (a .root);
+      firsts = firstsAdded s m a;
       dirs = dirsAdded s m a;
       text = textAdded s m a;
     }

@@ -1,13 +1,14 @@
 // What a set counts after an addition, and the flags and the time of the file's row. The bounds that keep every sum
 // small are in `Countable`.
 ghost use mathlib.Core.Path.{_≡_};
-ghost use mathlib.Core.Bool.{true, cond};
+ghost use mathlib.Core.Bool.{true, false, cond, not, _||_};
 ghost use Prim.Native.Nat.{_+_, _≤_, _<_};
 ghost use lib.Dec.{eqb};
 ghost use Rattle.tables.specs.Model.{isPad};
-ghost use Rattle.rules.specs.Bounds.{maxEntries, maxLinks};
+ghost use Rattle.rules.specs.Bounds.{limit, maxEntries, maxLinks, badLength};
+ghost use Rattle.change.specs.Rooms.{holdsIn};
 ghost use Rattle.plan.specs.Write.{onDiskAdded};
-ghost use Rattle.plan.specs.private.Steps.{Countable, bitOf, rowFlags, rowFactsOf, countsOf, shortOf};
+ghost use Rattle.plan.specs.private.Steps.{Countable, bitOf, rowFlags, rowFactsOf, countsOf, shortOf, placesLack};
 use additions::Sizes;
 use change::Rooms;
 use tables::FileStorage;
@@ -113,6 +114,36 @@ pub(crate) fn counts_after(fs: FileStorage, sizes: Sizes, facts: FileFacts) -> C
         total_size: file_end + sizes.pad,
         size_on_disk: disk_after(fs.size_on_disk, facts.flags, sizes.size),
     }
+}
+
+// Whether a set that keeps a table of first files, with that many places, would have more pieces: by a product where
+// that fits, which costs less than a quotient.
+fn lacks_places(fs: FileStorage, places: usize, total: u64) -> bool
+    requires { ⌜ badLength (fs .«piece_length») ≡ false ⌝ }
+    ensures { λ r. ⌜ r ≡ placesLack fs places total ⌝ }
+{
+    if !fs.indexed {
+        return false;
+    }
+    if places < 0x1_0000_0000 {
+        return places as u64 * fs.piece_length < total;
+    }
+    (places as u64) < lists::div_ceil(total, fs.piece_length)
+}
+
+// Whether the tables do not hold what the set counts, or the table of first files has too few places for it with a file
+// and its pad.
+pub(crate) fn is_full(fs: FileStorage, rooms: Rooms, places: usize, sizes: Sizes) -> bool
+    requires { ⌜ badLength (fs .«piece_length») ≡ false ⌝ }
+    requires { ⌜ fs .«total_size» + sizes .size + sizes .pad ≤ limit ⌝ }
+    ensures { λ r. ⌜
+        r ≡ (not (holdsIn fs rooms) || placesLack fs places (fs .«total_size» + sizes .size + sizes .pad))
+        ⌝ }
+{
+    if change::holds(fs, rooms) {
+        return lacks_places(fs, places, fs.total_size + sizes.size + sizes.pad);
+    }
+    true
 }
 
 // Whether the file rows or directory rows are too few for these counts.

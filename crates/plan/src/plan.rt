@@ -20,6 +20,7 @@ use crate::counts::Counts;
 use crate::counts::FileFacts;
 use crate::counts::RowFacts;
 use crate::counts::counts_after;
+use crate::counts::is_full;
 use crate::counts::is_short;
 use crate::counts::row_facts;
 use crate::dirs::DirPlan;
@@ -219,6 +220,7 @@ fn make_plan(
             total_size: counts.total_size,
             size_on_disk: counts.size_on_disk,
             trimmed: fs.trimmed,
+            indexed: fs.indexed,
         },
         row: Row {
             offset: fs.total_size,
@@ -424,6 +426,7 @@ pub fn plan_add(
     fs: FileStorage,
     rows: &[u64],
     roots: &[u8],
+    firsts: &[u16],
     dirs: &[u64],
     text: &[u8],
     file: FileInfo,
@@ -435,7 +438,7 @@ pub fn plan_add(
         planSays r
         ≡ plannedFor
         (storeOf fs
-        (now (rows .entry)) (now (roots .entry)) (now (dirs .entry)) (now (text .entry)))
+        (now (rows .entry)) (now (roots .entry)) (now (firsts .entry)) (now (dirs .entry)) (now (text .entry)))
         (additionOf file (now (filename .entry)) (now (path .entry)) (now («symlink_path» .entry)))
         ⌝ }
 {
@@ -444,7 +447,7 @@ pub fn plan_add(
         SizesResult::Err(e) => PlanResult::Err(e),
         SizesResult::Ok(sizes) => {
             let rooms = change::rooms_in(rows.len(), roots.len(), dirs.len(), text.len());
-            if !change::holds(fs, rooms) {
+            if is_full(fs, rooms, firsts.len(), sizes) {
                 return PlanResult::Err(Refusal::NoRoom);
             }
             plan_texts(

@@ -28,6 +28,7 @@ pub use result::U32Result;
 pub use result::UnitResult;
 pub use test::DEFAULT_BLOCK_SIZE;
 pub use test::MAX_ENTRIES;
+pub use test::MAX_PIECES;
 pub use test::are_both;
 pub use test::are_held;
 pub use test::count_pieces;

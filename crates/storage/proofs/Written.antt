@@ -15,11 +15,11 @@ use Rattle.additions.specs.declared.parts.PathKind.{PathKind}
 use Rattle.additions.specs.declared.parts.PathKind.the-variants.{Single, Absolute, Inside, Outside}
 use Rattle.additions.specs.Addition.{Addition, padDirectory, padOf, isAmong, directoryAdded, withDirectoryOf}
 use Rattle.additions.specs.private.Texts.{directoryAt}
-use Rattle.plan.specs.Write.{newTextOf, isNewDirectory, newTexts, directoryNew, padDirectoryNew, padText, oldName, textKept, directoryStart, nameStart, linkStart, padDirectoryStart, padNameStart, isNewPad, rowAdded, padRow, textAdded, rowsAdded, dirsAdded}
+use Rattle.plan.specs.Write.{newTextOf, isNewDirectory, newTexts, directoryNew, padDirectoryNew, padText, oldName, textKept, directoryStart, nameStart, linkStart, padDirectoryStart, padNameStart, isNewPad, rowAdded, padRow, textAdded, rowsAdded, firstsAdded, dirsAdded}
 use Rattle.plan.specs.private.Steps.{TextsOf}
 use Rattle.plan.specs.Plan.{planOf}
 use Rattle.plan.proofs.Joined.{sets-joined}
-use Rattle.storage.specs.private.Written.{renamed, textBeforePad, textWritten, dirsBeforePad, dirsWritten, rowsWritten}
+use Rattle.storage.specs.private.Written.{renamed, textBeforePad, textWritten, dirsBeforePad, dirsWritten, rowsWritten, firstsWritten}
 
 -- ---- the text area
 
@@ -96,12 +96,17 @@ module _ (s : Store) (m : Model) (a : Addition) where
       (dirsBeforePad (fs .«num_files») (fs .«num_paths») (planOf fs m a) (s .dirs))
       _
 
+  -- ---- the table of first files
+
+  pub firsts-are : firstsWritten fs (planOf fs m a .after) (s .firsts) ≡ firstsAdded s m a
+  firsts-are = refl
+
 -- ---- the answer and all tables
 
 pub kept-all : (n k : ℕ) (s t : Store) → n ≡ k → eqb k 0 ≡ false → answering (refused k) s ≡ changedIf n s t
 kept-all n k s t e h = rw (e, h)
 
-pub wrote-all : (n : ℕ) (s t : Store) (fs : FileStorage) (rows roots dirs text : List ℕ) → n ≡ 0
-    → fs ≡ t .fs → rows ≡ t .rows → roots ≡ t .roots → dirs ≡ t .dirs → text ≡ t .text
-    → changedOf (value fs) rows roots dirs text ≡ changedIf n s t
-wrote-all n s t fs rows roots dirs text e a b c d f = rw (e, a, b, c, d, f)
+pub wrote-all : (n : ℕ) (s t : Store) (fs : FileStorage) (rows roots firsts dirs text : List ℕ) → n ≡ 0
+    → fs ≡ t .fs → rows ≡ t .rows → roots ≡ t .roots → firsts ≡ t .firsts → dirs ≡ t .dirs → text ≡ t .text
+    → changedOf (value fs) rows roots firsts dirs text ≡ changedIf n s t
+wrote-all n s t fs rows roots firsts dirs text e a b c d f g = rw (e, a, b, c, d, f, g)

@@ -1,7 +1,7 @@
 -- Document 01, opening: refusal 1 for a piece length below 1, else a set without files, as its record and as a model.
 -- It relies on the record and the model of `tables`.
 use Prim.Native.Nat.{ℕ}
-use mathlib.Core.Bool.{false, cond}
+use mathlib.Core.Bool.{Bool, false, cond}
 use mathlib.Core.List.{[]}
 use lib.Dec.{eqb}
 use lib.IntN.{ℤ, pos, negsuc}
@@ -13,9 +13,9 @@ use Rattle.tables.specs.Model.{Model}
 abbrev pub maxPieceLength : ℕ
 maxPieceLength = 2147483647
 
--- the record of a newly opened set
-abbrev pub newStorage : ℕ → FileStorage
-newStorage n =
+-- the record of a newly opened set, which keeps the first file of each piece in a table or not
+abbrev pub newStorage : ℕ → Bool → FileStorage
+newStorage n indexed =
     record {
       «piece_length» = n;
       v2 = false;
@@ -27,6 +27,7 @@ newStorage n =
       «total_size» = 0;
       «size_on_disk» = 0;
       trimmed = false;
+      indexed = indexed;
     }
 
 -- the model of a newly opened set
@@ -44,6 +45,6 @@ newModel n =
       trimmed = false;
     }
 
-abbrev pub opened : ℤ → Outcome FileStorage
-opened (pos n) = cond (eqb n 0) (refused 1) (value (newStorage n))
-opened (negsuc n) = refused 1
+abbrev pub opened : ℤ → Bool → Outcome FileStorage
+opened (pos n) indexed = cond (eqb n 0) (refused 1) (value (newStorage n indexed))
+opened (negsuc n) indexed = refused 1

@@ -1,9 +1,10 @@
-// Additions: planned first, and written after. Relies on the plan of `plan` and the writers of write.rt.
+// Additions: planned first, and written after. Relies on the plan of `plan` and the writers of write.rt and firsts.rt.
 ghost use mathlib.Core.Path.{_≡_};
 ghost use Rattle.tables.specs.Model.{storeOf};
 ghost use Rattle.change.specs.Changes.{changedOf, storageSays};
 ghost use Rattle.additions.specs.Addition.{additionOf};
 ghost use Rattle.plan.specs.Outcomes.{addStored};
+use crate::firsts::write_firsts;
 use crate::write::write_all;
 use additions::FileInfo;
 use change::StorageResult;
@@ -11,11 +12,12 @@ use plan::PlanResult;
 use tables::FileStorage;
 
 // Adds a file, whose texts are its given name, its path and its link text. In a v2 set a pad follows where the total is
-// no multiple of the piece length.
+// no multiple of the piece length. `firsts` is the table of first files; a set that keeps none has it left as it is.
 pub fn add_file(
     fs: FileStorage,
     rows: &mut [u64],
     roots: &mut [u8],
+    firsts: &mut [u16],
     dirs: &mut [u64],
     text: &mut [u8],
     file: FileInfo,
@@ -25,10 +27,10 @@ pub fn add_file(
 ) -> StorageResult
     ensures { λ r. ⌜
         changedOf (storageSays r)
-        (now (rows .exit)) (now (roots .exit)) (now (dirs .exit)) (now (text .exit))
+        (now (rows .exit)) (now (roots .exit)) (now (firsts .exit)) (now (dirs .exit)) (now (text .exit))
         ≡ addStored
         (storeOf fs
-        (now (rows .entry)) (now (roots .entry)) (now (dirs .entry)) (now (text .entry)))
+        (now (rows .entry)) (now (roots .entry)) (now (firsts .entry)) (now (dirs .entry)) (now (text .entry)))
         (additionOf file (now (filename .entry)) (now (path .entry)) (now («symlink_path» .entry)))
         ⌝ }
 {
@@ -36,6 +38,7 @@ pub fn add_file(
         fs,
         rows,
         roots,
+        firsts,
         dirs,
         text,
         file,
@@ -57,7 +60,9 @@ pub fn add_file(
                 path,
                 symlink_path,
             );
+            let before = plan.before;
             let after = plan.after;
+            write_firsts(firsts, before, after);
             StorageResult::Ok(after)
         }
     }

@@ -70,16 +70,19 @@ pub record Model : Type 0 where
 abbrev pub isPad : ℕ → Bool
 isPad flags = eqb (flags % 2) 1
 
--- the set's record and its tables
+-- the set's record and its tables; `firsts` has the first file of each piece, where the record says that the set keeps
+-- it
 pub record Store : Type 0 where
   pub fs : FileStorage
   pub rows : List ℕ
   pub roots : List ℕ
+  pub firsts : List ℕ
   pub dirs : List ℕ
   pub text : List ℕ
 
-abbrev pub storeOf : FileStorage → List ℕ → List ℕ → List ℕ → List ℕ → Store
-storeOf fs rows roots dirs text = record { fs = fs; rows = rows; roots = roots; dirs = dirs; text = text }
+abbrev pub storeOf : FileStorage → List ℕ → List ℕ → List ℕ → List ℕ → List ℕ → Store
+storeOf fs rows roots firsts dirs text =
+    record { fs = fs; rows = rows; roots = roots; firsts = firsts; dirs = dirs; text = text }
 
 -- g 0, …, g (n − 1)
 unfoldable pub tabled : {A : Type 0} → ℕ → (ℕ → A) → List A

@@ -18,4 +18,6 @@ pub struct FileStorage {
     pub size_on_disk: u64,
     // Whether `remove_tail_padding` ever removed a pad.
     pub trimmed: bool,
+    // Whether the set keeps the first file of each piece in a table.
+    pub indexed: bool,
 }

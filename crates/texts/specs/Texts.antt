@@ -32,6 +32,7 @@ storageWith fs name used =
       «total_size» = fs .«total_size»;
       «size_on_disk» = fs .«size_on_disk»;
       trimmed = fs .trimmed;
+      indexed = fs .indexed;
     }
 
 abbrev pub rowWith : Row → Span → Span → Row
@@ -61,6 +62,7 @@ cutOut s c =
       fs = storageWith (s .fs) (low c (s .fs .name)) (s .fs .«text_len» - c .len);
       rows = rowsLowered (s .rows) (s .fs .«num_files») c;
       roots = s .roots;
+      firsts = s .firsts;
       dirs = dirsLowered (s .dirs) (s .fs .«num_paths») c;
       text = slid c (s .fs .«text_len») (s .text);
     }
@@ -78,6 +80,7 @@ linked s i t =
           putRow (s .rows) i
           (rowWith (rowAt (s .rows) i) (rowAt (s .rows) i .name) (record { at = s .fs .«text_len»; len = length t }));
       roots = s .roots;
+      firsts = s .firsts;
       dirs = s .dirs;
       text = sets (s .text) (s .fs .«text_len») t;
     }

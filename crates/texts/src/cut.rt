@@ -25,6 +25,7 @@ pub(crate) fn storage_with(fs: FileStorage, name: Span, used: usize) -> FileStor
         total_size: fs.total_size,
         size_on_disk: fs.size_on_disk,
         trimmed: fs.trimmed,
+        indexed: fs.indexed,
     }
 }
 

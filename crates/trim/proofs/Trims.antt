@@ -77,13 +77,14 @@ found-below rows (suc n) f e = at (eqb (rowAt rows n .size) 0) (has (rowAt rows 
 -- ---- a removal
 
 -- two stores with the same parts
-same-store : (s t : Store) → s .fs ≡ t .fs → s .rows ≡ t .rows → s .roots ≡ t .roots → s .dirs ≡ t .dirs → s .text ≡ t .text → s ≡ t
-same-store s t fs rows roots dirs text =
-    ap (λ (x : FileStorage). storeOf x (s .rows) (s .roots) (s .dirs) (s .text)) fs
-    ∙ ap (λ (x : List ℕ). storeOf (t .fs) x (s .roots) (s .dirs) (s .text)) rows
-    ∙ ap (λ (x : List ℕ). storeOf (t .fs) (t .rows) x (s .dirs) (s .text)) roots
-    ∙ ap (λ (x : List ℕ). storeOf (t .fs) (t .rows) (t .roots) x (s .text)) dirs
-    ∙ ap (storeOf (t .fs) (t .rows) (t .roots) (t .dirs)) text
+same-store : (s t : Store) → s .fs ≡ t .fs → s .rows ≡ t .rows → s .roots ≡ t .roots → s .firsts ≡ t .firsts → s .dirs ≡ t .dirs → s .text ≡ t .text → s ≡ t
+same-store s t fs rows roots firsts dirs text =
+    ap (λ (x : FileStorage). storeOf x (s .rows) (s .roots) (s .firsts) (s .dirs) (s .text)) fs
+    ∙ ap (λ (x : List ℕ). storeOf (t .fs) x (s .roots) (s .firsts) (s .dirs) (s .text)) rows
+    ∙ ap (λ (x : List ℕ). storeOf (t .fs) (t .rows) x (s .firsts) (s .dirs) (s .text)) roots
+    ∙ ap (λ (x : List ℕ). storeOf (t .fs) (t .rows) (t .roots) x (s .dirs) (s .text)) firsts
+    ∙ ap (λ (x : List ℕ). storeOf (t .fs) (t .rows) (t .roots) (t .firsts) x (s .text)) dirs
+    ∙ ap (storeOf (t .fs) (t .rows) (t .roots) (t .firsts) (t .dirs)) text
 
 module _ (s t : Store) (f : ℕ) (r : Row) (c d : Span) where
   -- what the parts of store t are, where it is store s without row f, which is r, and without the spans c and then d
@@ -91,6 +92,7 @@ module _ (s t : Store) (f : ℕ) (r : Row) (c d : Span) where
     pub fs : t .fs ≡ storageWithout (s .fs) r c d
     pub rows : t .rows ≡ rowsWithout (s .rows) (t .fs .«num_files») f (t .fs .«total_size») c d
     pub roots : t .roots ≡ slid (record { at = f * 32; len = 32 }) (s .fs .«num_files» * 32) (s .roots)
+    pub firsts : t .firsts ≡ s .firsts
     pub dirs : t .dirs ≡ dirsLowered (dirsLowered (s .dirs) (s .fs .«num_paths») c) (s .fs .«num_paths») d
     pub text : t .text ≡ slid d (s .fs .«text_len» - c .len) (slid c (s .fs .«text_len») (s .text))
 
@@ -99,6 +101,7 @@ module _ (s t : Store) (f : ℕ) (r : Row) (c d : Span) where
       same-store t (storeWithout s f r c d) (w .fs)
       (w .rows ∙ ap (λ (g : FileStorage). rowsWithout (s .rows) (g .«num_files») f (g .«total_size») c d) (w .fs))
       (w .roots)
+      (w .firsts)
       (w .dirs)
       (w .text)
 

@@ -37,6 +37,7 @@ storageWithout fs r c d =
       «total_size» = fs .«total_size» - r .size;
       «size_on_disk» = fs .«size_on_disk»;
       trimmed = true;
+      indexed = fs .indexed;
     }
 
 abbrev pub storeWithout : Store → ℕ → Row → Span → Span → Store
@@ -45,6 +46,7 @@ storeWithout s f r c d =
       fs = storageWithout (s .fs) r c d;
       rows = rowsWithout (s .rows) (s .fs .«num_files» - 1) f (s .fs .«total_size» - r .size) c d;
       roots = slid (record { at = f * rootWidth; len = rootWidth }) (s .fs .«num_files» * rootWidth) (s .roots);
+      firsts = s .firsts;
       dirs = dirsLowered (dirsLowered (s .dirs) (s .fs .«num_paths») c) (s .fs .«num_paths») d;
       text = slid d (s .fs .«text_len» - c .len) (slid c (s .fs .«text_len») (s .text));
     }

@@ -1,7 +1,8 @@
 // The search for the pad, and what its removal writes. Relies on the writers of `tables` and the laws of
 // proofs/Trims.antt.
 ghost use mathlib.Core.Path.{_≡_};
-ghost use Prim.Native.Nat.{_-_, _*_, _<_, _≤_};
+ghost use mathlib.Core.List.{List};
+ghost use Prim.Native.Nat.{ℕ, _-_, _*_, _<_, _≤_};
 ghost use Rattle.tables.specs.Span.{slid};
 ghost use Rattle.tables.specs.Rows.{has, dirsLowered, padBit, rootWidth};
 ghost use Rattle.tables.specs.Model.{presentIf, storeOf};
@@ -87,6 +88,7 @@ fn storage_without(fs: FileStorage, row: Row, c: Span, d: Span) -> FileStorage
         total_size: total_less(fs.total_size, row.size),
         size_on_disk: fs.size_on_disk,
         trimmed: true,
+        indexed: fs.indexed,
     }
 }
 
@@ -135,9 +137,10 @@ fn remove_file(
 ) -> FileStorage
     requires { ⌜ (f < fs .«num_files») × (fs .«num_files» ≤ maxEntries) ⌝ }
     ensures { λ r. ⌜
-        storeOf r (now (rows .exit)) (now (roots .exit)) (now (dirs .exit)) (now (text .exit))
+        ((firsts : List ℕ)
+        → storeOf r (now (rows .exit)) (now (roots .exit)) firsts (now (dirs .exit)) (now (text .exit))
         ≡ storeTrimmed
-        (storeOf fs (now (rows .entry)) (now (roots .entry)) (now (dirs .entry)) (now (text .entry))) f
+        (storeOf fs (now (rows .entry)) (now (roots .entry)) firsts (now (dirs .entry)) (now (text .entry))) f)
         ⌝ }
 {
     let row = tables::row_at(rows, f);
@@ -151,7 +154,8 @@ fn remove_file(
     left
 }
 
-// Removes the last file that is not empty, where it is a pad.
+// Removes the last file that is not empty, where it is a pad. A table of first files is not lent: whatever it holds, a
+// trim leaves it, and the set has fewer pieces in it.
 pub fn remove_tail_padding(
     fs: FileStorage,
     rows: &mut [u64],
@@ -160,11 +164,12 @@ pub fn remove_tail_padding(
     text: &mut [u8],
 ) -> StorageResult
     ensures { λ r. ⌜
-        changedOf (storageSays r)
-        (now (rows .exit)) (now (roots .exit)) (now (dirs .exit)) (now (text .exit))
+        ((firsts : List ℕ)
+        → changedOf (storageSays r)
+        (now (rows .exit)) (now (roots .exit)) firsts (now (dirs .exit)) (now (text .exit))
         ≡ trimStored
         (storeOf fs
-        (now (rows .entry)) (now (roots .entry)) (now (dirs .entry)) (now (text .entry)))
+        (now (rows .entry)) (now (roots .entry)) firsts (now (dirs .entry)) (now (text .entry))))
         ⌝ }
 {
     if rules::is_bad_length(fs.piece_length) {

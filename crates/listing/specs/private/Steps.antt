@@ -1,8 +1,8 @@
 -- What the steps of a run answer: opening by the first line, a file line obeyed, and the run as a whole. Run.antt says
 -- the same on the model; here it stands on the lent tables, with the answers of `storage`.
 use Prim.Native.Nat.{ℕ}
-use mathlib.Core.Bool.{cond}
-use mathlib.Core.List.{List}
+use mathlib.Core.Bool.{false, cond}
+use mathlib.Core.List.{List, []}
 use mathlib.Core.Path.{_≡_}
 use lib.Dec.{ltb}
 use lib.IntN.{pos}
@@ -25,12 +25,12 @@ use Rattle.listing.specs.declared.run.RunResult.the-variants.{Listed, St
 
 abbrev pub openedBy : Optional ℕ → Outcome FileStorage
 openedBy absent = refused 17
-openedBy (present n) = opened (pos n)
+openedBy (present n) = opened (pos n) false
 
 -- a line out of form is 17, and leaves the tables as they were
 abbrev pub obeyed : Optional FileEntry → Store → Changed
 obeyed absent s =
-    record { says = refused 17; rows = s .rows; roots = s .roots; dirs = s .dirs; text = s .text }
+    record { says = refused 17; rows = s .rows; roots = s .roots; firsts = s .firsts; dirs = s .dirs; text = s .text }
 obeyed (present e) s = addStored s (additionOf e)
 
 -- the run that a refused line ends
@@ -43,9 +43,9 @@ abbrev pub countedBy : FileStorage → ℕ → RunResult
 countedBy fs line =
     cond (ltb 2147483647 (ceiling (fs .«total_size») (fs .«piece_length»))) (Stopped TooManyPieces line) (Listed fs)
 
--- how a run ends, by its answer and what the tables then hold
+-- how a run ends, by its answer and what the tables then hold; the set keeps no table of first files
 abbrev pub runSays : RunResult → List ℕ → List ℕ → List ℕ → List ℕ → Run
-runSays (Listed fs) rows roots dirs text = listed (viewOf (storeOf fs rows roots dirs text))
+runSays (Listed fs) rows roots dirs text = listed (viewOf (storeOf fs rows roots [] dirs text))
 runSays (Stopped e line) rows roots dirs text = stopped (numberOf e) line
 
 -- the lengths of tables with the places of `places`: 8 words and 32 bytes a file, 2 words a directory

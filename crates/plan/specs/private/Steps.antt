@@ -2,6 +2,7 @@
 -- `plannedFor` of Plan.antt.
 use Prim.Native.Nat.{ℕ, _+_, _≤_, _<_}
 use mathlib.Core.Bool.{Bool, true, cond, not, _&&_, _||_}
+use Rattle.lists.specs.Lists.{ceiling}
 use Rattle.types.specs.Refusals.{Outcome}
 use Rattle.types.specs.Signed.{zigzag}
 use Rattle.tables.specs.Model.{Optional, absent, present, Directory, isPad, Model, tabled}
@@ -116,6 +117,10 @@ countsOf fs z f =
 abbrev pub shortOf : Rooms → ℕ → ℕ → Bool
 shortOf rooms files dirs = ltb (filesRoom rooms) files || ltb (dirsRoom rooms) dirs
 
+-- a table of first files with that many places, where the set keeps one, is too short for a set with that total
+abbrev pub placesLack : FileStorage → ℕ → ℕ → Bool
+placesLack fs places total = fs .indexed && ltb places (ceiling total (fs .«piece_length»))
+
 -- texts of these lengths, one after the other from `start` on
 abbrev pub textSpansOf : ℕ → ℕ → ℕ → ℕ → ℕ → ℕ → ℕ → TextSpans
 textSpansOf start set dir name link padDir pad =
@@ -155,6 +160,7 @@ planFrom fs z counts file first second spans old parts =
         «total_size» = counts .«total_size»;
         «size_on_disk» = counts .«size_on_disk»;
         trimmed = fs .trimmed;
+        indexed = fs .indexed;
       };
       row = record {
         offset = fs .«total_size»;

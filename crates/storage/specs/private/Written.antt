@@ -1,13 +1,16 @@
 -- What each table holds once a plan is written. Private: the public definitions are those of `plan`, and
 -- proofs/Written.antt ties these to them.
-use Prim.Native.Nat.{ℕ, _+_}
+use Prim.Native.Nat.{ℕ, _+_, _-_}
 use mathlib.Core.Bool.{cond}
 use mathlib.Core.List.{List, []}
 use lib.Dec.{eqb}
+use lib.ListN.{replicate}
 use lib.Seq.{sets}
 use Rattle.tables.specs.declared.span.Span.{Span}
+use Rattle.tables.specs.declared.storage.FileStorage.{FileStorage}
 use Rattle.tables.specs.Span.{slid}
 use Rattle.tables.specs.Rows.{putRow, dirsLowered}
+use Rattle.rules.specs.Questions.{numPieces}
 use Rattle.additions.specs.Addition.{padDirectory}
 use Rattle.plan.specs.declared.plan.NewDir.{NewDir}
 use Rattle.plan.specs.declared.plan.AddPlan.{AddPlan}
@@ -64,3 +67,10 @@ padRowWritten files p rows = cond (eqb (p .«pad_row» .size) 0) rows (putRow ro
 
 abbrev pub rowsWritten : ℕ → AddPlan → List ℕ → List ℕ
 rowsWritten files p rows = padRowWritten files p (putRow rows files (p .row))
+
+-- the table of first files, by the set's record before and after an addition
+abbrev pub firstsWritten : FileStorage → FileStorage → List ℕ → List ℕ
+firstsWritten before after firsts =
+    cond (before .indexed)
+    (sets firsts (numPieces before) (replicate (numPieces after - numPieces before) (before .«num_files»)))
+    firsts

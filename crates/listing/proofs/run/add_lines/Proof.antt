@@ -2,7 +2,7 @@
 -- lines.
 use Prim.Native.Nat.{ℕ, _+_, _-_}
 use mathlib.Core.Path.{_≡_, refl, sym, ap, _∙_}
-use mathlib.Core.List.{List}
+use mathlib.Core.List.{List, []}
 use native.Mathlib.Omega.{arith}
 use lib.ListN.{length, drop}
 use borrow.Author.Needs.{needs}
@@ -19,7 +19,7 @@ use Rattle.listing.proofs.run.add_lines.Statement.{statement}
 use Rattle.listing.proofs.run.add_lines.Tie as tie
 
 abbrev Inv-loop : tie.InvT-loop
-Inv-loop input from rows₀ roots₀ dirs₀ text₀ set₀ at₀ line₀ rows roots dirs text set at line = Going input (runFrom places line₀ (viewOf (storeOf set₀ rows₀ roots₀ dirs₀ text₀)) (lines (drop at₀ input))) at line (storeOf set rows roots dirs text)
+Inv-loop input from rows₀ roots₀ dirs₀ text₀ set₀ at₀ line₀ rows roots dirs text set at line = Going input (runFrom places line₀ (viewOf (storeOf set₀ rows₀ roots₀ [] dirs₀ text₀)) (lines (drop at₀ input))) at line (storeOf set rows roots [] dirs text)
 
 abbrev μ-loop : tie.MeasureT-loop
 μ-loop input from rows₀ roots₀ dirs₀ text₀ set₀ at₀ line₀ rows roots dirs text set at line = length input - at
@@ -31,12 +31,13 @@ left-by c =
       says = storageSays (c .add-line .result);
       rows = c .add-line .last .1 .0;
       roots = c .add-line .last .1 .1 .0;
+      firsts = [];
       dirs = c .add-line .last .1 .1 .1 .0;
       text = c .add-line .last .1 .1 .1 .1 .0;
     }
 
-changed : (c : tie.After-add-line Inv-loop μ-loop) → left-by c ≡ obeyed (fileIn (partOf (c .before .before .before .before .before .before .before .before .before .before .before .before .before .before .args .input .now) (c .before .before .before .before .before .before .before .before .loop .at) (c .before .before .before .before .before .before .line-length .result))) (storeOf (c .before .before .before .before .before .before .before .before .loop .set) (c .before .before .before .before .before .before .before .before .loop .rows) (c .before .before .before .before .before .before .before .before .loop .roots) (c .before .before .before .before .before .before .before .before .loop .dirs) (c .before .before .before .before .before .before .before .before .loop .text))
-changed c = c .add-line .ensures ∙ ap (λ (l : List ℕ). obeyed (fileIn l) (storeOf (c .before .before .before .before .before .before .before .before .loop .set) (c .before .before .before .before .before .before .before .before .loop .rows) (c .before .before .before .before .before .before .before .before .loop .roots) (c .before .before .before .before .before .before .before .before .loop .dirs) (c .before .before .before .before .before .before .before .before .loop .text))) (c .before .part .ensures)
+changed : (c : tie.After-add-line Inv-loop μ-loop) → left-by c ≡ obeyed (fileIn (partOf (c .before .before .before .before .before .before .before .before .before .before .before .before .before .before .args .input .now) (c .before .before .before .before .before .before .before .before .loop .at) (c .before .before .before .before .before .before .line-length .result))) (storeOf (c .before .before .before .before .before .before .before .before .loop .set) (c .before .before .before .before .before .before .before .before .loop .rows) (c .before .before .before .before .before .before .before .before .loop .roots) [] (c .before .before .before .before .before .before .before .before .loop .dirs) (c .before .before .before .before .before .before .before .before .loop .text))
+changed c = c .add-line .ensures ∙ ap (λ (l : List ℕ). obeyed (fileIn l) (storeOf (c .before .before .before .before .before .before .before .before .loop .set) (c .before .before .before .before .before .before .before .before .loop .rows) (c .before .before .before .before .before .before .before .before .loop .roots) [] (c .before .before .before .before .before .before .before .before .loop .dirs) (c .before .before .before .before .before .before .before .before .loop .text))) (c .before .part .ensures)
 
 placed : (c : tie.After-add-line Inv-loop μ-loop) → Placed (left-by c .rows) (left-by c .roots) (left-by c .dirs) (left-by c .text)
 placed c =
@@ -50,7 +51,7 @@ placed c =
     }
 
 loop-holds : tie.Need-loop-holds Inv-loop μ-loop
-loop-holds c = record { after-line = c .before .before .before .before .before .pre .1 .1 .0; within = c .before .before .before .before .before .pre .1 .1 .1; placed = c .before .before .before .before .before .pre .0; sound = c .before .before .before .before .before .pre .1 .0; rest = refl }
+loop-holds c = record { after-line = c .before .before .before .before .before .pre .1 .1 .1 .0; within = c .before .before .before .before .before .pre .1 .1 .1 .1; placed = c .before .before .before .before .before .pre .0; sound = c .before .before .before .before .before .pre .1 .0; unindexed = c .before .before .before .before .before .pre .1 .1 .0; rest = refl }
 
 line-length-requires : tie.Need-line-length-requires Inv-loop μ-loop
 line-length-requires c κs = search needs

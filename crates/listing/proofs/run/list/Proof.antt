@@ -2,7 +2,7 @@
 use mathlib.Core.Path.{_≡_, sym, ap, _∙_}
 use Prim.Native.Nat.{ℕ}
 use lib.ListN.{replicate, length-replicate}
-use mathlib.Core.List.{List}
+use mathlib.Core.List.{List, []}
 use Rattle.listing.specs.Run.{run, places}
 use Rattle.listing_output.specs.Output.{printed}
 use Rattle.listing_output.specs.Printing.{putText}
@@ -73,7 +73,7 @@ returns c =
     let e = c .before .before .before .before .before .before .before .before .before .before .before .before .before .before .run-input .last in
     c .before .before .put-set .ensures
     ∙ ap (λ (t : List ℕ). putText t (a .out .now))
-    (shown-is (storeOf (c .before .before .before .before .before .before .before .before .ended .given .0 .0) (e .1 .0) (e .1 .1 .0) (e .1 .1 .1 .0) (e .1 .1 .1 .1 .0)) ∙ ap printed (said (c .before .before .before .before .before .before .before .before .before .before .before .before .before .before) _ (c .before .before .before .before .before .before .before .before .ended .given .1)))
+    (shown-is (storeOf (c .before .before .before .before .before .before .before .before .ended .given .0 .0) (e .1 .0) (e .1 .1 .0) [] (e .1 .1 .1 .0) (e .1 .1 .1 .1 .0)) ∙ ap printed (said (c .before .before .before .before .before .before .before .before .before .before .before .before .before .before) _ (c .before .before .before .before .before .before .before .before .ended .given .1)))
 
 same-length-2 : tie.Need-same-length-2
 same-length-2 c = c .before .out2 .given

@@ -1,6 +1,7 @@
 -- `listing::run::open_line` meets its contract.
 use mathlib.Core.Path.{sym, ap, _∙_}
-use lib.IntN.{pos}
+use mathlib.Core.Bool.{false}
+use lib.IntN.{ℤ, pos}
 use mir.Syntax.{w32}
 use mir.Val.{SFits}
 use mir.Facts.{toZ-ofZ}
@@ -35,7 +36,7 @@ returns-2 c =
     let told = sym (ap numberSays (c .before .before .before .n .given .1)) ∙ c .before .before .before .before .before .piece-length-in .ensures in
     let f : SFits w32 (c .before .signed32 .result) = record { sfits = c .before .signed32 .ok } in
     c .«open» .ensures
-    ∙ ap opened (toZ-ofZ f ∙ c .before .signed32 .ensures ∙ ap pos (piece-length-is (c .before .before .before .before .before .before .before .args .line .now) (c .before .before .before .n .given .0 .0) told))
+    ∙ ap (λ (z : ℤ). opened z false) (toZ-ofZ f ∙ c .before .signed32 .ensures ∙ ap pos (piece-length-is (c .before .before .before .before .before .before .before .args .line .now) (c .before .before .before .n .given .0 .0) told))
     ∙ ap openedBy told
 
 pub open-line-spec : {M : Type 1} → statement M

@@ -1,7 +1,8 @@
 -- `listing::run::run_input` meets its contract.
 use Prim.Native.Nat.{ℕ, _+_}
 use mathlib.Core.Path.{_≡_, sym, ap, subst, _∙_}
-use mathlib.Core.List.{List}
+use mathlib.Core.Bool.{false}
+use mathlib.Core.List.{List, []}
 use native.Mathlib.Omega.{arith}
 use lib.ListN.{drop}
 use Rattle.lists.specs.Lists.{partOf}
@@ -26,7 +27,7 @@ said : (c : tie.After-open-line) → storageSays (c .open-line .result) ≡ open
 said c = c .open-line .ensures ∙ ap (λ (l : List ℕ). openedBy (pieceLengthIn l)) (c .before .part .ensures)
 
 -- the set that it opens
-begun : (c : tie.After-known-told) → (m : ℕ) × (c .before .answer .given .0 .0 ≡ newStorage m) × (runFrom places 1 (newModel m) (lines (drop (c .before .before .before .before .before .line-length .result + 1) (c .before .before .before .before .before .before .before .before .before .before .before .before .before .args .input .now))) ≡ run places (c .before .before .before .before .before .before .before .before .before .before .before .before .before .args .input .now))
+begun : (c : tie.After-known-told) → (m : ℕ) × (c .before .answer .given .0 .0 ≡ newStorage m false) × (runFrom places 1 (newModel m) (lines (drop (c .before .before .before .before .before .line-length .result + 1) (c .before .before .before .before .before .before .before .before .before .before .before .before .before .args .input .now))) ≡ run places (c .before .before .before .before .before .before .before .before .before .before .before .before .before .args .input .now))
 begun c =
     first-goes (c .before .before .before .before .before .before .before .before .before .before .before .before .before .args .input .now) (c .before .before .before .before .before .line-length .result) (c .before .before .before .before .before .before .before .if1 .left) (c .before .before .before .before .before .before .if2 .left) (c .before .before .before .before .before .line-length .ensures) (c .before .answer .given .0 .0)
     (sym (said (c .before .before .before)) ∙ ap storageSays (c .before .answer .given .1))
@@ -71,8 +72,11 @@ add-lines-requires c κs =
     let b = begun (c .before .before .before .before) in (
       c .before .before .before .before .before .before .before .before .before .before .before .before .before .before .before .before .before .pre,
       (
-        subst (λ (f : FileStorage). Sound (storeOf f (a .rows .now) (a .roots .now) (a .dirs .now) (a .text .now))) (sym (b .1)) (sound-opened (b .0) (a .rows .now) (a .roots .now) (a .dirs .now) (a .text .now)),
-        (omega arith, omega (arith, c .before .before .before .before .before .before .before .before .before .line-length .ensures, line-few (a .input .now) 0)),
+        subst (λ (f : FileStorage). Sound (storeOf f (a .rows .now) (a .roots .now) [] (a .dirs .now) (a .text .now))) (sym (b .1)) (sound-opened (b .0) false (a .rows .now) (a .roots .now) [] (a .dirs .now) (a .text .now)),
+        (
+          ap (λ (f : FileStorage). f .indexed) (b .1),
+          (omega arith, omega (arith, c .before .before .before .before .before .before .before .before .before .line-length .ensures, line-few (a .input .now) 0)),
+        ),
       ),
     )
 
@@ -93,8 +97,8 @@ returns-4 c =
     let a = c .before .before .before .before .before .before .before .before .before .before .before .before .before .before .before .before .before .before .before .before .before .before .before .before .before .before .args in
     let b = begun (c .before .before .before .before .before .before .before .before .before .before .before .before .before) in
     c .before .before .before .before .before .before .before .before .add-lines .ensures
-    ∙ ap (λ (f : FileStorage). runFrom places 1 (viewOf (storeOf f (a .rows .now) (a .roots .now) (a .dirs .now) (a .text .now))) (lines (drop (c .before .before .before .before .before .before .before .before .before .before .before .before .before .before .before .before .before .before .line-length .result + 1) (a .input .now)))) (b .1)
-    ∙ ap (λ (m : Model). runFrom places 1 m (lines (drop (c .before .before .before .before .before .before .before .before .before .before .before .before .before .before .before .before .before .before .line-length .result + 1) (a .input .now)))) (view-opened (b .0) (a .rows .now) (a .roots .now) (a .dirs .now) (a .text .now))
+    ∙ ap (λ (f : FileStorage). runFrom places 1 (viewOf (storeOf f (a .rows .now) (a .roots .now) [] (a .dirs .now) (a .text .now))) (lines (drop (c .before .before .before .before .before .before .before .before .before .before .before .before .before .before .before .before .before .before .line-length .result + 1) (a .input .now)))) (b .1)
+    ∙ ap (λ (m : Model). runFrom places 1 m (lines (drop (c .before .before .before .before .before .before .before .before .before .before .before .before .before .before .before .before .before .before .line-length .result + 1) (a .input .now)))) (view-opened (b .0) false (a .rows .now) (a .roots .now) [] (a .dirs .now) (a .text .now))
     ∙ b .2
 
 pub run-input-spec : {M : Type 1} → statement M

@@ -1,17 +1,16 @@
--- `plan::plan::plan_add` meets its contract: the tests stop, the tables do not hold the set, or the numbers of the plan are those
+-- `plan::plan::plan_add` meets its contract: the tests stop, the tables do not hold the set or lack places, or the numbers of the plan are those
 -- of the model.
 use borrow.Author.Needs.{needs}
 use mathlib.Core.Path.{_≡_, refl, sym, ap, subst, _∙_}
-use mathlib.Core.Bool.{Bool, true}
-use Prim.Native.Nat.{ℕ}
-use borrow.Author.Tests.{not-true, not-false}
+use mathlib.Core.Bool.{Bool, false}
+use Prim.Native.Nat.{ℕ, _+_, _≤_}
 use lib.ListN.{length}
 use Rattle.types.specs.Signed.{zigzag}
 use Rattle.tables.specs.Span.{textAt}
 use Rattle.tables.specs.Model.{Store, storeOf, viewOf}
 use Rattle.rules.specs.Rules.{firstOf, outcomeOf}
+use Rattle.rules.specs.Bounds.{limit}
 use Rattle.rules.proofs.Rules.{outcome-value}
-use Rattle.change.specs.Rooms.{holds}
 use Rattle.additions.specs.declared.checks.Sizes.{Sizes}
 use Rattle.additions.specs.declared.checks.SizesResult.the-variants.{Ok}
 use Rattle.additions.specs.declared.parts.PathParts.{PathParts}
@@ -23,12 +22,12 @@ use Rattle.additions.proofs.Rules.{sum-in}
 use Rattle.additions.proofs.Texts.{parts-within}
 use Rattle.plan.specs.declared.counts.FileFacts.{FileFacts}
 use Rattle.plan.specs.private.Steps.{factsOf}
-use Rattle.plan.proofs.Plans.{here-is, texts-of, add-stopped, add-unheld, add-planned}
+use Rattle.plan.proofs.Plans.{here-is, texts-of, full, full-is, full-not, add-stopped, add-length, add-full, add-planned}
 use Rattle.plan.proofs.plan.plan_add.Statement.{statement}
 use Rattle.plan.proofs.plan.plan_add.Tie as tie
 
 abbrev tables : tie.Start → Store
-tables c = storeOf (c .args .fs) (c .args .rows .now) (c .args .roots .now) (c .args .dirs .now) (c .args .text .now)
+tables c = storeOf (c .args .fs) (c .args .rows .now) (c .args .roots .now) (c .args .firsts .now) (c .args .dirs .now) (c .args .text .now)
 
 abbrev call : tie.Start → Addition
 call c = additionOf (c .args .file) (c .args .filename .now) (c .args .path .now) (c .args .symlink-path .now)
@@ -50,19 +49,35 @@ abbrev sizes : tie.Start → Sizes
 sizes c = sizesBy c (isPresent (call c .root))
 
 -- what the sizes' answer says of the call
-sized : (c : tie.After-decide-sizes) → sizesSays (c .decide-sizes .result) ≡ outcomeOf (number (c .before .before .before .before .before .before .before .before .before)) (sizes (c .before .before .before .before .before .before .before .before .before))
+sized : (c : tie.After-decide-sizes) → sizesSays (c .decide-sizes .result) ≡ outcomeOf (number (c .before .before .before .before .before .before .before .before .before .before)) (sizes (c .before .before .before .before .before .before .before .before .before .before))
 sized c =
-    let a = c .before .before .before .before .before .before .before .before .before in
+    let a = c .before .before .before .before .before .before .before .before .before .before in
     c .decide-sizes .ensures
     ∙ ap (λ (p : PathParts). outcomeOf (numberBy a p (isHere (a .args .file .rooted))) (sizesBy a (isHere (a .args .file .rooted)))) (c .before .parts-of .ensures)
     ∙ ap (λ (r : Bool). outcomeOf (numberBy a (parts a) r) (sizesBy a r)) (here-is (a .args .file .rooted) (a .args .file .root .bytes))
 
-passed : (c : tie.After-decide-sizes) (z : Sizes) → c .decide-sizes .result ≡ Ok z → (number (c .before .before .before .before .before .before .before .before .before) ≡ 0) × (z ≡ sizes (c .before .before .before .before .before .before .before .before .before))
-passed c z e = outcome-value (number (c .before .before .before .before .before .before .before .before .before)) z (sizes (c .before .before .before .before .before .before .before .before .before)) (sym (ap sizesSays e) ∙ sized c)
+passed : (c : tie.After-decide-sizes) (z : Sizes) → c .decide-sizes .result ≡ Ok z → (number (c .before .before .before .before .before .before .before .before .before .before) ≡ 0) × (z ≡ sizes (c .before .before .before .before .before .before .before .before .before .before))
+passed c z e = outcome-value (number (c .before .before .before .before .before .before .before .before .before .before)) z (sizes (c .before .before .before .before .before .before .before .before .before .before)) (sym (ap sizesSays e) ∙ sized c)
 
--- the tables hold what the set counts
-holding : (c : tie.Else1) → holds (tables (c .before .before .before .before .before .before .before .before .before .before .before .before .before .before .before)) ≡ true
-holding c = sym (rw (c .before .before .rooms-in .ensures) at (c .before .holds .ensures)) ∙ not-false (c .before .holds .result) (c .if1 .left)
+-- what the tests and the sizes settled, where they let a file pass
+settled : (c : tie.After-rooms-in) → (number (c .before .before .before .before .before .before .before .before .before .before .before .before .before .before) ≡ 0) × (c .before .before .sizes .given .0 .0 ≡ sizes (c .before .before .before .before .before .before .before .before .before .before .before .before .before .before))
+settled c = passed (c .before .before .before .before) (c .before .before .sizes .given .0 .0) (c .before .before .sizes .given .1)
+
+-- the total with file and pad is in range
+sum : (c : tie.After-rooms-in) → c .before .before .before .before .before .before .before .before .before .before .before .before .before .before .args .fs .«total_size» + c .before .before .sizes .given .0 .0 .size + c .before .before .sizes .given .0 .0 .pad ≤ limit
+sum c =
+    let a = c .before .before .before .before .before .before .before .before .before .before .before .before .before .before in
+    let p = settled c in
+    sum-in (a .args .fs) (call a .given) (parts a) (call a .size) (call a .link) (isPresent (call a .root)) (c .before .before .sizes .given .0 .0) (p .1) (p .0)
+
+-- the test of room, on the model
+test : (c : tie.After-is-full) → c .is-full .result ≡ full (tables (c .before .before .before .before .before .before .before .before .before .before .before .before .before .before .before)) (call (c .before .before .before .before .before .before .before .before .before .before .before .before .before .before .before))
+test c =
+    (rw (c .before .rooms-in .ensures) at (c .is-full .ensures))
+    ∙ full-is (tables (c .before .before .before .before .before .before .before .before .before .before .before .before .before .before .before)) (call (c .before .before .before .before .before .before .before .before .before .before .before .before .before .before .before)) (c .before .before .before .sizes .given .0 .0) (settled (c .before) .1)
+
+room : (c : tie.Else1) → full (tables (c .before .before .before .before .before .before .before .before .before .before .before .before .before .before .before .before)) (call (c .before .before .before .before .before .before .before .before .before .before .before .before .before .before .before .before)) ≡ false
+room c = sym (test (c .before)) ∙ c .if1 .left
 
 -- the facts, with the model's root
 abbrev with-root : tie.Start → Bool → FileFacts
@@ -92,31 +107,32 @@ enum-known-sizes c = search needs
 rooms-in-requires : tie.Need-rooms-in-requires
 rooms-in-requires c κs = search needs
 
-holds-requires : tie.Need-holds-requires
-holds-requires c κs = search needs
+is-full-requires : tie.Need-is-full-requires
+is-full-requires c κs =
+    let a = c .before .before .before .before .before .before .before .before .before .before .before .before .before .before in
+    (add-length (tables a) (call a) (settled c .0), sum c)
 
 returns : tie.Need-returns
 returns c =
-    add-unheld (tables (c .before .before .before .before .before .before .before .before .before .before .before .before .before .before .before)) (call (c .before .before .before .before .before .before .before .before .before .before .before .before .before .before .before)) (passed (c .before .before .before .before .before .before) (c .before .before .before .before .sizes .given .0 .0) (c .before .before .before .before .sizes .given .1) .0)
-    (sym (rw (c .before .before .rooms-in .ensures) at (c .before .holds .ensures)) ∙ not-true (c .before .holds .result) (c .if1 .taken))
+    let a = c .before .before .before .before .before .before .before .before .before .before .before .before .before .before .before .before in
+    add-full (tables a) (call a) (settled (c .before .before) .0) (sym (test (c .before)) ∙ c .if1 .taken)
 
 plan-texts-requires : tie.Need-plan-texts-requires
 plan-texts-requires c κs =
-    let a = c .before .before .before .before .before .before .before .before .before .before .before .before .before .before .before in
-    let p = passed (c .before .before .before .before .before .before) (c .before .before .before .before .sizes .given .0 .0) (c .before .before .before .before .sizes .given .1) in
-    (rw (c .before .before .rooms-in .ensures) (holding c), (sum-in (a .args .fs) (call a .given) (parts a) (call a .size) (call a .link) (isPresent (call a .root)) (c .before .before .before .before .sizes .given .0 .0) (p .1) (p .0), subst (λ (q : PathParts). PartsWithin (length (a .args .path .now)) q) (sym (c .before .before .before .before .before .before .before .parts-of .ensures)) (parts-within (a .args .fs .«num_files») (viewOf (tables a) .name) (a .args .path .now))))
+    let a = c .before .before .before .before .before .before .before .before .before .before .before .before .before .before .before .before in
+    (rw (c .before .before .rooms-in .ensures) (full-not (tables a) (call a) (room c)), (sum (c .before .before), subst (λ (q : PathParts). PartsWithin (length (a .args .path .now)) q) (sym (c .before .before .before .before .before .before .before .parts-of .ensures)) (parts-within (a .args .fs .«num_files») (viewOf (tables a) .name) (a .args .path .now))))
 
 returns-2 : tie.Need-returns-2
-returns-2 c = add-stopped (tables (c .before .before .before .before .before .before .before .before .before .before .before .before)) (call (c .before .before .before .before .before .before .before .before .before .before .before .before)) (c .before .e .given .0 .0) (sizes (c .before .before .before .before .before .before .before .before .before .before .before .before)) (sym (ap sizesSays (c .before .e .given .1)) ∙ sized (c .before .before .before))
+returns-2 c = add-stopped (tables (c .before .before .before .before .before .before .before .before .before .before .before .before .before)) (call (c .before .before .before .before .before .before .before .before .before .before .before .before .before)) (c .before .e .given .0 .0) (sizes (c .before .before .before .before .before .before .before .before .before .before .before .before .before)) (sym (ap sizesSays (c .before .e .given .1)) ∙ sized (c .before .before .before))
 
 returns-3 : tie.Need-returns-3
 returns-3 c =
-    let a = c .before .before .before .before .before .before .before .before .before .before .before .before .before .before .before .before in
+    let a = c .before .before .before .before .before .before .before .before .before .before .before .before .before .before .before .before .before in
     let z = c .before .before .before .before .before .sizes .given .0 .0 in
-    let p = passed (c .before .before .before .before .before .before .before) z (c .before .before .before .before .before .sizes .given .1) in
+    let p = settled (c .before .before .before) in
     let q = c .before .before .before .before .before .before .before .before .parts-of .result in
     rw (c .before .before .before .rooms-in .ensures) at (c .plan-texts .ensures)
-    ∙ add-planned (tables a) (call a) (p .0) (holding (c .before)) z (factsOf (a .args .fs) (a .args .file) (a .args .symlink-path .now)) (q .kind)
+    ∙ add-planned (tables a) (call a) (p .0) (room (c .before)) z (factsOf (a .args .fs) (a .args .file) (a .args .symlink-path .now)) (q .kind)
     (textAt (a .args .path .now) (q .«set_name»))
     (textAt (a .args .path .now) (q .directory))
     (nameFrom (a .args .file .given) (a .args .filename .now) (textAt (a .args .path .now) (q .name)))
@@ -136,7 +152,7 @@ plan-add-spec =
     enum-known-e
     enum-known-sizes
     rooms-in-requires
-    holds-requires
+    is-full-requires
     returns
     plan-texts-requires
     returns-2

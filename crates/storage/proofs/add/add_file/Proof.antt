@@ -18,14 +18,14 @@ use Rattle.plan.specs.Write.{storeAdded, rootsAdded}
 use Rattle.plan.specs.Outcomes.{addingNumber}
 use Rattle.plan.specs.Plan.{planOf, planSays, plannedFor}
 use Rattle.plan.proofs.Plans.{add-held, texts-of}
-use Rattle.storage.specs.private.Written.{rowsWritten, dirsWritten, textWritten}
-use Rattle.storage.proofs.Written.{text-is, rows-are, dirs-are, kept-all, wrote-all}
+use Rattle.storage.specs.private.Written.{rowsWritten, dirsWritten, textWritten, firstsWritten}
+use Rattle.storage.proofs.Written.{text-is, rows-are, dirs-are, firsts-are, kept-all, wrote-all}
 use borrow.Author.Needs.{needs}
 use Rattle.storage.proofs.add.add_file.Statement.{statement}
 use Rattle.storage.proofs.add.add_file.Tie as tie
 
 abbrev tables : tie.Start → Store
-tables c = storeOf (c .args .fs) (c .args .rows .now) (c .args .roots .now) (c .args .dirs .now) (c .args .text .now)
+tables c = storeOf (c .args .fs) (c .args .rows .now) (c .args .roots .now) (c .args .firsts .now) (c .args .dirs .now) (c .args .text .now)
 
 abbrev call : tie.Start → Addition
 call c = additionOf (c .args .file) (c .args .filename .now) (c .args .path .now) (c .args .symlink-path .now)
@@ -40,22 +40,25 @@ abbrev after : tie.Start → Store
 after c = storeAdded (tables c) (viewOf (tables c)) (call c)
 
 -- what the plan's answer says of the call
-said : (c : tie.After-plan-add) → planSays (c .plan-add .result) ≡ plannedFor (tables (c .before .before .before .before .before .before .before .before .before .before .before .before)) (call (c .before .before .before .before .before .before .before .before .before .before .before .before))
+said : (c : tie.After-plan-add) → planSays (c .plan-add .result) ≡ plannedFor (tables (c .before .before .before .before .before .before .before .before .before .before .before .before .before .before)) (call (c .before .before .before .before .before .before .before .before .before .before .before .before .before .before))
 said c = c .plan-add .ensures
 
-planned : (c : tie.After-plan-add) (p : AddPlan) → c .plan-add .result ≡ Ok p → (number (c .before .before .before .before .before .before .before .before .before .before .before .before) ≡ 0) × (p ≡ plan (c .before .before .before .before .before .before .before .before .before .before .before .before))
-planned c p e = outcome-value (number (c .before .before .before .before .before .before .before .before .before .before .before .before)) p (plan (c .before .before .before .before .before .before .before .before .before .before .before .before)) (sym (ap planSays e) ∙ said c)
+planned : (c : tie.After-plan-add) (p : AddPlan) → c .plan-add .result ≡ Ok p → (number (c .before .before .before .before .before .before .before .before .before .before .before .before .before .before) ≡ 0) × (p ≡ plan (c .before .before .before .before .before .before .before .before .before .before .before .before .before .before))
+planned c p e = outcome-value (number (c .before .before .before .before .before .before .before .before .before .before .before .before .before .before)) p (plan (c .before .before .before .before .before .before .before .before .before .before .before .before .before .before)) (sym (ap planSays e) ∙ said c)
 
-stopped : (c : tie.After-plan-add) (e : Refusal) → c .plan-add .result ≡ Err e → number (c .before .before .before .before .before .before .before .before .before .before .before .before) ≡ numberOf e
-stopped c e q = outcome-refused (number (c .before .before .before .before .before .before .before .before .before .before .before .before)) (numberOf e) (plan (c .before .before .before .before .before .before .before .before .before .before .before .before)) (sym (ap planSays q) ∙ said c)
+stopped : (c : tie.After-plan-add) (e : Refusal) → c .plan-add .result ≡ Err e → number (c .before .before .before .before .before .before .before .before .before .before .before .before .before .before) ≡ numberOf e
+stopped c e q = outcome-refused (number (c .before .before .before .before .before .before .before .before .before .before .before .before .before .before)) (numberOf e) (plan (c .before .before .before .before .before .before .before .before .before .before .before .before .before .before)) (sym (ap planSays q) ∙ said c)
 
 -- each table after the writers
 module _ (c : tie.After-write-all) where
   abbrev start : tie.Start
-  start = c .before .before .before .before .before .before .before .before .before .before .before .before .before .before .before .before .before .before .before .before
+  start = c .before .before .before .before .before .before .before .before .before .before .before .before .before .before .before .before .before .before .before .before .before .before
 
   abbrev made : AddPlan
   made = c .before .before .before .before .before .before .planned2 .given .0 .0
+
+  number-none : number start ≡ 0
+  number-none = planned (c .before .before .before .before .before .before .before .before) made (c .before .before .before .before .before .before .planned2 .given .1) .0
 
   plan-is : made ≡ plan start
   plan-is = planned (c .before .before .before .before .before .before .before .before) made (c .before .before .before .before .before .before .planned2 .given .1) .1
@@ -89,6 +92,13 @@ module _ (c : tie.After-write-all) where
       ∙ text-is (tables start) (viewOf (tables start)) (call start) (textAt (a .path .now) (own .«set_name»)) (textAt (a .path .now) (own .directory)) (nameFrom (a .file .given) (a .filename .now) (textAt (a .path .now) (own .name))) (linkTextOf (a .fs .«num_symlinks») (a .symlink-path .now)) (own .kind)
       (texts-of (tables start) (call start) (a .file .given) (a .filename .now) own refl refl)
 
+firsts-is : (c : tie.After-write-firsts) → c .write-firsts .last .0 ≡ after (start (c .before .before .before .before .before .before .before .before .before .before .before .before)) .firsts
+firsts-is c =
+    let w = c .before .before .before .before .before .before .before .before .before .before .before .before in
+    c .write-firsts .ensures
+    ∙ ap (λ (p : AddPlan). firstsWritten (p .before) (p .after) (start w .args .firsts .now)) (plan-is w)
+    ∙ firsts-are (tables (start w)) (viewOf (tables (start w))) (call (start w))
+
 plan-add-requires : tie.Need-plan-add-requires
 plan-add-requires c κs = search needs
 
@@ -100,9 +110,14 @@ enum-known-planned-2 c = search needs
 
 write-all-requires : tie.Need-write-all-requires
 write-all-requires c κs =
-    let s = c .before .before .before .before .before .before .before .before .before .before .before .before .before .before .before .before .before .before .before in
+    let s = c .before .before .before .before .before .before .before .before .before .before .before .before .before .before .before .before .before .before .before .before .before in
     let q = planned (c .before .before .before .before .before .before .before) (c .before .before .before .before .before .planned2 .given .0 .0) (c .before .before .before .before .before .planned2 .given .1) in
     (subst (λ (p : AddPlan). p .before .«num_files» ≤ 65535) (sym (q .1)) (add-held (tables s) (call s) (q .0)), subst (λ (p : AddPlan). PartsWithin (length (s .args .path .now)) (p .parts)) (sym (q .1)) (parts-within (s .args .fs .«num_files») (viewOf (tables s) .name) (s .args .path .now)))
+
+write-firsts-requires : tie.Need-write-firsts-requires
+write-firsts-requires c κs =
+    let w = c .before .before .before .before .before .before .before .before .before .before .before in
+    (subst (λ (p : AddPlan). p .before .«num_files» ≤ 65535) (sym (plan-is w)) (add-held (tables (start w)) (call (start w)) (number-none w)), subst (λ (p : AddPlan). p .after .«piece_length» ≡ p .before .«piece_length») (sym (plan-is w)) refl)
 
 same-length : tie.Need-same-length
 same-length c = search needs
@@ -116,13 +131,13 @@ same-length-3 c = search needs
 same-length-4 : tie.Need-same-length-4
 same-length-4 c = search needs
 
+same-length-5 : tie.Need-same-length-5
+same-length-5 c = search needs
+
 returns : tie.Need-returns
 returns c =
     let e = c .before .planned .given .0 .0 in
-    kept-all (number (c .before .before .before .before .before .before .before .before .before .before .before .before .before .before .before)) (numberOf e) (tables (c .before .before .before .before .before .before .before .before .before .before .before .before .before .before .before)) (after (c .before .before .before .before .before .before .before .before .before .before .before .before .before .before .before)) (stopped (c .before .before .before) e (c .before .planned .given .1)) (numbered e)
-
-same-length-5 : tie.Need-same-length-5
-same-length-5 c = search needs
+    kept-all (number (c .before .before .before .before .before .before .before .before .before .before .before .before .before .before .before .before .before)) (numberOf e) (tables (c .before .before .before .before .before .before .before .before .before .before .before .before .before .before .before .before .before)) (after (c .before .before .before .before .before .before .before .before .before .before .before .before .before .before .before .before .before)) (stopped (c .before .before .before) e (c .before .planned .given .1)) (numbered e)
 
 same-length-6 : tie.Need-same-length-6
 same-length-6 c = search needs
@@ -133,10 +148,17 @@ same-length-7 c = search needs
 same-length-8 : tie.Need-same-length-8
 same-length-8 c = search needs
 
+same-length-9 : tie.Need-same-length-9
+same-length-9 c = search needs
+
+same-length-10 : tie.Need-same-length-10
+same-length-10 c = search needs
+
 returns-2 : tie.Need-returns-2
 returns-2 c =
-    let w = c .before .before .before .before .before .before .before .before .before in
-    wrote-all (number (c .before .before .before .before .before .before .before .before .before .before .before .before .before .before .before .before .before .before .before .before .before .before .before .before .before .before .before .before .before)) (tables (c .before .before .before .before .before .before .before .before .before .before .before .before .before .before .before .before .before .before .before .before .before .before .before .before .before .before .before .before .before)) (after (c .before .before .before .before .before .before .before .before .before .before .before .before .before .before .before .before .before .before .before .before .before .before .before .before .before .before .before .before .before)) (made w .after) (w .write-all .last .0) (w .write-all .last .1 .0) (w .write-all .last .1 .1 .0) (w .write-all .last .1 .1 .1 .0) (planned (c .before .before .before .before .before .before .before .before .before .before .before .before .before .before .before .before .before) (made w) (c .before .before .before .before .before .before .before .before .before .before .before .before .before .before .before .planned2 .given .1) .0) (ap (λ (p : AddPlan). p .after) (plan-is w)) (rows-is w) (roots-is w) (dirs-is w) (area-is w)
+    let w = c .before .before .before .before .before .before .before .before .before .before .before .before .before .before in
+    let f = c .before .before in
+    wrote-all (number (start w)) (tables (start w)) (after (start w)) (made w .after) (w .write-all .last .0) (w .write-all .last .1 .0) (f .write-firsts .last .0) (w .write-all .last .1 .1 .0) (w .write-all .last .1 .1 .1 .0) (number-none w) (ap (λ (p : AddPlan). p .after) (plan-is w)) (rows-is w) (roots-is w) (firsts-is f) (dirs-is w) (area-is w)
 
 pub add-file-spec : {M : Type 1} → statement M
 add-file-spec =
@@ -146,13 +168,16 @@ add-file-spec =
     enum-known-planned
     enum-known-planned-2
     write-all-requires
+    write-firsts-requires
     same-length
     same-length-2
     same-length-3
     same-length-4
-    returns
     same-length-5
+    returns
     same-length-6
     same-length-7
     same-length-8
+    same-length-9
+    same-length-10
     returns-2)

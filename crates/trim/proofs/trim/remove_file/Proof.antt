@@ -1,4 +1,5 @@
 -- `storage::trim::remove_file` meets its contract.
+use mathlib.Core.Path.{refl}
 use Rattle.tables.specs.Model.{Store}
 use Rattle.trim.proofs.Trims.{trimmed}
 use borrow.Author.Needs.{needs}
@@ -42,18 +43,19 @@ same-length-4 : tie.Need-same-length-4
 same-length-4 c = search needs
 
 returns : tie.Need-returns
-returns c =
+returns c firsts =
     let a = c .before .before .before .before .before .before .before .before .before .before .before .before .before .before .before .before .before .before .before .before .before .before .before .before .before .args in
     let row = c .before .before .before .before .before .before .before .before .before .before .before .before .before .before .before .before .before .before .before .row-at in
     let first = c .before .before .before .before .before .before .before .before .before .before .before .before .before .before .before .before .before .before .first-gone in
     let second = c .before .before .before .before .before .before .before .before .before .before .before .before .before .before .before .before .before .second-gone in
     let left = c .before .before .before .before .before .before .before .before .before .before .before .before .before .before .before .before .storage-without in
-    let s : Store = record { fs = a .fs; rows = a .rows .now; roots = a .roots .now; dirs = a .dirs .now; text = a .text .now } in
+    let s : Store = record { fs = a .fs; rows = a .rows .now; roots = a .roots .now; firsts = firsts; dirs = a .dirs .now; text = a .text .now } in
     let t : Store =
     record {
       fs = left .result;
       rows = c .before .before .before .before .before .before .before .before .before .before .before .before .before .before .remove-row .last .0;
       roots = c .before .before .before .before .before .before .before .before .before .before .remove-root .last .0;
+      firsts = firsts;
       dirs = c .before .before .before .before .before .before .lower-spans .last .0;
       text = c .before .before .remove-texts .last .0;
     } in
@@ -62,6 +64,7 @@ returns c =
       fs = left .ensures;
       rows = c .before .before .before .before .before .before .before .before .before .before .before .before .before .before .remove-row .ensures;
       roots = c .before .before .before .before .before .before .before .before .before .before .remove-root .ensures;
+      firsts = refl;
       dirs = c .before .before .before .before .before .before .lower-spans .ensures;
       text = c .before .before .remove-texts .ensures;
     })
