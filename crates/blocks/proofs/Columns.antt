@@ -18,6 +18,7 @@ use Rattle.rules.specs.declared.decide.Check.the-variants.{Go, Stop}
 use Rattle.rules.specs.Results.{checkNumber}
 use Rattle.rules.specs.Questions.{short}
 use Rattle.layout.specs.declared.start.Cursor.{Cursor}
+use Rattle.layout.specs.declared.window.Window.{Window}
 use Rattle.layout.specs.Mapping.{Slice, filesOf, offsetsOf, sizesOf, blockOf}
 use Rattle.layout.specs.Start.{slicesFrom, Started, blockStart}
 use Rattle.layout.proofs.Starts.{block-stopped, block-open, block-from}
@@ -30,29 +31,29 @@ column-turn g l n xs ys e a b c =
     rw (b, c, ← (length-map xs g), ← (sets-append (map g xs) (map g ys) l n), ← (map-append g xs ys), ← a) e
 
 -- a block by the decision d and the cursor of its start, for columns f, o and s
-module _ (fs : FileStorage) (rows : List ℕ) (z offset size : ℤ) (d : Check) {from : Cursor}
-    (h : _≡_ {A = Started} (record { number = checkNumber d; from = from }) (blockStart fs rows z offset size)) (f o s : List ℕ) where
+module _ (fs : FileStorage) (rows : List ℕ) (w : Window) (z offset size : ℤ) (d : Check) {from : Cursor}
+    (h : _≡_ {A = Started} (record { number = checkNumber d; from = from }) (blockStart fs rows w z offset size)) (f o s : List ℕ) where
   abbrev block : List Slice
-  block = blockOf fs rows z offset size
+  block = blockOf fs rows w z offset size
 
   pub block-refused : (e : Refusal) → d ≡ Stop e
-      → _≡_ {A = Mapped} (record { says = refused (numberOf e); file = f; offset = o; size = s }) (mapBlock fs rows z offset size f o s)
-  block-refused e q = rw (block-stopped fs rows z offset size d h e (short (hasPlaces block f o s) ∷ []) q, numbered e)
+      → _≡_ {A = Mapped} (record { says = refused (numberOf e); file = f; offset = o; size = s }) (mapBlock fs rows w z offset size f o s)
+  block-refused e q = rw (block-stopped fs rows w z offset size d h e (short (hasPlaces block f o s) ∷ []) q, numbered e)
 
   -- whether there is room, as the code asks it
   module _ (q : d ≡ Go) {room : ℕ} {held : Bool} (er : room ≡ min (length f) (min (length o) (length s))) (eh : held ≡ leb (length (slicesFrom rows from)) room) where
     from-block : slicesFrom rows from ≡ block
-    from-block = ap (slicesFrom rows) (block-from fs rows z offset size d h q)
+    from-block = ap (slicesFrom rows) (block-from fs rows w z offset size d h q)
 
     places : held ≡ hasPlaces block f o s
     places = eh ∙ rw (er, from-block)
 
     pub block-short : held ≡ false
-        → _≡_ {A = Mapped} (record { says = refused 10; file = f; offset = o; size = s }) (mapBlock fs rows z offset size f o s)
-    block-short n = rw (block-open fs rows z offset size d h (short (hasPlaces block f o s) ∷ []) q, ← places, n)
+        → _≡_ {A = Mapped} (record { says = refused 10; file = f; offset = o; size = s }) (mapBlock fs rows w z offset size f o s)
+    block-short n = rw (block-open fs rows w z offset size d h (short (hasPlaces block f o s) ∷ []) q, ← places, n)
 
     pub block-written : held ≡ true → {n : ℕ} {f′ o′ s′ : List ℕ} → n ≡ length (slicesFrom rows from)
         → f′ ≡ sets f 0 (filesOf (slicesFrom rows from)) → o′ ≡ sets o 0 (offsetsOf (slicesFrom rows from)) → s′ ≡ sets s 0 (sizesOf (slicesFrom rows from))
-        → _≡_ {A = Mapped} (record { says = value n; file = f′; offset = o′; size = s′ }) (mapBlock fs rows z offset size f o s)
+        → _≡_ {A = Mapped} (record { says = value n; file = f′; offset = o′; size = s′ }) (mapBlock fs rows w z offset size f o s)
     block-written y en ef eo es =
-        rw (block-open fs rows z offset size d h (short (hasPlaces block f o s) ∷ []) q, ← places, y, en, ef, eo, es, from-block)
+        rw (block-open fs rows w z offset size d h (short (hasPlaces block f o s) ∷ []) q, ← places, y, en, ef, eo, es, from-block)

@@ -11,6 +11,7 @@ use Rattle.types.specs.Refusals.{Outcome, value, refused}
 use Rattle.tables.specs.declared.storage.FileStorage.{FileStorage}
 use Rattle.rules.specs.Rules.{firstOf}
 use Rattle.rules.specs.Questions.{short}
+use Rattle.layout.specs.declared.window.Window.{Window}
 use Rattle.layout.specs.Mapping.{Slice, filesOf, offsetsOf, sizesOf, blockOf, blockRules}
 
 -- the answer, and what the three columns hold after it
@@ -36,11 +37,12 @@ mapped k ss f o s =
 abbrev pub hasPlaces : List Slice → List ℕ → List ℕ → List ℕ → Bool
 hasPlaces ss f o s = leb (length ss) (min (length f) (min (length o) (length s)))
 
-abbrev pub mapBlock : FileStorage → List ℕ → ℤ → ℤ → ℤ → List ℕ → List ℕ → List ℕ → Mapped
-mapBlock fs rows z offset size f o s =
+-- w is the window with which the search for the first slice's file begins
+abbrev pub mapBlock : FileStorage → List ℕ → Window → ℤ → ℤ → ℤ → List ℕ → List ℕ → List ℕ → Mapped
+mapBlock fs rows w z offset size f o s =
     mapped
-    (firstOf (blockRules fs rows z offset size (short (hasPlaces (blockOf fs rows z offset size) f o s) ∷ [])))
-    (blockOf fs rows z offset size)
+    (firstOf (blockRules fs rows z offset size (short (hasPlaces (blockOf fs rows w z offset size) f o s) ∷ [])))
+    (blockOf fs rows w z offset size)
     f
     o
     s

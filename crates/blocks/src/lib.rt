@@ -10,6 +10,7 @@ ghost use Rattle.layout.specs.Mapping.{before, filesOf, offsetsOf, sizesOf};
 ghost use Rattle.layout.specs.Start.{slicesFrom};
 ghost use Rattle.blocks.specs.Block.{Mapped, mapBlock};
 use layout::Cursor;
+use layout::Window;
 use layout::slice_count;
 use lists::min;
 use lists::saturating_sub;
@@ -84,10 +85,12 @@ fn write_slices(
     n
 }
 
-// The slices of a block of a piece, put into the columns' first places.
+// The slices of a block of a piece, put into the columns' first places. The search for the first file begins with a
+// window.
 pub fn map_block_core(
     fs: FileStorage,
     rows: &[u64],
+    window: Window,
     piece: PieceIndex,
     offset: i64,
     size: i64,
@@ -102,10 +105,10 @@ pub fn map_block_core(
           offset = now («out_offset» .exit);
           size = now («out_size» .exit);
         })
-        (mapBlock fs (now (rows .entry)) (piece .0) offset size
+        (mapBlock fs (now (rows .entry)) window (piece .0) offset size
         (now («out_file» .entry)) (now («out_offset» .entry)) (now («out_size» .entry))) ⌝ }
 {
-    let start = layout::start_block(fs, rows, piece, offset, size);
+    let start = layout::start_block(fs, rows, window, piece, offset, size);
     let check = start.check;
     if let Check::Stop(e) = check {
         return UsizeResult::Err(e);

@@ -24,8 +24,9 @@ use Rattle.layout.specs.private.Deciding.{FewPieces}
 use Rattle.rules.specs.Questions.{numPieces, badPieceLength, manyPieces, noPiece, short, fewEntries}
 use Rattle.rules.proofs.Deciding.{gone, length-good, below-is, held-few, few-low, set-few, low-i32}
 use Rattle.layout.specs.Pieces.{startOf, pieceSize}
-use Rattle.layout.specs.Search.{fileFound}
-use Rattle.layout.proofs.Halving.{found-in}
+use Rattle.layout.specs.declared.window.Window.{Window}
+use Rattle.layout.specs.Search.{foundWithin}
+use Rattle.layout.proofs.Starting.{within-in}
 
 pub few-pieces : (fs : FileStorage) → badPieceLength fs .test ≡ false → manyPieces fs .test ≡ false → FewPieces fs
 few-pieces fs a b =
@@ -90,17 +91,17 @@ piece-held fs z bad held room h c e =
     leb-true (fs .«num_files») room (sym h ∙ held-few fs held (q .1 .1 .1 .1 .0) .0)
 
 -- the number of the file found is its own low 31 bits
-found-low : (rows : List ℕ) (n t : ℕ) → n ≤ 65535 → pos (fileFound rows n t % 2 ^ 31) ≡ pos (fileFound rows n t)
-found-low rows n t h = low-i32 (fileFound rows n t) (omega (arith, found-in rows n t))
+found-low : (rows : List ℕ) (n : ℕ) (w : Window) (t : ℕ) → n ≤ 65535 → pos (foundWithin rows n w t % 2 ^ 31) ≡ pos (foundWithin rows n w t)
+found-low rows n w t h = low-i32 (foundWithin rows n w t) (omega (arith, within-in rows n w t))
 
-pub set-found : (fs : FileStorage) (bad held : Bool) {d : Check} (rows : List ℕ) (t : ℕ)
+pub set-found : (fs : FileStorage) (bad held : Bool) {d : Check} (rows : List ℕ) (w : Window) (t : ℕ)
     → checkNumber d ≡ firstOf (badPieceLength fs ∷ when bad 14 ∷ short (held && fewEntries fs) ∷ []) → d ≡ Go
-    → pos (fileFound rows (fs .«num_files») t % 2 ^ 31) ≡ pos (fileFound rows (fs .«num_files») t)
-set-found fs bad held rows t c e = found-low rows (fs .«num_files») t (set-few fs bad held c e .0)
+    → pos (foundWithin rows (fs .«num_files») w t % 2 ^ 31) ≡ pos (foundWithin rows (fs .«num_files») w t)
+set-found fs bad held rows w t c e = found-low rows (fs .«num_files») w t (set-few fs bad held c e .0)
 
-pub piece-found : (fs : FileStorage) (z : ℤ) (bad held : Bool) {d : Check} (rows : List ℕ) (t : ℕ)
+pub piece-found : (fs : FileStorage) (z : ℤ) (bad held : Bool) {d : Check} (rows : List ℕ) (w : Window) (t : ℕ)
     → checkNumber d ≡ firstOf (badPieceLength fs ∷ manyPieces fs ∷ noPiece fs z ∷ when bad 14 ∷ short (held && fewEntries fs) ∷ []) → d ≡ Go
-    → pos (fileFound rows (fs .«num_files») t % 2 ^ 31) ≡ pos (fileFound rows (fs .«num_files») t)
-piece-found fs z bad held rows t c e =
+    → pos (foundWithin rows (fs .«num_files») w t % 2 ^ 31) ≡ pos (foundWithin rows (fs .«num_files») w t)
+piece-found fs z bad held rows w t c e =
     let q = gone (badPieceLength fs ∷ manyPieces fs ∷ noPiece fs z ∷ when bad 14 ∷ short (held && fewEntries fs) ∷ []) refl c e in
-    found-low rows (fs .«num_files») t (few-low fs (held-few fs held (q .1 .1 .1 .1 .0) .1) .0)
+    found-low rows (fs .«num_files») w t (few-low fs (held-few fs held (q .1 .1 .1 .1 .0) .1) .0)

@@ -3,7 +3,10 @@ pub mod Deciding
 pub mod Sizes
 pub mod Halving
 pub mod Levels
+pub mod Near
+pub mod Starting
 pub mod Slices
 pub mod Starts
 pub mod Plans
 pub mod Sums
+pub mod Alike

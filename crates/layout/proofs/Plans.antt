@@ -6,7 +6,7 @@
 use mathlib.Core.Path.{_≡_, refl, sym, ap, _∙_}
 use mathlib.Core.Bool.{Bool, true, false, cond, _&&_}
 use mathlib.Core.List.{List, [], _∷_}
-use Prim.Native.Nat.{ℕ, _+_, _≤_, _<_}
+use Prim.Native.Nat.{ℕ, _≤_, _<_}
 use native.Mathlib.Omega.{arith}
 use lib.Dec.{eqb, leb}
 use borrow.Author.Tests.{le-leb, lt-leb, leb-true}
@@ -23,8 +23,8 @@ use Rattle.rules.specs.Rules.{Rule, firstOf}
 use Rattle.rules.specs.Bounds.{clampedOf}
 use Rattle.rules.specs.Questions.{rowsHeld, badPieceLength, manyPieces, noPiece, badRange, short, fewEntries}
 use Rattle.layout.specs.declared.start.Cursor.{Cursor}
-use Rattle.layout.specs.Pieces.{startOf}
-use Rattle.layout.specs.Mapping.{Slice, walk, blockOf, blockRules}
+use Rattle.layout.specs.declared.window.Window.{Window}
+use Rattle.layout.specs.Mapping.{Slice, walk, targetOf, blockOf, blockRules}
 use Rattle.layout.specs.Start.{slicesFrom, cursorAt, Started, blockStart}
 use Rattle.rules.proofs.Rules.{first-append}
 use Rattle.layout.proofs.Starts.{block-stopped, block-open, block-from}
@@ -63,48 +63,48 @@ fits k ss c room = at (eqb k 0) (leb (length ss) room) refl refl
     at false b p q = rw p (omega arith)
 
 -- a block
-module _ (fs : FileStorage) (rows : List ℕ) (z offset size : ℤ) where
+module _ (fs : FileStorage) (rows : List ℕ) (w : Window) (z offset size : ℤ) where
   abbrev block : List Slice
-  block = blockOf fs rows z offset size
+  block = blockOf fs rows w z offset size
 
   abbrev start : Cursor
-  start = cursorAt fs rows (startOf fs (clampedOf z) + clampedOf offset) (clampedOf size)
+  start = cursorAt fs rows w (targetOf fs z offset) (clampedOf size)
 
   abbrev rules : List Rule
   rules = badPieceLength fs ∷ manyPieces fs ∷ noPiece fs z ∷ badRange offset size ∷ short (rowsHeld fs rows && fewEntries fs) ∷ []
 
-  plan-is : (room : ℕ) → blockPlan fs rows z offset size room ≡ planned (number (firstOf rules) (leb (length block) room)) block start
+  plan-is : (room : ℕ) → blockPlan fs rows w z offset size room ≡ planned (number (firstOf rules) (leb (length block) room)) block start
   plan-is room = ap (λ (k : ℕ). planned k block start) (first-append rules (short (leb (length block) room) ∷ []) refl)
 
-  module _ (d : Check) {from : Cursor} (h : _≡_ {A = Started} (record { number = checkNumber d; from = from }) (blockStart fs rows z offset size)) (room : ℕ) where
-    pub plan-refused : (e : Refusal) → d ≡ Stop e → stayed (numberOf e) ≡ blockPlan fs rows z offset size room
-    plan-refused e q = rw (block-stopped fs rows z offset size d h e (short (leb (length block) room) ∷ []) q, numbered e)
+  module _ (d : Check) {from : Cursor} (h : _≡_ {A = Started} (record { number = checkNumber d; from = from }) (blockStart fs rows w z offset size)) (room : ℕ) where
+    pub plan-refused : (e : Refusal) → d ≡ Stop e → stayed (numberOf e) ≡ blockPlan fs rows w z offset size room
+    plan-refused e q = rw (block-stopped fs rows w z offset size d h e (short (leb (length block) room) ∷ []) q, numbered e)
 
     -- the slices from the start's cursor on are the block's
     from-block : d ≡ Go → slicesFrom rows from ≡ block
-    from-block q = ap (slicesFrom rows) (block-from fs rows z offset size d h q)
+    from-block q = ap (slicesFrom rows) (block-from fs rows w z offset size d h q)
 
-    pub plan-short : (n : ℕ) → d ≡ Go → n ≡ length (slicesFrom rows from) → room < n → stayed 10 ≡ blockPlan fs rows z offset size room
+    pub plan-short : (n : ℕ) → d ≡ Go → n ≡ length (slicesFrom rows from) → room < n → stayed 10 ≡ blockPlan fs rows w z offset size room
     plan-short n q e l =
         let m : n ≡ length block = e ∙ ap length (from-block q) in
         let b : leb (length block) room ≡ false = lt-leb (length block) room (omega arith) in
-        rw (block-open fs rows z offset size d h (short (leb (length block) room) ∷ []) q, b)
+        rw (block-open fs rows w z offset size d h (short (leb (length block) room) ∷ []) q, b)
 
     pub plan-whole : (n : ℕ) → d ≡ Go → n ≡ length (slicesFrom rows from) → n ≤ room
-        → _≡_ {A = Planned} (record { says = value n; count = n; from = from }) (blockPlan fs rows z offset size room)
+        → _≡_ {A = Planned} (record { says = value n; count = n; from = from }) (blockPlan fs rows w z offset size room)
     plan-whole n q e l =
         let m : n ≡ length block = e ∙ ap length (from-block q) in
         let b : leb (length block) room ≡ true = le-leb (length block) room (omega arith) in
-        rw (block-open fs rows z offset size d h (short (leb (length block) room) ∷ []) q, b, m, block-from fs rows z offset size d h q)
+        rw (block-open fs rows w z offset size d h (short (leb (length block) room) ∷ []) q, b, m, block-from fs rows w z offset size d h q)
 
-  pub plan-counts : (room : ℕ) {p : Planned} → p ≡ blockPlan fs rows z offset size room → p .count ≡ length (slicesFrom rows (p .from))
+  pub plan-counts : (room : ℕ) {p : Planned} → p ≡ blockPlan fs rows w z offset size room → p .count ≡ length (slicesFrom rows (p .from))
   plan-counts room h = rw (h, plan-is room) (counts rows block start refl (number (firstOf rules) (leb (length block) room)))
 
-  pub plan-fits : (room : ℕ) {p : Planned} → p ≡ blockPlan fs rows z offset size room → p .count ≤ room
+  pub plan-fits : (room : ℕ) {p : Planned} → p ≡ blockPlan fs rows w z offset size room → p .count ≤ room
   plan-fits room h = rw (h, plan-is room) (fits (firstOf rules) block start room)
 
   -- what stands in a table once the plan's slices are put into it: the block's, or nothing for a refusal
-  pub plan-written : {A : Type 0} (put : Outcome ℕ → List Slice → A) (room : ℕ) {p : Planned} → p ≡ blockPlan fs rows z offset size room
+  pub plan-written : {A : Type 0} (put : Outcome ℕ → List Slice → A) (room : ℕ) {p : Planned} → p ≡ blockPlan fs rows w z offset size room
       → put (p .says) (slicesFrom rows (p .from))
       ≡ cond (eqb (firstOf (blockRules fs rows z offset size (short (leb (length block) room) ∷ []))) 0) (put (value (length block)) block)
       (put (refused (firstOf (blockRules fs rows z offset size (short (leb (length block) room) ∷ [])))) [])

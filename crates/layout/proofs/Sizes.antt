@@ -9,6 +9,7 @@ use Rattle.lists.proofs.Quotients.{ceiling-le}
 use Rattle.tables.specs.declared.storage.FileStorage.{FileStorage}
 use Rattle.tables.specs.Rows.{rowAt}
 use Rattle.rules.specs.Bounds.{blockSize}
+use Rattle.layout.specs.declared.window.Window.{Window}
 use Rattle.layout.specs.Pieces.{startOf, pieceSize, fileAfter, pieceSize2, blocksIn}
 use Rattle.layout.proofs.Deciding.{Inside}
 
@@ -16,9 +17,9 @@ either-low : (b : Bool) (x y z m : ℕ) → x ≤ m → z ≤ m → cond b x (mi
 either-low true x y z m h k = h
 either-low false x y z m h k = omega arith
 
-pub size2-low : (fs : FileStorage) (rows : List ℕ) (p : ℕ) → Inside fs p → pieceSize2 fs rows p ≤ 2147483647
-size2-low fs rows p k =
-    either-low (leb (fs .«num_files») (fileAfter fs rows p)) (pieceSize fs p) (rowAt rows (fileAfter fs rows p) .offset - startOf fs p) (fs .«piece_length») 2147483647 (k .size) (k .set .long)
+pub size2-low : (fs : FileStorage) (rows : List ℕ) (w : Window) (p : ℕ) → Inside fs p → pieceSize2 fs rows w p ≤ 2147483647
+size2-low fs rows w p k =
+    either-low (leb (fs .«num_files») (fileAfter fs rows w p)) (pieceSize fs p) (rowAt rows (fileAfter fs rows w p) .offset - startOf fs p) (fs .«piece_length») 2147483647 (k .size) (k .set .long)
 
 pub blocks-low : (n : ℕ) → n ≤ 2147483647 → blocksIn n ≤ 2147483647
 blocks-low n h = ceiling-le n blockSize (omega arith) 2147483647 (omega arith)

@@ -5,7 +5,7 @@
 use mathlib.Core.Path.{_≡_, refl, sym, ap, _∙_}
 use mathlib.Core.Bool.{Bool, true, false, cond, _&&_}
 use mathlib.Core.List.{List, [], _∷_}
-use Prim.Native.Nat.{ℕ, _+_, _-_, min}
+use Prim.Native.Nat.{ℕ, _-_, min}
 use lib.Dec.{eqb}
 use borrow.Author.Tests.{eqb-true}
 use lib.IntN.{ℤ}
@@ -19,35 +19,35 @@ use Rattle.rules.specs.Questions.{rowsHeld, badPieceLength, manyPieces, noPiece
 use Rattle.rules.specs.declared.decide.Check.{Check}
 use Rattle.rules.specs.declared.decide.Check.the-variants.{Go, Stop}
 use Rattle.layout.specs.declared.start.Cursor.{Cursor}
-use Rattle.layout.specs.Pieces.{startOf}
-use Rattle.layout.specs.Search.{fileFound}
-use Rattle.layout.specs.Mapping.{blockRules}
+use Rattle.layout.specs.declared.window.Window.{Window}
+use Rattle.layout.specs.Search.{foundWithin}
+use Rattle.layout.specs.Mapping.{targetOf, blockRules}
 use Rattle.rules.specs.Results.{checkNumber}
 use Rattle.layout.specs.Start.{cursorAt, Started, refusedStart, started, blockStart}
 use Rattle.types.proofs.Refusals.{numbered}
 use Rattle.rules.proofs.Rules.{first-append}
 
-pub cursor-is : (fs : FileStorage) (rows : List ℕ) (target size : ℕ) {k off skip rest left : ℕ}
-    → k ≡ fileFound rows (fs .«num_files») target → off ≡ rowAt rows k .offset → skip ≡ target - off → rest ≡ fs .«total_size» - target → left ≡ min size rest
-    → _≡_ {A = Cursor} (record { file = k; files = fs .«num_files»; skip = skip; left = left }) (cursorAt fs rows target size)
-cursor-is fs rows target size ek eo es er el = rw (el, er, es, eo, ek)
+pub cursor-is : (fs : FileStorage) (rows : List ℕ) (w : Window) (target size : ℕ) {k off skip rest left : ℕ}
+    → k ≡ foundWithin rows (fs .«num_files») w target → off ≡ rowAt rows k .offset → skip ≡ target - off → rest ≡ fs .«total_size» - target → left ≡ min size rest
+    → _≡_ {A = Cursor} (record { file = k; files = fs .«num_files»; skip = skip; left = left }) (cursorAt fs rows w target size)
+cursor-is fs rows w target size ek eo es er el = rw (el, er, es, eo, ek)
 
 -- a decision d on the refusals
-module _ (fs : FileStorage) (rows : List ℕ) (z offset size : ℤ) (d : Check)
+module _ (fs : FileStorage) (rows : List ℕ) (w : Window) (z offset size : ℤ) (d : Check)
     (p : checkNumber d ≡ firstOf (badPieceLength fs ∷ manyPieces fs ∷ noPiece fs z ∷ badRange offset size ∷ short (rowsHeld fs rows && fewEntries fs) ∷ [])) where
   decided : (n : ℕ) → checkNumber d ≡ n
-      → blockStart fs rows z offset size ≡ started n (cursorAt fs rows (startOf fs (clampedOf z) + clampedOf offset) (clampedOf size))
+      → blockStart fs rows w z offset size ≡ started n (cursorAt fs rows w (targetOf fs z offset) (clampedOf size))
   decided n q =
-      ap (λ (k : ℕ). started k (cursorAt fs rows (startOf fs (clampedOf z) + clampedOf offset) (clampedOf size)))
+      ap (λ (k : ℕ). started k (cursorAt fs rows w (targetOf fs z offset) (clampedOf size)))
       (sym p ∙ q)
 
-  pub start-stopped : (e : Refusal) → d ≡ Stop e → refusedStart (numberOf e) ≡ blockStart fs rows z offset size
+  pub start-stopped : (e : Refusal) → d ≡ Stop e → refusedStart (numberOf e) ≡ blockStart fs rows w z offset size
   start-stopped e q =
       let k : eqb (numberOf e) 0 ≡ false = numbered e in
       sym (decided (numberOf e) (ap checkNumber q) ∙ rw k)
 
-  pub start-answered : (t n : ℕ) {c : Cursor} → t ≡ startOf fs (clampedOf z) + clampedOf offset → n ≡ clampedOf size → d ≡ Go
-      → c ≡ cursorAt fs rows t n → _≡_ {A = Started} (record { number = 0; from = c }) (blockStart fs rows z offset size)
+  pub start-answered : (t n : ℕ) {c : Cursor} → t ≡ targetOf fs z offset → n ≡ clampedOf size → d ≡ Go
+      → c ≡ cursorAt fs rows w t n → _≡_ {A = Started} (record { number = 0; from = c }) (blockStart fs rows w z offset size)
   start-answered t n et en q h =
       ap (λ (x : Cursor). record { number = 0; from = x }) (rw (et, en) at h) ∙ sym (decided 0 (ap checkNumber q))
 
@@ -64,13 +64,13 @@ module _ (k : ℕ) (c : Cursor) {n : ℕ} {from : Cursor} (h : _≡_ {A = Starte
   start-from z = ap (λ (x : Started). x .from) (h ∙ ap (λ (m : ℕ). started m c) (sym start-number ∙ z))
 
 -- a block whose start is known, once room is looked at
-module _ (fs : FileStorage) (rows : List ℕ) (z offset size : ℤ) (d : Check) {from : Cursor}
-    (h : _≡_ {A = Started} (record { number = checkNumber d; from = from }) (blockStart fs rows z offset size)) where
+module _ (fs : FileStorage) (rows : List ℕ) (w : Window) (z offset size : ℤ) (d : Check) {from : Cursor}
+    (h : _≡_ {A = Started} (record { number = checkNumber d; from = from }) (blockStart fs rows w z offset size)) where
   abbrev rules : List Rule
   rules = badPieceLength fs ∷ manyPieces fs ∷ noPiece fs z ∷ badRange offset size ∷ short (rowsHeld fs rows && fewEntries fs) ∷ []
 
   abbrev begin : Cursor
-  begin = cursorAt fs rows (startOf fs (clampedOf z) + clampedOf offset) (clampedOf size)
+  begin = cursorAt fs rows w (targetOf fs z offset) (clampedOf size)
 
   number-is : (n : ℕ) → checkNumber d ≡ n → firstOf rules ≡ n
   number-is n q = sym (start-number (firstOf rules) begin h) ∙ q

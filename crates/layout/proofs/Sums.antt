@@ -1,5 +1,6 @@
 -- The slices of a block: none is empty and their files ascend, and on rows that lie end to end their sizes sum to what is
--- left of the block. They rely on the law that the file found is the last one at or below the target.
+-- left of the block, whatever the window with which the search begins. They rely on the law that the file found is the
+-- last one at or below the target.
 --     walk-ordered, slices-ordered     on any rows: no slice is empty, and the files ascend
 --     walk-sum, slices-sum             the sum of the sizes
 use mathlib.Core.Path.{_≡_, refl, ap, _∙_}
@@ -15,9 +16,10 @@ use Rattle.lists.specs.Lists.{sum}
 use Rattle.lists.proofs.Orders.{le-or-lt}
 use Rattle.tables.specs.Rows.{rowAt}
 use Rattle.tables.specs.declared.storage.FileStorage.{FileStorage}
-use Rattle.layout.specs.Search.{fileFound}
-use Rattle.layout.specs.Mapping.{Slice, before, walk, cut, slicesOf, sizesOf}
-use Rattle.layout.proofs.Halving.{Ascending, found-last}
+use Rattle.layout.specs.declared.window.Window.{Window}
+use Rattle.layout.specs.Search.{foundWithin}
+use Rattle.layout.specs.Mapping.{Slice, before, walk, cut, slicesWithin, sizesOf}
+use Rattle.layout.proofs.Starting.{Laid, found-within}
 
 -- none is empty, and each is of a later file than the one before it, the first of file k at the earliest
 abbrev pub Ordered : ℕ → List Slice → Type 0
@@ -50,8 +52,8 @@ walk-ordered (suc f) rows k s n =
     refl
     (walk-ordered f rows (k + 1) (s - rowAt rows k .size) (n - (rowAt rows k .size - s)))
 
-pub slices-ordered : (fs : FileStorage) (rows : List ℕ) (target size : ℕ) → Ordered (fileFound rows (fs .«num_files») target) (slicesOf fs rows target size)
-slices-ordered fs rows target size = walk-ordered _ rows _ _ _
+pub slices-ordered : (fs : FileStorage) (rows : List ℕ) (w : Window) (target size : ℕ) → Ordered (foundWithin rows (fs .«num_files») w target) (slicesWithin fs rows w target size)
+slices-ordered fs rows w target size = walk-ordered _ rows _ _ _
 
 -- the sum of the sizes
 before-sum : (s : Slice) (ss : List Slice) → sum (sizesOf (before s ss)) ≡ s .size + sum (sizesOf ss)
@@ -128,8 +130,8 @@ pub record EndToEnd (fs : FileStorage) (rows : List ℕ) : Type 0 where
   pub total : fs .«total_size» ≡ sizesBefore rows (fs .«num_files»)
 
 module _ (fs : FileStorage) (rows : List ℕ) (e : EndToEnd fs rows) where
-  pub end-to-end-ascends : Ascending rows (fs .«num_files»)
-  end-to-end-ascends i h = omega (arith, e .offsets i (omega arith), e .offsets (i + 1) h, before-next rows i)
+  pub end-to-end-laid : Laid rows (fs .«num_files»)
+  end-to-end-laid i h = omega (arith, e .offsets i (omega arith), e .offsets (i + 1) h, before-next rows i)
 
   -- a set of no files has no bytes
   none : fs .«num_files» ≤ 0 → fs .«total_size» ≡ 0
@@ -144,11 +146,11 @@ module _ (fs : FileStorage) (rows : List ℕ) (e : EndToEnd fs rows) where
       let q = rw d at (from-before (fs .«num_files» - k) rows k) in
       omega (arith, q, e .offsets k h, e .total)
 
-  pub slices-sum : (target size : ℕ) → sum (sizesOf (slicesOf fs rows target size)) ≡ cut (fs .«total_size») target size
-  slices-sum target size = by (le-or-lt (fs .«num_files») 0)
+  pub slices-sum : (w : Window) (target size : ℕ) → sum (sizesOf (slicesWithin fs rows w target size)) ≡ cut (fs .«total_size») target size
+  slices-sum w target size = by (le-or-lt (fs .«num_files») 0)
     where
-      by : (fs .«num_files» ≤ 0) ⊎ (0 < fs .«num_files») → sum (sizesOf (slicesOf fs rows target size)) ≡ cut (fs .«total_size») target size
+      by : (fs .«num_files» ≤ 0) ⊎ (0 < fs .«num_files») → sum (sizesOf (slicesWithin fs rows w target size)) ≡ cut (fs .«total_size») target size
       by (inl h) = walk-sum _ rows _ _ _ ∙ nothing (fs .«total_size») _ size target (none h)
       by (inr h) =
-          let l = found-last rows (fs .«num_files») target end-to-end-ascends h (omega (arith, e .offsets 0 h, sizesBefore-zero rows)) in
+          let l = found-within rows (fs .«num_files») target end-to-end-laid w h (omega (arith, e .offsets 0 h, sizesBefore-zero rows)) in
           walk-sum _ rows _ _ _ ∙ meets size (fs .«total_size») target _ _ (reaches _ (l .among)) (l .low)

@@ -10,7 +10,8 @@ use Rattle.rules.specs.Bounds.{clampedOf}
 use Rattle.rules.specs.Results.{Range}
 use Rattle.rules.specs.Questions.{numPieces, rowsHeld, badPieceLength, manyPieces, noPiece, badOffset}
 use Rattle.rules.specs.Questions.{short, fewEntries, answered, pieceAnswer}
-use Rattle.layout.specs.Search.{fileFound}
+use Rattle.layout.specs.declared.window.Window.{Window}
+use Rattle.layout.specs.Search.{foundWithin}
 use Rattle.layout.specs.Pieces.{lessOne, pieceSize, pieceSize2, blocksIn, fileAtPiece, lastFileAtPiece}
 
 -- ---- the set
@@ -41,22 +42,24 @@ pieceSizeGiven fs z =
     answered (badPieceLength fs ∷ manyPieces fs ∷ noPiece fs z ∷ short (fewEntries fs) ∷ [])
     (pos (pieceSize fs (clampedOf z)))
 
-abbrev pub pieceSize2Given : FileStorage → List ℕ → ℤ → Outcome ℤ
-pieceSize2Given fs rows z = pieceAnswer fs z (rowsHeld fs rows) (λ p. pos (pieceSize2 fs rows p))
+-- the next four search for a file, and begin with the window w
+abbrev pub pieceSize2Given : FileStorage → List ℕ → Window → ℤ → Outcome ℤ
+pieceSize2Given fs rows w z = pieceAnswer fs z (rowsHeld fs rows) (λ p. pos (pieceSize2 fs rows w p))
 
-abbrev pub blocksInPiece2Given : FileStorage → List ℕ → ℤ → Outcome ℤ
-blocksInPiece2Given fs rows z = pieceAnswer fs z (rowsHeld fs rows) (λ p. pos (blocksIn (pieceSize2 fs rows p)))
+abbrev pub blocksInPiece2Given : FileStorage → List ℕ → Window → ℤ → Outcome ℤ
+blocksInPiece2Given fs rows w z =
+    pieceAnswer fs z (rowsHeld fs rows) (λ p. pos (blocksIn (pieceSize2 fs rows w p)))
 
 -- the file at the start of the piece, and the file at its last byte
-abbrev pub fileAtPieceGiven : FileStorage → List ℕ → ℤ → Outcome ℤ
-fileAtPieceGiven fs rows z = pieceAnswer fs z (rowsHeld fs rows) (λ p. pos (fileAtPiece fs rows p))
+abbrev pub fileAtPieceGiven : FileStorage → List ℕ → Window → ℤ → Outcome ℤ
+fileAtPieceGiven fs rows w z = pieceAnswer fs z (rowsHeld fs rows) (λ p. pos (fileAtPiece fs rows w p))
 
-abbrev pub lastFileAtPieceGiven : FileStorage → List ℕ → ℤ → Outcome ℤ
-lastFileAtPieceGiven fs rows z = pieceAnswer fs z (rowsHeld fs rows) (λ p. pos (lastFileAtPiece fs rows p))
+abbrev pub lastFileAtPieceGiven : FileStorage → List ℕ → Window → ℤ → Outcome ℤ
+lastFileAtPieceGiven fs rows w z = pieceAnswer fs z (rowsHeld fs rows) (λ p. pos (lastFileAtPiece fs rows w p))
 
 -- ---- an offset
 
-abbrev pub fileAtOffsetGiven : FileStorage → List ℕ → ℤ → Outcome ℤ
-fileAtOffsetGiven fs rows offset =
+abbrev pub fileAtOffsetGiven : FileStorage → List ℕ → Window → ℤ → Outcome ℤ
+fileAtOffsetGiven fs rows w offset =
     answered (badPieceLength fs ∷ badOffset fs offset ∷ short (rowsHeld fs rows && fewEntries fs) ∷ [])
-    (pos (fileFound rows (fs .«num_files») (clampedOf offset)))
+    (pos (foundWithin rows (fs .«num_files») w (clampedOf offset)))

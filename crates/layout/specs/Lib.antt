@@ -1,5 +1,6 @@
 -- The definitions that the contracts of `layout` cite; those in `private` stand in contracts of private functions
 -- alone.
+pub mod Window
 pub mod Search
 pub mod Steps
 pub mod Pieces

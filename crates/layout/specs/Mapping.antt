@@ -2,8 +2,8 @@
 --
 -- Names from elsewhere: `cond t a b` is a where t is true, else b; `eqb`, `ltb` and `leb` test =, < and ≤; `a - b` is 0
 -- where b is larger. `rowAt rows k` is the row of file k, with its offset and size; `fileFound` the file at a byte of
--- the set: the last that begins at or before it; `clampedOf` an integer, 0 where it is negative. The rules are document
--- 01's table of refusals (rules, specs/Questions.antt).
+-- the set: the last that begins at or before it, and `foundWithin` the same by a window; `clampedOf` an integer, 0
+-- where it is negative. The rules are document 01's table of refusals (rules, specs/Questions.antt).
 use Prim.Native.Nat.{ℕ, zero, suc, _+_, _-_, min}
 use mathlib.Core.Bool.{cond, _&&_}
 use mathlib.Core.List.{List, [], _∷_, map}
@@ -15,7 +15,8 @@ use Rattle.rules.specs.Rules.{Rule}
 use Rattle.rules.specs.Bounds.{clampedOf}
 use Rattle.rules.specs.Questions.{rowsHeld, badPieceLength, manyPieces, noPiece, badRange, short, fewEntries}
 use Rattle.layout.specs.Pieces.{startOf}
-use Rattle.layout.specs.Search.{fileFound}
+use Rattle.layout.specs.declared.window.Window.{Window}
+use Rattle.layout.specs.Search.{fileFound, foundWithin}
 
 -- a window of a file: file, offset within it, size
 pub record Slice : Type 0 where
@@ -46,9 +47,16 @@ slicesAt fs rows k target size =
 abbrev pub slicesOf : FileStorage → List ℕ → ℕ → ℕ → List Slice
 slicesOf fs rows target size = slicesAt fs rows (fileFound rows (fs .«num_files») target) target size
 
+-- the same where the search for that file begins with a window
+abbrev pub slicesWithin : FileStorage → List ℕ → Window → ℕ → ℕ → List Slice
+slicesWithin fs rows w target size = slicesAt fs rows (foundWithin rows (fs .«num_files») w target) target size
+
 -- 'target is piece × length + offset'
-abbrev pub blockOf : FileStorage → List ℕ → ℤ → ℤ → ℤ → List Slice
-blockOf fs rows z offset size = slicesOf fs rows (startOf fs (clampedOf z) + clampedOf offset) (clampedOf size)
+abbrev pub targetOf : FileStorage → ℤ → ℤ → ℕ
+targetOf fs z offset = startOf fs (clampedOf z) + clampedOf offset
+
+abbrev pub blockOf : FileStorage → List ℕ → Window → ℤ → ℤ → ℤ → List Slice
+blockOf fs rows w z offset size = slicesWithin fs rows w (targetOf fs z offset) (clampedOf size)
 
 -- `map_block`'s refusals, in order, in front of the last, which is for room
 abbrev pub blockRules : FileStorage → List ℕ → ℤ → ℤ → ℤ → List Rule → List Rule

@@ -1,6 +1,6 @@
 -- What `map_block` is to do, before it writes: its answer, how many slices it writes, and where the first begins. The
 -- slices and the refusals are those of Mapping.antt.
-use Prim.Native.Nat.{ℕ, _+_}
+use Prim.Native.Nat.{ℕ}
 use mathlib.Core.Bool.{cond}
 use mathlib.Core.List.{List, [], _∷_}
 use lib.Dec.{eqb, leb}
@@ -12,8 +12,8 @@ use Rattle.rules.specs.Rules.{firstOf}
 use Rattle.rules.specs.Bounds.{clampedOf}
 use Rattle.layout.specs.declared.start.Cursor.{Cursor}
 use Rattle.rules.specs.Questions.{short}
-use Rattle.layout.specs.Pieces.{startOf}
-use Rattle.layout.specs.Mapping.{Slice, blockOf, blockRules}
+use Rattle.layout.specs.declared.window.Window.{Window}
+use Rattle.layout.specs.Mapping.{Slice, targetOf, blockOf, blockRules}
 use Rattle.layout.specs.Start.{cursorAt, nowhere}
 
 pub record Planned : Type 0 where
@@ -34,9 +34,9 @@ abbrev pub planned : ℕ → List Slice → Cursor → Planned
 planned k ss c = cond (eqb k 0) (whole ss c) (stayed k)
 
 -- the plan for a table with `room` places
-abbrev pub blockPlan : FileStorage → List ℕ → ℤ → ℤ → ℤ → ℕ → Planned
-blockPlan fs rows z offset size room =
+abbrev pub blockPlan : FileStorage → List ℕ → Window → ℤ → ℤ → ℤ → ℕ → Planned
+blockPlan fs rows w z offset size room =
     planned
-    (firstOf (blockRules fs rows z offset size (short (leb (length (blockOf fs rows z offset size)) room) ∷ [])))
-    (blockOf fs rows z offset size)
-    (cursorAt fs rows (startOf fs (clampedOf z) + clampedOf offset) (clampedOf size))
+    (firstOf (blockRules fs rows z offset size (short (leb (length (blockOf fs rows w z offset size)) room) ∷ [])))
+    (blockOf fs rows w z offset size)
+    (cursorAt fs rows w (targetOf fs z offset) (clampedOf size))

@@ -5,6 +5,7 @@ mod piece;
 mod plan;
 mod search;
 mod start;
+mod window;
 
 pub use piece::blocks_in_piece2;
 pub use piece::blocks_per_piece;
@@ -24,3 +25,6 @@ pub use start::Start;
 pub use start::has_room;
 pub use start::slice_count;
 pub use start::start_block;
+pub use window::Window;
+pub use window::no_window;
+pub use window::window_for;

@@ -1,5 +1,6 @@
 // Answers about pieces, and about files at offsets and pieces. They rely on the search, on `types` for signed numbers
-// and on `rules`: each decides its refusals first.
+// and on `rules`: each decides its refusals first. Those that search for a file begin with a window; the answer is the
+// same for every window, on rows that lie end to end (proofs/Starting.antt).
 ghost use mathlib.Core.Path.{_≡_};
 ghost use Prim.Native.Nat.{_+_, _-_, _*_, _/_, _^_, _≤_, _<_};
 ghost use lib.ListN.{length};
@@ -9,9 +10,10 @@ ghost use Rattle.layout.specs.Pieces.{lessOne, startOf, pieceSize, piece
 ghost use Rattle.layout.specs.Given.{numPiecesGiven, lastPieceGiven, pieceRangeGiven, fileRangeGiven};
 ghost use Rattle.layout.specs.Given.{pieceSizeGiven, pieceSize2Given, blocksInPiece2Given, blocksPerPieceGiven};
 ghost use Rattle.layout.specs.Given.{fileAtOffsetGiven, fileAtPieceGiven, lastFileAtPieceGiven};
-use crate::search::find;
-use crate::search::find_near;
+use crate::search::find_near_within;
+use crate::search::find_within;
 use crate::search::partition_point;
+use crate::window::Window;
 use lists::div_ceil;
 use lists::min;
 use lists::saturating_sub;
@@ -66,12 +68,12 @@ fn size_of(fs: FileStorage, p: u64) -> u64
 }
 
 // The size of piece p, cut where the next file begins: the first with an offset past the piece's start.
-fn size2_of(fs: FileStorage, rows: &[u64], p: u64) -> u64
+fn size2_of(fs: FileStorage, rows: &[u64], window: Window, p: u64) -> u64
     requires { ⌜ (p < 2 ^ 32) × (p * fs .«piece_length» < 2 ^ 64) × (fs .«num_files» ≤ length (now rows) / 8) ⌝ }
-    ensures { λ r. ⌜ r ≡ pieceSize2 fs (now (rows .entry)) p ⌝ }
+    ensures { λ r. ⌜ r ≡ pieceSize2 fs (now (rows .entry)) window p ⌝ }
 {
     let start = start_of(fs, p);
-    let next = partition_point(rows, fs.num_files, start);
+    let next = partition_point(rows, fs.num_files, window, start);
     if fs.num_files <= next {
         return size_of(fs, p);
     }
@@ -146,22 +148,27 @@ pub fn piece_size(fs: FileStorage, piece: PieceIndex) -> I32Result
 }
 
 // The size of a piece, cut where the next file begins.
-pub fn piece_size2(fs: FileStorage, rows: &[u64], piece: PieceIndex) -> I32Result
-    ensures { λ r. ⌜ i32Says r ≡ pieceSize2Given fs (now (rows .entry)) (piece .0) ⌝ }
+pub fn piece_size2(fs: FileStorage, rows: &[u64], window: Window, piece: PieceIndex) -> I32Result
+    ensures { λ r. ⌜ i32Says r ≡ pieceSize2Given fs (now (rows .entry)) window (piece .0) ⌝ }
 {
     match ask_piece(fs, piece, false, is_held(fs.num_files, rows.len() / 8)) {
-        Check::Go => I32Result::Ok(types::signed32(size2_of(fs, rows, piece.get() as u64))),
+        Check::Go => I32Result::Ok(types::signed32(size2_of(fs, rows, window, piece.get() as u64))),
         Check::Stop(e) => I32Result::Err(e),
     }
 }
 
 // How many blocks a piece has that is cut where the next file begins.
-pub fn blocks_in_piece2(fs: FileStorage, rows: &[u64], piece: PieceIndex) -> I32Result
-    ensures { λ r. ⌜ i32Says r ≡ blocksInPiece2Given fs (now (rows .entry)) (piece .0) ⌝ }
+pub fn blocks_in_piece2(
+    fs: FileStorage,
+    rows: &[u64],
+    window: Window,
+    piece: PieceIndex,
+) -> I32Result
+    ensures { λ r. ⌜ i32Says r ≡ blocksInPiece2Given fs (now (rows .entry)) window (piece .0) ⌝ }
 {
     match ask_piece(fs, piece, false, is_held(fs.num_files, rows.len() / 8)) {
         Check::Go => I32Result::Ok(types::signed32(div_ceil(
-            size2_of(fs, rows, piece.get() as u64),
+            size2_of(fs, rows, window, piece.get() as u64),
             DEFAULT_BLOCK_SIZE,
         ))),
         Check::Stop(e) => I32Result::Err(e),
@@ -179,8 +186,13 @@ pub fn blocks_per_piece(fs: FileStorage) -> I32Result
 }
 
 // The file at an offset.
-pub fn file_index_at_offset(fs: FileStorage, rows: &[u64], offset: i64) -> FileResult
-    ensures { λ r. ⌜ fileSays r ≡ fileAtOffsetGiven fs (now (rows .entry)) offset ⌝ }
+pub fn file_index_at_offset(
+    fs: FileStorage,
+    rows: &[u64],
+    window: Window,
+    offset: i64,
+) -> FileResult
+    ensures { λ r. ⌜ fileSays r ≡ fileAtOffsetGiven fs (now (rows .entry)) window offset ⌝ }
 {
     match ask_set(
         fs,
@@ -188,31 +200,46 @@ pub fn file_index_at_offset(fs: FileStorage, rows: &[u64], offset: i64) -> FileR
         is_held(fs.num_files, rows.len() / 8),
     ) {
         Check::Go => FileResult::Ok(FileIndex::new(
-            find_near(rows, fs.num_files, clamped64(offset)) as u64,
+            find_near_within(rows, fs.num_files, window, clamped64(offset)) as u64,
         )),
         Check::Stop(e) => FileResult::Err(e),
     }
 }
 
 // The file at the start of a piece.
-pub fn file_index_at_piece(fs: FileStorage, rows: &[u64], piece: PieceIndex) -> FileResult
-    ensures { λ r. ⌜ fileSays r ≡ fileAtPieceGiven fs (now (rows .entry)) (piece .0) ⌝ }
+pub fn file_index_at_piece(
+    fs: FileStorage,
+    rows: &[u64],
+    window: Window,
+    piece: PieceIndex,
+) -> FileResult
+    ensures { λ r. ⌜ fileSays r ≡ fileAtPieceGiven fs (now (rows .entry)) window (piece .0) ⌝ }
 {
     match ask_piece(fs, piece, false, is_held(fs.num_files, rows.len() / 8)) {
         Check::Go => FileResult::Ok(FileIndex::new(
-            find(rows, fs.num_files, start_of(fs, piece.get() as u64)) as u64,
+            find_within(rows, fs.num_files, window, start_of(fs, piece.get() as u64)) as u64,
         )),
         Check::Stop(e) => FileResult::Err(e),
     }
 }
 
 // The file at the last byte of a piece.
-pub fn last_file_index_at_piece(fs: FileStorage, rows: &[u64], piece: PieceIndex) -> FileResult
-    ensures { λ r. ⌜ fileSays r ≡ lastFileAtPieceGiven fs (now (rows .entry)) (piece .0) ⌝ }
+pub fn last_file_index_at_piece(
+    fs: FileStorage,
+    rows: &[u64],
+    window: Window,
+    piece: PieceIndex,
+) -> FileResult
+    ensures { λ r. ⌜ fileSays r ≡ lastFileAtPieceGiven fs (now (rows .entry)) window (piece .0) ⌝ }
 {
     match ask_piece(fs, piece, false, is_held(fs.num_files, rows.len() / 8)) {
         Check::Go => FileResult::Ok(FileIndex::new(
-            find(rows, fs.num_files, last_byte(fs, piece.get() as u64)) as u64,
+            find_within(
+                rows,
+                fs.num_files,
+                window,
+                last_byte(fs, piece.get() as u64),
+            ) as u64,
         )),
         Check::Stop(e) => FileResult::Err(e),
     }

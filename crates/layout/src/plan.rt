@@ -6,6 +6,7 @@ ghost use Rattle.layout.specs.Plan.{Planned, stayed, blockPlan};
 use crate::start::Cursor;
 use crate::start::count_slices;
 use crate::start::start_block;
+use crate::window::Window;
 use rules::Check;
 use tables::FileStorage;
 use types::PieceIndex;
@@ -41,6 +42,7 @@ fn refuse(e: Refusal) -> Plan
 pub fn plan_block(
     fs: FileStorage,
     rows: &[u64],
+    window: Window,
     piece: PieceIndex,
     offset: i64,
     size: i64,
@@ -48,9 +50,9 @@ pub fn plan_block(
 ) -> Plan
     ensures { λ r. ⌜ _≡_ {A = Planned}
         (record { says = usizeSays (r .answer); count = r .count; from = r .from })
-        (blockPlan fs (now (rows .entry)) (piece .0) offset size room) ⌝ }
+        (blockPlan fs (now (rows .entry)) window (piece .0) offset size room) ⌝ }
 {
-    let start = start_block(fs, rows, piece, offset, size);
+    let start = start_block(fs, rows, window, piece, offset, size);
     let check = start.check;
     if let Check::Stop(e) = check {
         return refuse(e);

@@ -10,7 +10,8 @@ ghost use Rattle.rules.specs.Results.{checkNumber};
 ghost use Rattle.layout.specs.Mapping.{walk};
 ghost use Rattle.layout.specs.Start.{slicesFrom, cursorAt, Started, refusedStart, blockStart};
 use crate::piece::start_of;
-use crate::search::find;
+use crate::search::find_within;
+use crate::window::Window;
 use lists::min;
 use lists::saturating_sub;
 use rules::Check;
@@ -101,12 +102,12 @@ fn refuse(e: Refusal) -> Start
 }
 
 // Where `size` bytes from the target on begin.
-fn cursor_at(fs: FileStorage, rows: &[u64], target: u64, size: u64) -> Cursor
+fn cursor_at(fs: FileStorage, rows: &[u64], window: Window, target: u64, size: u64) -> Cursor
     requires { ⌜ fs .«num_files» ≤ length (now rows) / 8 ⌝ }
-    ensures { λ r. ⌜ r ≡ cursorAt fs (now (rows .entry)) target size ⌝ }
+    ensures { λ r. ⌜ r ≡ cursorAt fs (now (rows .entry)) window target size ⌝ }
 {
     let files = fs.num_files;
-    let file = find(rows, files, target);
+    let file = find_within(rows, files, window, target);
     let skip = saturating_sub(target, tables::offset_at(rows, file));
     let left = min(size, saturating_sub(fs.total_size, target));
     Cursor {
@@ -121,13 +122,14 @@ fn cursor_at(fs: FileStorage, rows: &[u64], target: u64, size: u64) -> Cursor
 pub fn start_block(
     fs: FileStorage,
     rows: &[u64],
+    window: Window,
     piece: PieceIndex,
     offset: i64,
     size: i64,
 ) -> Start
     ensures { λ r. ⌜ _≡_ {A = Started}
         (record { number = checkNumber (r .check); from = r .from })
-        (blockStart fs (now (rows .entry)) (piece .0) offset size) ⌝ }
+        (blockStart fs (now (rows .entry)) window (piece .0) offset size) ⌝ }
 {
     let check = ask_piece(
         fs,
@@ -141,6 +143,6 @@ pub fn start_block(
     let target = start_of(fs, piece.get() as u64) + clamped64(offset);
     Start {
         check: Check::Go,
-        from: cursor_at(fs, rows, target, clamped64(size)),
+        from: cursor_at(fs, rows, window, target, clamped64(size)),
     }
 }

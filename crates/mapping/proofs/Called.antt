@@ -40,11 +40,14 @@ use Rattle.tables.specs.declared.storage.FileStorage.{FileStorage}
 use Rattle.tables.proofs.storage.FileStorage as FS
 use Rattle.tables.proofs.storage.FileStorage.Laws as FS′
 use Rattle.layout.specs.declared.start.Cursor.{Cursor}
+use Rattle.layout.specs.declared.window.Window.{Window}
 use Rattle.layout.specs.declared.plan.Plan.{Plan}
 use Rattle.layout.specs.Start.{slicesFrom}
 use Rattle.layout.specs.Plan.{Planned, blockPlan}
 use Rattle.layout.proofs.start.Cursor as CU
 use Rattle.layout.proofs.start.Cursor.Laws as CU′
+use Rattle.layout.proofs.window.Window as WI
+use Rattle.layout.proofs.window.Window.Laws as WI′
 use Rattle.layout.proofs.plan.Plan as PL
 use Rattle.layout.proofs.plan_block as plan-block
 use Rattle.mapping.specs.declared.Step.{Step}
@@ -69,38 +72,39 @@ module _ {M : Type 1} (𝓤 : URA M) (H : Heap 𝓤) (A : Atoms 𝓤) (W : Given
   abbrev Rows : SProp 𝓤
   Rows = sep 𝓤 (A .lft κ q) (sem 𝓤 H A (ShrSlice (named 0) κ u64 .own x s))
 
-  module _ (fs : FileStorage) (piece : PieceIndex) (offset size : ℤ) (room : ℕ) where
+  module _ (fs : FileStorage) (window : Window) (piece : PieceIndex) (offset size : ℤ) (room : ℕ) where
     abbrev Arg : Type 0
-    Arg = FileStorage × (RefT (List ℕ) × (PieceIndex × (ℤ × (ℤ × (ℕ × Unit {0})))))
+    Arg = FileStorage × (RefT (List ℕ) × (Window × (PieceIndex × (ℤ × (ℤ × (ℕ × Unit {0}))))))
 
     abbrev a : Arg
-    a = (fs, (x, (piece, (offset, (size, (room, tt))))))
+    a = (fs, (x, (window, (piece, (offset, (size, (room, tt)))))))
 
     abbrev pub to-plan : PlanBlock 𝓤 H A mem run .Ghost
     to-plan =
-        (((κ, tt), (q, tt), tt, a, (FS′.lowered fs ∷ [], (s, (PI′.lowered piece ∷ [], (vint w64 (ofZ w64 offset) ∷ [], (vint w64 (ofZ w64 size) ∷ [], (vint w64 room ∷ [], tt))))))), tt)
+        (((κ, tt), (q, tt), tt, a, (FS′.lowered fs ∷ [], (s, (WI′.lowered window ∷ [], (PI′.lowered piece ∷ [], (vint w64 (ofZ w64 offset) ∷ [], (vint w64 (ofZ w64 size) ∷ [], (vint w64 room ∷ [], tt)))))))), tt)
 
-    pub plan-goes : Is FS.the-row fs (FS′.lowered fs ∷ []) → Is PI.the-row piece (PI′.lowered piece ∷ []) → Is i64 offset (vint w64 (ofZ w64 offset) ∷ []) → Is i64 size (vint w64 (ofZ w64 size) ∷ []) → room < 2 ^ 64
+    pub plan-goes : Is FS.the-row fs (FS′.lowered fs ∷ []) → Is WI.the-row window (WI′.lowered window ∷ []) → Is PI.the-row piece (PI′.lowered piece ∷ []) → Is i64 offset (vint w64 (ofZ w64 offset) ∷ []) → Is i64 size (vint w64 (ofZ w64 size) ∷ []) → room < 2 ^ 64
         → ent 𝓤 Rows (PlanBlock 𝓤 H A mem run .pre to-plan)
-    plan-goes gf gp go gs fits =
+    plan-goes gf gw gp go gs fits =
         qed W (‵ (flft κ q) ∷ ‵ (ShrSlice (named 0) κ u64 .own x s) ∷ []) ∵ nothing ! $
         owned ! usize (Is usize) (uint-makes 𝓤 H A W w64) room _ (refl, fits) $ fjoin ! $ owned ! i64 (Is i64) (sint-makes 𝓤 H A W w64) size _ gs $ fjoin ! $ owned ! i64 (Is i64) (sint-makes 𝓤 H A W w64) offset _ go $ fjoin ! $
-        owned ! PI.the-row (Is PI.the-row) (LL.makes PI.the-type PI′.the-plain 𝓤 H A) piece _ gp $ fjoin ! $ move ! (2 ∷ 0 ∷ []) $ fjoin ! $
+        owned ! PI.the-row (Is PI.the-row) (LL.makes PI.the-type PI′.the-plain 𝓤 H A) piece _ gp $ fjoin ! $
+        owned ! WI.the-row (Is WI.the-row) (LL.makes WI.the-type WI′.the-plain 𝓤 H A) window _ gw $ fjoin ! $ move ! (2 ∷ 0 ∷ []) $ fjoin ! $
         owned ! FS.the-row (Is FS.the-row) (LL.makes FS.the-type FS′.the-plain 𝓤 H A) fs _ gf $ fjoin ! $
         -- [the arguments; the token]
         nothing ! $ move ! (2 ∷ 0 ∷ []) $ join ! $ join ! $ frame ! $ done !
 
-    plan-told : (p : Plan) → ent 𝓤 (ensured 𝓤 H A plan-block.ended (plan-block.clauses 𝓤 H A mem run) (κ, tt) a tt p) (fact 𝓤 (seen p ≡ blockPlan fs (x .now) (piece .0) offset size room))
-    plan-told p = exE 𝓤 _ (λ ws. snd∗ 𝓤 (sem 𝓤 H A (lasts plan-block.ended (κ, tt) a ws)) (fact 𝓤 (seen p ≡ blockPlan fs (x .now) (piece .0) offset size room)))
+    plan-told : (p : Plan) → ent 𝓤 (ensured 𝓤 H A plan-block.ended (plan-block.clauses 𝓤 H A mem run) (κ, tt) a tt p) (fact 𝓤 (seen p ≡ blockPlan fs (x .now) window (piece .0) offset size room))
+    plan-told p = exE 𝓤 _ (λ ws. snd∗ 𝓤 (sem 𝓤 H A (lasts plan-block.ended (κ, tt) a ws)) (fact 𝓤 (seen p ≡ blockPlan fs (x .now) window (piece .0) offset size room)))
 
     abbrev pub PlanMade : Val → Plan → Type 0
-    PlanMade w p = Is PL.the-row p (w ∷ []) × (seen p ≡ blockPlan fs (x .now) (piece .0) offset size room)
+    PlanMade w p = Is PL.the-row p (w ∷ []) × (seen p ≡ blockPlan fs (x .now) window (piece .0) offset size room)
 
     pub plan-gives : (w : Val) → ent 𝓤 (PlanBlock 𝓤 H A mem run .post to-plan w) (H .⇛ (ex 𝓤 (λ (p : Plan). guard 𝓤 (PlanMade w p) (A .lft κ q))))
     plan-gives w =
         qed W (raw (PlanBlock 𝓤 H A mem run .post to-plan w) ∷ []) ∵ updating ! $
         use1 W (later (some (λ (p : Plan). ((‵ (flft κ q) ⊛ ‵ ftrue) ⊛ ‵ (PL.the-row .own p (w ∷ []))) ⊛ raw (ensured 𝓤 H A plan-block.ended (plan-block.clauses 𝓤 H A mem run) (κ, tt) a tt p)))) (id⊢ 𝓤 _) $ await ! tt $ pick ! (λ p.
-        split ! $ move ! (1 ∷ []) $ use1 W (raw (fact 𝓤 (seen p ≡ blockPlan fs (x .now) (piece .0) offset size room))) (plan-told p) $ heard ! (seen p ≡ blockPlan fs (x .now) (piece .0) offset size room) (λ e.
+        split ! $ move ! (1 ∷ []) $ use1 W (raw (fact 𝓤 (seen p ≡ blockPlan fs (x .now) window (piece .0) offset size room))) (plan-told p) $ heard ! (seen p ≡ blockPlan fs (x .now) window (piece .0) offset size room) (λ e.
         split ! $ move ! (1 ∷ []) $ peeks ! PL.the-row (Is PL.the-row) (shows 𝓤 H A PL.the-row) p (w ∷ []) (λ is.
         at-once ! $ show ! (λ (p′ : Plan). guard 𝓤 (PlanMade w p′) (A .lft κ q)) p $ check ! (is, e) $ move ! (1 ∷ []) $ split ! $ keep ! (0 ∷ []) $ done !)))
 

@@ -17,6 +17,7 @@ use Rattle.types.specs.declared.index.FileSlice.{FileSlice}
 use Rattle.tables.specs.declared.storage.FileStorage.{FileStorage}
 use Rattle.rules.specs.Rules.{firstOf}
 use Rattle.rules.specs.Questions.{short}
+use Rattle.layout.specs.declared.window.Window.{Window}
 use Rattle.layout.specs.Mapping.{Slice, blockOf, blockRules}
 
 -- a slice as the record of signed numbers that the Rust has
@@ -35,10 +36,11 @@ filled k ss out =
     cond (eqb k 0) (record { says = value (length ss); table = sets out 0 (map recordOf ss) })
     (record { says = refused k; table = out })
 
-abbrev pub blockMapped : FileStorage → List ℕ → ℤ → ℤ → ℤ → List FileSlice → Filled
-blockMapped fs rows z offset size out =
+-- w is the window with which the search for the first slice's file begins
+abbrev pub blockMapped : FileStorage → List ℕ → Window → ℤ → ℤ → ℤ → List FileSlice → Filled
+blockMapped fs rows w z offset size out =
     filled
     (firstOf
-    (blockRules fs rows z offset size (short (leb (length (blockOf fs rows z offset size)) (length out)) ∷ [])))
-    (blockOf fs rows z offset size)
+    (blockRules fs rows z offset size (short (leb (length (blockOf fs rows w z offset size)) (length out)) ∷ [])))
+    (blockOf fs rows w z offset size)
     out

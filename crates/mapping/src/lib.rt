@@ -9,6 +9,7 @@ ghost use Rattle.layout.specs.Start.{slicesFrom};
 ghost use Rattle.mapping.specs.Table.{recordOf, Filled, blockMapped};
 ghost use Rattle.mapping.specs.private.Records.{recordsFrom};
 use layout::Cursor;
+use layout::Window;
 use tables::FileStorage;
 use types::FileIndex;
 use types::FileSlice;
@@ -86,10 +87,12 @@ fn store(out: &mut [FileSlice], i: usize, slice: FileSlice)
     out[i] = slice;
 }
 
-// The slices of a block of a piece, put into the table's first places.
+// The slices of a block of a piece, put into the table's first places. The search for the first file begins with a
+// window.
 pub fn map_block(
     fs: FileStorage,
     rows: &[u64],
+    window: Window,
     piece: PieceIndex,
     offset: i64,
     size: i64,
@@ -97,9 +100,9 @@ pub fn map_block(
 ) -> UsizeResult
     ensures { λ r. ⌜ _≡_ {A = Filled}
         (record { says = usizeSays r; table = now (out .exit) })
-        (blockMapped fs (now (rows .entry)) (piece .0) offset size (now (out .entry))) ⌝ }
+        (blockMapped fs (now (rows .entry)) window (piece .0) offset size (now (out .entry))) ⌝ }
 {
-    let plan = layout::plan_block(fs, rows, piece, offset, size, out.len());
+    let plan = layout::plan_block(fs, rows, window, piece, offset, size, out.len());
     let mut at = plan.from;
     let mut n = 0;
     while n < plan.count {

@@ -13,14 +13,14 @@ use Rattle.blocks.proofs.map_block_core.Tie as tie
 
 -- the start, at the numbers that were passed
 started : (c : tie.After-start-block)
-    → _≡_ {A = Started} (record { number = checkNumber (c .start-block .result .check); from = c .start-block .result .from }) (blockStart (c .before .before .before .before .before .args .fs) (c .before .before .before .before .before .args .rows .now) (c .before .before .before .before .before .args .piece .0) (c .before .before .before .before .before .args .offset) (c .before .before .before .before .before .args .size))
+    → _≡_ {A = Started} (record { number = checkNumber (c .start-block .result .check); from = c .start-block .result .from }) (blockStart (c .before .before .before .before .before .args .fs) (c .before .before .before .before .before .args .rows .now) (c .before .before .before .before .before .args .window) (c .before .before .before .before .before .args .piece .0) (c .before .before .before .before .before .args .offset) (c .before .before .before .before .before .args .size))
 started c =
     let a = c .before .before .before .before .before .args in
     let offset-fits : SFits w64 (a .offset) = search needs in
     let size-fits : SFits w64 (a .size) = search needs in
     c .start-block .ensures
-    ∙ ap (λ (x : ℤ). blockStart (a .fs) (a .rows .now) (a .piece .0) x (toZ w64 (ofZ w64 (a .size)))) (toZ-ofZ offset-fits)
-    ∙ ap (λ (x : ℤ). blockStart (a .fs) (a .rows .now) (a .piece .0) (a .offset) x) (toZ-ofZ size-fits)
+    ∙ ap (λ (x : ℤ). blockStart (a .fs) (a .rows .now) (a .window) (a .piece .0) x (toZ w64 (ofZ w64 (a .size)))) (toZ-ofZ offset-fits)
+    ∙ ap (λ (x : ℤ). blockStart (a .fs) (a .rows .now) (a .window) (a .piece .0) (a .offset) x) (toZ-ofZ size-fits)
 
 start-block-requires : tie.Need-start-block-requires
 start-block-requires c κs = search needs
@@ -31,7 +31,7 @@ enum-known-check c = search needs
 returns : tie.Need-returns
 returns c =
     let a = c .before .before .before .before .before .before .before .before .args in
-    block-refused (a .fs) (a .rows .now) (a .piece .0) (a .offset) (a .size) _ (started (c .before .before .before)) (a .out-file .now) (a .out-offset .now) (a .out-size .now) _ (c .before .check .given .1)
+    block-refused (a .fs) (a .rows .now) (a .window) (a .piece .0) (a .offset) (a .size) _ (started (c .before .before .before)) (a .out-file .now) (a .out-offset .now) (a .out-size .now) _ (c .before .check .given .1)
 
 enum-told : tie.Need-enum-told
 enum-told c = search needs
@@ -61,12 +61,12 @@ returns-2 : tie.Need-returns-2
 returns-2 c =
     let a = c .before .before .before .before .before .before .before .before .before .before .before .before .before .before .before .before .before .before .before .before .before .before .args in
     let w = c .before .before .before .before .before .before .write-slices .ensures in
-    block-written (a .fs) (a .rows .now) (a .piece .0) (a .offset) (a .size) _ (started (c .before .before .before .before .before .before .before .before .before .before .before .before .before .before .before .before .before)) (a .out-file .now) (a .out-offset .now) (a .out-size .now) (c .before .before .before .before .before .before .before .before .before .before .before .before .before .before .before .enum-told .given .1) (rw (c .before .before .before .before .before .before .before .before .before .before .before .before .before .min-usize .ensures) at (c .before .before .before .before .before .before .before .before .before .before .before .before .min-usize2 .ensures)) (c .before .before .before .before .before .before .before .before .before .before .before .has-room .ensures) (c .before .before .before .before .before .before .before .before .before .before .if1 .taken) (w .0) (w .1 .0) (w .1 .1 .0) (w .1 .1 .1)
+    block-written (a .fs) (a .rows .now) (a .window) (a .piece .0) (a .offset) (a .size) _ (started (c .before .before .before .before .before .before .before .before .before .before .before .before .before .before .before .before .before)) (a .out-file .now) (a .out-offset .now) (a .out-size .now) (c .before .before .before .before .before .before .before .before .before .before .before .before .before .before .before .enum-told .given .1) (rw (c .before .before .before .before .before .before .before .before .before .before .before .before .before .min-usize .ensures) at (c .before .before .before .before .before .before .before .before .before .before .before .before .min-usize2 .ensures)) (c .before .before .before .before .before .before .before .before .before .before .before .has-room .ensures) (c .before .before .before .before .before .before .before .before .before .before .if1 .taken) (w .0) (w .1 .0) (w .1 .1 .0) (w .1 .1 .1)
 
 returns-3 : tie.Need-returns-3
 returns-3 c =
     let a = c .before .before .before .before .before .before .before .before .before .before .before .before .args in
-    block-short (a .fs) (a .rows .now) (a .piece .0) (a .offset) (a .size) _ (started (c .before .before .before .before .before .before .before)) (a .out-file .now) (a .out-offset .now) (a .out-size .now) (c .before .before .before .before .before .enum-told .given .1) (rw (c .before .before .before .min-usize .ensures) at (c .before .before .min-usize2 .ensures)) (c .before .has-room .ensures) (c .if1 .left)
+    block-short (a .fs) (a .rows .now) (a .window) (a .piece .0) (a .offset) (a .size) _ (started (c .before .before .before .before .before .before .before)) (a .out-file .now) (a .out-offset .now) (a .out-size .now) (c .before .before .before .before .before .enum-told .given .1) (rw (c .before .before .before .min-usize .ensures) at (c .before .before .min-usize2 .ensures)) (c .before .has-room .ensures) (c .if1 .left)
 
 pub map-block-core-spec : {M : Type 1} → statement M
 map-block-core-spec =

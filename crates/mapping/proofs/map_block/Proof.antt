@@ -60,12 +60,15 @@ use Rattle.tables.specs.declared.storage.FileStorage.{FileStorage}
 use Rattle.tables.proofs.storage.FileStorage as FS
 use Rattle.tables.proofs.storage.FileStorage.Laws as FS′
 use Rattle.layout.specs.declared.start.Cursor.{Cursor}
+use Rattle.layout.specs.declared.window.Window.{Window}
 use Rattle.layout.specs.declared.plan.Plan.{Plan}
 use Rattle.layout.specs.Plan.{blockPlan}
 use Rattle.layout.proofs.Plans.{plan-counts, plan-fits}
 use Rattle.mapping.proofs.Plans.{plan-done}
 use Rattle.layout.proofs.start.Cursor as CU
 use Rattle.layout.proofs.start.Cursor.Laws as CU′
+use Rattle.layout.proofs.window.Window as WI
+use Rattle.layout.proofs.window.Window.Laws as WI′
 use Rattle.layout.proofs.plan.Plan as PL
 use Rattle.layout.proofs.plan.Plan.Laws as PL′
 use Rattle.layout.proofs.plan_block.Symbol as plan-block-def
@@ -94,7 +97,7 @@ use Rattle.mapping.proofs.map_block.Code.Mir as mir′
 
 abbrev stayed : Stays (map-block.ended .signature .params) (map-block.ended .kept)
 stayed =
-    (stay-none (λ _. FS.the-row) yes, (stay-none-slice (0 ∷ []) tt (plain (λ _. u64)) yes, (stay-none (λ _. PI.the-row) yes, (stay-none (λ _. i64) yes, (stay-none (λ _. i64) yes, (stay-slice (1 ∷ []) tt (plain (λ _. T.the-row)), tt))))))
+    (stay-none (λ _. FS.the-row) yes, (stay-none-slice (0 ∷ []) tt (plain (λ _. u64)) yes, (stay-none (λ _. WI.the-row) yes, (stay-none (λ _. PI.the-row) yes, (stay-none (λ _. i64) yes, (stay-none (λ _. i64) yes, (stay-slice (1 ∷ []) tt (plain (λ _. T.the-row)), tt)))))))
 
 -- what follows a body's first statement
 abbrev after : Body → Body
@@ -139,8 +142,8 @@ step-rest : (r : Step) (w : Val) → Is ST.the-row r (w ∷ []) → Is CU.the-ro
 step-rest r w is = subst (Is CU.the-row (r .rest)) (CU′.lowers .val-is (r .rest) (is .0 .1 .0) (is .1 .1 .1 .0)) (is .1 .1 .1 .0)
 
 module _ {M : Type 1} (𝓤 : URA M) (H : Heap 𝓤) (A : Atoms 𝓤) (W : Given 𝓤 H A) (mem : Memory → SProp 𝓤) (run : Routine → Fun 𝓤) (κ₀ κ₁ : Lft) (q₀ q₁ : Share)
-    (fs : FileStorage) (x : RefT (List ℕ)) (piece : PieceIndex) (offset size : ℤ) (y : RefT (List FileSlice))
-    (gf : Is FS.the-row fs (FS′.lowered fs ∷ [])) (rows-room : Room u64 (length (x .now))) (gp : Is PI.the-row piece (PI′.lowered piece ∷ [])) (go : Is i64 offset (vint w64 (ofZ w64 offset) ∷ [])) (gs : Is i64 size (vint w64 (ofZ w64 size) ∷ []))
+    (fs : FileStorage) (x : RefT (List ℕ)) (window : Window) (piece : PieceIndex) (offset size : ℤ) (y : RefT (List FileSlice))
+    (gf : Is FS.the-row fs (FS′.lowered fs ∷ [])) (rows-room : Room u64 (length (x .now))) (gw : Is WI.the-row window (WI′.lowered window ∷ [])) (gp : Is PI.the-row piece (PI′.lowered piece ∷ [])) (go : Is i64 offset (vint w64 (ofZ w64 offset) ∷ [])) (gs : Is i64 size (vint w64 (ofZ w64 size) ∷ []))
     (room : Room T.the-row (length (y .now))) where
   abbrev ys : List FileSlice
   ys = y .now
@@ -162,61 +165,62 @@ module _ {M : Type 1} (𝓤 : URA M) (H : Heap 𝓤) (A : Atoms 𝓤) (W : Given
   Rows = ShrSlice (named 0) κ₀ u64 .own x (s x (length (x .now)) ∷ [])
 
   abbrev Arg : Type 0
-  Arg = FileStorage × (RefT (List ℕ) × (PieceIndex × (ℤ × (ℤ × (RefT (List FileSlice) × Unit {0})))))
+  Arg = FileStorage × (RefT (List ℕ) × (Window × (PieceIndex × (ℤ × (ℤ × (RefT (List FileSlice) × Unit {0}))))))
 
   abbrev a : Arg
-  a = (fs, (x, (piece, (offset, (size, (y, tt))))))
+  a = (fs, (x, (window, (piece, (offset, (size, (y, tt)))))))
 
-  abbrev vals : List Val × (List Val × (List Val × (List Val × (List Val × (List Val × Unit {0})))))
-  vals = (FS′.lowered fs ∷ [], (s x (length (x .now)) ∷ [], (PI′.lowered piece ∷ [], (vint w64 (ofZ w64 offset) ∷ [], (vint w64 (ofZ w64 size) ∷ [], (s y n ∷ [], tt))))))
+  abbrev vals : List Val × (List Val × (List Val × (List Val × (List Val × (List Val × (List Val × Unit {0}))))))
+  vals = (FS′.lowered fs ∷ [], (s x (length (x .now)) ∷ [], (WI′.lowered window ∷ [], (PI′.lowered piece ∷ [], (vint w64 (ofZ w64 offset) ∷ [], (vint w64 (ofZ w64 size) ∷ [], (s y n ∷ [], tt)))))))
 
   abbrev Post : Val → SProp 𝓤
   Post = walkOf 𝓤 H A map-block.ended stayed (map-block.clauses 𝓤 H A mem run) .post (((κ₀, (κ₁, tt)), (q₀, (q₁, tt)), tt, a, vals), tt)
 
-  module _ (l₀ l₁ l₂ l₃ l₄ l₅ l₆ l₇ l₈ l₉ l₁₀ l₁₁ l₁₂ l₁₃ l₁₄ l₁₅ : ℕ) where
+  module _ (l₀ l₁ l₂ l₃ l₄ l₅ l₆ l₇ l₈ l₉ l₁₀ l₁₁ l₁₂ l₁₃ l₁₄ l₁₅ l₁₆ : ℕ) where
     abbrev En : Env 𝓤 H
-    En = (UR′.mir, l₀) ∷ (FS′.mir, l₁) ∷ (sliceTy mine, l₂) ∷ (PI′.mir, l₃) ∷ (tyInt w64, l₄) ∷ (tyInt w64, l₅) ∷ (sliceTy here, l₆) ∷ (PL′.mir, l₇) ∷ (CU′.mir, l₈) ∷ (tyInt w64, l₉) ∷ (ST′.mir, l₁₀) ∷ (tyInt w64, l₁₁) ∷ (tyBool, l₁₂) ∷ (tyUnit, l₁₃) ∷ (temp, l₁₄) ∷ (sliceTy temp, l₁₅) ∷ []
+    En = (UR′.mir, l₀) ∷ (FS′.mir, l₁) ∷ (sliceTy mine, l₂) ∷ (WI′.mir, l₃) ∷ (PI′.mir, l₄) ∷ (tyInt w64, l₅) ∷ (tyInt w64, l₆) ∷ (sliceTy here, l₇) ∷ (PL′.mir, l₈) ∷ (CU′.mir, l₉) ∷ (tyInt w64, l₁₀) ∷ (ST′.mir, l₁₁) ∷ (tyInt w64, l₁₂) ∷ (tyBool, l₁₃) ∷ (tyUnit, l₁₄) ∷ (temp, l₁₅) ∷ (sliceTy temp, l₁₆) ∷ []
 
-    -- the locals 0 to 6, the result and the parameters
+    -- the locals 0 to 7, the result and the parameters
     abbrev Low : List (Item 𝓤)
     Low =
-        ‵ (fat fullShare (sliceTy here) l₆ 0 (s y n)) ∷ ‵ (fdies (sliceTy here) l₆) ∷ ‵ (fat fullShare (tyInt w64) l₅ 0 (vint w64 (ofZ w64 size))) ∷ ‵ (fdies (tyInt w64) l₅) ∷ ‵ (fat fullShare (tyInt w64) l₄ 0 (vint w64 (ofZ w64 offset))) ∷ ‵ (fdies (tyInt w64) l₄) ∷ ‵ (fat fullShare PI′.mir l₃ 0 (PI′.lowered piece)) ∷ ‵ (fdies PI′.mir l₃)
-        ∷ ‵ (fat fullShare (sliceTy mine) l₂ 0 (s x (length (x .now)))) ∷ ‵ (fdies (sliceTy mine) l₂) ∷ ‵ (fat fullShare FS′.mir l₁ 0 (FS′.lowered fs)) ∷ ‵ (fdies FS′.mir l₁) ∷ ‵ (froom UR′.mir l₀ 0) ∷ ‵ (fdies UR′.mir l₀) ∷ []
+        ‵ (fat fullShare (sliceTy here) l₇ 0 (s y n)) ∷ ‵ (fdies (sliceTy here) l₇) ∷ ‵ (fat fullShare (tyInt w64) l₆ 0 (vint w64 (ofZ w64 size))) ∷ ‵ (fdies (tyInt w64) l₆) ∷ ‵ (fat fullShare (tyInt w64) l₅ 0 (vint w64 (ofZ w64 offset))) ∷ ‵ (fdies (tyInt w64) l₅) ∷ ‵ (fat fullShare PI′.mir l₄ 0 (PI′.lowered piece)) ∷ ‵ (fdies PI′.mir l₄)
+        ∷ ‵ (fat fullShare WI′.mir l₃ 0 (WI′.lowered window)) ∷ ‵ (fdies WI′.mir l₃) ∷ ‵ (fat fullShare (sliceTy mine) l₂ 0 (s x (length (x .now)))) ∷ ‵ (fdies (sliceTy mine) l₂) ∷ ‵ (fat fullShare FS′.mir l₁ 0 (FS′.lowered fs)) ∷ ‵ (fdies FS′.mir l₁) ∷ ‵ (froom UR′.mir l₀ 0) ∷ ‵ (fdies UR′.mir l₀) ∷ []
 
-    -- [out; its token; the rows' token; the rows; _15; …; _14; …; … _0; …]: local i stands at 34 - 2 i. Before the plan is made, with _7 holding it, and in the loop
+    -- [out; its token; the rows' token; the rows; _16; …; _15; …; … _0; …]: local i stands at 36 - 2 i. Before the plan is made, with _8 holding it, and in the loop
     abbrev Begun : List (Item 𝓤)
     Begun =
         ‵ (own κ₁ (y .name) ys n) ∷ ‵ (flft κ₁ q₁) ∷ ‵ (flft κ₀ q₀) ∷ ‵ Rows
-        ∷ ‵ (froom (sliceTy temp) l₁₅ 0) ∷ ‵ (fdies (sliceTy temp) l₁₅) ∷ ‵ (froom temp l₁₄ 0) ∷ ‵ (fdies temp l₁₄) ∷ ‵ (froom tyUnit l₁₃ 0) ∷ ‵ (fdies tyUnit l₁₃) ∷ ‵ (froom tyBool l₁₂ 0) ∷ ‵ (fdies tyBool l₁₂)
-        ∷ ‵ (froom (tyInt w64) l₁₁ 0) ∷ ‵ (fdies (tyInt w64) l₁₁) ∷ ‵ (froom ST′.mir l₁₀ 0) ∷ ‵ (fdies ST′.mir l₁₀) ∷ ‵ (froom (tyInt w64) l₉ 0) ∷ ‵ (fdies (tyInt w64) l₉) ∷ ‵ (froom CU′.mir l₈ 0) ∷ ‵ (fdies CU′.mir l₈)
-        ∷ ‵ (froom PL′.mir l₇ 0) ∷ ‵ (fdies PL′.mir l₇) ∷ Low
+        ∷ ‵ (froom (sliceTy temp) l₁₆ 0) ∷ ‵ (fdies (sliceTy temp) l₁₆) ∷ ‵ (froom temp l₁₅ 0) ∷ ‵ (fdies temp l₁₅) ∷ ‵ (froom tyUnit l₁₄ 0) ∷ ‵ (fdies tyUnit l₁₄) ∷ ‵ (froom tyBool l₁₃ 0) ∷ ‵ (fdies tyBool l₁₃)
+        ∷ ‵ (froom (tyInt w64) l₁₂ 0) ∷ ‵ (fdies (tyInt w64) l₁₂) ∷ ‵ (froom ST′.mir l₁₁ 0) ∷ ‵ (fdies ST′.mir l₁₁) ∷ ‵ (froom (tyInt w64) l₁₀ 0) ∷ ‵ (fdies (tyInt w64) l₁₀) ∷ ‵ (froom CU′.mir l₉ 0) ∷ ‵ (fdies CU′.mir l₉)
+        ∷ ‵ (froom PL′.mir l₈ 0) ∷ ‵ (fdies PL′.mir l₈) ∷ Low
 
     abbrev Made : Plan → List (Item 𝓤)
     Made p =
         ‵ (own κ₁ (y .name) ys n) ∷ ‵ (flft κ₁ q₁) ∷ ‵ (flft κ₀ q₀) ∷ ‵ Rows
-        ∷ ‵ (froom (sliceTy temp) l₁₅ 0) ∷ ‵ (fdies (sliceTy temp) l₁₅) ∷ ‵ (froom temp l₁₄ 0) ∷ ‵ (fdies temp l₁₄) ∷ ‵ (froom tyUnit l₁₃ 0) ∷ ‵ (fdies tyUnit l₁₃) ∷ ‵ (froom tyBool l₁₂ 0) ∷ ‵ (fdies tyBool l₁₂)
-        ∷ ‵ (fat fullShare (tyInt w64) l₁₁ 0 (vint w64 n)) ∷ ‵ (fdies (tyInt w64) l₁₁) ∷ ‵ (froom ST′.mir l₁₀ 0) ∷ ‵ (fdies ST′.mir l₁₀) ∷ ‵ (froom (tyInt w64) l₉ 0) ∷ ‵ (fdies (tyInt w64) l₉) ∷ ‵ (froom CU′.mir l₈ 0) ∷ ‵ (fdies CU′.mir l₈)
-        ∷ ‵ (fat fullShare PL′.mir l₇ 0 (PL′.lowered p)) ∷ ‵ (fdies PL′.mir l₇) ∷ Low
+        ∷ ‵ (froom (sliceTy temp) l₁₆ 0) ∷ ‵ (fdies (sliceTy temp) l₁₆) ∷ ‵ (froom temp l₁₅ 0) ∷ ‵ (fdies temp l₁₅) ∷ ‵ (froom tyUnit l₁₄ 0) ∷ ‵ (fdies tyUnit l₁₄) ∷ ‵ (froom tyBool l₁₃ 0) ∷ ‵ (fdies tyBool l₁₃)
+        ∷ ‵ (fat fullShare (tyInt w64) l₁₂ 0 (vint w64 n)) ∷ ‵ (fdies (tyInt w64) l₁₂) ∷ ‵ (froom ST′.mir l₁₁ 0) ∷ ‵ (fdies ST′.mir l₁₁) ∷ ‵ (froom (tyInt w64) l₁₀ 0) ∷ ‵ (fdies (tyInt w64) l₁₀) ∷ ‵ (froom CU′.mir l₉ 0) ∷ ‵ (fdies CU′.mir l₉)
+        ∷ ‵ (fat fullShare PL′.mir l₈ 0 (PL′.lowered p)) ∷ ‵ (fdies PL′.mir l₈) ∷ Low
 
     abbrev Going : Plan → ℕ → List FileSlice → Cursor → List (Item 𝓤)
     Going p i l c =
         ‵ (own κ₁ (y .name) l n) ∷ ‵ (flft κ₁ q₁) ∷ ‵ (flft κ₀ q₀) ∷ ‵ Rows
-        ∷ ‵ (froom (sliceTy temp) l₁₅ 0) ∷ ‵ (fdies (sliceTy temp) l₁₅) ∷ ‵ (froom temp l₁₄ 0) ∷ ‵ (fdies temp l₁₄) ∷ ‵ (froom tyUnit l₁₃ 0) ∷ ‵ (fdies tyUnit l₁₃) ∷ ‵ (froom tyBool l₁₂ 0) ∷ ‵ (fdies tyBool l₁₂)
-        ∷ ‵ (froom (tyInt w64) l₁₁ 0) ∷ ‵ (fdies (tyInt w64) l₁₁) ∷ ‵ (froom ST′.mir l₁₀ 0) ∷ ‵ (fdies ST′.mir l₁₀) ∷ ‵ (fat fullShare (tyInt w64) l₉ 0 (vint w64 i)) ∷ ‵ (fdies (tyInt w64) l₉) ∷ ‵ (fat fullShare CU′.mir l₈ 0 (CU′.lowered c)) ∷ ‵ (fdies CU′.mir l₈)
-        ∷ ‵ (fat fullShare PL′.mir l₇ 0 (PL′.lowered p)) ∷ ‵ (fdies PL′.mir l₇) ∷ Low
+        ∷ ‵ (froom (sliceTy temp) l₁₆ 0) ∷ ‵ (fdies (sliceTy temp) l₁₆) ∷ ‵ (froom temp l₁₅ 0) ∷ ‵ (fdies temp l₁₅) ∷ ‵ (froom tyUnit l₁₄ 0) ∷ ‵ (fdies tyUnit l₁₄) ∷ ‵ (froom tyBool l₁₃ 0) ∷ ‵ (fdies tyBool l₁₃)
+        ∷ ‵ (froom (tyInt w64) l₁₂ 0) ∷ ‵ (fdies (tyInt w64) l₁₂) ∷ ‵ (froom ST′.mir l₁₁ 0) ∷ ‵ (fdies ST′.mir l₁₁) ∷ ‵ (fat fullShare (tyInt w64) l₁₀ 0 (vint w64 i)) ∷ ‵ (fdies (tyInt w64) l₁₀) ∷ ‵ (fat fullShare CU′.mir l₉ 0 (CU′.lowered c)) ∷ ‵ (fdies CU′.mir l₉)
+        ∷ ‵ (fat fullShare PL′.mir l₈ 0 (PL′.lowered p)) ∷ ‵ (fdies PL′.mir l₈) ∷ Low
 
-  module _ (p : Plan) (w : Val) (is : Is PL.the-row p (w ∷ [])) (planned : seen p ≡ blockPlan fs (x .now) (piece .0) offset size n) where
+  module _ (p : Plan) (w : Val) (is : Is PL.the-row p (w ∷ [])) (planned : seen p ≡ blockPlan fs (x .now) window (piece .0) offset size n) where
     exits : (l : List FileSlice) → length l ≡ n → l ≡ sets ys 0 (recordsFrom (x .now) (p .from))
         → ent 𝓤 (⋆ 𝓤 H A (‵ (own κ₁ (y .name) l n) ∷ ‵ (flft κ₁ q₁) ∷ ‵ (flft κ₀ q₀) ∷ ‵ Rows ∷ [])) (Post (UR′.lowered (p .answer)))
     exits l e filled =
         qed W (‵ (own κ₁ (y .name) l n) ∷ ‵ (flft κ₁ q₁) ∷ ‵ (flft κ₀ q₀) ∷ ‵ Rows ∷ []) ∵
-        suffices ! _ (ends-at 𝓤 H A map-block.ended stayed (map-block.clauses 𝓤 H A mem run) W (((κ₀, (κ₁, tt)), (q₀, (q₁, tt)), tt, a, vals), tt) (UR′.lowered (p .answer)) (p .answer) (tt, (tt, (tt, (tt, (tt, (l, tt)))))) (tt, (tt, (tt, (tt, (tt, (e, tt))))))) $
-        says ! (plan-done fs (x .now) (piece .0) offset size ys l planned filled) $
+        suffices ! _ (ends-at 𝓤 H A map-block.ended stayed (map-block.clauses 𝓤 H A mem run) W (((κ₀, (κ₁, tt)), (q₀, (q₁, tt)), tt, a, vals), tt) (UR′.lowered (p .answer)) (p .answer) (tt, (tt, (tt, (tt, (tt, (tt, (l, tt))))))) (tt, (tt, (tt, (tt, (tt, (tt, (e, tt)))))))) $
+        says ! (plan-done fs (x .now) window (piece .0) offset size ys l planned filled) $
         -- the tokens
         nothing ! $ move ! (2 ∷ 0 ∷ []) $ join ! $ move ! (2 ∷ 0 ∷ []) $ join ! $ frame ! $
         -- [the table; the rows]: the parameters at exit
         nothing ! $ move ! (1 ∷ 0 ∷ []) $ fjoin ! $ owned ! i64 (Is i64) (sint-makes 𝓤 H A W w64) size _ gs $ fjoin ! $ owned ! i64 (Is i64) (sint-makes 𝓤 H A W w64) offset _ go $ fjoin ! $
-        owned ! PI.the-row (Is PI.the-row) (LL.makes PI.the-type PI′.the-plain 𝓤 H A) piece _ gp $ fjoin ! $ move ! (1 ∷ 0 ∷ []) $ fjoin ! $ owned ! FS.the-row (Is FS.the-row) (LL.makes FS.the-type FS′.the-plain 𝓤 H A) fs _ gf $ fjoin ! $ frame ! $
+        owned ! PI.the-row (Is PI.the-row) (LL.makes PI.the-type PI′.the-plain 𝓤 H A) piece _ gp $ fjoin ! $ owned ! WI.the-row (Is WI.the-row) (LL.makes WI.the-type WI′.the-plain 𝓤 H A) window _ gw $ fjoin ! $
+        move ! (1 ∷ 0 ∷ []) $ fjoin ! $ owned ! FS.the-row (Is FS.the-row) (LL.makes FS.the-type FS′.the-plain 𝓤 H A) fs _ gf $ fjoin ! $ frame ! $
         owned ! UR.the-row (Is UR.the-row) (EL.makes UR.the-type UR′.the-plain 𝓤 H A) (p .answer) _ (plan-answer p w is) $ done !
 
     -- the loop's variant: how many slices are in the table, the table, and where the next begins, with what is known of them
@@ -229,7 +233,7 @@ module _ {M : Type 1} (𝓤 : URA M) (H : Heap 𝓤) (A : Atoms 𝓤) (W : Given
     Nearer-wf : WellFounded Nearer
     Nearer-wf = InvImage·wf (λ (i : St). p .count - i .0) (Nat·lt-wfRel .wf)
 
-    module _ (𝓣 : Tables 𝓤 H) (known-next : Triple 𝓤 (𝓣 .C #mapping·next-slice) (NextSlice 𝓤 H A mem run)) (known-store : Triple 𝓤 (𝓣 .C #mapping·store) (Store 𝓤 H A mem run)) (l₀ l₁ l₂ l₃ l₄ l₅ l₆ l₇ l₈ l₉ l₁₀ l₁₁ l₁₂ l₁₃ l₁₄ l₁₅ : ℕ) where
+    module _ (𝓣 : Tables 𝓤 H) (known-next : Triple 𝓤 (𝓣 .C #mapping·next-slice) (NextSlice 𝓤 H A mem run)) (known-store : Triple 𝓤 (𝓣 .C #mapping·store) (Store 𝓤 H A mem run)) (l₀ l₁ l₂ l₃ l₄ l₅ l₆ l₇ l₈ l₉ l₁₀ l₁₁ l₁₂ l₁₃ l₁₄ l₁₅ l₁₆ : ℕ) where
       abbrev C : Calls 𝓤 H
       C = 𝓣 .C
 
@@ -240,10 +244,10 @@ module _ {M : Type 1} (𝓤 : URA M) (H : Heap 𝓤) (A : Atoms 𝓤) (W : Given
       fm = fmOf 𝓤 H (W .laws) 𝓣
 
       abbrev E : Env 𝓤 H
-      E = En l₀ l₁ l₂ l₃ l₄ l₅ l₆ l₇ l₈ l₉ l₁₀ l₁₁ l₁₂ l₁₃ l₁₄ l₁₅
+      E = En l₀ l₁ l₂ l₃ l₄ l₅ l₆ l₇ l₈ l₉ l₁₀ l₁₁ l₁₂ l₁₃ l₁₄ l₁₅ l₁₆
 
       abbrev At : St → List (Item 𝓤)
-      At t = Going l₀ l₁ l₂ l₃ l₄ l₅ l₆ l₇ l₈ l₉ l₁₀ l₁₁ l₁₂ l₁₃ l₁₄ l₁₅ p (t .0) (t .1) (t .2)
+      At t = Going l₀ l₁ l₂ l₃ l₄ l₅ l₆ l₇ l₈ l₉ l₁₀ l₁₁ l₁₂ l₁₃ l₁₄ l₁₅ l₁₆ p (t .0) (t .1) (t .2)
 
       abbrev Turned : St → Out → SProp 𝓤
       Turned t = afterTurn 𝓤 H (Below 𝓤 H A Nearer At t) (afterBlock 𝓤 H (afterSeq 𝓤 H (Wp 𝓤 H C Λ E mir′.t-6 (atReturn 𝓤 H E Post)) (atReturn 𝓤 H E Post)))
@@ -262,15 +266,15 @@ module _ {M : Type 1} (𝓤 : URA M) (H : Heap 𝓤) (A : Atoms 𝓤) (W : Given
           -- the rows are copied for the call of `next_slice`
           move ! (3 ∷ []) $ use1 W (‵ Rows ⊛ ‵ Rows) (shr-slice-copy 𝓤 H A W (named 0) κ₀ u64 .twice x (s x (length (x .now)) ∷ [])) $ split ! $ move ! (4 ∷ 0 ∷ []) $
           use2 W (raw (NextSlice 𝓤 H A mem run .pre (to-next 𝓤 H A W mem run κ₀ q₀ x c))) (next-goes 𝓤 H A W mem run κ₀ q₀ x c (filling.some (x .now) ys (p .count) (p .from) i l c inv (ltb→lt i (p .count) less)) (t .4)) $
-          calls-at ! fm (NextSlice 𝓤 H A mem run) known-next (to-next 𝓤 H A W mem run κ₀ q₀ x c) (and-then ! (load ! (from ! (stop !)) (look ! 30 refl)) (and-then ! (load ! (from ! (stop !)) (look ! 18 refl)) (no-more !))) (λ u.
+          calls-at ! fm (NextSlice 𝓤 H A mem run) known-next (to-next 𝓤 H A W mem run κ₀ q₀ x c) (and-then ! (load ! (from ! (stop !)) (look ! 32 refl)) (and-then ! (load ! (from ! (stop !)) (look ! 18 refl)) (no-more !))) (λ u.
           use1 W (later (some (λ (r : Step). given (StepMade 𝓤 H A W mem run κ₀ q₀ x c u r) (‵ (flft κ₀ q₀))))) (next-gives 𝓤 H A W mem run κ₀ q₀ x c u) $ await ! tt $ pick ! (λ r. learn ! (λ made.
           land ! (from ! (stop !)) (init ! 14 refl (LL.lawful ST.the-type ST′.the-laws 𝓤 H A W .typed r _ (made .0) .0)) $
-          rewrite ! 14 (λ (v : Val). ‵ (fat fullShare ST′.mir l₁₀ 0 v)) (ap only (ST′.lowers .val-is r (u ∷ []) (made .0))) refl $
-          -- [the rows' token; the rows; out; its token; _15; …]: the table is lent again to `store`
+          rewrite ! 14 (λ (v : Val). ‵ (fat fullShare ST′.mir l₁₁ 0 v)) (ap only (ST′.lowers .val-is r (u ∷ []) (made .0))) refl $
+          -- [the rows' token; the rows; out; its token; _16; …]: the table is lent again to `store`
           move ! (2 ∷ 3 ∷ []) $
           assigns ! (addr ! (from ! (fld ! refl (hop ! (look-in ! 22 (sub ! 0 refl (whole !))) (stop !))))) (from ! (stop !)) (init ! 6 refl (tt, tt)) $
           assigns ! (agg ! (and-then ! (load ! (from ! (stop !)) (look ! 6 refl)) (and-then ! (load ! (from ! (fld ! refl (stop !))) (look-in ! 22 (sub ! 1 refl (whole !)))) (no-more !)))) (from ! (stop !)) (init ! 4 refl (tt, (tt, (record { fits = room .0 }, tt)))) $
-          rewrite ! 0 (λ (m : ℕ). ‵ (own κ₁ (y .name) l m)) (sym e) refl $ rewrite ! 4 (λ (m : ℕ). ‵ (fat fullShare (sliceTy temp) l₁₅ 0 (s y m))) (sym e) refl $
+          rewrite ! 0 (λ (m : ℕ). ‵ (own κ₁ (y .name) l m)) (sym e) refl $ rewrite ! 4 (λ (m : ℕ). ‵ (fat fullShare (sliceTy temp) l₁₆ 0 (s y m))) (sym e) refl $
           lft-new ! tt (λ ν. move ! (1 ∷ 2 ∷ []) $
           use2 W (later (some (λ (δ : GName). ‵ (MutSlice (named 0) (ν ∷ []) T.the-row .own (at-list δ l) (s y (length l) ∷ [])) ⊛ ‵ (LentAgain T.the-row κ₁ (ν ∷ []) q₁ (y .name) (y .ptr .0) (y .ptr .1) δ l))))
           (lends-again T.the-row κ₁ (ν ∷ []) q₁ (y .name) (y .ptr .0) (y .ptr .1) 𝓤 H A W (named 1) (named 0) l) $ await ! tt $ pick ! (λ δ. split ! $ move ! (2 ∷ 0 ∷ []) $
@@ -287,13 +291,13 @@ module _ {M : Type 1} (𝓤 : URA M) (H : Heap 𝓤) (A : Atoms 𝓤) (W : Given
           forget ! 4 refl $ forget ! 6 refl $ forget ! 8 refl $ forget ! 10 refl $ forget ! 14 refl $
           again ! Nearer At t (i + 1, set l i (r .slice), r .rest, filling.more (x .now) ys (p .count) (p .from) i l c inv (r .slice) (r .rest) (made .1), step-rest r u (made .0)) (add-one-dec (p .count) i (ltb→lt i (p .count) less))))))))))
           (λ over. jumps ! $ exec ! C Λ E mir′.t-6 (atRet E Post) $
-          assigns ! (of-opd ! (load ! (from ! (fld ! refl (stop !))) (look-in ! 20 (sub ! 0 refl (whole !))))) (from ! (stop !)) (init ! 34 refl (EL.lawful UR.the-type UR′.the-laws 𝓤 H A W tt .typed (p .answer) _ (plan-answer p w is) .0)) $
-          returns ! (look ! 34 refl) $ forget ! 10 refl $ forget ! 16 refl $ forget ! 18 refl $ forget ! 20 refl $ forget ! 22 refl $ forget ! 24 refl $ forget ! 26 refl $ forget ! 28 refl $ forget ! 30 refl $ forget ! 32 refl $ forget ! 34 refl $
-          move ! (34 ∷ 35 ∷ []) $ free1 ! $ move ! (32 ∷ 33 ∷ []) $ free1 ! $ move ! (30 ∷ 31 ∷ []) $ free1 ! $ move ! (28 ∷ 29 ∷ []) $ free1 ! $ move ! (26 ∷ 27 ∷ []) $ free1 ! $ move ! (24 ∷ 25 ∷ []) $ free1 ! $ move ! (22 ∷ 23 ∷ []) $ free1 ! $ move ! (20 ∷ 21 ∷ []) $ free1 ! $ move ! (18 ∷ 19 ∷ []) $ free1 ! $ move ! (16 ∷ 17 ∷ []) $ free1 ! $ move ! (14 ∷ 15 ∷ []) $ free1 ! $ move ! (12 ∷ 13 ∷ []) $ free1 ! $ move ! (10 ∷ 11 ∷ []) $ free1 ! $ move ! (8 ∷ 9 ∷ []) $ free1 ! $ move ! (6 ∷ 7 ∷ []) $ free1 ! $ move ! (4 ∷ 5 ∷ []) $ free1 ! $ free0 ! $
+          assigns ! (of-opd ! (load ! (from ! (fld ! refl (stop !))) (look-in ! 20 (sub ! 0 refl (whole !))))) (from ! (stop !)) (init ! 36 refl (EL.lawful UR.the-type UR′.the-laws 𝓤 H A W tt .typed (p .answer) _ (plan-answer p w is) .0)) $
+          returns ! (look ! 36 refl) $ forget ! 10 refl $ forget ! 16 refl $ forget ! 18 refl $ forget ! 20 refl $ forget ! 22 refl $ forget ! 24 refl $ forget ! 26 refl $ forget ! 28 refl $ forget ! 30 refl $ forget ! 32 refl $ forget ! 34 refl $ forget ! 36 refl $
+          move ! (36 ∷ 37 ∷ []) $ free1 ! $ move ! (34 ∷ 35 ∷ []) $ free1 ! $ move ! (32 ∷ 33 ∷ []) $ free1 ! $ move ! (30 ∷ 31 ∷ []) $ free1 ! $ move ! (28 ∷ 29 ∷ []) $ free1 ! $ move ! (26 ∷ 27 ∷ []) $ free1 ! $ move ! (24 ∷ 25 ∷ []) $ free1 ! $ move ! (22 ∷ 23 ∷ []) $ free1 ! $ move ! (20 ∷ 21 ∷ []) $ free1 ! $ move ! (18 ∷ 19 ∷ []) $ free1 ! $ move ! (16 ∷ 17 ∷ []) $ free1 ! $ move ! (14 ∷ 15 ∷ []) $ free1 ! $ move ! (12 ∷ 13 ∷ []) $ free1 ! $ move ! (10 ∷ 11 ∷ []) $ free1 ! $ move ! (8 ∷ 9 ∷ []) $ free1 ! $ move ! (6 ∷ 7 ∷ []) $ free1 ! $ move ! (4 ∷ 5 ∷ []) $ free1 ! $ free0 ! $
           by ! (exits l e (filling.all (x .now) ys (p .count) (p .from) i l c inv (nltb→le i (p .count) over))))
         where
           within : Holds (ltb (t .0) (p .count)) → t .0 < length (t .1)
-          within less = omega (arith, ltb→lt (t .0) (p .count) less, t .3 .len, plan-fits fs (x .now) (piece .0) offset size n planned)
+          within less = omega (arith, ltb→lt (t .0) (p .count) less, t .3 .len, plan-fits fs (x .now) window (piece .0) offset size n planned)
 
           fits : Holds (ltb (t .0) (p .count)) → t .0 < 2 ^ 64
           fits less = omega (arith, ltb→lt (t .0) (p .count) less, plan-count p w is)
@@ -302,58 +306,58 @@ module _ {M : Type 1} (𝓤 : URA M) (H : Heap 𝓤) (A : Atoms 𝓤) (W : Given
           next-fits less = omega (arith, ltb→lt (t .0) (p .count) less, plan-count p w is)
 
       -- from the plan on
-      starts : Sq W (Made l₀ l₁ l₂ l₃ l₄ l₅ l₆ l₇ l₈ l₉ l₁₀ l₁₁ l₁₂ l₁₃ l₁₄ l₁₅ p) (runs C Λ E mir′.t-3 (atRet E Post))
+      starts : Sq W (Made l₀ l₁ l₂ l₃ l₄ l₅ l₆ l₇ l₈ l₉ l₁₀ l₁₁ l₁₂ l₁₃ l₁₄ l₁₅ l₁₆ p) (runs C Λ E mir′.t-3 (atRet E Post))
       starts =
           assigns ! (of-opd ! (load ! (from ! (fld ! refl (stop !))) (look-in ! 20 (sub ! 2 refl (whole !))))) (from ! (stop !)) (init ! 18 refl (LL.lawful CU.the-type CU′.the-laws 𝓤 H A W .typed (p .from) _ (plan-from p w is) .0)) $
           assigns ! (of-opd ! (lit ! tt)) (from ! (stop !)) (init ! 16 refl (tt, record { fits = lit< tt })) $ forget ! 12 refl $
-          first ! $ blocks ! $ loops ! 𝓣 Nearer Nearer-wf At turns (0, ys, p .from, filling.begin (x .now) ys (p .count) (p .from) (plan-counts fs (x .now) (piece .0) offset size n planned), plan-from p w is)
+          first ! $ blocks ! $ loops ! 𝓣 Nearer Nearer-wf At turns (0, ys, p .from, filling.begin (x .now) ys (p .count) (p .from) (plan-counts fs (x .now) window (piece .0) offset size n planned), plan-from p w is)
 
-  module _ (𝓣 : Tables 𝓤 H) (known-plan : Triple 𝓤 (𝓣 .C #layout·plan-block) (PlanBlock 𝓤 H A mem run)) (known-next : Triple 𝓤 (𝓣 .C #mapping·next-slice) (NextSlice 𝓤 H A mem run)) (known-store : Triple 𝓤 (𝓣 .C #mapping·store) (Store 𝓤 H A mem run)) (l₀ l₁ l₂ l₃ l₄ l₅ l₆ l₇ l₈ l₉ l₁₀ l₁₁ l₁₂ l₁₃ l₁₄ l₁₅ : ℕ) where
+  module _ (𝓣 : Tables 𝓤 H) (known-plan : Triple 𝓤 (𝓣 .C #layout·plan-block) (PlanBlock 𝓤 H A mem run)) (known-next : Triple 𝓤 (𝓣 .C #mapping·next-slice) (NextSlice 𝓤 H A mem run)) (known-store : Triple 𝓤 (𝓣 .C #mapping·store) (Store 𝓤 H A mem run)) (l₀ l₁ l₂ l₃ l₄ l₅ l₆ l₇ l₈ l₉ l₁₀ l₁₁ l₁₂ l₁₃ l₁₄ l₁₅ l₁₆ : ℕ) where
     -- up to the plan
-    plans : Sq W (Begun l₀ l₁ l₂ l₃ l₄ l₅ l₆ l₇ l₈ l₉ l₁₀ l₁₁ l₁₂ l₁₃ l₁₄ l₁₅) (runs (𝓣 .C) (𝓣 .Λ) (En l₀ l₁ l₂ l₃ l₄ l₅ l₆ l₇ l₈ l₉ l₁₀ l₁₁ l₁₂ l₁₃ l₁₄ l₁₅) mir′.t-1 (atRet (En l₀ l₁ l₂ l₃ l₄ l₅ l₆ l₇ l₈ l₉ l₁₀ l₁₁ l₁₂ l₁₃ l₁₄ l₁₅) Post))
+    plans : Sq W (Begun l₀ l₁ l₂ l₃ l₄ l₅ l₆ l₇ l₈ l₉ l₁₀ l₁₁ l₁₂ l₁₃ l₁₄ l₁₅ l₁₆) (runs (𝓣 .C) (𝓣 .Λ) (En l₀ l₁ l₂ l₃ l₄ l₅ l₆ l₇ l₈ l₉ l₁₀ l₁₁ l₁₂ l₁₃ l₁₄ l₁₅ l₁₆) mir′.t-1 (atRet (En l₀ l₁ l₂ l₃ l₄ l₅ l₆ l₇ l₈ l₉ l₁₀ l₁₁ l₁₂ l₁₃ l₁₄ l₁₅ l₁₆) Post))
     plans =
         assigns ! (of-opd ! (load ! (from ! (fld ! refl (stop !))) (look-in ! 22 (sub ! 1 refl (whole !))))) (from ! (stop !)) (init ! 12 refl (tt, record { fits = room .0 })) $
         move ! (3 ∷ []) $ use1 W (‵ Rows ⊛ ‵ Rows) (shr-slice-copy 𝓤 H A W (named 0) κ₀ u64 .twice x (s x (length (x .now)) ∷ [])) $ split ! $ move ! (4 ∷ 0 ∷ []) $
-        use2 W (raw (PlanBlock 𝓤 H A mem run .pre (to-plan 𝓤 H A W mem run κ₀ q₀ x fs piece offset size n))) (plan-goes 𝓤 H A W mem run κ₀ q₀ x fs piece offset size n gf gp go gs (room .0)) $
-        calls-at ! (fmOf 𝓤 H (W .laws) 𝓣) (PlanBlock 𝓤 H A mem run) known-plan (to-plan 𝓤 H A W mem run κ₀ q₀ x fs piece offset size n)
-        (and-then ! (load ! (from ! (stop !)) (look ! 32 refl)) (and-then ! (load ! (from ! (stop !)) (look ! 30 refl)) (and-then ! (load ! (from ! (stop !)) (look ! 28 refl)) (and-then ! (load ! (from ! (stop !)) (look ! 26 refl)) (and-then ! (load ! (from ! (stop !)) (look ! 24 refl)) (and-then ! (load ! (from ! (stop !)) (look ! 12 refl)) (no-more !))))))) (λ w.
-        use1 W (later (some (λ (p : Plan). given (PlanMade 𝓤 H A W mem run κ₀ q₀ x fs piece offset size n w p) (‵ (flft κ₀ q₀))))) (plan-gives 𝓤 H A W mem run κ₀ q₀ x fs piece offset size n w) $ await ! tt $ pick ! (λ p. learn ! (λ made.
+        use2 W (raw (PlanBlock 𝓤 H A mem run .pre (to-plan 𝓤 H A W mem run κ₀ q₀ x fs window piece offset size n))) (plan-goes 𝓤 H A W mem run κ₀ q₀ x fs window piece offset size n gf gw gp go gs (room .0)) $
+        calls-at ! (fmOf 𝓤 H (W .laws) 𝓣) (PlanBlock 𝓤 H A mem run) known-plan (to-plan 𝓤 H A W mem run κ₀ q₀ x fs window piece offset size n)
+        (and-then ! (load ! (from ! (stop !)) (look ! 34 refl)) (and-then ! (load ! (from ! (stop !)) (look ! 32 refl)) (and-then ! (load ! (from ! (stop !)) (look ! 30 refl)) (and-then ! (load ! (from ! (stop !)) (look ! 28 refl)) (and-then ! (load ! (from ! (stop !)) (look ! 26 refl)) (and-then ! (load ! (from ! (stop !)) (look ! 24 refl)) (and-then ! (load ! (from ! (stop !)) (look ! 12 refl)) (no-more !)))))))) (λ w.
+        use1 W (later (some (λ (p : Plan). given (PlanMade 𝓤 H A W mem run κ₀ q₀ x fs window piece offset size n w p) (‵ (flft κ₀ q₀))))) (plan-gives 𝓤 H A W mem run κ₀ q₀ x fs window piece offset size n w) $ await ! tt $ pick ! (λ p. learn ! (λ made.
         land ! (from ! (stop !)) (init ! 20 refl (LL.lawful PL.the-type PL′.the-laws 𝓤 H A W .typed p _ (made .0) .0)) $
-        rewrite ! 20 (λ (v : Val). ‵ (fat fullShare PL′.mir l₇ 0 v)) (ap only (PL′.lowers .val-is p (w ∷ []) (made .0))) refl $
-        -- [the rows' token; the rows; out; its token; _15; …]
+        rewrite ! 20 (λ (v : Val). ‵ (fat fullShare PL′.mir l₈ 0 v)) (ap only (PL′.lowers .val-is p (w ∷ []) (made .0))) refl $
+        -- [the rows' token; the rows; out; its token; _16; …]
         move ! (2 ∷ 3 ∷ []) $
-        starts p w (made .0) (made .1) 𝓣 known-next known-store l₀ l₁ l₂ l₃ l₄ l₅ l₆ l₇ l₈ l₉ l₁₀ l₁₁ l₁₂ l₁₃ l₁₄ l₁₅)))
+        starts p w (made .0) (made .1) 𝓣 known-next known-store l₀ l₁ l₂ l₃ l₄ l₅ l₆ l₇ l₈ l₉ l₁₀ l₁₁ l₁₂ l₁₃ l₁₄ l₁₅ l₁₆)))
 
   walk : (𝓣 : Tables 𝓤 H) → Triple 𝓤 (𝓣 .C #layout·plan-block) (PlanBlock 𝓤 H A mem run) → Triple 𝓤 (𝓣 .C #mapping·next-slice) (NextSlice 𝓤 H A mem run) → Triple 𝓤 (𝓣 .C #mapping·store) (Store 𝓤 H A mem run)
-      → ent 𝓤 (onEntry 𝓤 H A map-block.signature (κ₀, (κ₁, tt)) (q₀, (q₁, tt)) a vals) (WpFn 𝓤 H (𝓣 .C) (𝓣 .Λ) code.function (FS′.lowered fs ∷ s x (length (x .now)) ∷ PI′.lowered piece ∷ vint w64 (ofZ w64 offset) ∷ vint w64 (ofZ w64 size) ∷ s y n ∷ []) Post)
+      → ent 𝓤 (onEntry 𝓤 H A map-block.signature (κ₀, (κ₁, tt)) (q₀, (q₁, tt)) a vals) (WpFn 𝓤 H (𝓣 .C) (𝓣 .Λ) code.function (FS′.lowered fs ∷ s x (length (x .now)) ∷ WI′.lowered window ∷ PI′.lowered piece ∷ vint w64 (ofZ w64 offset) ∷ vint w64 (ofZ w64 size) ∷ s y n ∷ []) Post)
   walk 𝓣 known-plan known-next known-store =
-      qed W ((‵ (flft κ₀ q₀) ⊛ ‵ (flft κ₁ q₁) ⊛ ‵ ftrue) ∷ ‵ (owns (FS.the-row ∷ ShrSlice (named 0) κ₀ u64 ∷ PI.the-row ∷ i64 ∷ i64 ∷ MutSlice (named 1) κ₁ T.the-row ∷ []) a vals) ∷ []) ∵
-      enter ! (𝓣 .C) (𝓣 .Λ) code.function (FS′.lowered fs ∷ s x (length (x .now)) ∷ PI′.lowered piece ∷ vint w64 (ofZ w64 offset) ∷ vint w64 (ofZ w64 size) ∷ s y n ∷ []) _ $
-      alloc1 ! (λ l₀. alloc1 ! (λ l₁. alloc1 ! (λ l₂. alloc1 ! (λ l₃. alloc1 ! (λ l₄. alloc1 ! (λ l₅. alloc1 ! (λ l₆. alloc1 ! (λ l₇. alloc1 ! (λ l₈. alloc1 ! (λ l₉. alloc1 ! (λ l₁₀. alloc1 ! (λ l₁₁. alloc1 ! (λ l₁₂. alloc1 ! (λ l₁₃. alloc1 ! (λ l₁₄. alloc1 ! (λ l₁₅. alloc0 ! $ params1 ! $
-      pass1 ! (init ! 28 refl (LL.lawful FS.the-type FS′.the-laws 𝓤 H A W .typed fs _ gf .0)) $ pass1 ! (init ! 26 refl (tt, (tt, (record { fits = rows-room .0 }, tt)))) $ pass1 ! (init ! 24 refl (LL.lawful PI.the-type PI′.the-laws 𝓤 H A W .typed piece _ gp .0)) $
+      qed W ((‵ (flft κ₀ q₀) ⊛ ‵ (flft κ₁ q₁) ⊛ ‵ ftrue) ∷ ‵ (owns (FS.the-row ∷ ShrSlice (named 0) κ₀ u64 ∷ WI.the-row ∷ PI.the-row ∷ i64 ∷ i64 ∷ MutSlice (named 1) κ₁ T.the-row ∷ []) a vals) ∷ []) ∵
+      enter ! (𝓣 .C) (𝓣 .Λ) code.function (FS′.lowered fs ∷ s x (length (x .now)) ∷ WI′.lowered window ∷ PI′.lowered piece ∷ vint w64 (ofZ w64 offset) ∷ vint w64 (ofZ w64 size) ∷ s y n ∷ []) _ $
+      alloc1 ! (λ l₀. alloc1 ! (λ l₁. alloc1 ! (λ l₂. alloc1 ! (λ l₃. alloc1 ! (λ l₄. alloc1 ! (λ l₅. alloc1 ! (λ l₆. alloc1 ! (λ l₇. alloc1 ! (λ l₈. alloc1 ! (λ l₉. alloc1 ! (λ l₁₀. alloc1 ! (λ l₁₁. alloc1 ! (λ l₁₂. alloc1 ! (λ l₁₃. alloc1 ! (λ l₁₄. alloc1 ! (λ l₁₅. alloc1 ! (λ l₁₆. alloc0 ! $ params1 ! $
+      pass1 ! (init ! 30 refl (LL.lawful FS.the-type FS′.the-laws 𝓤 H A W .typed fs _ gf .0)) $ pass1 ! (init ! 28 refl (tt, (tt, (record { fits = rows-room .0 }, tt)))) $ pass1 ! (init ! 26 refl (LL.lawful WI.the-type WI′.the-laws 𝓤 H A W .typed window _ gw .0)) $ pass1 ! (init ! 24 refl (LL.lawful PI.the-type PI′.the-laws 𝓤 H A W .typed piece _ gp .0)) $
       pass1 ! (init ! 22 refl (sint-lawful 𝓤 H A W w64 .typed offset _ go .0)) $ pass1 ! (init ! 20 refl (sint-lawful 𝓤 H A W w64 .typed size _ gs .0)) $ pass1 ! (init ! 18 refl (tt, (tt, (record { fits = room .0 }, tt)))) $ pass0 ! $
-      -- [_15; …; _0; …; the tokens; what the parameters own]
-      move ! (33 ∷ []) $ fsplit ! $ drop ! $ fsplit ! $ move ! (1 ∷ []) $ fsplit ! $ drop ! $ fsplit ! $ drop ! $ fsplit ! $ drop ! $ fsplit ! $
-      -- [out; true; the rows; _15; …; the tokens]
-      move ! (35 ∷ []) $ split ! $ move ! (1 ∷ []) $ split ! $
-      -- [out's token; true; the rows' token; out; true; the rows; _15; …]
-      keep ! (3 ∷ 0 ∷ 2 ∷ 5 ∷ 6 ∷ 7 ∷ 8 ∷ 9 ∷ 10 ∷ 11 ∷ 12 ∷ 13 ∷ 14 ∷ 15 ∷ 16 ∷ 17 ∷ 18 ∷ 19 ∷ 20 ∷ 21 ∷ 22 ∷ 23 ∷ 24 ∷ 25 ∷ 26 ∷ 27 ∷ 28 ∷ 29 ∷ 30 ∷ 31 ∷ 32 ∷ 33 ∷ 34 ∷ 35 ∷ 36 ∷ 37 ∷ []) $
-      plans 𝓣 known-plan known-next known-store l₀ l₁ l₂ l₃ l₄ l₅ l₆ l₇ l₈ l₉ l₁₀ l₁₁ l₁₂ l₁₃ l₁₄ l₁₅))))))))))))))))
+      -- [_16; …; _0; …; the tokens; what the parameters own]
+      move ! (35 ∷ []) $ fsplit ! $ drop ! $ fsplit ! $ move ! (1 ∷ []) $ fsplit ! $ drop ! $ fsplit ! $ drop ! $ fsplit ! $ drop ! $ fsplit ! $ drop ! $ fsplit ! $
+      -- [out; true; the rows; _16; …; the tokens]
+      move ! (37 ∷ []) $ split ! $ move ! (1 ∷ []) $ split ! $
+      -- [out's token; true; the rows' token; out; true; the rows; _16; …]
+      keep ! (3 ∷ 0 ∷ 2 ∷ 5 ∷ 6 ∷ 7 ∷ 8 ∷ 9 ∷ 10 ∷ 11 ∷ 12 ∷ 13 ∷ 14 ∷ 15 ∷ 16 ∷ 17 ∷ 18 ∷ 19 ∷ 20 ∷ 21 ∷ 22 ∷ 23 ∷ 24 ∷ 25 ∷ 26 ∷ 27 ∷ 28 ∷ 29 ∷ 30 ∷ 31 ∷ 32 ∷ 33 ∷ 34 ∷ 35 ∷ 36 ∷ 37 ∷ 38 ∷ 39 ∷ []) $
+      plans 𝓣 known-plan known-next known-store l₀ l₁ l₂ l₃ l₄ l₅ l₆ l₇ l₈ l₉ l₁₀ l₁₁ l₁₂ l₁₃ l₁₄ l₁₅ l₁₆)))))))))))))))))
 
 module _ {M : Type 1} (𝓤 : URA M) (H : Heap 𝓤) (A : Atoms 𝓤) (W : Given 𝓤 H A) (mem : Memory → SProp 𝓤) (run : Routine → Fun 𝓤) (𝓣 : Tables 𝓤 H)
     (known-plan : Triple 𝓤 (𝓣 .C #layout·plan-block) (PlanBlock 𝓤 H A mem run)) (known-next : Triple 𝓤 (𝓣 .C #mapping·next-slice) (NextSlice 𝓤 H A mem run)) (known-store : Triple 𝓤 (𝓣 .C #mapping·store) (Store 𝓤 H A mem run)) where
   map-block-walks : Walks 𝓤 H A map-block.ended stayed (WpFn 𝓤 H (𝓣 .C) (𝓣 .Λ) code.function) (map-block.clauses 𝓤 H A mem run)
   map-block-walks = walked 𝓤 H A map-block.ended stayed (map-block.clauses 𝓤 H A mem run) (WpFn 𝓤 H (𝓣 .C) (𝓣 .Λ) code.function)
-      (λ κs. (LL.vals FS.the-type FS′.the-laws, (slice-vals, (LL.vals PI.the-type PI′.the-laws, (sint-vals w64, (sint-vals w64, (slice-vals, tt)))))))
-      (λ κs. (LL.tells FS.the-type FS′.the-laws, (shr-slice-tells (named 0) (κs .0) u64, (LL.tells PI.the-type PI′.the-laws, (sint-tells w64, (sint-tells w64, (mut-slice-tells (named 1) (κs .1 .0) T.the-row, tt)))))))
+      (λ κs. (LL.vals FS.the-type FS′.the-laws, (slice-vals, (LL.vals WI.the-type WI′.the-laws, (LL.vals PI.the-type PI′.the-laws, (sint-vals w64, (sint-vals w64, (slice-vals, tt))))))))
+      (λ κs. (LL.tells FS.the-type FS′.the-laws, (shr-slice-tells (named 0) (κs .0) u64, (LL.tells WI.the-type WI′.the-laws, (LL.tells PI.the-type PI′.the-laws, (sint-tells w64, (sint-tells w64, (mut-slice-tells (named 1) (κs .1 .0) T.the-row, tt))))))))
       (λ κs qs bounds a g are. via 𝓤 _ (fst∗ 𝓤 _ (emp 𝓤))
-      (walk 𝓤 H A W mem run (κs .0) (κs .1 .0) (qs .0) (qs .1 .0) (a .0) (a .1 .0) (a .1 .1 .0) (a .1 .1 .1 .0) (a .1 .1 .1 .1 .0) (a .1 .1 .1 .1 .1 .0) (are .0) (are .1 .0 .0 .1) (are .1 .1 .0) (are .1 .1 .1 .0) (are .1 .1 .1 .1 .0) (are .1 .1 .1 .1 .1 .0 .0 .1)
+      (walk 𝓤 H A W mem run (κs .0) (κs .1 .0) (qs .0) (qs .1 .0) (a .0) (a .1 .0) (a .1 .1 .0) (a .1 .1 .1 .0) (a .1 .1 .1 .1 .0) (a .1 .1 .1 .1 .1 .0) (a .1 .1 .1 .1 .1 .1 .0) (are .0) (are .1 .0 .0 .1) (are .1 .1 .0) (are .1 .1 .1 .0) (are .1 .1 .1 .1 .0) (are .1 .1 .1 .1 .1 .0) (are .1 .1 .1 .1 .1 .1 .0 .0 .1)
       𝓣 known-plan known-next known-store))
 
   map-block-meets : Meets 𝓤 H A map-block.signature (WpFn 𝓤 H (𝓣 .C) (𝓣 .Λ) code.function) (map-block.spec 𝓤 H A mem run)
   map-block-meets =
       walk-meets 𝓤 H A map-block.ended stayed W
-      (goes-none 𝓤 H A W 2 (λ _. FS.the-row) yes (λ κs x f. refl), (goes-none-slice 𝓤 H A W 2 (0 ∷ []) tt (plain (λ _. u64)) yes, (goes-none 𝓤 H A W 2 (λ _. PI.the-row) yes (λ κs x f. refl), (goes-none 𝓤 H A W 2 (λ _. i64) yes (λ κs x f. refl), (goes-none 𝓤 H A W 2 (λ _. i64) yes (λ κs x f. refl), (goes-slice 𝓤 H A W 2 1 tt (plain (λ _. T.the-row)), tt))))))
+      (goes-none 𝓤 H A W 2 (λ _. FS.the-row) yes (λ κs x f. refl), (goes-none-slice 𝓤 H A W 2 (0 ∷ []) tt (plain (λ _. u64)) yes, (goes-none 𝓤 H A W 2 (λ _. WI.the-row) yes (λ κs x f. refl), (goes-none 𝓤 H A W 2 (λ _. PI.the-row) yes (λ κs x f. refl), (goes-none 𝓤 H A W 2 (λ _. i64) yes (λ κs x f. refl), (goes-none 𝓤 H A W 2 (λ _. i64) yes (λ κs x f. refl), (goes-slice 𝓤 H A W 2 1 tt (plain (λ _. T.the-row)), tt)))))))
       (map-block.clauses 𝓤 H A mem run) (WpFn 𝓤 H (𝓣 .C) (𝓣 .Λ) code.function) (WpFn-mono 𝓤 H (W .laws) 𝓣 code.function) map-block-walks
 
 pub map-block-spec : {M : Type 1} → stated.statement M

@@ -50,7 +50,7 @@ returns c =
     let k = piece-known (a .fs) (a .piece .0) false (c .before .before .before .before .before .before .before .is-held .result) p refl (c .before .before .before .before .before .before .ask-piece .ensures) (c .before .before .before .before .enum-told .given .1) in
     go _ (rw (c .before .before .before .before .before .before .before .is-held .ensures) at (c .before .before .before .before .before .before .ask-piece .ensures)) (c .before .before .before .before .enum-told .given .1) _
     (toZ-ofZ fits ∙ (rw (c .before .div-ceil .ensures, c .before .before .size2-of .ensures, c .before .before .before .get .ensures) at (c .signed32 .ensures)) ∙
-    low-i32 (blocksIn (pieceSize2 (a .fs) (a .rows .now) p)) (blocks-low (pieceSize2 (a .fs) (a .rows .now) p) (size2-low (a .fs) (a .rows .now) p k)))
+    low-i32 (blocksIn (pieceSize2 (a .fs) (a .rows .now) (a .window) p)) (blocks-low (pieceSize2 (a .fs) (a .rows .now) (a .window) p) (size2-low (a .fs) (a .rows .now) (a .window) p k)))
 
 returns-2 : tie.Need-returns-2
 returns-2 c = stop _ (rw (c .before .before .before .before .is-held .ensures) at (c .before .before .before .ask-piece .ensures)) _ (c .before .e .given .1)

@@ -26,8 +26,8 @@ enum-told c = search needs
 clamped64-requires : tie.Need-clamped64-requires
 clamped64-requires c κs = search needs
 
-find-near-requires : tie.Need-find-near-requires
-find-near-requires c κs =
+find-near-within-requires : tie.Need-find-near-within-requires
+find-near-within-requires c κs =
     let a = c .before .before .before .before .before .before .before .args in
     set-held (a .fs) (c .before .before .before .before .before .is-bad-offset .result) _ _ (c .before .before .before .before .is-held .ensures) (c .before .before .before .ask-set .ensures) (c .before .enum-told .given .1)
 
@@ -45,8 +45,8 @@ returns c =
     let s : c .before .before .clamped64 .result ≡ clampedOf (a .offset) = rw z at (c .before .before .clamped64 .ensures) in
     let b : c .before .before .before .before .before .before .before .is-bad-offset .result ≡ badOffset (a .fs) (a .offset) .test = rw z at (c .before .before .before .before .before .before .before .is-bad-offset .ensures) in
     go _ (rw (b, c .before .before .before .before .before .before .is-held .ensures) at (c .before .before .before .before .before .ask-set .ensures)) (c .before .before .before .enum-told .given .1) _
-    ((rw (c .before .find-near .ensures, s) at (c .new .ensures))
-    ∙ set-found (a .fs) (c .before .before .before .before .before .before .before .is-bad-offset .result) (c .before .before .before .before .before .before .is-held .result) (a .rows .now) (clampedOf (a .offset)) (c .before .before .before .before .before .ask-set .ensures) (c .before .before .before .enum-told .given .1))
+    ((rw (c .before .find-near-within .ensures, s) at (c .new .ensures))
+    ∙ set-found (a .fs) (c .before .before .before .before .before .before .before .is-bad-offset .result) (c .before .before .before .before .before .before .is-held .result) (a .rows .now) (a .window) (clampedOf (a .offset)) (c .before .before .before .before .before .ask-set .ensures) (c .before .before .before .enum-told .given .1))
 
 returns-2 : tie.Need-returns-2
 returns-2 c =
@@ -64,7 +64,7 @@ file-index-at-offset-spec =
     ask-set-requires
     enum-told
     clamped64-requires
-    find-near-requires
+    find-near-within-requires
     new-requires
     enum-known-e
     returns

@@ -26,8 +26,8 @@ last-byte-requires c κs =
     let k = piece-known (a .fs) (a .piece .0) false (c .before .before .before .before .is-held .result) _ (c .get .ensures) (c .before .before .before .ask-piece .ensures) (c .before .enum-told .given .1) in
     omega arith
 
-find-requires : tie.Need-find-requires
-find-requires c κs =
+find-within-requires : tie.Need-find-within-requires
+find-within-requires c κs =
     let a = c .before .before .before .before .before .before .before .args in
     piece-held (a .fs) (a .piece .0) false _ _ (c .before .before .before .before .before .is-held .ensures) (c .before .before .before .before .ask-piece .ensures) (c .before .before .enum-told .given .1)
 
@@ -42,8 +42,8 @@ returns c =
     let a = c .before .before .before .before .before .before .before .before .before .args in
     let d = c .before .before .before .before .before .before .ask-piece in
     go _ (rw (c .before .before .before .before .before .before .before .is-held .ensures) at (c .before .before .before .before .before .before .ask-piece .ensures)) (c .before .before .before .before .enum-told .given .1) _
-    ((rw (c .before .find .ensures, c .before .before .last-byte .ensures, c .before .before .before .get .ensures) at (c .new .ensures))
-    ∙ piece-found (a .fs) (a .piece .0) false (c .before .before .before .before .before .before .before .is-held .result) (a .rows .now) _ (d .ensures) (c .before .before .before .before .enum-told .given .1))
+    ((rw (c .before .find-within .ensures, c .before .before .last-byte .ensures, c .before .before .before .get .ensures) at (c .new .ensures))
+    ∙ piece-found (a .fs) (a .piece .0) false (c .before .before .before .before .before .before .before .is-held .result) (a .rows .now) (a .window) _ (d .ensures) (c .before .before .before .before .enum-told .given .1))
 
 returns-2 : tie.Need-returns-2
 returns-2 c = stop _ (rw (c .before .before .before .before .is-held .ensures) at (c .before .before .before .ask-piece .ensures)) _ (c .before .e .given .1)
@@ -57,7 +57,7 @@ last-file-index-at-piece-spec =
     enum-told
     get-requires
     last-byte-requires
-    find-requires
+    find-within-requires
     new-requires
     enum-known-e
     returns

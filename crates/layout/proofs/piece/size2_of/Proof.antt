@@ -21,7 +21,7 @@ size-of-requires c κs = search needs
 returns : tie.Need-returns
 returns c =
     let a = c .before .before .before .before .before .before .args in
-    let e : leb (a .fs .«num_files») (partitionPoint (a .rows .now) (a .fs .«num_files») (startOf (a .fs) (a .p))) ≡ true = rw (c .before .before .before .partition-point .ensures, c .before .before .before .before .start-of .ensures) at (le-leb _ _ (c .before .if1 .taken)) in
+    let e : leb (a .fs .«num_files») (partitionPoint (a .rows .now) (a .fs .«num_files») (a .window) (startOf (a .fs) (a .p))) ≡ true = rw (c .before .before .before .partition-point .ensures, c .before .before .before .before .start-of .ensures) at (le-leb _ _ (c .before .if1 .taken)) in
     rw (e, c .size-of .ensures)
 
 offset-at-requires : tie.Need-offset-at-requires
@@ -36,7 +36,7 @@ min-requires c κs = search needs
 returns-2 : tie.Need-returns-2
 returns-2 c =
     let a = c .before .before .before .before .before .before .before .before .args in
-    let e : leb (a .fs .«num_files») (partitionPoint (a .rows .now) (a .fs .«num_files») (startOf (a .fs) (a .p))) ≡ false = rw (c .before .before .before .before .before .partition-point .ensures, c .before .before .before .before .before .before .start-of .ensures) at (lt-leb _ _ (c .before .before .before .if1 .left)) in
+    let e : leb (a .fs .«num_files») (partitionPoint (a .rows .now) (a .fs .«num_files») (a .window) (startOf (a .fs) (a .p))) ≡ false = rw (c .before .before .before .before .before .partition-point .ensures, c .before .before .before .before .before .before .start-of .ensures) at (lt-leb _ _ (c .before .before .before .if1 .left)) in
     rw (e, c .min .ensures, c .before .saturating-sub .ensures, c .before .before .offset-at .ensures, c .before .before .before .before .before .partition-point .ensures, c .before .before .before .before .before .before .start-of .ensures)
 
 pub size2-of-spec : {M : Type 1} → statement M

@@ -4,7 +4,7 @@ use mathlib.Core.Path.{_≡_, refl}
 use native.Mathlib.Omega.{arith}
 use borrow.Author.Needs.{needs}
 use borrow.Author.Tests.{le-leb, lt-leb, ne-eqb}
-use Rattle.layout.proofs.Halving.{found-below}
+use Rattle.layout.proofs.Starting.{within-below}
 use Rattle.layout.proofs.search.partition_point.Statement.{statement}
 use Rattle.layout.proofs.search.partition_point.Tie as tie
 
@@ -15,8 +15,8 @@ some (suc n) h = omega arith
 returns : tie.Need-returns
 returns c = rw (c .if1 .taken)
 
-find-requires : tie.Need-find-requires
-find-requires c κs = search needs
+find-within-requires : tie.Need-find-within-requires
+find-within-requires c κs = search needs
 
 offset-at-requires : tie.Need-offset-at-requires
 offset-at-requires c κs = search needs
@@ -25,19 +25,19 @@ add-result : tie.Need-add-result
 add-result c =
     let a = c .before .before .before .before .before .args in
     let s : 0 < a .n = some (a .n) (c .before .before .before .if1 .left) in
-    let b = found-below (a .rows .now) (a .n) (a .target) s in
-    record { fits = omega (arith, b, c .before .before .find .ensures) }
+    let b = within-below (a .rows .now) (a .n) (a .window) (a .target) s in
+    record { fits = omega (arith, b, c .before .before .find-within .ensures) }
 
 returns-2 : tie.Need-returns-2
 returns-2 c =
     let a = c .before .before .before .before .before .args in
-    rw (ne-eqb (a .n) 0 (c .before .before .before .if1 .left), ← (c .before .before .find .ensures), ← (c .before .offset-at .ensures), le-leb _ (a .target) (c .if2 .taken))
+    rw (ne-eqb (a .n) 0 (c .before .before .before .if1 .left), ← (c .before .before .find-within .ensures), ← (c .before .offset-at .ensures), le-leb _ (a .target) (c .if2 .taken))
 
 returns-3 : tie.Need-returns-3
 returns-3 c =
     let a = c .before .before .before .before .before .args in
-    rw (ne-eqb (a .n) 0 (c .before .before .before .if1 .left), ← (c .before .before .find .ensures), ← (c .before .offset-at .ensures), lt-leb _ (a .target) (c .if2 .left))
+    rw (ne-eqb (a .n) 0 (c .before .before .before .if1 .left), ← (c .before .before .find-within .ensures), ← (c .before .offset-at .ensures), lt-leb _ (a .target) (c .if2 .left))
 
 pub partition-point-spec : {M : Type 1} → statement M
 partition-point-spec =
-    tie.close (tie.spec returns find-requires offset-at-requires add-result returns-2 returns-3)
+    tie.close (tie.spec returns find-within-requires offset-at-requires add-result returns-2 returns-3)

@@ -54,7 +54,7 @@ refuse-requires c κs = search needs
 returns : tie.Need-returns
 returns c =
     let a = c .before .before .before .before .before .before .before .before .before .args in
-    c .refuse .ensures ∙ start-stopped (a .fs) (a .rows .now) (a .piece .0) (a .offset) (a .size) _ (decided (c .before .before .before .before)) _ (c .before .before .check .given .1)
+    c .refuse .ensures ∙ start-stopped (a .fs) (a .rows .now) (a .window) (a .piece .0) (a .offset) (a .size) _ (decided (c .before .before .before .before)) _ (c .before .before .check .given .1)
 
 enum-told : tie.Need-enum-told
 enum-told c = search needs
@@ -97,7 +97,7 @@ returns-2 c =
     let p : c .before .before .before .start-of .result ≡ startOf (a .fs) (clampedOf (a .piece .0)) = rw (c .before .before .before .before .get .ensures) at (c .before .before .before .start-of .ensures) in
     let o : c .before .before .clamped64 .result ≡ clampedOf (a .offset) = rw (toZ-ofZ offset-fits) at (c .before .before .clamped64 .ensures) in
     let n : c .before .clamped642 .result ≡ clampedOf (a .size) = rw (toZ-ofZ size-fits) at (c .before .clamped642 .ensures) in
-    start-answered (a .fs) (a .rows .now) (a .piece .0) (a .offset) (a .size) _ (decided (c .before .before .before .before .before .before .before))
+    start-answered (a .fs) (a .rows .now) (a .window) (a .piece .0) (a .offset) (a .size) _ (decided (c .before .before .before .before .before .before .before))
     (c .before .before .before .start-of .result + c .before .before .clamped64 .result) (c .before .clamped642 .result) (ap₂ _+_ p o) n (c .before .before .before .before .before .enum-told .given .1) (c .cursor-at .ensures)
 
 pub start-block-spec : {M : Type 1} → statement M
