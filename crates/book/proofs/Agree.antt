@@ -13,14 +13,14 @@ use borrow.Author.Tests.{eqb-true, eqb-false}
 use Rattle.lists.specs.Lists.{sum, cleared}
 use Rattle.types.specs.Refusals.{value, refused}
 use Rattle.tables.specs.declared.storage.FileStorage.{FileStorage}
-use Rattle.tables.specs.Model.{Optional, absent, present, File, Model, Store, fileOf, viewOf}
+use Rattle.tables.specs.Model.{Optional, absent, present, File, Model, Store, storeOf, fileOf, viewOf}
 use Rattle.rules.specs.Rules.{outcomeOf, firstOf, when}
 use Rattle.rules.specs.Bounds.{badLength}
 use Rattle.additions.specs.Addition.{Addition, added}
 use Rattle.trim.specs.Trim.{tailPad}
 use Rattle.plan.specs.Write.{storeAdded}
 use Rattle.storage.specs.Opening.{newStorage, opened, newModel}
-use Rattle.change.specs.Changes.{Changed, changedIf}
+use Rattle.change.specs.Changes.{Changed, answering, changedIf}
 use Rattle.change.specs.Rooms.{roomsOf, holds}
 use Rattle.plan.specs.Outcomes.{addingNumber}
 use Rattle.trim.specs.Removal.{trimmedBy}
@@ -33,7 +33,7 @@ use Rattle.reached.specs.Reached.{Reached}
 use Rattle.reached.specs.Reached as reach
 use Rattle.sound.proofs.Common.{sum-tabled}
 use Rattle.sound.proofs.Opened.{sound-opened, view-opened}
-use Rattle.sound.proofs.Added.Answer.{adding}
+use Rattle.sound.proofs.Added.Answer.{adding, has-places}
 use Rattle.sound.proofs.Trimmed.{view-trimmed, sound-trimmed}
 use Rattle.reached.proofs.Cleaned.Answer.{enough}
 use Rattle.reached.proofs.Cleaned.{sound-cleaned, view-cleaned}
@@ -61,12 +61,10 @@ pub record Agrees (n : ℕ) (made : List Made) (s : Store) : Type 0 where
 
 -- the answer of a call that leaves the store t, and of one that is refused on the store s
 abbrev pub leaving : Store → Changed
-leaving t =
-    record { says = value (t .fs); rows = t .rows; roots = t .roots; dirs = t .dirs; text = t .text }
+leaving t = answering (value (t .fs)) t
 
 abbrev pub refusing : ℕ → Store → Changed
-refusing k s =
-    record { says = refused k; rows = s .rows; roots = s .roots; dirs = s .dirs; text = s .text }
+refusing k s = answering (refused k) s
 
 -- it holds of a call that is done where its number is 0, and of a refused one, which changes nothing
 module _ {ℓ} (P : Made → Store → Type ℓ) (k : Call) (number : ℕ) (s t : Store) where
@@ -85,7 +83,7 @@ module _ {ℓ} (P : Made → Store → Type ℓ) (k : Call) (number : ℕ) (s t 
 abbrev pub trimNumber : Store → ℕ
 trimNumber s = firstOf (when (badLength (s .fs .«piece_length»)) 1 ∷ when (not (holds s)) 10 ∷ [])
 
--- the same of a cleaning, which is lent no roots
+-- the same of a cleaning, which is lent neither roots nor first files
 module _ {ℓ} (P : Made → Store → Type ℓ) (s : Store) (marks stage path : List ℕ) where
   abbrev Cleans : Cleaned → Type ℓ
   Cleans c = P (call clean (cleanedBy s c)) (storeAfter (s .fs) (cleanedBy s c))
@@ -113,27 +111,27 @@ module _ {ℓ} (P : Made → Store → Type ℓ) (s : Store) (marks stage path :
 
 -- ---- opening
 
-module _ (n : ℕ) (s : Store) (e : opened (pos n) ≡ value (s .fs)) where
-  opened-is : (0 < n) × (newStorage n ≡ s .fs)
+module _ (n : ℕ) (indexed : Bool) (s : Store) (e : opened (pos n) indexed ≡ value (s .fs)) where
+  pub opened-is : (0 < n) × (newStorage n indexed ≡ s .fs)
   opened-is = at (eqb n 0) refl e
     where
-      at : (b : Bool) → eqb n 0 ≡ b → cond b (refused 1) (value (newStorage n)) ≡ value (s .fs) → (0 < n) × (newStorage n ≡ s .fs)
+      at : (b : Bool) → eqb n 0 ≡ b → cond b (refused 1) (value (newStorage n indexed)) ≡ value (s .fs) → (0 < n) × (newStorage n indexed ≡ s .fs)
       at true q e = let z : _≡_ {A = ℕ} 0 1 = cc in absurd (omega arith)
       at false q e = (omega (arith, eqb-false n 0 q), cc)
 
   abbrev with-record : FileStorage → Store
-  with-record fs = record { fs = fs; rows = s .rows; roots = s .roots; dirs = s .dirs; text = s .text }
+  with-record fs = storeOf fs (s .rows) (s .roots) (s .firsts) (s .dirs) (s .text)
 
-  opened-store : with-record (newStorage n) ≡ s
+  opened-store : with-record (newStorage n indexed) ≡ s
   opened-store = ap with-record (opened-is .1)
 
   opened-view : newModel n ≡ viewOf s
-  opened-view = sym (view-opened n (s .rows) (s .roots) (s .dirs) (s .text)) ∙ ap viewOf opened-store
+  opened-view = sym (view-opened n indexed (s .rows) (s .roots) (s .firsts) (s .dirs) (s .text)) ∙ ap viewOf opened-store
 
   agrees-opened : n ≤ 2147483647 → Agrees n [] s
   agrees-opened h =
       record {
-        sound = subst Sound opened-store (sound-opened n (s .rows) (s .roots) (s .dirs) (s .text));
+        sound = subst Sound opened-store (sound-opened n indexed (s .rows) (s .roots) (s .firsts) (s .dirs) (s .text));
         some = opened-is .0;
         short = h;
         lengths = ap (λ (fs : FileStorage). fs .«piece_length») (sym (opened-is .1));
@@ -150,7 +148,7 @@ agrees-refused : {n : ℕ} {made : List Made} {s : Store} (k : Call) (i : ℕ) �
 agrees-refused k i g =
     record { sound = g .sound; some = g .some; short = g .short; lengths = g .lengths; books = g .books; timed = g .timed }
 
-agrees-added : {n : ℕ} {made : List Made} (s : Store) (a : Addition) → Agrees n made s → Settled s a → Agrees n (record { call = add a; came = books.done } ∷ made) (storeAdded s (viewOf s) a)
+pub agrees-added : {n : ℕ} {made : List Made} (s : Store) (a : Addition) → Agrees n made s → Settled s a → Agrees n (record { call = add a; came = books.done } ∷ made) (storeAdded s (viewOf s) a)
 agrees-added s a g st =
     let l = g .lengths in
     record {
@@ -230,7 +228,7 @@ agrees-lent s t g same =
 -- ---- every list of calls
 
 pub agrees : {n : ℕ} {made : List Made} {s : Store} {r : Renames} → Leads n made s r → Agrees n made s
-agrees {n} (calls.opening {s} h e z) = agrees-opened n s e h
+agrees {n} (calls.opening {s} indexed h e z) = agrees-opened n indexed s e h
 agrees {n} (calls.addition {made} {s} a c p e) =
     let g = agrees p in
     after-call (λ (m : Made) (t : Store). Agrees n (m ∷ made) t) (add a) (addingNumber s (viewOf s) a) s (storeAdded s (viewOf s) a)
@@ -268,7 +266,7 @@ times-given {n} {made} {s} p = sym (map-map (λ (t : Timed). t .time) timedOf (v
 -- ---- the public documents
 
 pub reached : {n : ℕ} {made : List Made} {s : Store} {r : Renames} → Leads n made s r → Reached (viewOf s)
-reached {n} (calls.opening {s} h e z) = subst Reached (opened-view n s e) (reach.opened n (opened-is n s e .0) h)
+reached {n} (calls.opening {s} indexed h e z) = subst Reached (opened-view n indexed s e) (reach.opened n (opened-is n indexed s e .0) h)
 reached (calls.addition {made} {s} a c p e) =
     after-call (λ (m : Made) (t : Store). Reached (viewOf t)) (add a) (addingNumber s (viewOf s) a) s (storeAdded s (viewOf s) a)
     (λ z. more (settled s a (agrees p .sound) z) (reached p))
@@ -280,7 +278,7 @@ reached (calls.addition {made} {s} a c p e) =
     more st r =
         subst Reached (sym (st .view))
         (reach.addition r (roomsOf s) (st .like)
-        (adding s (agrees p .sound) (st .like) ∙ ap (λ (k : ℕ). outcomeOf k (added (viewOf s) (st .like))) (st .number)))
+        (adding s (agrees p .sound) (st .like) (has-places s (viewOf s) (st .like) (st .number)) ∙ ap (λ (k : ℕ). outcomeOf k (added (viewOf s) (st .like))) (st .number)))
 reached (calls.trim {made} {s} c p e) =
     after-call (λ (m : Made) (t : Store). Reached (viewOf t)) trim (trimNumber s) s (trimmedBy (tailPad (viewOf s .files)) s)
     (λ z. subst Reached (sym (view-trimmed s (agrees p .sound))) (reach.trim (reached p)))
@@ -299,7 +297,7 @@ reached (calls.lending {made} {s} {t} p same names) = subst Reached (sym (lent-v
 
 -- where no trim was done, the record does not say that one was
 pub untrimmed : {n : ℕ} {made : List Made} {s : Store} {r : Renames} → Leads n made s r → Untrimmed made → viewOf s .trimmed ≡ false
-untrimmed {n} (calls.opening {s} h e z) u = ap (λ (m : Model). m .trimmed) (sym (opened-view n s e))
+untrimmed {n} (calls.opening {s} indexed h e z) u = ap (λ (m : Model). m .trimmed) (sym (opened-view n indexed s e))
 untrimmed (calls.addition {made} {s} a c p e) u =
     after-call (λ (m : Made) (t : Store). Untrimmed (m ∷ made) → viewOf t .trimmed ≡ false) (add a) (addingNumber s (viewOf s) a) s (storeAdded s (viewOf s) a)
     (λ z w. untrimmed p (w .1))

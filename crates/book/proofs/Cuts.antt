@@ -1,5 +1,5 @@
 -- Demand 3's questions can be asked: every cut of the set into nonempty blocks, each from any piece that starts at or before
--- it, with tables just large enough, has its answers. It relies on nothing but the definitions.
+-- it and with any window, with tables just large enough, has its answers. It relies on nothing but the definitions.
 --     cut-asked       the questions of a cut
 use mathlib.Core.Path.{_≡_, refl, ap}
 use mathlib.Core.List.{List, [], _∷_, map}
@@ -10,6 +10,7 @@ use lib.ListN.{replicate, length-replicate}
 use Rattle.lists.specs.Lists.{sum}
 use Rattle.types.specs.declared.index.FileSlice.{FileSlice}
 use Rattle.tables.specs.Model.{Store}
+use Rattle.layout.specs.declared.window.Window.{Window}
 use Rattle.mapping.specs.Table.{Filled, blockMapped}
 use Rattle.book.specs.Slices.{slice, meets}
 use Rattle.book.specs.Demand.{MapCall, recordOf, Cut}
@@ -19,17 +20,18 @@ abbrev pub Nonempty : List ℕ → Type 0
 Nonempty [] = Unit {0}
 Nonempty (m ∷ ms) = (0 < m) × Nonempty ms
 
-module _ (n : ℕ) (sizes : List ℕ) (s : Store) (from : ℕ → ℕ) (low : (t : ℕ) → from t * n ≤ t) where
-  -- the block of m bytes at byte t, asked from the piece that `from` says, with a place for each file it meets
+module _ (n : ℕ) (sizes : List ℕ) (s : Store) (from : ℕ → ℕ) (low : (t : ℕ) → from t * n ≤ t) (window : ℕ → Window) where
+  -- the block of m bytes at byte t, asked from the piece that `from` says and with the window that `window` says, with a place for each file it meets
   abbrev lentFor : ℕ → ℕ → List FileSlice
   lentFor t m = replicate (meets sizes t m) (recordOf (slice 0 0 0))
 
   abbrev answered : ℕ → ℕ → Filled
-  answered t m = blockMapped (s .fs) (s .rows) (pos (from t)) (pos (t - from t * n)) (pos m) (lentFor t m)
+  answered t m = blockMapped (s .fs) (s .rows) (window t) (pos (from t)) (pos (t - from t * n)) (pos m) (lentFor t m)
 
   abbrev asking : ℕ → ℕ → MapCall
   asking t m =
       record {
+        window = window t;
         piece = from t;
         offset = t - from t * n;
         size = m;

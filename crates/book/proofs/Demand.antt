@@ -29,6 +29,7 @@ use Rattle.rules.specs.Bounds.{badLength, limit}
 use Rattle.rules.specs.Questions.{rowsHeld, badPieceLength, manyPieces, noPiece, noFile, badRange, short, fewEntries}
 use Rattle.sound.specs.Sound.{Sound}
 use Rattle.rules.specs.Results.{SignedRequest}
+use Rattle.layout.specs.declared.window.Window.{Window}
 use Rattle.layout.specs.Mapping.{blockOf}
 use Rattle.layout.specs.Mapping as layout
 use Rattle.mapping.specs.Table.{Filled, filled, blockMapped}
@@ -74,8 +75,8 @@ module _ {n : ℕ} {xs : List ℕ} {fs : FileStorage} {rows : List ℕ} (h : Hol
     too-many : manyPieces fs .test ≡ true
     too-many = rw (h .long, h .total) (lt-ltb 2147483647 (ceiling (sum xs) n) many)
 
-    pub many-blocks : (z offset size : ℤ) (out : List FileSlice) → _≡_ {A = Filled} (blockMapped fs rows z offset size out) (record { says = refused 13; table = out })
-    many-blocks z offset size out = rw (is-open, too-many)
+    pub many-blocks : (w : Window) (z offset size : ℤ) (out : List FileSlice) → _≡_ {A = Filled} (blockMapped fs rows w z offset size out) (record { says = refused 13; table = out })
+    many-blocks w z offset size out = rw (is-open, too-many)
 
     pub many-files : (k : ℕ) → k < length xs → (offset size : ℤ) → fileMapped fs rows (pos k) offset size ≡ refused 13
     many-files k l offset size = rw (is-open, file-there k l, too-many)
@@ -90,12 +91,12 @@ module _ {n : ℕ} {xs : List ℕ} {fs : FileStorage} {rows : List ℕ} (h : Hol
     piece-there p o l = rw (h .long, h .total, lt-ltb p (ceiling (sum xs) n) (ceiling-above (sum xs) n (h .some) p (omega arith)))
 
     -- a block with a place for each of its slices
-    block-answered : (p o m : ℕ) (out : List FileSlice) → p * n + o < sum xs → meets xs (p * n + o) m ≤ length out
-        → _≡_ {A = Filled} (blockMapped fs rows (pos p) (pos o) (pos m) out)
+    block-answered : (w : Window) (p o m : ℕ) (out : List FileSlice) → p * n + o < sum xs → meets xs (p * n + o) m ≤ length out
+        → _≡_ {A = Filled} (blockMapped fs rows w (pos p) (pos o) (pos m) out)
         (record { says = value (meets xs (p * n + o) m); table = sets out 0 (map recordOf (walk 0 xs (p * n + o) m)) })
-    block-answered p o m out l room =
-        let b : List layout.Slice = blockOf fs rows (pos p) (pos o) (pos m) in
-        let e : map asSlice b ≡ walk 0 xs (p * n + o) m = rw (h .long) (slices-are h (p * n + o) m) in
+    block-answered w p o m out l room =
+        let b : List layout.Slice = blockOf fs rows w (pos p) (pos o) (pos m) in
+        let e : map asSlice b ≡ walk 0 xs (p * n + o) m = rw (h .long) (slices-are h w (p * n + o) m) in
         let d : length b ≡ meets xs (p * n + o) m = sym (length-map b asSlice) ∙ ap length e ∙ walk-meets xs (p * n + o) m in
         let recorded : map mapping.recordOf b ≡ map recordOf (walk 0 xs (p * n + o) m) =
         records-are xs (p * n + o) b (h .few) (subst (Lie xs (p * n + o)) (sym e) (walk-lie xs (p * n + o) m)) ∙ ap (map recordOf) e in
@@ -131,7 +132,7 @@ module _ {n : ℕ} {xs : List ℕ} (s : Store) (h : Holds n xs (s .fs) (s .rows)
   call-is : (t : ℕ) (q : MapCall) → ValidCall n xs s t q → t + q .size ≤ sum xs
       → _≡_ {A = Filled} (record { says = q .says; table = q .left }) (record { says = value (meets xs t (q .size)); table = sets (q .lent) 0 (map recordOf (walk 0 xs t (q .size))) })
   call-is t q a l =
-      let e = block-answered h few (q .piece) (q .offset) (q .size) (q .lent) (omega (arith, a .place, a .nonempty)) (rw (a .place) (a .room)) in
+      let e = block-answered h few (q .window) (q .piece) (q .offset) (q .size) (q .lent) (omega (arith, a .place, a .nonempty)) (rw (a .place) (a .room)) in
       a .call ∙ (rw (a .place) at e)
 
   answer-is : (t : ℕ) (q : MapCall) → ValidCall n xs s t q → t + q .size ≤ sum xs → q .says ≡ value (meets xs t (q .size))

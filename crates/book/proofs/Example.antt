@@ -1,6 +1,7 @@
--- One list of calls in which each kind of call occurs, done and refused (a trim is never refused): a file of v2 leaves a pad,
--- a link is cleaned and the trim takes the pad. What comes of each call is computed, and so are the book's rows and their
--- times before and after the trim. It relies on Runs.antt.
+-- One list of calls in which each kind of call occurs, done and refused (a trim is never refused), on a set that keeps the
+-- first file of each piece: a file of v2 finds no place in that table, then in a longer one it leaves a pad, a link is
+-- cleaned and the trim takes the pad. What comes of each call is computed, and so are the book's rows and their times
+-- before and after the trim. It relies on Runs.antt.
 use mathlib.Core.Path.{_≡_, refl}
 use mathlib.Core.Bool.{Bool, true, false}
 use mathlib.Core.List.{List, [], _∷_, _++_}
@@ -11,7 +12,7 @@ use lib.ListN.{replicate}
 use Rattle.lists.specs.Decimal.{digitsWithin}
 use Rattle.tables.specs.declared.storage.FileStorage.{FileStorage}
 use Rattle.tables.specs.Rows.{packed, filled}
-use Rattle.tables.specs.Model.{absent, present, Store, tabled}
+use Rattle.tables.specs.Model.{absent, present, Store, storeOf, tabled}
 use Rattle.additions.specs.Addition.{Addition}
 use Rattle.storage.specs.Opening.{newStorage}
 use Rattle.plan.specs.Write.{directoryIndexFrom}
@@ -20,11 +21,12 @@ use Rattle.renames.specs.Renames.{renamesFrom, orderedFrom}
 use Rattle.imports.specs.Imports.{Naming}
 use Rattle.book.specs.Book.{Came, done, refused, Made, book}
 use Rattle.book.specs.Times.{timesIn, timedRows}
-use Rattle.book.specs.Calls.{Renames, noEntries, Leads}
+use Rattle.book.specs.Calls.{SameSet, Renames, noEntries, Leads}
 use Rattle.book.specs.Calls as calls
+use Rattle.book.proofs.Lent.{names-self}
 use Rattle.book.proofs.Runs.{Known, adding, trimming, cleaning, renaming, importing, answerOf, entered, stepped, opens}
 
--- ---- the tables, with places for 3 files, 2 directories and 15 bytes of text
+-- ---- the tables, with places for 3 files, 1 piece, 2 directories and 15 bytes of text
 
 -- the record of a v2 set with the file s/f of 10000 bytes, the name s and the directories of f and of pads
 abbrev storage : ℕ → ℕ → ℕ → ℕ → Bool → FileStorage
@@ -40,6 +42,7 @@ storage files links used total trimmed =
       «total_size» = total;
       «size_on_disk» = 10000;
       trimmed = trimmed;
+      indexed = true;
     }
 
 -- the file's root; the places of other roots are empty
@@ -47,19 +50,17 @@ abbrev root : List ℕ
 root = replicate 32 1
 
 abbrev tables : FileStorage → List ℕ → List ℕ → Store
-tables fs rows text =
-    record { fs = fs; rows = rows; roots = root ++ replicate 64 0; dirs = 1 ∷ 0 ∷ 2 ∷ 4 ∷ []; text = text }
+tables fs rows text = storeOf fs rows (root ++ replicate 64 0) (0 ∷ []) (1 ∷ 0 ∷ 2 ∷ 4 ∷ []) text
 
--- newly opened
+-- newly opened, with these first files: with no place for any, and with one place, which holds no file's number
+abbrev newly : List ℕ → Store
+newly firsts = storeOf (newStorage 16384 true) (replicate 24 0) (replicate 96 0) firsts (replicate 4 0) (replicate 15 0)
+
+abbrev bare : Store
+bare = newly []
+
 abbrev start : Store
-start =
-    record {
-      fs = newStorage 16384;
-      rows = replicate 24 0;
-      roots = replicate 96 0;
-      dirs = replicate 4 0;
-      text = replicate 15 0;
-    }
+start = newly (65535 ∷ [])
 
 -- the rows of the file, of its pad, and of a link whose name of one byte begins at `at` and its text after that; the file
 -- has the time 5, the link −3
@@ -144,6 +145,16 @@ cleans = cleaning (replicate 1 0) (replicate 6 0) (replicate 12 0)
 abbrev Comes : Store → Renames → Known → Came → Store → Renames → Type 0
 Comes s r k o t q = answerOf s r k ≡ record { came = o; store = t; names = q }
 
+-- the piece has no place
+file-full : Comes bare unnamed (adding (file (pos 10000))) (refused 10) bare unnamed
+unfolding tabled filled directoryIndexFrom digitsWithin
+file-full = refl
+
+-- the longer table is lent
+lent-longer : SameSet bare start
+lent-longer = record { fs = refl; rows = refl; roots = refl; firsts = refl; dirs = refl; text = refl }
+
+-- the piece begins in file 0
 file-added : Comes start unnamed (adding (file (pos 10000))) done one unnamed
 unfolding tabled filled directoryIndexFrom digitsWithin
 file-added = refl
@@ -203,6 +214,7 @@ before =
     entered (adding link) done ∷
     entered (adding (file (negsuc 0))) (refused 2) ∷
     entered (adding (file (pos 10000))) done ∷
+    entered (adding (file (pos 10000))) (refused 10) ∷
     []
 
 abbrev made : List Made
@@ -220,8 +232,10 @@ each-kind =
     stepped (cleaning [] [] []) (
     stepped (adding link) (
     stepped (adding (file (negsuc 0))) (
-    stepped (adding (file (pos 10000))) (calls.opening {s = start} {r = unnamed} (omega arith) (opens 16384 (omega arith)) refl)
-    file-added) file-refused) link-added) clean-refused) clean-done) rename-done) rename-refused) rename-full) import-done) import-refused) trim-done
+    stepped (adding (file (pos 10000))) (
+    calls.lending (
+    stepped (adding (file (pos 10000))) (calls.opening {s = bare} {r = unnamed} true (omega arith) (opens 16384 true (omega arith)) refl)
+    file-full) lent-longer (names-self unnamed)) file-added) file-refused) link-added) clean-refused) clean-done) rename-done) rename-refused) rename-full) import-done) import-refused) trim-done
 
 -- the book has the file, the row that fills up the piece and the link, and the trim takes the filling
 pub rows-before : book 16384 before .rows ≡ record { size = 10000; marked = false } ∷ record { size = 6384; marked = true } ∷ record { size = 0; marked = false } ∷ []

@@ -19,12 +19,12 @@ use Rattle.tables.specs.declared.span.Span.{Span}
 use Rattle.tables.specs.declared.rows.Row.{Row}
 use Rattle.tables.specs.declared.storage.FileStorage.{FileStorage}
 use Rattle.tables.specs.Rows.{rowAt, has}
-use Rattle.tables.specs.Model.{Store, viewOf}
+use Rattle.tables.specs.Model.{Store, storeOf, viewOf}
 use Rattle.tables.proofs.Words.{row-ext, dir-ext, root-ext}
 use Rattle.sound.specs.Sound.{TextId, setName, dirName, fileName, linkText, nowhere, spanOf, textAtRow, sizeOfRow, padOfRow, Sound}
 use Rattle.sound.proofs.Common.{sum-same}
 use Rattle.sound.proofs.Added.Texts.{Extends, set-name-kept, dirs-kept, files-kept}
-use Rattle.book.specs.Calls.{SameSet, Renames, SameRenames}
+use Rattle.book.specs.Calls.{placesUsed, SameSet, Renames, SameRenames}
 
 -- ---- two lists that begin alike: one is long enough if the other is, and both read the same there
 
@@ -52,7 +52,7 @@ here k n x y z e = at (ltb k n) refl
 
 module _ (s t : Store) (ok : Sound s) (same : SameSet s t) where
   abbrev beside : FileStorage → Store
-  beside fs = record { fs = fs; rows = t .rows; roots = t .roots; dirs = t .dirs; text = t .text }
+  beside fs = storeOf fs (t .rows) (t .roots) (t .firsts) (t .dirs) (t .text)
 
   abbrev lent : Store
   lent = beside (s .fs)
@@ -135,7 +135,7 @@ module _ (s t : Store) (ok : Sound s) (same : SameSet s t) where
 -- ---- lendings
 
 pub same-self : (s : Store) → SameSet s s
-same-self s = record { fs = refl; rows = refl; roots = refl; dirs = refl; text = refl }
+same-self s = record { fs = refl; rows = refl; roots = refl; firsts = refl; dirs = refl; text = refl }
 
 pub same-through : (s t u : Store) → SameSet s t → SameSet t u → SameSet s u
 same-through s t u p q =
@@ -143,6 +143,7 @@ same-through s t u p q =
       fs = q .fs ∙ p .fs;
       rows = rw (p .fs) at (q .rows) ∙ p .rows;
       roots = rw (p .fs) at (q .roots) ∙ p .roots;
+      firsts = rw (p .fs) at (q .firsts) ∙ p .firsts;
       dirs = rw (p .fs) at (q .dirs) ∙ p .dirs;
       text = rw (p .fs) at (q .text) ∙ p .text;
     }
@@ -159,19 +160,22 @@ pub record Longer (s t : Store) : Type 0 where
   pub fs : t .fs ≡ s .fs
   pub rows : take (length (s .rows)) (t .rows) ≡ s .rows
   pub roots : take (length (s .roots)) (t .roots) ≡ s .roots
+  pub firsts : take (length (s .firsts)) (t .firsts) ≡ s .firsts
   pub dirs : take (length (s .dirs)) (t .dirs) ≡ s .dirs
   pub text : take (length (s .text)) (t .text) ≡ s .text
 
 begins : {A : Type 0} (n : ℕ) (l l₀ : List A) → take (length l₀) l ≡ l₀ → n ≤ length l₀ → take n l ≡ take n l₀
 begins n l l₀ e h = sym (take-take n (length l₀) l h) ∙ ap (take n) e
 
--- no part that the set uses is missing in tables in order, so what they begin with is enough
-pub longer : (s t : Store) → Sound s → Longer s t → SameSet s t
-longer s t ok l =
+-- no part that the set uses is missing in tables in order, whose first files have a place for each piece, so what they
+-- begin with is enough
+pub longer : (s t : Store) → Sound s → placesUsed (s .fs) ≤ length (s .firsts) → Longer s t → SameSet s t
+longer s t ok h l =
     record {
       fs = l .fs;
       rows = begins (s .fs .«num_files» * 8) (t .rows) (s .rows) (l .rows) (ok .rows-hold);
       roots = begins (s .fs .«num_files» * 32) (t .roots) (s .roots) (l .roots) (ok .roots-hold);
+      firsts = begins (placesUsed (s .fs)) (t .firsts) (s .firsts) (l .firsts) h;
       dirs = begins (s .fs .«num_paths» * 2) (t .dirs) (s .dirs) (l .dirs) (ok .dirs-hold);
       text = begins (s .fs .«text_len») (t .text) (s .text) (l .text) (ok .text-holds);
     }

@@ -117,7 +117,7 @@ unfolding orderedFrom
 opened-ordered r z = rw (z, le-leb 0 (length (r .entries) / 3) (omega arith), le-leb 0 (length (r .text)) (omega arith))
 
 pub names-in-order : {n : ℕ} {made : List Made} {s : Store} {r : Renames} → Leads n made s r → Ordered r
-names-in-order (calls.opening {s} {r} h e z) = opened-ordered r z
+names-in-order (calls.opening {s} {r} indexed h e z) = opened-ordered r z
 names-in-order (calls.addition a c p e) = names-in-order p
 names-in-order (calls.trim c p e) = names-in-order p
 names-in-order (calls.cleaning marks stage path c p e) = names-in-order p

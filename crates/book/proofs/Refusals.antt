@@ -1,5 +1,6 @@
 -- After every list of calls each call is refused as document 01's table says, over the book alone. Relies on the book's agreement
 -- with the set (Agree.antt), on what a call answers (Runs.antt, Named.antt) and on the laws of rules in order.
+--     places-by-book                an addition for which the table of first files lacks a place
 --     add-by-book, add-refusals     an addition
 --     refusals-tabled               every call of a list
 use Prim.Native.Nat.{ℕ, zero, suc, _+_, _<_}
@@ -12,7 +13,7 @@ use borrow.Author.Tests.{ne-eqb}
 use lib.Dec.{eqb, ltb, leb}
 use lib.IntN.{ℤ, pos, negsuc}
 use lib.ListN.{length, drop}
-use Rattle.lists.specs.Lists.{sum, any}
+use Rattle.lists.specs.Lists.{sum, any, ceiling}
 use Rattle.path.specs.Split.{isComplete, hasParent}
 use Rattle.tables.specs.Model.{Optional, absent, present, Model, Store, viewOf}
 use Rattle.rules.specs.Rules.{Rule, when, firstOf}
@@ -22,6 +23,7 @@ use Rattle.change.specs.Changes.{Changed}
 use Rattle.change.specs.Rooms.{roomsOf}
 use Rattle.additions.specs.Addition.{Addition, added, addingRules, lacks, textOf, sizeAdded, padOf, disagreesIn, filesOf, decides, isPresent}
 use Rattle.additions.specs.Addition as additions
+use Rattle.plan.specs.Outcomes.{lacksPlaces}
 use Rattle.lookup.specs.Space.{lacksSpace}
 use Rattle.lookup.specs.Lookup.{entriesOf}
 use Rattle.links.specs.Clean.{cleanedOf}
@@ -124,7 +126,17 @@ says-by rs h noRoom = rw (first-append rs (when noRoom 10 ∷ []) h) (at (firstO
 module _ {n : ℕ} {made : List Made} {s : Store} {r : Renames} (p : Leads n made s r) where
   -- whether the lent tables are shorter than the set after the addition needs
   abbrev pub lacking : Addition → Bool
-  lacking a = lacks (roomsOf s) (added (viewOf s) a) (textOf (added (viewOf s) a))
+  lacking a = lacksPlaces s (viewOf s) a || lacks (roomsOf s) (added (viewOf s) a) (textOf (added (viewOf s) a))
+
+  -- document 02 (v): 'An addition that needs more places in it gets 10', of the table of first files; a trim leaves the book
+  -- fewer bytes, so it 'gives its places back'
+  pub places-by-book : (a : Addition) → lacksPlaces s (viewOf s) a ≡ (s .fs .indexed && ltb (length (s .firsts)) (ceiling (bytesPadded (book n made) a) n))
+  places-by-book a =
+      let g = agrees p in
+      let e : s .fs .«total_size» + sizeAdded a + padOf (viewOf s) a ≡ bytesPadded (book n made) a =
+      ap₂ (λ (x y : ℕ). x + y) (bytes-with (viewOf s) a (total-is s (g .sound))) (pad-is (viewOf s) a (total-is s (g .sound)) (omega (arith, g .some, g .lengths)))
+      ∙ ap (λ (b : Book). bytesPadded b a) (g .books) in
+      ap₂ (λ (x y : ℕ). (s .fs .indexed && ltb (length (s .firsts)) (ceiling x y))) e (g .lengths)
 
   -- an addition is refused by the first row that holds, of the book's rows and then of room, and done where none does
   pub add-by-book : (a : Addition) → answerOf s r (adding a) .came ≡ cameBy (firstOf (addingTable (book n made) a ++ (when (lacking a) 10 ∷ [])))
@@ -170,7 +182,7 @@ module _ {n : ℕ} {made : List Made} {s : Store} {r : Renames} (p : Leads n mad
 
 -- every call of a list, with the book as it was before it
 pub refusals-tabled : {n : ℕ} {made : List Made} {s : Store} {r : Renames} → Leads n made s r → AsTabled n made
-refusals-tabled (calls.opening h e z) = tt
+refusals-tabled (calls.opening indexed h e z) = tt
 refusals-tabled {n} (calls.addition {made} {s} {r} a c p e) =
     (subst (λ (x : Changed). Says (firstOf (addingTable (book n made) a)) (cameOf (x .says))) (sym e) (add-refusals p a), refusals-tabled p)
 refusals-tabled (calls.trim c p e) =

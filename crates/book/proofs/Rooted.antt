@@ -13,14 +13,14 @@ use Rattle.lists.proofs.Orders.{le-or-lt}
 use Rattle.lists.proofs.Runs.{getD-sets-below}
 use Rattle.tables.specs.declared.rows.Row.{Row}
 use Rattle.tables.specs.Rows.{rowAt, rootAt, putRoot, putRow, has}
-use Rattle.tables.specs.Model.{Optional, absent, present, presentIf, Model, Store, fileOf, viewOf}
+use Rattle.tables.specs.Model.{Optional, absent, present, presentIf, Model, Store, storeOf, fileOf, viewOf}
 use Rattle.tables.proofs.Tabled.{tabled-same, length-tabled}
 use Rattle.tables.proofs.Words.{row-back, length-root, root-ext, root-back, length-put-root, length-put-row}
 use Rattle.rules.specs.Rules.{firstOf}
 use Rattle.additions.specs.Addition.{Addition, added, addingRules, padOf, filesOf}
 use Rattle.plan.specs.Write.{storeAdded, rowAdded, padRow, textAfter}
 use Rattle.change.specs.Rooms.{roomsOf, holds}
-use Rattle.plan.specs.Outcomes.{addingNumber}
+use Rattle.plan.specs.Outcomes.{lacksPlaces, addingNumber}
 use Rattle.sound.specs.Sound.{TextId, setName, dirName, fileName, linkText, spanOf, Sound}
 use Rattle.sound.proofs.Added.Answer.{Fits, fits}
 use Rattle.sound.proofs.Added.Whole.{count-files}
@@ -31,8 +31,7 @@ use Rattle.book.specs.Times.{Timed, timedAfter}
 -- ---- tables with other roots
 
 abbrev withRoots : Store → List ℕ → Store
-withRoots s roots =
-    record { fs = s .fs; rows = s .rows; roots = roots; dirs = s .dirs; text = s .text }
+withRoots s roots = storeOf (s .fs) (s .rows) roots (s .firsts) (s .dirs) (s .text)
 
 sound-roots : (s : Store) (roots : List ℕ) → length roots ≡ length (s .roots) → Sound s → Sound (withRoots s roots)
 sound-roots s roots e ok =
@@ -95,8 +94,9 @@ numberWith s m a files =
     firstOf
     (addingRules m a
     (not (holds s)
+    || (lacksPlaces s m a
     || (ltb (min 65535 (roomsOf s .files)) files
-    || (ltb (min 65535 (roomsOf s .directories)) (length (added m a .directories)) || ltb (roomsOf s .text) (textAfter (s .fs) m a)))))
+    || (ltb (min 65535 (roomsOf s .directories)) (length (added m a .directories)) || ltb (roomsOf s .text) (textAfter (s .fs) m a))))))
 
 same-number : (s : Store) (m : Model) (a : Addition) (r q : List ℕ) → addingNumber s m (withRoot a (present q)) ≡ addingNumber s m (withRoot a (present r))
 same-number s m a r q =

@@ -3,7 +3,7 @@
 -- longer tables, and after every list of calls an addition is refused as document 01's table says. Relies on the
 -- definitions, on Agree.antt and on Lent.antt, and on `sound` and `reached` for what an addition and a cleaning answer.
 use mathlib.Core.Path.{_≡_, refl, sym, ap, subst, _∙_}
-use mathlib.Core.Bool.{Bool, true, false, cond, not}
+use mathlib.Core.Bool.{Bool, true, false, cond, not, _||_}
 use mathlib.Core.List.{List, [], _∷_, _++_, map}
 use Prim.Native.Nat.{ℕ, _*_, _≤_, _<_, max}
 use native.Mathlib.Omega.{arith}
@@ -23,7 +23,7 @@ use Rattle.storage.specs.Opening.{newStorage, opened}
 use Rattle.plan.specs.Write.{storeAdded}
 use Rattle.change.specs.Changes.{Changed, changedIf}
 use Rattle.change.specs.Rooms.{roomsOf}
-use Rattle.plan.specs.Outcomes.{addingNumber, addStored}
+use Rattle.plan.specs.Outcomes.{lacksPlaces, addingNumber, addStored}
 use Rattle.trim.specs.Removal.{trimStored, trimmedBy}
 use Rattle.links.specs.Clean.{cleanedOf}
 use Rattle.lookup.specs.Space.{space, linkCount, lacksSpace}
@@ -43,6 +43,7 @@ use Rattle.book.specs.Calls.{cameOf, storeAfter, cleanedBy, SameSet, Ren
 use Rattle.book.specs.Calls as calls
 use Rattle.book.proofs.Lent.{same-self, same-through, names-self, names-through, Longer, longer}
 use Rattle.book.proofs.Agree.{agrees, leaving, refusing, after-call, after-clean, trimNumber}
+use Rattle.book.proofs.Firsts.{places-kept, add-mark, trim-mark, clean-mark}
 
 -- ---- one call
 
@@ -147,6 +148,17 @@ pub record One (s : Store) (r : Renames) (k : Known) : Type 0 where
 pub came : (s : Store) (r : Renames) (k : Known) → One s r k
 came s r k = record { answer = answerOf s r k; step = refl; only = λ a q. sym q }
 
+-- no call changes whether the set keeps the first file of each piece
+pub mark-kept : (s : Store) (r : Renames) (k : Known) {a : Answer} → Step s r k a → a .store .fs .indexed ≡ s .fs .indexed
+mark-kept s r k {a} q = ap (λ (x : Answer). x .store .fs .indexed) (sym q) ∙ at k
+  where
+    at : (k : Known) → answerOf s r k .store .fs .indexed ≡ s .fs .indexed
+    at (adding a) = add-mark s a (addStored s a) refl
+    at trimming = trim-mark s (trimStored s) refl
+    at (cleaning marks stage path) = clean-mark s marks stage path (cleanStored (lent (s .fs) (s .rows) (s .dirs) (s .text)) marks stage path) refl
+    at (renaming x) = refl
+    at (importing xs) = refl
+
 -- ---- lists of calls
 
 -- calls made, and the tables they led to
@@ -172,14 +184,14 @@ pub record Played (n : ℕ) (s : Store) (r : Renames) (ks : List Known) : Type 0
   pub same : map (λ (m : Made). m .call) (reachOf s r ks .made) ≡ map callOf ks
   pub leads : Leads n (reachOf s r ks .made) (reachOf s r ks .store) (reachOf s r ks .names)
 
--- a set can be opened with every piece length from 1 on
-pub opens : (n : ℕ) → 0 < n → opened (pos n) ≡ value (newStorage n)
-opens n h = rw (ne-eqb n 0 (λ e. omega arith))
+-- a set can be opened with every piece length from 1 on, and keep the first file of each piece or not
+pub opens : (n : ℕ) (indexed : Bool) → 0 < n → opened (pos n) indexed ≡ value (newStorage n indexed)
+opens n indexed h = rw (ne-eqb n 0 (λ e. omega arith))
 
-pub played : (n : ℕ) (s : Store) (r : Renames) → opened (pos n) ≡ value (s .fs) → n ≤ 2147483647 → r .rf ≡ noEntries → (ks : List Known) → Played n s r ks
-played n s r e h z [] = record { same = refl; leads = calls.opening h e z }
-played n s r e h z (k ∷ ks) =
-    let x = played n s r e h z ks in
+pub played : (n : ℕ) (indexed : Bool) (s : Store) (r : Renames) → opened (pos n) indexed ≡ value (s .fs) → n ≤ 2147483647 → r .rf ≡ noEntries → (ks : List Known) → Played n s r ks
+played n indexed s r e h z [] = record { same = refl; leads = calls.opening indexed h e z }
+played n indexed s r e h z (k ∷ ks) =
+    let x = played n indexed s r e h z ks in
     record {
       same = ap (λ (l : List Call). callOf k ∷ l) (x .same);
       leads = stepped {a = answerOf (reachOf s r ks .store) (reachOf s r ks .names) k} k (x .leads) refl;
@@ -243,15 +255,15 @@ refused-step s r k i e = ap (λ (o : Came). record { came = o; store = answerOf 
 pub again : {n : ℕ} {made : List Made} {s t : Store} {r q : Renames} {a : Answer} (k j : Known) (i : ℕ)
     → Leads n made s r → answerOf s r k .came ≡ refused i → Longer s t → SameRenames r q → Step t q j a → Leads n (entered j (a .came) ∷ entered k (refused i) ∷ made) (a .store) (a .names)
 again {s = s} {t = t} {r = r} k j i p e l same x =
-    stepped j (calls.lending (stepped k p (refused-step s r k i e)) (longer s t (agrees p .sound) l) same) x
+    stepped j (calls.lending (stepped k p (refused-step s r k i e)) (longer s t (agrees p .sound) (places-kept p) l) same) x
 
 -- ---- what is refused, and what is not
 
 -- document 01's rows for adding, in its order, on the set that the tables hold; room is lacking where the set after the
--- addition does not fit. The first of `addingRules` is the row for opening, which a set that was opened has passed
+-- addition does not fit, or has more pieces than the table of first files has places. The first of `addingRules` is the row for opening, which a set that was opened has passed
 abbrev pub addRefusals : Store → Addition → List Rule
 addRefusals s a =
-    drop 1 (addingRules (viewOf s) a (lacks (roomsOf s) (added (viewOf s) a) (textOf (added (viewOf s) a))))
+    drop 1 (addingRules (viewOf s) a (lacksPlaces s (viewOf s) a || lacks (roomsOf s) (added (viewOf s) a) (textOf (added (viewOf s) a))))
 
 -- a cleaning lacks room where its work space is below document 01's, or the texts that the set has afterwards do not fit
 abbrev pub cleanRefusals : Store → (marks stage path : List ℕ) → List Rule
@@ -335,10 +347,12 @@ module _ {n : ℕ} {made : List Made} {s : Store} {r : Renames} (p : Leads n mad
   pub add-done : (a : Addition) → NoneHolds (addRefusals s a) → answerOf s r (adding a) .came ≡ done
   add-done a h = add-answer a ∙ ap cameBy (none-first (addRefusals s a) h)
 
-  -- nor is it refused by 10 with space to spare: only where the set after it does not fit
-  pub add-ten : (a : Addition) → answerOf s r (adding a) .came ≡ refused 10 → lacks (roomsOf s) (added (viewOf s) a) (textOf (added (viewOf s) a)) ≡ true
+  -- nor is it refused by 10 with space to spare: only where the table of first files lacks a place, or the set after it
+  -- does not fit
+  pub add-ten : (a : Addition) → answerOf s r (adding a) .came ≡ refused 10
+      → (lacksPlaces s (viewOf s) a || lacks (roomsOf s) (added (viewOf s) a) (textOf (added (viewOf s) a))) ≡ true
   add-ten a e =
-      from-last 10 (take 9 (addRefusals s a)) (lacks (roomsOf s) (added (viewOf s) a) (textOf (added (viewOf s) a))) (omega arith)
+      from-last 10 (take 9 (addRefusals s a)) (lacksPlaces s (viewOf s) a || lacks (roomsOf s) (added (viewOf s) a) (textOf (added (viewOf s) a))) (omega arith)
       (refused-is (firstOf (addRefusals s a)) 10 (sym (add-answer a) ∙ e))
 
   -- no trim

@@ -1,8 +1,9 @@
 -- A set's tables that hold files of given sizes, end to end: then the slices of a block are the walk over those sizes, the
 -- tables of a set in order are such tables, and the record of a slice is the one that the table has. It relies on the law of the search
--- in `layout` and on what a set in order is in `sound`.
+-- that begins with a window in `layout`, and on what a set in order is in `sound`.
 --     Holds, held-in-order        tables that hold files of these sizes
---     slices-are                  the slices of a block
+--     laid                        the files end to end
+--     slices-are                  the slices of a block, for every window
 --     records-are, slices-back    slices, written as records and read again
 use mathlib.Core.Path.{_≡_, refl, sym, ap, _∙_}
 use mathlib.Core.Logic.{_⊎_, inl, inr}
@@ -16,7 +17,7 @@ use lib.ListN.{length, getD, take, drop, drop-of-length-le}
 use lib.Seq.{drop-cons, take-all}
 use Rattle.lists.specs.Lists.{sum}
 use Rattle.lists.proofs.Orders.{le-or-lt}
-use Rattle.lists.proofs.Sums.{sum-take-more, sum-take-mono}
+use Rattle.lists.proofs.Sums.{sum-take-more}
 use Rattle.types.specs.declared.index.FileSlice.{FileSlice}
 use Rattle.tables.specs.declared.storage.FileStorage.{FileStorage}
 use Rattle.tables.specs.Rows.{rowAt}
@@ -25,11 +26,13 @@ use Rattle.tables.proofs.Tabled.{length-tabled, getD-tabled}
 use Rattle.rules.specs.Bounds.{limit}
 use Rattle.sound.specs.Sound.{Sound, sumTo, sizeOfRow}
 use Rattle.sound.proofs.Files.{map-tabled}
-use Rattle.layout.specs.Search.{fileFound}
-use Rattle.layout.specs.Mapping.{slicesOf}
+use Rattle.layout.specs.declared.window.Window.{Window}
+use Rattle.layout.specs.Search.{foundWithin}
+use Rattle.layout.specs.Mapping.{slicesWithin}
 use Rattle.layout.specs.Mapping as layout
 use Rattle.mapping.specs.Table as mapping
-use Rattle.layout.proofs.Halving.{Ascending, Last, found-last}
+use Rattle.layout.proofs.Halving.{Last}
+use Rattle.layout.proofs.Starting.{Laid, found-within}
 use Rattle.book.specs.Slices.{Slice, slice}
 use Rattle.book.specs.Demand.{sliceOf, recordOf}
 use Rattle.book.proofs.Walks.{before, walk}
@@ -123,8 +126,10 @@ module _ {n : ℕ} {xs : List ℕ} {fs : FileStorage} {rows : List ℕ} (h : Hol
       (walk-is f (k + 1) (t - rowAt rows k .size) (m - (rowAt rows k .size - t)) (omega arith)) ∙
       sym (walk-at xs k t m (rowAt rows k .size) (omega arith) (h .sizes k (omega arith)))
 
-  pub ascends : Ascending rows (length xs)
-  ascends i b = rw (h .offsets i (omega arith), h .offsets (i + 1) b) (sum-take-mono xs i (i + 1) (omega arith))
+  pub laid : Laid rows (length xs)
+  laid i b =
+      let e : sum (take (i + 1) xs) ≡ sum (take i xs) + rowAt rows i .size = sum-take-more xs i ∙ ap (λ (x : ℕ). sum (take i xs) + x) (h .sizes i (omega arith)) in
+      h .offsets (i + 1) b ∙ e ∙ ap (λ (x : ℕ). x + rowAt rows i .size) (sym (h .offsets i (omega arith)))
 
   -- from the file found, and where there is none
   from : (t m k : ℕ) → Last rows (length xs) t k → map asSlice (layout.walk (length xs - k) rows k (t - rowAt rows k .offset) (min m (sum xs - t))) ≡ walk 0 xs t m
@@ -143,15 +148,16 @@ module _ {n : ℕ} {xs : List ℕ} {fs : FileStorage} {rows : List ℕ} (h : Hol
       empty [] z = refl
       empty (x ∷ l) z = absurd (omega arith)
 
-  pub slices-are : (t m : ℕ) → map asSlice (slicesOf fs rows t m) ≡ walk 0 xs t m
-  slices-are t m = rw (h .count, h .total) (by (le-or-lt (length xs) 0))
+  -- whatever window the search begins with
+  pub slices-are : (w : Window) (t m : ℕ) → map asSlice (slicesWithin fs rows w t m) ≡ walk 0 xs t m
+  slices-are w t m = rw (h .count, h .total) (by (le-or-lt (length xs) 0))
     where
       by : (length xs ≤ 0) ⊎ (0 < length xs)
-          → map asSlice (layout.walk (length xs - fileFound rows (length xs) t) rows (fileFound rows (length xs) t) (t - rowAt rows (fileFound rows (length xs) t) .offset) (min m (sum xs - t))) ≡ walk 0 xs t m
-      by (inl z) = no-file t m (fileFound rows (length xs) t) _ _ z
+          → map asSlice (layout.walk (length xs - foundWithin rows (length xs) w t) rows (foundWithin rows (length xs) w t) (t - rowAt rows (foundWithin rows (length xs) w t) .offset) (min m (sum xs - t))) ≡ walk 0 xs t m
+      by (inl z) = no-file t m (foundWithin rows (length xs) w t) _ _ z
       by (inr p) =
-          from t m (fileFound rows (length xs) t)
-          (found-last rows (length xs) t ascends p (omega (arith, h .offsets 0 p)))
+          from t m (foundWithin rows (length xs) w t)
+          (found-within rows (length xs) t laid w p (omega (arith, h .offsets 0 p)))
 
 -- ---- records
 

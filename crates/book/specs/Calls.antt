@@ -5,9 +5,10 @@
 -- contracts of `storage`, `trim`, `cleaning` and `renames` cite, so a refused call is a step like any other.
 --
 -- Names from elsewhere: `value a` is an answer, `refused k` a refusal by number k; `pos n` is the integer n; `take n`
--- is the first n elements. The tables are those of `Store` (tables, specs/Model.antt): rows, roots, directories and
--- text beside the set's record.
+-- is the first n elements; `cond t a b` is a where t is true, else b. The tables are those of `Store` (tables,
+-- specs/Model.antt): rows, roots, first files, directories and text beside the set's record.
 use mathlib.Core.Path.{_≡_}
+use mathlib.Core.Bool.{Bool, cond}
 use mathlib.Core.List.{List, [], _∷_}
 use Prim.Native.Nat.{ℕ, _*_, _≤_}
 use lib.IntN.{pos}
@@ -16,9 +17,10 @@ use Rattle.types.specs.Refusals.{Outcome, value, refused}
 use Rattle.tables.specs.Rows.{dirWidth, rootWidth, rowWidth}
 use Rattle.tables.specs.declared.storage.FileStorage.{FileStorage}
 use Rattle.tables.specs.Model.{Store}
+use Rattle.rules.specs.Questions.{numPieces}
 use Rattle.additions.specs.Addition.{Addition}
 use Rattle.storage.specs.Opening.{opened}
-use Rattle.change.specs.Changes.{Changed}
+use Rattle.change.specs.Changes.{Changed, changedOf}
 use Rattle.plan.specs.Outcomes.{addStored}
 use Rattle.trim.specs.Removal.{trimStored}
 use Rattle.lookup.specs.Lookup.{lent}
@@ -45,6 +47,7 @@ storeAfter old c =
       fs = kept (c .says) old;
       rows = c .rows;
       roots = c .roots;
+      firsts = c .firsts;
       dirs = c .dirs;
       text = c .text;
     }
@@ -52,10 +55,13 @@ storeAfter old c =
 abbrev pub call : Call → Changed → Made
 call k c = record { call = k; came = cameOf (c .says) }
 
--- a cleaning changes no roots
+-- a cleaning changes no roots and no first files
 abbrev pub cleanedBy : Store → Cleaned → Changed
-cleanedBy s c =
-    record { says = c .says; rows = c .rows; roots = s .roots; dirs = c .dirs; text = c .text }
+cleanedBy s c = changedOf (c .says) (c .rows) (s .roots) (s .firsts) (c .dirs) (c .text)
+
+-- the places of the table of first files that a set uses: one for each piece, where it keeps the table
+abbrev pub placesUsed : FileStorage → ℕ
+placesUsed fs = cond (fs .indexed) (numPieces fs) 0
 
 -- tables t that hold the set of the tables s: other tables may be lent to the next call, longer or shorter, where the
 -- part that the set uses was copied over
@@ -63,6 +69,7 @@ pub record SameSet (s t : Store) : Type 0 where
   pub fs : t .fs ≡ s .fs
   pub rows : take (s .fs .«num_files» * rowWidth) (t .rows) ≡ take (s .fs .«num_files» * rowWidth) (s .rows)
   pub roots : take (s .fs .«num_files» * rootWidth) (t .roots) ≡ take (s .fs .«num_files» * rootWidth) (s .roots)
+  pub firsts : take (placesUsed (s .fs)) (t .firsts) ≡ take (placesUsed (s .fs)) (s .firsts)
   pub dirs : take (s .fs .«num_paths» * dirWidth) (t .dirs) ≡ take (s .fs .«num_paths» * dirWidth) (s .dirs)
   pub text : take (s .fs .«text_len») (t .text) ≡ take (s .fs .«text_len») (s .text)
 
@@ -92,9 +99,9 @@ pub record SameRenames (r q : Renames) : Type 0 where
 -- the calls `made`, the latest first, on a set of piece length n, which an i32 holds, lead to the tables s and the
 -- renames r
 pub data Leads (n : ℕ) : List Made → Store → Renames → Type 0 where
-  opening : {s : Store} {r : Renames}
+  opening : {s : Store} {r : Renames} (indexed : Bool)
       → n ≤ 2147483647
-      → opened (pos n) ≡ value (s .fs)
+      → opened (pos n) indexed ≡ value (s .fs)
       → r .rf ≡ noEntries
       → Leads n [] s r
   addition : {made : List Made} {s : Store} {r : Renames} (a : Addition) (c : Changed)

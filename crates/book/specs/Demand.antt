@@ -16,14 +16,17 @@ use Rattle.types.specs.Refusals.{Outcome, value, refused}
 use Rattle.types.specs.declared.index.FileSlice.{FileSlice}
 use Rattle.tables.specs.Model.{Store}
 use Rattle.rules.specs.Results.{SignedRequest}
+use Rattle.layout.specs.declared.window.Window.{Window}
 use Rattle.files.specs.Given.{fileMapped}
 use Rattle.mapping.specs.Table.{Filled, blockMapped}
 use Rattle.book.specs.Book.{natural}
 use Rattle.book.specs.Slices.{Slice, slice, joined, wholeFiles, bytesIn, AscendingFrom, meets, endToEnd}
 use Rattle.book.specs.Slices.{contentOf}
 
--- a call of `map_block`: its arguments, the table lent to it, its answer, and the table that it left
+-- a call of `map_block`: its arguments, the table lent to it, its answer, and the table that it left. Any window is
+-- asked with: that of the set's table of first files, of another, or none
 pub record MapCall : Type 0 where
+  pub window : Window
   pub piece : ℕ
   pub offset : ℕ
   pub size : ℕ
@@ -54,7 +57,7 @@ pub record ValidCall (pieceLength : ℕ) (sizes : List ℕ) (s : Store) (t : ℕ
   pub nonempty : 0 < q .size
   pub room : meets sizes t (q .size) ≤ length (q .lent)
   pub call : _≡_ {A = Filled} (record { says = q .says; table = q .left })
-      (blockMapped (s .fs) (s .rows) (pos (q .piece)) (pos (q .offset)) (pos (q .size)) (q .lent))
+      (blockMapped (s .fs) (s .rows) (q .window) (pos (q .piece)) (pos (q .offset)) (pos (q .size)) (q .lent))
 
 -- the calls ask for consecutive blocks from byte t to byte e
 abbrev pub Cut : ℕ → List ℕ → Store → ℕ → ℕ → List MapCall → Type 0

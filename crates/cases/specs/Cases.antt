@@ -1,6 +1,7 @@
--- Document 01, 'Struck on the bench': the starred cases, in its order. It relies on Questions.antt.
+-- Document 01, 'Struck on the bench': the starred cases, in its order; then, of document 02 (v), those of set A again
+-- on a set that keeps the first file of each piece, and cases of that table. It relies on Questions.antt.
 use Prim.Native.Nat.{ℕ}
-use mathlib.Core.Bool.{Bool, true, _&&_}
+use mathlib.Core.Bool.{Bool, true, false, _&&_}
 use mathlib.Core.List.{List, [], _∷_}
 use lib.IntN.{ℤ, pos}
 use lib.ListN.{replicate}
@@ -9,16 +10,17 @@ use Rattle.tables.specs.Model.{Optional, absent, present, Store}
 use Rattle.additions.specs.Addition.{Addition}
 use Rattle.cases.specs.Questions.{newStore, built, answer, sameAnswer, Question, addFile, fileOffset, numPieces}
 use Rattle.cases.specs.Questions.{mapBlock, fileIndexAtOffset, mapFile, exclusive, inclusive, pieceSize2}
-use Rattle.cases.specs.Questions.{linkAfterCleaning}
+use Rattle.cases.specs.Questions.{linkAfterCleaning, firstFile}
 
 -- a question, and the answer that document 01 gives
 pub record Case : Type 0 where
   pub question : Question
   pub expected : Outcome (List ℤ)
 
--- a set's piece length and additions, and the cases struck on it
+-- a set's piece length, whether it keeps the first file of each piece, its additions, and the cases struck on it
 pub record Scenario : Type 0 where
   pub pieceLength : ℕ
+  pub indexed : Bool
   pub additions : List Addition
   pub cases : List Case
 
@@ -117,13 +119,31 @@ casesOfLinks =
     case (linkAfterCleaning (pos 3)) (says (110 ∷ [])) ∷
     []
 
+abbrev pub casesOfFirsts : List Case
+casesOfFirsts =
+    -- bytes 0, 10 and 20 of set A are in files 0, 2 and 2
+    case (firstFile 0) (says (0 ∷ [])) ∷
+    case (firstFile 1) (says (2 ∷ [])) ∷
+    case (firstFile 2) (says (2 ∷ [])) ∷
+    []
+
+abbrev pub casesOfPlaces : List Case
+casesOfPlaces =
+    -- 'An addition that needs more places in it gets 10': there are 3, for 30 bytes
+    case (addFile (file 98 23 absent)) (says []) ∷
+    case (addFile (file 98 24 absent)) (refused 10) ∷
+    []
+
 -- the table
 abbrev pub table : List Scenario
 table =
-    record { pieceLength = 10; additions = setA; cases = casesOfA } ∷
-    record { pieceLength = 10; additions = []; cases = casesOfEmpty } ∷
-    record { pieceLength = 16384; additions = []; cases = casesOfV2 } ∷
-    record { pieceLength = 10; additions = linkedSet; cases = casesOfLinks } ∷
+    record { pieceLength = 10; indexed = false; additions = setA; cases = casesOfA } ∷
+    record { pieceLength = 10; indexed = false; additions = []; cases = casesOfEmpty } ∷
+    record { pieceLength = 16384; indexed = false; additions = []; cases = casesOfV2 } ∷
+    record { pieceLength = 10; indexed = false; additions = linkedSet; cases = casesOfLinks } ∷
+    record { pieceLength = 10; indexed = true; additions = setA; cases = casesOfA } ∷
+    record { pieceLength = 10; indexed = true; additions = setA; cases = casesOfFirsts } ∷
+    record { pieceLength = 10; indexed = true; additions = file 97 7 absent ∷ []; cases = casesOfPlaces } ∷
     []
 
 -- each answer is the one expected
@@ -133,4 +153,4 @@ holds s (c ∷ cs) = sameAnswer (answer s (c .question)) (c .expected) && holds 
 
 abbrev pub allHold : List Scenario → Bool
 allHold [] = true
-allHold (b ∷ bs) = holds (built (newStore (b .pieceLength)) (b .additions)) (b .cases) && allHold bs
+allHold (b ∷ bs) = holds (built (newStore (b .pieceLength) (b .indexed)) (b .additions)) (b .cases) && allHold bs

@@ -5,7 +5,7 @@ use mathlib.Core.Bool.{Bool, true, false, _&&_}
 use mathlib.Core.List.{List, [], _∷_, map}
 use lib.Dec.{eqb}
 use lib.IntN.{ℤ, pos, negsuc}
-use lib.ListN.{length, replicate, take}
+use lib.ListN.{length, getD, replicate, take}
 use Rattle.types.specs.Refusals.{Outcome, value, refused}
 use Rattle.types.specs.declared.index.FileSlice.{FileSlice}
 use Rattle.tables.specs.declared.storage.FileStorage.{FileStorage}
@@ -22,17 +22,19 @@ use Rattle.cleaning.specs.Cleaning.{Cleaned, cleanStored}
 use Rattle.rules.specs.Results.{Range, SignedRequest}
 use Rattle.files.specs.Given.{fileMapped}
 use Rattle.mapping.specs.Table.{Filled, recordOf, blockMapped}
+use Rattle.layout.specs.Window.{windowFor}
 use Rattle.layout.specs.Given.{numPiecesGiven, pieceSize2Given, fileAtOffsetGiven}
 use Rattle.files.specs.Given.{exclusiveGiven, inclusiveGiven}
 
--- tables with places for 4 files, 2 directories and 14 bytes of text, and a table for 4 slices: enough for the sets of
--- Cases.antt
-abbrev pub newStore : ℕ → Store
-newStore n =
+-- tables with places for 4 files, 3 first files of pieces, 2 directories and 14 bytes of text, and a table for 4
+-- slices: enough for the sets of Cases.antt
+abbrev pub newStore : ℕ → Bool → Store
+newStore n indexed =
     record {
-      fs = newStorage n;
+      fs = newStorage n indexed;
       rows = replicate 32 0;
       roots = replicate 128 0;
+      firsts = replicate 3 65535;
       dirs = replicate 4 0;
       text = replicate 14 0;
     }
@@ -46,7 +48,14 @@ kept s c = by (c .says)
   where
     by : Outcome FileStorage → Store
     by (value fs) =
-        record { fs = fs; rows = c .rows; roots = c .roots; dirs = c .dirs; text = c .text }
+        record {
+          fs = fs;
+          rows = c .rows;
+          roots = c .roots;
+          firsts = c .firsts;
+          dirs = c .dirs;
+          text = c .text;
+        }
     by (refused k) = s
 
 abbrev pub built : Store → List Addition → Store
@@ -65,6 +74,7 @@ cleaned s =
           says = c .says;
           rows = c .rows;
           roots = s .roots;
+          firsts = s .firsts;
           dirs = c .dirs;
           text = c .text;
         })
@@ -87,6 +97,7 @@ pub data Question : Type 0 where
   inclusive : ℤ → Question
   pieceSize2 : ℤ → Question
   linkAfterCleaning : ℤ → Question
+  firstFile : ℕ → Question
 
 -- an answer as a row of numbers
 abbrev pub numbers : {A : Type 0} → (A → List ℤ) → Outcome A → Outcome (List ℤ)
@@ -111,18 +122,22 @@ sliceNumbers (p ∷ ps) = p .«file_index» .0 ∷ p .offset ∷ p .size ∷ sli
 abbrev pub slices : Filled → Outcome (List ℤ)
 slices r = numbers (λ (n : ℕ). pos n ∷ sliceNumbers (take n (r .table))) (r .says)
 
+-- a search begins with the window of the set's table of first files; a set that keeps none searches all files
 abbrev pub answer : Store → Question → Outcome (List ℤ)
 answer s (addFile a) = numbers (λ (fs : FileStorage). []) (addStored s a .says)
 answer s (fileOffset z) =
     numbers one (fileAnswer (s .fs) z (rowsHeld (s .fs) (s .rows)) (λ k. pos (rowAt (s .rows) k .offset)))
 answer s numPieces = numbers one (numPiecesGiven (s .fs))
-answer s (mapBlock p o n) = slices (blockMapped (s .fs) (s .rows) p o n lentSlices)
-answer s (fileIndexAtOffset o) = numbers one (fileAtOffsetGiven (s .fs) (s .rows) o)
+answer s (mapBlock p o n) = slices (blockMapped (s .fs) (s .rows) (windowFor (s .fs) (s .firsts) p o) p o n lentSlices)
+answer s (fileIndexAtOffset o) =
+    numbers one (fileAtOffsetGiven (s .fs) (s .rows) (windowFor (s .fs) (s .firsts) (pos 0) o) o)
 answer s (mapFile f o n) = numbers request (fileMapped (s .fs) (s .rows) f o n)
 answer s (exclusive f) = numbers ends (exclusiveGiven (s .fs) (s .rows) f)
 answer s (inclusive f) = numbers ends (inclusiveGiven (s .fs) (s .rows) f)
-answer s (pieceSize2 p) = numbers one (pieceSize2Given (s .fs) (s .rows) p)
+answer s (pieceSize2 p) =
+    numbers one (pieceSize2Given (s .fs) (s .rows) (windowFor (s .fs) (s .firsts) p (pos 0)) p)
 answer s (linkAfterCleaning z) = numbers (map pos) (linkIn (cleaned s) z)
+answer s (firstFile p) = value (one (pos (getD (s .firsts) p 0)))
 
 -- whether two answers are the same
 abbrev pub sameNumber : ℤ → ℤ → Bool

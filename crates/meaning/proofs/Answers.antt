@@ -9,29 +9,35 @@
 --     inclusive-pieces, exclusive-pieces          `file_piece_range_inclusive`, `file_piece_range_exclusive`
 --     last-piece-number, inclusive-numbers        the same of empty files
 --     tree-pieces-number, tree-pieces-range       `file_num_pieces`, `file_piece_range`
+--     first-file-given                            the table of first files
 use Prim.Native.Nat.{ℕ, _+_, _-_, _*_, _/_, _%_, _≤_, _<_}
 use mathlib.Core.Path.{_≡_, sym, ap, _∙_}
-use mathlib.Core.Bool.{Bool, false}
+use mathlib.Core.Bool.{Bool, true, false}
 use mathlib.Core.List.{List, map, map-map}
 use native.Mathlib.Omega.{arith}
 use lib.Dec.{eqb}
 use lib.IntN.{pos}
 use lib.ListN.{length, getD}
+use Rattle.lists.specs.Lists.{sum}
+use Rattle.lists.proofs.Quotients.{ceiling-below}
 use Rattle.types.specs.Refusals.{value, refused}
 use Rattle.tables.specs.Rows.{rowAt, has, padBit}
 use Rattle.tables.specs.Model.{File, Store, tabled, fileOf, viewOf}
 use Rattle.tables.proofs.Tabled.{getD-tabled}
 use Rattle.sound.proofs.Files.{map-tabled}
 use Rattle.rules.specs.Bounds.{limit}
+use Rattle.layout.specs.declared.window.Window.{Window}
 use Rattle.layout.specs.Given.{numPiecesGiven, lastPieceGiven, pieceRangeGiven, fileRangeGiven, fileAtOffsetGiven, fileAtPieceGiven, lastFileAtPieceGiven, pieceSizeGiven, pieceSize2Given}
 use Rattle.files.specs.Given.{pieceAtFileGiven, lastPieceAtFileGiven, exclusiveGiven, inclusiveGiven, fileNumPiecesGiven, filePieceRangeGiven, fileMapped}
 use Rattle.book.specs.Book.{Made, Row, Book, sizesOf, bytesOf, book}
 use Rattle.book.specs.Calls.{Renames, Leads}
 use Rattle.book.proofs.Entries.{rowOf}
 use Rattle.book.proofs.Agree.{agrees}
+use Rattle.book.proofs.Firsts.{firsts-kept}
 use Rattle.book.proofs.Theorem.{holds}
-use Rattle.meaning.specs.Layout.{beginOf, endOf, piecesOf, bytesOfPiece, lastOf, FileAt, lastByte, PieceAt, lastPiece, PieceSize2, range, Inclusive}
+use Rattle.meaning.specs.Layout.{beginOf, endOf, InFile, piecesOf, bytesOfPiece, lastOf, FileAt, lastByte, PieceAt, lastPiece, PieceSize2, range, Inclusive}
 use Rattle.meaning.specs.Layout.{inclusiveBegin, inclusiveEnd, exclusiveBegin, exclusiveEnd, requestAt, isTree, treeAnswer, treePieces}
+use Rattle.meaning.proofs.Numbers.{end-is}
 use Rattle.meaning.proofs.Tables.{all-files, count-of-pieces, last-of-pieces, all-pieces, file-mapped, offset-file, offset-past, piece-file, piece-last-file, piece-size, piece-size2, file-piece, file-last-piece, last-piece-plain, file-exclusive, file-inclusive, inclusive-plain, tree-pieces, tree-range}
 
 -- the calls `made`, refused ones included, led to the tables s; the sizes are those of the book
@@ -55,16 +61,23 @@ module _ {n : ℕ} {made : List Made} {s : Store} {r : Renames} (l : Leads n mad
       bit : (f : ℕ) → eqb (f % 16 % 2) 1 ≡ has f padBit
       bit f = let d : f % 16 % 2 ≡ f / 1 % 2 = omega arith in rw d
 
-  -- the file that has the byte
-  pub file-at-offset : (t : ℕ) → t < bytesOf (book n made .rows) → FileAt sizes t (fileAtOffsetGiven (s .fs) (s .rows) (pos t))
+  -- the file that has the byte, whatever window is asked with, here and below
+  pub file-at-offset : (w : Window) (t : ℕ) → t < bytesOf (book n made .rows) → FileAt sizes t (fileAtOffsetGiven (s .fs) (s .rows) w (pos t))
   file-at-offset = offset-file (holds l)
 
   -- 14: 'not below the total'
-  pub no-file-at-offset : (t : ℕ) → bytesOf (book n made .rows) ≤ t → fileAtOffsetGiven (s .fs) (s .rows) (pos t) ≡ refused 14
+  pub no-file-at-offset : (w : Window) (t : ℕ) → bytesOf (book n made .rows) ≤ t → fileAtOffsetGiven (s .fs) (s .rows) w (pos t) ≡ refused 14
   no-file-at-offset = offset-past (holds l)
 
   pub file-range-is : fileRangeGiven (s .fs) ≡ value (range 0 (length sizes))
   file-range-is = all-files (holds l)
+
+  -- document 02 (v): 'the file in which each piece begins', of a set that keeps it: the file with the piece's first byte
+  pub first-file-given : s .fs .indexed ≡ true → (p : ℕ) → p < piecesOf n sizes → InFile sizes (getD (s .firsts) p 0) (p * n)
+  first-file-given i p h =
+      let g = agrees l in
+      let w = firsts-kept l i .each p (ceiling-below (sum sizes) n (g .some) p h) in
+      record { from = w .low; below = omega (arith, w .high, end-is sizes (getD (s .firsts) p 0)) }
 
   -- 13 does not apply
   module _ (few : piecesOf n sizes ≤ 2147483647) where
@@ -78,17 +91,17 @@ module _ {n : ℕ} {made : List Made} {s : Store} {r : Renames} (l : Leads n mad
     piece-range-is = all-pieces (holds l) few
 
     module _ (p : ℕ) (there : p < piecesOf n sizes) where
-      pub file-at-piece : FileAt sizes (p * n) (fileAtPieceGiven (s .fs) (s .rows) (pos p))
-      file-at-piece = piece-file (holds l) few p there
+      pub file-at-piece : (w : Window) → FileAt sizes (p * n) (fileAtPieceGiven (s .fs) (s .rows) w (pos p))
+      file-at-piece w = piece-file (holds l) few w p there
 
-      pub last-file-at-piece : FileAt sizes (lastByte n sizes p) (lastFileAtPieceGiven (s .fs) (s .rows) (pos p))
-      last-file-at-piece = piece-last-file (holds l) few p there
+      pub last-file-at-piece : (w : Window) → FileAt sizes (lastByte n sizes p) (lastFileAtPieceGiven (s .fs) (s .rows) w (pos p))
+      last-file-at-piece w = piece-last-file (holds l) few w p there
 
       pub piece-size-is : pieceSizeGiven (s .fs) (pos p) ≡ value (pos (bytesOfPiece n sizes p))
       piece-size-is = piece-size (holds l) few p there
 
-      pub piece-size2-is : PieceSize2 n sizes p (pieceSize2Given (s .fs) (s .rows) (pos p))
-      piece-size2-is = piece-size2 (holds l) few p there
+      pub piece-size2-is : (w : Window) → PieceSize2 n sizes p (pieceSize2Given (s .fs) (s .rows) w (pos p))
+      piece-size2-is w = piece-size2 (holds l) few w p there
 
     module _ (k : ℕ) (there : k < length sizes) where
       -- the piece of its first byte; of an empty file, the piece of the byte that it begins at

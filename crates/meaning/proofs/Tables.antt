@@ -1,5 +1,6 @@
--- The layout answers on tables that hold files of given sizes, end to end. They rely on the law of the search in `layout`, on what
--- tables hold in `book`, and on Numbers.antt.
+-- The layout answers on tables that hold files of given sizes, end to end; those that search are the same for every
+-- window. They rely on the law of the search that begins with a window in `layout`, on what tables hold in `book`, and on
+-- Numbers.antt.
 --     all-files, count-of-pieces, last-of-pieces, all-pieces     the set
 --     file-mapped                       `map_file`
 --     offset-file, offset-past          the file at an offset
@@ -33,14 +34,16 @@ use Rattle.rules.specs.Results.{Range, SignedRequest}
 use Rattle.rules.specs.Questions.{answered, numPieces, rowsHeld, badPieceLength, manyPieces, noPiece, noFile, badRange, badOffset, noTree, short, fewEntries}
 use Rattle.rules.specs.Questions.{pieceAnswer, filePiecesAnswer}
 use Rattle.rules.proofs.Rules.{Passed, either-false}
-use Rattle.layout.specs.Search.{fileFound, partitionPoint, offsetAt}
+use Rattle.layout.specs.declared.window.Window.{Window}
+use Rattle.layout.specs.Search.{foundWithin, partitionPoint, offsetAt}
 use Rattle.layout.specs.Pieces as pieces
 use Rattle.layout.specs.Given.{numPiecesGiven, lastPieceGiven, pieceRangeGiven, fileRangeGiven, fileAtOffsetGiven, fileAtPieceGiven, lastFileAtPieceGiven, pieceSizeGiven, pieceSize2Given}
-use Rattle.layout.proofs.Halving.{Last, found-last}
+use Rattle.layout.proofs.Halving.{Last}
+use Rattle.layout.proofs.Starting.{found-within}
 use Rattle.files.specs.Request.{Request, fileStart, mapFile, asSigned}
 use Rattle.files.specs.Files as files
 use Rattle.files.specs.Given.{pieceAtFileGiven, lastPieceAtFileGiven, exclusiveGiven, inclusiveGiven, fileNumPiecesGiven, filePieceRangeGiven, fileMapped}
-use Rattle.book.proofs.Tables.{Holds, ascends}
+use Rattle.book.proofs.Tables.{Holds, laid}
 use Rattle.book.proofs.Demand.{first-none, is-open, all-held, file-there, not-many, piece-there}
 use Rattle.meaning.specs.Layout.{beginOf, endOf, InFile, InPiece, piecesOf, bytesOfPiece, lastOf, FileAt, lastByte, PieceAt, lastPiece, PieceSize2, range, Shares, Inclusive}
 use Rattle.meaning.specs.Layout.{mappedStart, inclusiveBegin, pieceAfter, inclusiveEnd, exclusiveBegin, endOrBegin, exclusiveEnd, requestAt, isTree, treeAnswer, treePieces}
@@ -81,10 +84,11 @@ same-inclusive em eg ep es = cc
 module _ {n : ℕ} {xs : List ℕ} {fs : FileStorage} {rows : List ℕ} (h : Holds n xs fs rows) where
   -- ---- the file at a byte
 
-  found : (t : ℕ) → t < sum xs → Last rows (length xs) t (fileFound rows (length xs) t)
-  found t l =
+  -- whatever window the search begins with
+  found : (w : Window) (t : ℕ) → t < sum xs → Last rows (length xs) t (foundWithin rows (length xs) w t)
+  found w t l =
       let p = some-file xs t l in
-      found-last rows (length xs) t (ascends h) p (omega (arith, h .offsets 0 p))
+      found-within rows (length xs) t (laid h) w p (omega (arith, h .offsets 0 p))
 
   has-byte : (t k : ℕ) → t < sum xs → Last rows (length xs) t k → InFile xs k t
   has-byte t k l w = record { from = rw (h .offsets k (w .among)) at (w .low); below = at (le-or-lt (length xs) (k + 1)) }
@@ -93,25 +97,25 @@ module _ {n : ℕ} {xs : List ℕ} {fs : FileStorage} {rows : List ℕ} (h : Hol
       at (inl e) = rw (take-all (k + 1) xs e) l
       at (inr e) = rw (h .offsets (k + 1) e) at (w .high (k + 1) (omega arith) e)
 
-  file-at : (t : ℕ) → t < sum xs → (r : Outcome ℤ) → r ≡ value (pos (fileFound rows (length xs) t)) → FileAt xs t r
-  file-at t l r e =
-      let w = found t l in
+  file-at : (w : Window) (t : ℕ) → t < sum xs → (r : Outcome ℤ) → r ≡ value (pos (foundWithin rows (length xs) w t)) → FileAt xs t r
+  file-at w t l r e =
+      let f = found w t l in
       record {
-        file = fileFound rows (length xs) t;
+        file = foundWithin rows (length xs) w t;
         answer = e;
-        among = w .among;
-        holds = has-byte t (fileFound rows (length xs) t) l w;
-        last = λ k a b. rw (h .offsets k b) at (w .high k a b);
+        among = f .among;
+        holds = has-byte t (foundWithin rows (length xs) w t) l f;
+        last = λ k a b. rw (h .offsets k b) at (f .high k a b);
       }
 
-  pub offset-file : (t : ℕ) → t < sum xs → FileAt xs t (fileAtOffsetGiven fs rows (pos t))
-  offset-file t l =
+  pub offset-file : (w : Window) (t : ℕ) → t < sum xs → FileAt xs t (fileAtOffsetGiven fs rows w (pos t))
+  offset-file w t l =
       let below : badOffset fs (pos t) .test ≡ false = rw (le-ltb limit t (omega (arith, h .limited)), h .total, lt-leb (sum xs) t l) in
-      let e = given (badPieceLength fs ∷ badOffset fs (pos t) ∷ short (rowsHeld fs rows && fewEntries fs) ∷ []) (is-open h, (below, (all-held h, tt))) (pos (fileFound rows (fs .«num_files») t)) in
-      file-at t l (fileAtOffsetGiven fs rows (pos t)) (e ∙ ap (λ (c : ℕ). value (pos (fileFound rows c t))) (h .count))
+      let e = given (badPieceLength fs ∷ badOffset fs (pos t) ∷ short (rowsHeld fs rows && fewEntries fs) ∷ []) (is-open h, (below, (all-held h, tt))) (pos (foundWithin rows (fs .«num_files») w t)) in
+      file-at w t l (fileAtOffsetGiven fs rows w (pos t)) (e ∙ ap (λ (c : ℕ). value (pos (foundWithin rows c w t))) (h .count))
 
-  pub offset-past : (t : ℕ) → sum xs ≤ t → fileAtOffsetGiven fs rows (pos t) ≡ refused 14
-  offset-past t l =
+  pub offset-past : (w : Window) (t : ℕ) → sum xs ≤ t → fileAtOffsetGiven fs rows w (pos t) ≡ refused 14
+  offset-past w t l =
       let past : badOffset fs (pos t) .test ≡ true = rw (h .total, le-leb (sum xs) t l) (either (ltb limit t)) in
       rw (is-open h, past)
     where
@@ -178,28 +182,28 @@ module _ {n : ℕ} {xs : List ℕ} {fs : FileStorage} {rows : List ℕ} (h : Hol
         given (badPieceLength fs ∷ manyPieces fs ∷ noPiece fs (pos q) ∷ short (fewEntries fs) ∷ []) (is-open h, (not-many h few, (there q l, (counted, tt)))) (pos (pieces.pieceSize fs q))
         ∙ ap (λ (k : ℕ). value (pos k)) (size-is q l)
 
-    pub piece-file : (q : ℕ) → q < piecesOf n xs → FileAt xs (q * n) (fileAtPieceGiven fs rows (pos q))
-    piece-file q l =
+    pub piece-file : (w : Window) (q : ℕ) → q < piecesOf n xs → FileAt xs (q * n) (fileAtPieceGiven fs rows w (pos q))
+    piece-file w q l =
         let b = piece-begins q l in
-        file-at (q * n) b (fileAtPieceGiven fs rows (pos q))
-        (piece-answer (λ p. pos (pieces.fileAtPiece fs rows p)) q l
-        ∙ ap₂ (λ (c m : ℕ). value (pos (fileFound rows c (q * m)))) (h .count) (h .long))
+        file-at w (q * n) b (fileAtPieceGiven fs rows w (pos q))
+        (piece-answer (λ p. pos (pieces.fileAtPiece fs rows w p)) q l
+        ∙ ap₂ (λ (c m : ℕ). value (pos (foundWithin rows c w (q * m)))) (h .count) (h .long))
 
-    pub piece-last-file : (q : ℕ) → q < piecesOf n xs → FileAt xs (lastByte n xs q) (lastFileAtPieceGiven fs rows (pos q))
-    piece-last-file q l =
+    pub piece-last-file : (w : Window) (q : ℕ) → q < piecesOf n xs → FileAt xs (lastByte n xs q) (lastFileAtPieceGiven fs rows w (pos q))
+    piece-last-file w q l =
         let b : lastByte n xs q < sum xs = omega (arith, piece-begins q l) in
-        file-at (lastByte n xs q) b (lastFileAtPieceGiven fs rows (pos q))
-        (piece-answer (λ p. pos (pieces.lastFileAtPiece fs rows p)) q l
-        ∙ ap₂ (λ (c m : ℕ). value (pos (fileFound rows c (m - 1)))) (h .count) (ap₂ (λ (m k : ℕ). q * m + k) (h .long) (size-is q l)))
+        file-at w (lastByte n xs q) b (lastFileAtPieceGiven fs rows w (pos q))
+        (piece-answer (λ p. pos (pieces.lastFileAtPiece fs rows w p)) q l
+        ∙ ap₂ (λ (c m : ℕ). value (pos (foundWithin rows c w (m - 1)))) (h .count) (ap₂ (λ (m k : ℕ). q * m + k) (h .long) (size-is q l)))
 
     -- the file found at a piece's first byte ends where the next begins, or with the set
-    pub piece-size2 : (q : ℕ) → q < piecesOf n xs → PieceSize2 n xs q (pieceSize2Given fs rows (pos q))
-    piece-size2 q l =
+    pub piece-size2 : (w : Window) (q : ℕ) → q < piecesOf n xs → PieceSize2 n xs q (pieceSize2Given fs rows w (pos q))
+    piece-size2 w q l =
         record {
           file = f;
-          holds = has-byte t f b w;
+          holds = has-byte t f b last;
           answer =
-              piece-answer (λ p. pos (pieces.pieceSize2 fs rows p)) q l
+              piece-answer (λ p. pos (pieces.pieceSize2 fs rows w p)) q l
               ∙ ap (λ (k : ℕ). value (pos k)) (ap (λ (k : ℕ). cond (leb (fs .«num_files») k) (pieces.pieceSize fs q) (min (offsetAt rows k - q * fs .«piece_length») (fs .«piece_length»))) after
               ∙ ap₂ (λ (c m : ℕ). cond (leb c (f + 1)) (pieces.pieceSize fs q) (min (offsetAt rows (f + 1) - q * m) m)) (h .count) (h .long)
               ∙ at (le-or-lt (length xs) (f + 1)));
@@ -212,15 +216,15 @@ module _ {n : ℕ} {xs : List ℕ} {fs : FileStorage} {rows : List ℕ} (h : Hol
         b = piece-begins q l
 
         f : ℕ
-        f = fileFound rows (length xs) t
+        f = foundWithin rows (length xs) w t
 
-        w : Last rows (length xs) t f
-        w = found t b
+        last : Last rows (length xs) t f
+        last = found w t b
 
-        after : partitionPoint rows (fs .«num_files») (q * fs .«piece_length») ≡ f + 1
+        after : partitionPoint rows (fs .«num_files») w (q * fs .«piece_length») ≡ f + 1
         after =
-            let e : eqb (length xs) 0 ≡ false = ne-eqb (length xs) 0 (λ z. omega (arith, w .among)) in
-            let d : leb (offsetAt rows f) t ≡ true = le-leb (offsetAt rows f) t (w .low) in
+            let e : eqb (length xs) 0 ≡ false = ne-eqb (length xs) 0 (λ z. omega (arith, last .among)) in
+            let d : leb (offsetAt rows f) t ≡ true = le-leb (offsetAt rows f) t (last .low) in
             rw (h .count, h .long, e, d)
 
         at : (length xs ≤ f + 1) ⊎ (f + 1 < length xs)

@@ -287,7 +287,7 @@ module _ (s : Store) (m : Model) (a : Addition) (ok : Sound s) (is : viewOf s �
   -- ---- the rest
 
   sound6 : Sound (stage6 s m a)
-  sound6 = sound-settled (stage5 s m a) _ _ sound5
+  sound6 = sound-settled (stage5 s m a) _ _ _ sound5
 
   plain : storageAdded (s .fs) m a .«size_on_disk» ≡ s .fs .«size_on_disk» + cond (isPad (a .flags)) 0 (sizeAdded a)
   plain = disk-plain s a ok (omega (arith, fit .limited, ap (λ (x : Model). x .total) is))

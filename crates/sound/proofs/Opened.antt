@@ -1,16 +1,17 @@
 -- A newly opened set: its tables, whatever they hold, are in order, and mean the set without files. Relies on nothing.
 use mathlib.Core.Path.{_≡_, refl}
+use mathlib.Core.Bool.{Bool}
 use mathlib.Core.List.{List}
 use Prim.Native.Nat.{ℕ}
 use native.Mathlib.Omega.{arith}
 use borrow.Author.Tests.{le-ltb}
-use Rattle.tables.specs.Model.{Store, tabled, viewOf}
+use Rattle.tables.specs.Model.{Store, storeOf, tabled, viewOf}
 use Rattle.storage.specs.Opening.{newStorage, newModel}
 use Rattle.sound.specs.Sound.{TextId, setName, dirName, fileName, linkText, nowhere, spanOf, sumTo, Sound}
 
-module _ (n : ℕ) (rows roots dirs text : List ℕ) where
+module _ (n : ℕ) (indexed : Bool) (rows roots firsts dirs text : List ℕ) where
   abbrev opened : Store
-  opened = record { fs = newStorage n; rows = rows; roots = roots; dirs = dirs; text = text }
+  opened = storeOf (newStorage n indexed) rows roots firsts dirs text
 
   span-opened : (p : TextId) → spanOf opened p ≡ nowhere
   span-opened setName = refl

@@ -69,6 +69,7 @@ linked-twice x i l h =
           fs = storageWith (x .fs) (x .fs .name) (v + length l);
           rows = rows;
           roots = x .roots;
+          firsts = x .firsts;
           dirs = x .dirs;
           text = sets (x .text) v l;
         }

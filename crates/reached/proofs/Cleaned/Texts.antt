@@ -75,6 +75,7 @@ over s a =
       fs = storageWith (s .fs) (a .name) (a .used);
       rows = a .rows;
       roots = s .roots;
+      firsts = s .firsts;
       dirs = a .dirs;
       text = a .text;
     }

@@ -1,5 +1,5 @@
--- What an addition answers: on tables in order the number that the tables give is the number that the model gives, and 0
--- gives every bound that the writing needs. Relies on Added/TextNeeded.antt.
+-- What an addition answers: on tables in order the number that the tables give is the number that the model gives, but for
+-- the places of the table of first files, and 0 gives every bound that the writing needs. Relies on Added/TextNeeded.antt.
 use mathlib.Core.Path.{_≡_, refl, sym, ap, _∙_}
 use mathlib.Core.Bool.{Bool, true, false, cond, not, _&&_, _||_}
 use Prim.Native.Nat.{ℕ, _+_, _*_, _/_, _≤_, min}
@@ -11,12 +11,17 @@ use Rattle.tables.specs.Model.{Model, Store, viewOf}
 use Rattle.rules.specs.Rules.{firstOf, outcomeOf}
 use Rattle.path.specs.Split.{hasParent}
 use Rattle.rules.specs.Bounds.{badLength, isNegative, limit}
+use Rattle.rules.specs.Questions.{numPieces}
 use Rattle.additions.specs.Addition.{Addition, added, addedTo, addingRules, badName, disagree, filesOf, lacks, limitedName, padOf, sizeAdded, textOf}
-use Rattle.plan.specs.Write.{textAfter}
+use Rattle.plan.specs.Write.{storageAdded, textAfter}
 use Rattle.change.specs.Rooms.{roomsOf, holds}
-use Rattle.plan.specs.Outcomes.{addingNumber}
+use Rattle.plan.specs.Outcomes.{lacksPlaces, addingNumber}
 use Rattle.sound.specs.Sound.{Sound}
 use Rattle.sound.proofs.Added.TextNeeded.{text-after}
+
+-- a set that keeps no table of first files lacks no place in it
+pub unindexed : (s : Store) (m : Model) (a : Addition) → s .fs .indexed ≡ false → lacksPlaces s m a ≡ false
+unindexed s m a e = ap (λ (b : Bool). b && ltb (length (s .firsts)) (numPieces (storageAdded (s .fs) m a))) e
 
 module _ (s : Store) (ok : Sound s) where
   -- the tables hold what the set's record counts
@@ -28,13 +33,19 @@ module _ (s : Store) (ok : Sound s) where
       )
       (le-leb (s .fs .«text_len») (roomsOf s .text) (ok .text-holds))
 
-  pub adding-number : (a : Addition) → addingNumber s (viewOf s) a ≡ firstOf (addingRules (viewOf s) a (lacks (roomsOf s) (added (viewOf s) a) (textOf (added (viewOf s) a))))
+  -- room is lacking in the table of first files, or in the others
+  pub adding-number : (a : Addition)
+      → addingNumber s (viewOf s) a
+      ≡ firstOf (addingRules (viewOf s) a (lacksPlaces s (viewOf s) a || lacks (roomsOf s) (added (viewOf s) a) (textOf (added (viewOf s) a))))
   adding-number a =
-      ap (λ (h : Bool). firstOf (addingRules (viewOf s) a (not h || lacks (roomsOf s) (added (viewOf s) a) (textAfter (s .fs) (viewOf s) a)))) sound-holds
-      ∙ ap (λ (t : ℕ). firstOf (addingRules (viewOf s) a (lacks (roomsOf s) (added (viewOf s) a) t))) (text-after s a ok)
+      ap (λ (h : Bool). firstOf (addingRules (viewOf s) a (not h || (lacksPlaces s (viewOf s) a || lacks (roomsOf s) (added (viewOf s) a) (textAfter (s .fs) (viewOf s) a))))) sound-holds
+      ∙ ap (λ (t : ℕ). firstOf (addingRules (viewOf s) a (lacksPlaces s (viewOf s) a || lacks (roomsOf s) (added (viewOf s) a) t))) (text-after s a ok)
 
-  pub adding : (a : Addition) → addedTo (roomsOf s) (viewOf s) a ≡ outcomeOf (addingNumber s (viewOf s) a) (added (viewOf s) a)
-  adding a = ap (λ (k : ℕ). outcomeOf k (added (viewOf s) a)) (sym (adding-number a))
+  -- the model has no table of first files: it adds as the tables do where that one has a place for each piece
+  pub adding : (a : Addition) → lacksPlaces s (viewOf s) a ≡ false → addedTo (roomsOf s) (viewOf s) a ≡ outcomeOf (addingNumber s (viewOf s) a) (added (viewOf s) a)
+  adding a e =
+      ap (λ (k : ℕ). outcomeOf k (added (viewOf s) a))
+      (sym (adding-number a ∙ ap (λ (b : Bool). firstOf (addingRules (viewOf s) a (b || lacks (roomsOf s) (added (viewOf s) a) (textOf (added (viewOf s) a))))) e))
 
 -- ---- what holds where nothing is refused
 
@@ -54,6 +65,7 @@ pub record Fits (s : Store) (m : Model) (a : Addition) : Type 0 where
   pub few-paths : length (added m a .directories) ≤ 65535
   pub dirs-hold : length (added m a .directories) * 2 ≤ length (s .dirs)
   pub text-holds : textAfter (s .fs) m a ≤ length (s .text)
+  pub placed : lacksPlaces s m a ≡ false
 
 few-rows : (f r t : ℕ) → f ≤ min 65535 (min (r / 8) (t / 32)) → (f ≤ 65535) × (f * 8 ≤ r) × (f * 32 ≤ t)
 few-rows f r t h = (omega arith, omega arith, omega arith)
@@ -61,9 +73,11 @@ few-rows f r t h = (omega arith, omega arith, omega arith)
 few-dirs : (d r : ℕ) → d ≤ min 65535 (r / 2) → (d ≤ 65535) × (d * 2 ≤ r)
 few-dirs d r h = (omega arith, omega arith)
 
-room : (s : Store) (m : Model) (a : Addition) → m .total + sizeAdded a + padOf m a ≤ limit → lacks (roomsOf s) (added m a) (textAfter (s .fs) m a) ≡ false → Fits s m a
+room : (s : Store) (m : Model) (a : Addition) → m .total + sizeAdded a + padOf m a ≤ limit
+    → (lacksPlaces s m a || lacks (roomsOf s) (added m a) (textAfter (s .fs) m a)) ≡ false → Fits s m a
 room s m a h e =
-    let p = neither (ltb (min 65535 (roomsOf s .files)) (filesOf (added m a))) _ e in
+    let o = neither (lacksPlaces s m a) _ e in
+    let p = neither (ltb (min 65535 (roomsOf s .files)) (filesOf (added m a))) _ (o .1) in
     let q = neither (ltb (min 65535 (roomsOf s .directories)) (length (added m a .directories))) _ (p .1) in
     let f = few-rows (filesOf (added m a)) (length (s .rows)) (length (s .roots)) (ltb-false _ _ (p .0)) in
     let d = few-dirs (length (added m a .directories)) (length (s .dirs)) (ltb-false _ _ (q .0)) in
@@ -75,6 +89,7 @@ room s m a h e =
       few-paths = d .0;
       dirs-hold = d .1;
       text-holds = ltb-false _ _ (q .1);
+      placed = o .0;
     }
 
 pub fits : (s : Store) (m : Model) (a : Addition) → addingNumber s m a ≡ 0 → Fits s m a
@@ -89,5 +104,9 @@ fits s m a e =
     let p8 = pass-one (disagree m a && m .v2) 7 _ (p7 .1) in
     let p9 = pass-one (disagree m a) 8 _ (p8 .1) in
     let p10 = pass-one (ltb limit (m .total + sizeAdded a + padOf m a)) 3 _ (p9 .1) in
-    let p11 = pass-one (not (holds s) || lacks (roomsOf s) (added m a) (textAfter (s .fs) m a)) 9 _ (p10 .1) in
+    let p11 = pass-one (not (holds s) || (lacksPlaces s m a || lacks (roomsOf s) (added m a) (textAfter (s .fs) m a))) 9 _ (p10 .1) in
     room s m a (ltb-false limit (m .total + sizeAdded a + padOf m a) (p10 .0)) (neither (not (holds s)) _ (p11 .0) .1)
+
+-- an addition that is not refused lacks no place in the table of first files
+pub has-places : (s : Store) (m : Model) (a : Addition) → addingNumber s m a ≡ 0 → lacksPlaces s m a ≡ false
+has-places s m a e = fits s m a e .placed

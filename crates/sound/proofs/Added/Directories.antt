@@ -38,9 +38,11 @@ dirStage b s d =
         «total_size» = s .fs .«total_size»;
         «size_on_disk» = s .fs .«size_on_disk»;
         trimmed = s .fs .trimmed;
+        indexed = s .fs .indexed;
       };
       rows = s .rows;
       roots = s .roots;
+      firsts = s .firsts;
       dirs = putDirIf b (s .dirs) (s .fs .«num_paths») (record { at = s .fs .«text_len»; len = length d });
       text = sets (s .text) (s .fs .«text_len») d;
     }

@@ -65,9 +65,11 @@ padStage b s f =
         «total_size» = s .fs .«total_size» + f .size;
         «size_on_disk» = s .fs .«size_on_disk» + cond (has (f .flags) 1) 0 (f .size);
         trimmed = s .fs .trimmed;
+        indexed = s .fs .indexed;
       };
       rows = cond b (s .rows) (putRow (s .rows) (s .fs .«num_files») (rowFor (s .fs .«total_size») (s .fs .«text_len») f));
       roots = cond b (s .roots) (rootsAdded (s .roots) (s .fs .«num_files») (f .root));
+      firsts = s .firsts;
       dirs = s .dirs;
       text = sets (sets (s .text) (s .fs .«text_len») (f .name)) (s .fs .«text_len» + length (f .name)) (f .link);
     }

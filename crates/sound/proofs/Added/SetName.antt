@@ -37,9 +37,11 @@ nameStage b s c t =
         «total_size» = s .fs .«total_size»;
         «size_on_disk» = s .fs .«size_on_disk»;
         trimmed = s .fs .trimmed;
+        indexed = s .fs .indexed;
       };
       rows = s .rows;
       roots = s .roots;
+      firsts = s .firsts;
       dirs = cond b (dirsLowered (s .dirs) (s .fs .«num_paths») c) (s .dirs);
       text = sets (cond b (slid c (s .fs .«text_len») (s .text)) (s .text)) (s .fs .«text_len» - c .len) t;
     }

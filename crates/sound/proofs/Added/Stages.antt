@@ -128,8 +128,8 @@ module _ (s : Store) (f : NewFile) (ok : Sound s) where
 
 -- ---- what no text or row depends on
 
-abbrev pub settled : Store → Bool → ℕ → Store
-settled s v2 links =
+abbrev pub settled : Store → Bool → ℕ → List ℕ → Store
+settled s v2 links firsts =
     record {
       fs = record {
         «piece_length» = s .fs .«piece_length»;
@@ -142,21 +142,23 @@ settled s v2 links =
         «total_size» = s .fs .«total_size»;
         «size_on_disk» = s .fs .«size_on_disk»;
         trimmed = s .fs .trimmed;
+        indexed = s .fs .indexed;
       };
       rows = s .rows;
       roots = s .roots;
+      firsts = firsts;
       dirs = s .dirs;
       text = s .text;
     }
 
-span-settled : (s : Store) (v2 : Bool) (links : ℕ) (p : TextId) → spanOf (settled s v2 links) p ≡ spanOf s p
-span-settled s v2 links setName = refl
-span-settled s v2 links (dirName k) = refl
-span-settled s v2 links (fileName k) = refl
-span-settled s v2 links (linkText k) = refl
+span-settled : (s : Store) (v2 : Bool) (links : ℕ) (firsts : List ℕ) (p : TextId) → spanOf (settled s v2 links firsts) p ≡ spanOf s p
+span-settled s v2 links firsts setName = refl
+span-settled s v2 links firsts (dirName k) = refl
+span-settled s v2 links firsts (fileName k) = refl
+span-settled s v2 links firsts (linkText k) = refl
 
-pub sound-settled : (s : Store) (v2 : Bool) (links : ℕ) → Sound s → Sound (settled s v2 links)
-sound-settled s v2 links ok =
+pub sound-settled : (s : Store) (v2 : Bool) (links : ℕ) (firsts : List ℕ) → Sound s → Sound (settled s v2 links firsts)
+sound-settled s v2 links firsts ok =
     record {
       rows-hold = ok .rows-hold;
       roots-hold = ok .roots-hold;
@@ -164,8 +166,8 @@ sound-settled s v2 links ok =
       text-holds = ok .text-holds;
       few-files = ok .few-files;
       few-paths = ok .few-paths;
-      within = λ p. rw (span-settled s v2 links p) (ok .within p);
-      apart = λ p q d. rw (span-settled s v2 links p, span-settled s v2 links q) (ok .apart p q d);
+      within = λ p. rw (span-settled s v2 links firsts p) (ok .within p);
+      apart = λ p q d. rw (span-settled s v2 links firsts p, span-settled s v2 links firsts q) (ok .apart p q d);
       full = ok .full;
       offsets = ok .offsets;
       total = ok .total;

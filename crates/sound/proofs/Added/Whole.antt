@@ -10,9 +10,9 @@ use Rattle.types.specs.Signed.{zigzag}
 use Rattle.tables.specs.declared.storage.FileStorage.{FileStorage}
 use Rattle.tables.specs.Span.{slid}
 use Rattle.tables.specs.Rows.{has}
-use Rattle.tables.specs.Model.{absent, Directory, single, absolute, stored, Model, Store}
+use Rattle.tables.specs.Model.{absent, Directory, single, absolute, stored, Model, Store, storeOf}
 use Rattle.additions.specs.Addition.{Addition, added, filesOf, sizeAdded, keeps, isV2, padOf, directoryAdded, fileAdded, padAdded, padDirectory, flagsKept, isAmong, withDirectory, withDirectoryOf, isPresent}
-use Rattle.plan.specs.Write.{directoryIndex, pathIndexOf, isOutside, textIfNew, newTexts, setText, directoryNew, nameText, linkNew, padDirectoryNew, padText, oldName, textKept, putDirIf, isNew, isNewDirectory, isNewPad, rootsAdded, storageAdded, storeAdded}
+use Rattle.plan.specs.Write.{directoryIndex, pathIndexOf, isOutside, textIfNew, newTexts, setText, directoryNew, nameText, linkNew, padDirectoryNew, padText, oldName, textKept, putDirIf, isNew, isNewDirectory, isNewPad, rootsAdded, storageAdded, firstsAdded, storeAdded}
 use Rattle.plan.proofs.Joined.{sets-joined}
 use Rattle.sound.proofs.Added.SetName.{nameStage}
 use Rattle.sound.proofs.Added.Directories.{dirStage}
@@ -67,6 +67,7 @@ stage6 s m a =
     (stage5 s m a)
     (isV2 m a)
     (s .fs .«num_symlinks» + cond (keeps m a) 1 0)
+    (firstsAdded s m a)
 
 -- ---- counts
 
@@ -102,12 +103,8 @@ always : {A : Type 0} (b : Bool) (x : A) → x ≡ cond b x x
 always true x = refl
 always false x = refl
 
-abbrev store : FileStorage → List ℕ → List ℕ → List ℕ → List ℕ → Store
-store fs rows roots dirs text =
-    record { fs = fs; rows = rows; roots = roots; dirs = dirs; text = text }
-
-same-store : {f f′ : FileStorage} {r r′ o o′ d d′ x x′ : List ℕ} → f ≡ f′ → r ≡ r′ → o ≡ o′ → d ≡ d′ → x ≡ x′ → store f r o d x ≡ store f′ r′ o′ d′ x′
-same-store ef er eo ed ex = cc
+same-store : {f f′ : FileStorage} {r o o′ t d d′ x x′ : List ℕ} → f ≡ f′ → o ≡ o′ → d ≡ d′ → x ≡ x′ → storeOf f r o t d x ≡ storeOf f′ r o′ t d′ x′
+same-store ef eo ed ex = cc
 
 pad-dirs : (b : Bool) (dirs : List ℕ) (i j at : ℕ) (t : List ℕ) → i ≡ j → (b ≡ true → length t ≡ 4)
     → putDirIf b dirs i (record { at = at; len = 4 }) ≡ putDirIf b dirs j (record { at = at; len = length t })
@@ -164,6 +161,7 @@ module _ (s : Store) (m : Model) (a : Addition) (e : length (m .directories) ≡
           «total_size» = s .fs .«total_size» + sizeAdded a + padOf m a;
           «size_on_disk» = disk;
           trimmed = s .fs .trimmed;
+          indexed = s .fs .indexed;
         }
 
     same-storage : {f f′ p p′ t t′ d d′ : ℕ} → f ≡ f′ → p ≡ p′ → t ≡ t′ → d ≡ d′ → storage f p t d ≡ storage f′ p′ t′ d′
@@ -177,4 +175,4 @@ module _ (s : Store) (m : Model) (a : Addition) (e : length (m .directories) ≡
     fs-is = same-storage (rows-count (eqb (padOf m a) 0) (s .fs .«num_files»)) paths-is (omega arith) (plain ∙ on-disk-is)
 
     pub whole : storeAdded s m a ≡ stage6 s m a
-    whole = same-store fs-is refl (always (eqb (padOf m a) 0) (rootsAdded (s .roots) (s .fs .«num_files») (a .root))) dirs-is text-is
+    whole = same-store fs-is (always (eqb (padOf m a) 0) (rootsAdded (s .roots) (s .fs .«num_files») (a .root))) dirs-is text-is
