@@ -3,6 +3,7 @@
 use crate::compat;
 use crate::places;
 use crate::places::Dirs;
+use crate::places::Firsts;
 use crate::places::Roots;
 use crate::places::Rows;
 use crate::places::Texts;
@@ -15,6 +16,7 @@ pub(crate) fn answer(
     all: Sets,
     rows: &Rows,
     roots: &Roots,
+    firsts: &Firsts,
     dirs: &Dirs,
     text: &Texts,
 ) {
@@ -32,6 +34,7 @@ pub(crate) fn answer(
         set.fs,
         places::words_at(rows, p.rows),
         places::bytes_at(roots, p.roots),
+        places::numbers_at(firsts, p.firsts),
         places::words_at(dirs, p.dirs),
         places::bytes_at(text, p.text),
         set.held,

@@ -6,6 +6,7 @@ use crate::changes;
 use crate::input::Buffer;
 use crate::opening;
 use crate::places::Dirs;
+use crate::places::Firsts;
 use crate::places::Roots;
 use crate::places::Rows;
 use crate::places::Texts;
@@ -22,6 +23,7 @@ pub(crate) fn answer(
     all: Sets,
     rows: &mut Rows,
     roots: &mut Roots,
+    firsts: &mut Firsts,
     dirs: &mut Dirs,
     text: &mut Texts,
 ) -> Made {
@@ -30,11 +32,11 @@ pub(crate) fn answer(
         return first;
     };
     let content = lists::part(line, 0, length);
-    let made = changes::make(content, sets::current(all), rows, roots, dirs, text);
+    let made = changes::make(content, sets::current(all), rows, roots, firsts, dirs, text);
     let Made::NoCall = made else {
         return made;
     };
-    asking::answer(content, all, rows, roots, dirs, text);
+    asking::answer(content, all, rows, roots, firsts, dirs, text);
     Made::Answered
 }
 

@@ -9,6 +9,7 @@ use crate::input::Buffer;
 use crate::input::between;
 use crate::places;
 use crate::places::Dirs;
+use crate::places::Firsts;
 use crate::places::Places;
 use crate::places::Roots;
 use crate::places::Rows;
@@ -28,6 +29,7 @@ pub(crate) fn make(
     set: Set,
     rows: &mut Rows,
     roots: &mut Roots,
+    firsts: &mut Firsts,
     dirs: &mut Dirs,
     text: &mut Texts,
 ) -> Made {
@@ -35,7 +37,7 @@ pub(crate) fn make(
         return Made::NoCall;
     }
     match words::form_of(b"add NAME PATH SIZE FLAGS MTIME LINK ROOT, trim", line) {
-        0 => add(line, set, rows, roots, dirs, text),
+        0 => add(line, set, rows, roots, firsts, dirs, text),
         1 => outcome(set, trim(set.fs, set.parts, rows, roots, dirs, text)),
         _ => make_other(line, set, rows, dirs, text),
     }
@@ -57,6 +59,7 @@ fn add(
     set: Set,
     rows: &mut Rows,
     roots: &mut Roots,
+    firsts: &mut Firsts,
     dirs: &mut Dirs,
     text: &mut Texts,
 ) -> Made {
@@ -67,7 +70,17 @@ fn add(
     }
     outcome(
         set,
-        add_read(words, &texts, set.fs, set.parts, rows, roots, dirs, text),
+        add_read(
+            words,
+            &texts,
+            set.fs,
+            set.parts,
+            rows,
+            roots,
+            firsts,
+            dirs,
+            text,
+        ),
     )
 }
 
@@ -79,6 +92,7 @@ fn add_read(
     parts: Places,
     rows: &mut [u64],
     roots: &mut [u8],
+    firsts: &mut [u16],
     dirs: &mut [u64],
     text: &mut [u8],
 ) -> StorageResult {
@@ -97,6 +111,7 @@ fn add_read(
         fs,
         places::words_of(rows, parts.rows),
         places::bytes_of(roots, parts.roots),
+        places::numbers_of(firsts, parts.firsts),
         places::words_of(dirs, parts.dirs),
         places::bytes_of(text, parts.text),
         file,

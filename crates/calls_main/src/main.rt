@@ -22,6 +22,7 @@ fn main() {
     let mut line = io::large_buffer();
     let mut rows = [0u64; 11264];
     let mut roots = [0u8; 32768];
+    let mut firsts = [0u16; 4096];
     let mut dirs = [0u64; 2048];
     let mut text = texts();
     let mut all = sets::none();
@@ -39,6 +40,7 @@ fn main() {
             all,
             &mut rows,
             &mut roots,
+            &mut firsts,
             &mut dirs,
             &mut text,
         );

@@ -20,10 +20,12 @@ struct Named {
     places: usize,
 }
 
-// The rooms that a line names: how many words name one, whether all are in form, and what they say.
+// The rooms that a line names: how many words name one, whether all are in form, whether one names a table of first
+// files, and what they say.
 struct Rooms {
     named: usize,
     is_formed: bool,
+    is_indexed: bool,
     parts: Places,
     lent: Lent,
     work: Work,
@@ -40,13 +42,13 @@ pub(crate) fn make(line: &[u8], at: usize) -> Made {
 }
 
 // `open LENGTH` and a word for each kind of room that is named, in any order. Where a line names no room, a set has the
-// most that it can have.
+// most that it can have, but no table of first files.
 fn open(line: &[u8], at: usize) -> Made {
     let I32Word::Is(piece_length) = words::i32_at(line, 1) else {
         return Made::NoCall;
     };
     let rooms = rooms_in(line, at);
-    if words::has(line, lists::min_usize(rooms.named, 10) + 2) {
+    if words::has(line, lists::min_usize(rooms.named, 11) + 2) {
         return Made::NoCall;
     }
     if !rooms.is_formed {
@@ -55,12 +57,25 @@ fn open(line: &[u8], at: usize) -> Made {
     let parts = rooms.parts;
     let lent = rooms.lent;
     let work = rooms.work;
-    opened(piece_length, parts, lent, work)
+    opened(
+        storage_of(piece_length, rooms.is_indexed),
+        parts,
+        lent,
+        work,
+    )
+}
+
+// A new set's record, with a table of first files or without.
+fn storage_of(piece_length: i32, is_indexed: bool) -> StorageResult {
+    if is_indexed {
+        return storage::open_indexed(piece_length);
+    }
+    storage::open(piece_length)
 }
 
 // A new set in place of the one that is spoken of, where its piece length is in range.
-fn opened(piece_length: i32, parts: Places, lent: Lent, work: Work) -> Made {
-    match storage::open(piece_length) {
+fn opened(result: StorageResult, parts: Places, lent: Lent, work: Work) -> Made {
+    match result {
         StorageResult::Ok(fs) => Made::Changed(sets::opened(parts, lent, work, fs)),
         StorageResult::Err(refusal) => Made::Refused(refusal),
     }
@@ -69,6 +84,7 @@ fn opened(piece_length: i32, parts: Places, lent: Lent, work: Work) -> Made {
 // The rooms that a line names, of the set at a place.
 fn rooms_in(line: &[u8], at: usize) -> Rooms {
     let files = room_of(line, b"files=", 256);
+    let pieces = room_of(line, b"pieces=", 1024);
     let dirs = room_of(line, b"dirs=", 256);
     let text = room_of(line, b"text=", 262144);
     let renames = room_of(line, b"renames=", 256);
@@ -84,6 +100,7 @@ fn rooms_in(line: &[u8], at: usize) -> Rooms {
     let in_work = are_formed(in_answers, marks.is_formed, sum.is_formed);
     Rooms {
         named: one(files.is_named)
+            + one(pieces.is_named)
             + one(dirs.is_named)
             + one(text.is_named)
             + one(renames.is_named)
@@ -93,10 +110,12 @@ fn rooms_in(line: &[u8], at: usize) -> Rooms {
             + one(hashes.is_named)
             + one(marks.is_named)
             + one(sum.is_named),
-        is_formed: are_formed(in_renames, in_work, true),
+        is_formed: are_formed(in_renames, in_work, pieces.is_formed),
+        is_indexed: pieces.is_named,
         parts: places::of_set(
             at,
             files.places,
+            pieces.places,
             dirs.places,
             text.places,
             renames.places,
@@ -114,10 +133,10 @@ fn rooms_in(line: &[u8], at: usize) -> Rooms {
     }
 }
 
-// A kind of room by its name, with `=` after it. Ten words may name room; of one kind the first counts.
+// A kind of room by its name, with `=` after it. Eleven words may name room; of one kind the first counts.
 fn room_of(line: &[u8], name: &[u8], most: usize) -> Named {
     let mut number = 2;
-    while number < 12 {
+    while number < 13 {
         if names(line, number, name) {
             return counted(line, number, name, most);
         }

@@ -4,10 +4,13 @@
 ghost use Prim.Native.Nat.{_≤_};
 use lists::min_usize;
 
-// The tables: rows of files and entries of renames, roots, directories, and texts of sets and of renames.
+// The tables: rows of files and entries of renames, roots, first files of pieces, directories, and texts of sets and of
+// renames.
 pub(crate) type Rows = [u64; 11264];
 
 pub(crate) type Roots = [u8; 32768];
+
+pub(crate) type Firsts = [u16; 4096];
 
 pub(crate) type Dirs = [u64; 2048];
 
@@ -19,11 +22,12 @@ pub(crate) struct Place {
     pub count: usize,
 }
 
-// The parts of a set: in the rows, the roots, the directories and the texts; its renames' parts in the rows and in the
-// texts.
+// The parts of a set: in the rows, the roots, the first files, the directories and the texts; its renames' parts in the
+// rows and in the texts.
 pub(crate) struct Places {
     pub rows: Place,
     pub roots: Place,
+    pub firsts: Place,
     pub dirs: Place,
     pub text: Place,
     pub entries: Place,
@@ -61,6 +65,14 @@ pub(crate) fn bytes_at(table: &[u8], place: Place) -> &[u8] {
     lists::part(table, place.start, place.count)
 }
 
+// The part of a table of file numbers.
+pub(crate) fn numbers_at(table: &[u16], place: Place) -> &[u16] {
+    let part = inside(table.len(), place);
+    let from = part.start;
+    let to = part.end;
+    &table[from..to]
+}
+
 // The part of a table of words, to be changed.
 pub(crate) fn words_of(table: &mut [u64], place: Place) -> &mut [u64] {
     let part = inside(table.len(), place);
@@ -77,11 +89,20 @@ pub(crate) fn bytes_of(table: &mut [u8], place: Place) -> &mut [u8] {
     &mut table[from..to]
 }
 
-// The parts of the set at a place, with room for that many files, directories and bytes of text; its renames have room
-// for that many entries of three words, and bytes of names.
+// The part of a table of file numbers, to be changed.
+pub(crate) fn numbers_of(table: &mut [u16], place: Place) -> &mut [u16] {
+    let part = inside(table.len(), place);
+    let from = part.start;
+    let to = part.end;
+    &mut table[from..to]
+}
+
+// The parts of the set at a place, with room for that many files, first files of pieces, directories and bytes of text;
+// its renames have room for that many entries of three words, and bytes of names.
 pub(crate) fn of_set(
     place: usize,
     files: usize,
+    pieces: usize,
     dirs: usize,
     text: usize,
     renames: usize,
@@ -97,6 +118,10 @@ pub(crate) fn of_set(
         roots: Place {
             start: at * 8192,
             count: most * 32,
+        },
+        firsts: Place {
+            start: at * 1024,
+            count: min_usize(pieces, 1024),
         },
         dirs: Place {
             start: at * 512,

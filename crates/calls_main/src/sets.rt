@@ -62,10 +62,11 @@ pub(crate) fn closed() -> Set {
         total_size: 0,
         size_on_disk: 0,
         trimmed: false,
+        indexed: false,
     };
     Set {
         is_open: false,
-        parts: places::of_set(0, 0, 0, 0, 0, 0),
+        parts: places::of_set(0, 0, 0, 0, 0, 0, 0),
         fs: fs,
         held: no_renames(),
         lent: Lent {

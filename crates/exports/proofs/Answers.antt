@@ -8,7 +8,7 @@ use Rattle.exports.specs.State.{Exported, exported, numberReturned, stat
 use Rattle.exports.specs.Cleanings.{CleaningReturned, cleaningReturned}
 
 pub answered : (state words : List ℕ) (n : ℕ) (made known : Changed) → made ≡ known → n ≡ numberReturned (made .says) → words ≡ stateAfter (made .says) state
-    → _≡_ {A = Exported} (record { number = n; state = words; rows = made .rows; roots = made .roots; dirs = made .dirs; text = made .text }) (exported state known)
+    → _≡_ {A = Exported} (record { number = n; state = words; rows = made .rows; roots = made .roots; firsts = made .firsts; dirs = made .dirs; text = made .text }) (exported state known)
 answered state words n made known e p q = rw (p, q, e)
 
 -- the same of a cleaning, with its work space

@@ -1,7 +1,6 @@
 -- A set's record as twelve words, an array of that size, for programs in other languages: piece length, v2 (0 or 1),
--- files, directories, link texts, a word that is not used, the name's position and length, text held, total, size on
--- disk, trimmed (0 or 1). The unused word is not looked at, and a change that is done writes 0 there. It relies on the
--- record of `tables` and on what a change of `change` leaves.
+-- files, directories, link texts, indexed (0 or 1), the name's position and length, text held, total, size on disk,
+-- trimmed (0 or 1). It relies on the record of `tables` and on what a change of `change` leaves.
 use Prim.Native.Nat.{ℕ}
 use mathlib.Core.Bool.{Bool, true, false, cond, not}
 use mathlib.Core.List.{List, [], _∷_}
@@ -28,6 +27,7 @@ storageOf w =
       «total_size» = getD w 9 0;
       «size_on_disk» = getD w 10 0;
       trimmed = not (eqb (getD w 11 0) 0);
+      indexed = not (eqb (getD w 5 0) 0);
     }
 
 -- 1 for true, 0 for false
@@ -43,7 +43,7 @@ wordsOf fs =
     fs .«num_files» ∷
     fs .«num_paths» ∷
     fs .«num_symlinks» ∷
-    0 ∷
+    bit (fs .indexed) ∷
     fs .name .at ∷
     fs .name .len ∷
     fs .«text_len» ∷
@@ -53,8 +53,8 @@ wordsOf fs =
     []
 
 -- the set that a record's words and the tables hold
-abbrev pub storeAt : List ℕ → List ℕ → List ℕ → List ℕ → List ℕ → Store
-storeAt state rows roots dirs text = storeOf (storageOf state) rows roots dirs text
+abbrev pub storeAt : List ℕ → List ℕ → List ℕ → List ℕ → List ℕ → List ℕ → Store
+storeAt state rows roots firsts dirs text = storeOf (storageOf state) rows roots firsts dirs text
 
 -- 0 is absent, any other number present
 abbrev pub presenceOf : ℕ → Presence
@@ -66,6 +66,7 @@ pub record Exported : Type 0 where
   pub state : List ℕ
   pub rows : List ℕ
   pub roots : List ℕ
+  pub firsts : List ℕ
   pub dirs : List ℕ
   pub text : List ℕ
 
@@ -84,6 +85,7 @@ exported state c =
       state = stateAfter (c .says) state;
       rows = c .rows;
       roots = c .roots;
+      firsts = c .firsts;
       dirs = c .dirs;
       text = c .text;
     }

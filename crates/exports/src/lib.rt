@@ -1,8 +1,10 @@
 // The C interface, for benchmarks and other languages: a set's record is twelve lent words and a root 32 lent bytes,
 // arrays with their sizes in their types. A change returns 0 or document 01's number; questions.rt and slices.rt say
-// what a question returns. An addition has 14 parameters and can't have fewer in C: each table and each text is a slice
+// what a question returns. An addition has 15 parameters and can't have fewer in C: each table and each text is a slice
 // of its own. Relies on `storage`, `trim`, `tables`, `layout`, `files`, `blocks` and `mapping`.
 ghost use mathlib.Core.Path.{_≡_};
+ghost use mathlib.Core.List.{List};
+ghost use Prim.Native.Nat.{ℕ};
 ghost use Rattle.change.specs.Changes.{storageSays};
 ghost use Rattle.additions.specs.Addition.{optionalOf};
 ghost use Rattle.plan.specs.Outcomes.{addStored};
@@ -45,6 +47,7 @@ pub(crate) fn storage_at(state: &State) -> FileStorage
         total_size: state[9],
         size_on_disk: state[10],
         trimmed: state[11] != 0,
+        indexed: state[5] != 0,
     }
 }
 
@@ -65,7 +68,7 @@ fn words_of(fs: FileStorage) -> State
         fs.num_files as u64,
         fs.num_paths as u64,
         fs.num_symlinks as u64,
-        0,
+        bit_of(fs.indexed),
         fs.name.at as u64,
         fs.name.len as u64,
         fs.text_len as u64,
@@ -105,6 +108,7 @@ pub extern "C" fn niflathen_add_file(
     state: &mut State,
     rows: &mut [u64],
     roots: &mut [u8],
+    firsts: &mut [u16],
     dirs: &mut [u64],
     text: &mut [u8],
     given: u8,
@@ -123,12 +127,13 @@ pub extern "C" fn niflathen_add_file(
           state = now (state .exit);
           rows = now (rows .exit);
           roots = now (roots .exit);
+          firsts = now (firsts .exit);
           dirs = now (dirs .exit);
           text = now (text .exit);
         })
         (exported (now (state .entry))
         (addStored
-        (storeAt (now (state .entry)) (now (rows .entry)) (now (roots .entry))
+        (storeAt (now (state .entry)) (now (rows .entry)) (now (roots .entry)) (now (firsts .entry))
         (now (dirs .entry)) (now (text .entry)))
         (record {
           given = optionalOf (presenceOf given) (now (filename .entry));
@@ -153,6 +158,7 @@ pub extern "C" fn niflathen_add_file(
         storage_at(state),
         rows,
         roots,
+        firsts,
         dirs,
         text,
         file,
@@ -163,7 +169,7 @@ pub extern "C" fn niflathen_add_file(
     put_answer(state, answer)
 }
 
-// `trim::remove_tail_padding`.
+// `trim::remove_tail_padding`, which is lent no table of first files and leaves it.
 #[no_mangle]
 pub extern "C" fn niflathen_remove_tail_padding(
     state: &mut State,
@@ -172,19 +178,20 @@ pub extern "C" fn niflathen_remove_tail_padding(
     dirs: &mut [u64],
     text: &mut [u8],
 ) -> u32
-    ensures { λ r. ⌜ _≡_ {A = Exported}
+    ensures { λ r. ⌜ ((firsts : List ℕ) → _≡_ {A = Exported}
         (record {
           number = r;
           state = now (state .exit);
           rows = now (rows .exit);
           roots = now (roots .exit);
+          firsts = firsts;
           dirs = now (dirs .exit);
           text = now (text .exit);
         })
         (exported (now (state .entry))
         (trimStored
-        (storeAt (now (state .entry)) (now (rows .entry)) (now (roots .entry))
-        (now (dirs .entry)) (now (text .entry))))) ⌝ }
+        (storeAt (now (state .entry)) (now (rows .entry)) (now (roots .entry)) firsts
+        (now (dirs .entry)) (now (text .entry)))))) ⌝ }
 {
     let answer = trim::remove_tail_padding(storage_at(state), rows, roots, dirs, text);
     put_answer(state, answer)

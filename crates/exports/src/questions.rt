@@ -1,5 +1,6 @@
 // The layout answers of the C interface: a block as three columns, `map_file` alone and for a list, and the file at an
-// offset. Relies on `layout`, `files`, `blocks` and on the record that a set's words hold.
+// offset. A question that searches is lent the set's table of first files; of a set that keeps none nothing is looked
+// at. Relies on `layout`, `files`, `blocks` and on the record that a set's words hold.
 ghost use mathlib.Core.Path.{_≡_};
 ghost use lib.IntN.{pos, negℤ};
 ghost use Rattle.types.specs.Refusals.{usizeSays};
@@ -7,6 +8,7 @@ ghost use Rattle.rules.specs.Results.{fileSays, requestSays};
 ghost use Rattle.blocks.specs.Block.{mapBlock};
 ghost use Rattle.files.specs.Given.{fileMapped};
 ghost use Rattle.files.specs.List.{filesMapped};
+ghost use Rattle.layout.specs.Window.{windowFor};
 ghost use Rattle.layout.specs.Given.{fileAtOffsetGiven};
 ghost use Rattle.exports.specs.State.{storageOf};
 ghost use Rattle.exports.specs.Layout.{countReturned, fileReturned, requestReturned};
@@ -87,6 +89,7 @@ fn request_returned(answer: RequestResult) -> FileRequest
 pub extern "C" fn niflathen_map_block(
     state: &State,
     rows: &[u64],
+    firsts: &[u16],
     piece: i32,
     offset: i64,
     size: i64,
@@ -102,12 +105,15 @@ pub extern "C" fn niflathen_map_block(
           size = now («out_size» .exit);
         })
         (blockReturned
-        (mapBlock (storageOf (now (state .entry))) (now (rows .entry)) piece offset size
+        (mapBlock (storageOf (now (state .entry))) (now (rows .entry))
+        (windowFor (storageOf (now (state .entry))) (now (firsts .entry)) piece offset) piece offset size
         (now («out_file» .entry)) (now («out_offset» .entry)) (now («out_size» .entry)))) ⌝ }
 {
+    let fs = storage_at(state);
     count_returned(blocks::map_block_core(
-        storage_at(state),
+        fs,
         rows,
+        layout::window_for(fs, firsts, PieceIndex(piece), offset),
         PieceIndex(piece),
         offset,
         size,
@@ -119,11 +125,24 @@ pub extern "C" fn niflathen_map_block(
 
 // `layout::file_index_at_offset`: the file's number, or minus the number of the refusal.
 #[no_mangle]
-pub extern "C" fn niflathen_file_index_at_offset(state: &State, rows: &[u64], offset: i64) -> i64
+pub extern "C" fn niflathen_file_index_at_offset(
+    state: &State,
+    rows: &[u64],
+    firsts: &[u16],
+    offset: i64,
+) -> i64
     ensures { λ r. ⌜ r ≡
-        fileReturned (fileAtOffsetGiven (storageOf (now (state .entry))) (now (rows .entry)) offset) ⌝ }
+        fileReturned
+        (fileAtOffsetGiven (storageOf (now (state .entry))) (now (rows .entry))
+        (windowFor (storageOf (now (state .entry))) (now (firsts .entry)) (pos 0) offset) offset) ⌝ }
 {
-    file_returned(layout::file_index_at_offset(storage_at(state), rows, offset))
+    let fs = storage_at(state);
+    file_returned(layout::file_index_at_offset(
+        fs,
+        rows,
+        layout::window_for(fs, firsts, PieceIndex(0), offset),
+        offset,
+    ))
 }
 
 // `files::map_file`: the request, or the number of the refusal. Arguments and answer go in registers.

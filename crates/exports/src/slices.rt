@@ -1,6 +1,7 @@
 // The mapping of a block into a lent slice of records, which lie as C lays them: the file's number, four
 // bytes that nothing reads, offset and size. Relies on `mapping`.
 ghost use mathlib.Core.Path.{_≡_};
+ghost use Rattle.layout.specs.Window.{windowFor};
 ghost use Rattle.mapping.specs.Table.{blockMapped};
 ghost use Rattle.exports.specs.State.{storageOf};
 ghost use Rattle.exports.specs.Layout.{SlicesReturned, slicesReturned};
@@ -15,6 +16,7 @@ use types::PieceIndex;
 pub extern "C" fn niflathen_map_block_slices(
     state: &State,
     rows: &[u64],
+    firsts: &[u16],
     piece: i32,
     offset: i64,
     size: i64,
@@ -22,11 +24,15 @@ pub extern "C" fn niflathen_map_block_slices(
 ) -> i64
     ensures { λ r. ⌜ _≡_ {A = SlicesReturned} (record { answer = r; table = now (out .exit) })
         (slicesReturned
-        (blockMapped (storageOf (now (state .entry))) (now (rows .entry)) piece offset size (now (out .entry)))) ⌝ }
+        (blockMapped (storageOf (now (state .entry))) (now (rows .entry))
+        (windowFor (storageOf (now (state .entry))) (now (firsts .entry)) piece offset)
+        piece offset size (now (out .entry)))) ⌝ }
 {
+    let fs = storage_at(state);
     count_returned(mapping::map_block(
-        storage_at(state),
+        fs,
         rows,
+        layout::window_for(fs, firsts, PieceIndex(piece), offset),
         PieceIndex(piece),
         offset,
         size,

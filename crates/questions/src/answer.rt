@@ -17,6 +17,7 @@ pub fn on_set(
     fs: FileStorage,
     rows: &[u64],
     roots: &[u8],
+    firsts: &[u16],
     dirs: &[u64],
     text: &[u8],
     held: RenamedFiles,
@@ -24,13 +25,13 @@ pub fn on_set(
     area: &[u8],
     lent: Lent,
 ) {
-    if whole_set::answer(line, fs, dirs, text) {
+    if whole_set::answer(line, fs, firsts, dirs, text) {
         return;
     }
     if file_rows::answer(line, fs, rows, roots, dirs, text, lent.output) {
         return;
     }
-    if layouts::answer(line, fs, rows, roots, lent.slices) {
+    if layouts::answer(line, fs, rows, roots, firsts, lent.slices) {
         return;
     }
     if file_paths::answer(line, fs, rows, dirs, text, lent) {

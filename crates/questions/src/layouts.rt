@@ -1,4 +1,6 @@
-// Questions on the layout of a set. Relies on `layout`, `files` and `blocks`, on `script` and on `replies`.
+// Questions on the layout of a set; those that search for a file begin by the set's table of first files. Relies on
+// `layout`, `files` and `blocks`, on `script` and on `replies`.
+use layout::Window;
 use script::I32Word;
 use script::I64Word;
 use tables::FileStorage;
@@ -15,25 +17,26 @@ pub(crate) fn answer(
     fs: FileStorage,
     rows: &[u64],
     hashes: &[u8],
+    firsts: &[u16],
     slices: usize,
 ) -> bool {
-    if on_number(line, fs, rows) {
+    if on_number(line, fs, rows, firsts) {
         return true;
     }
     let forms = b"file_index_at_offset O, file_index_for_root ROOT, map_file I OFFSET SIZE, \
         map_block PIECE OFFSET SIZE";
     match script::form_of(forms, line) {
-        0 => at_offset(line, fs, rows),
+        0 => at_offset(line, fs, rows, firsts),
         1 => for_root(line, fs, rows, hashes),
         2 => map_file(line, fs, rows),
-        3 => map_block(line, fs, rows, slices),
+        3 => map_block(line, fs, rows, firsts, slices),
         _ => return false,
     }
     true
 }
 
 // Answers a question on a file or a piece by its number.
-fn on_number(line: &[u8], fs: FileStorage, rows: &[u64]) -> bool {
+fn on_number(line: &[u8], fs: FileStorage, rows: &[u64], firsts: &[u16]) -> bool {
     let I32Word::Is(n) = script::to_i32(script::word(line, 1)) else {
         return false;
     };
@@ -43,7 +46,8 @@ fn on_number(line: &[u8], fs: FileStorage, rows: &[u64]) -> bool {
     if tree_of(line, FileIndex(n), fs, rows) {
         return true;
     }
-    piece_of(line, PieceIndex(n), fs, rows)
+    let window = layout::window_for(fs, firsts, PieceIndex(n), 0);
+    piece_of(line, PieceIndex(n), fs, rows, window)
 }
 
 // Answers a question on the pieces of a file; an arm stands for each form, in their order.
@@ -76,26 +80,27 @@ fn tree_of(line: &[u8], index: FileIndex, fs: FileStorage, rows: &[u64]) -> bool
 }
 
 // Answers a question on a piece; an arm stands for each form, in their order.
-fn piece_of(line: &[u8], piece: PieceIndex, fs: FileStorage, rows: &[u64]) -> bool {
+fn piece_of(line: &[u8], piece: PieceIndex, fs: FileStorage, rows: &[u64], window: Window) -> bool {
     let forms =
         b"piece_size P, piece_size2 P, blocks_in_piece2 P, file_index_at_piece P, last_file_index_at_piece P";
     match script::form_of(forms, line) {
         0 => replies::short(layout::piece_size(fs, piece)),
-        1 => replies::short(layout::piece_size2(fs, rows, piece)),
-        2 => replies::short(layout::blocks_in_piece2(fs, rows, piece)),
-        3 => replies::file(layout::file_index_at_piece(fs, rows, piece)),
-        4 => replies::file(layout::last_file_index_at_piece(fs, rows, piece)),
+        1 => replies::short(layout::piece_size2(fs, rows, window, piece)),
+        2 => replies::short(layout::blocks_in_piece2(fs, rows, window, piece)),
+        3 => replies::file(layout::file_index_at_piece(fs, rows, window, piece)),
+        4 => replies::file(layout::last_file_index_at_piece(fs, rows, window, piece)),
         _ => return false,
     }
     true
 }
 
 // `file_index_at_offset O`.
-fn at_offset(line: &[u8], fs: FileStorage, rows: &[u64]) {
+fn at_offset(line: &[u8], fs: FileStorage, rows: &[u64], firsts: &[u16]) {
     let I64Word::Is(offset) = script::to_i64(script::word(line, 1)) else {
         return replies::bad_call();
     };
-    replies::file(layout::file_index_at_offset(fs, rows, offset))
+    let window = layout::window_for(fs, firsts, PieceIndex(0), offset);
+    replies::file(layout::file_index_at_offset(fs, rows, window, offset))
 }
 
 // `file_index_for_root ROOT`.
@@ -123,7 +128,7 @@ fn map_file(line: &[u8], fs: FileStorage, rows: &[u64]) {
 }
 
 // `map_block PIECE OFFSET SIZE`.
-fn map_block(line: &[u8], fs: FileStorage, rows: &[u64], slices: usize) {
+fn map_block(line: &[u8], fs: FileStorage, rows: &[u64], firsts: &[u16], slices: usize) {
     let I32Word::Is(n) = script::to_i32(script::word(line, 1)) else {
         return replies::bad_call();
     };
@@ -133,17 +138,27 @@ fn map_block(line: &[u8], fs: FileStorage, rows: &[u64], slices: usize) {
     let I64Word::Is(size) = script::to_i64(script::word(line, 3)) else {
         return replies::bad_call();
     };
-    map(PieceIndex(n), offset, size, fs, rows, slices)
+    let window = layout::window_for(fs, firsts, PieceIndex(n), offset);
+    map(PieceIndex(n), offset, size, fs, rows, window, slices)
 }
 
 // Maps a block, and writes the slices.
-fn map(piece: PieceIndex, offset: i64, size: i64, fs: FileStorage, rows: &[u64], slices: usize) {
+fn map(
+    piece: PieceIndex,
+    offset: i64,
+    size: i64,
+    fs: FileStorage,
+    rows: &[u64],
+    window: Window,
+    slices: usize,
+) {
     let mut files = column();
     let mut offsets = column();
     let mut sizes = column();
     let result = blocks::map_block_core(
         fs,
         rows,
+        window,
         piece,
         offset,
         size,

@@ -2,17 +2,23 @@
 use tables::FileStorage;
 
 // Answers a line that has one of this module's forms, and says whether it has.
-pub(crate) fn answer(line: &[u8], fs: FileStorage, dirs: &[u64], text: &[u8]) -> bool {
-    if on_pieces(line, fs) {
+pub(crate) fn answer(
+    line: &[u8],
+    fs: FileStorage,
+    firsts: &[u16],
+    dirs: &[u64],
+    text: &[u8],
+) -> bool {
+    if on_pieces(line, fs, firsts) {
         return true;
     }
     on_files(line, fs, dirs, text)
 }
 
 // Answers a question on pieces and ranges; an arm stands for each form, in their order.
-fn on_pieces(line: &[u8], fs: FileStorage) -> bool {
+fn on_pieces(line: &[u8], fs: FileStorage, firsts: &[u16]) -> bool {
     let forms =
-        b"piece_length, num_pieces, last_piece, piece_range, file_range, blocks_per_piece, v2";
+        b"piece_length, num_pieces, last_piece, piece_range, file_range, blocks_per_piece, v2, first_files";
     match script::form_of(forms, line) {
         0 => replies::short(answers::piece_length(fs)),
         1 => replies::short(layout::num_pieces(fs)),
@@ -21,6 +27,7 @@ fn on_pieces(line: &[u8], fs: FileStorage) -> bool {
         4 => replies::files(layout::file_range(fs)),
         5 => replies::short(layout::blocks_per_piece(fs)),
         6 => replies::boolean(answers::v2(fs)),
+        7 => replies::first_files(fs, firsts),
         _ => return false,
     }
     true

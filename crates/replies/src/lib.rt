@@ -10,6 +10,7 @@ pub use output::done;
 pub use output::refused;
 pub use rows::directories;
 pub use rows::export;
+pub use rows::first_files;
 pub use rows::hashes;
 pub use rows::slices;
 pub use values::boolean;

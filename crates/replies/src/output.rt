@@ -77,6 +77,11 @@ pub(crate) fn number(reply: Reply, n: u64) -> Reply {
     digits(put(reply, b' '), n)
 }
 
+// Puts a value that there is not.
+pub(crate) fn none(reply: Reply) -> Reply {
+    text(reply, b" -")
+}
+
 // Puts a value that is a slice: `file:offset:size`.
 pub(crate) fn slice(reply: Reply, file: u64, offset: u64, size: u64) -> Reply {
     part(part(number(reply, file), offset), size)

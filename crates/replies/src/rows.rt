@@ -1,5 +1,6 @@
-// Answers of many values: the slices of a block, hashes, directories and renames, each put by a loop. Relies on
-// output.rt, and on `answers` and `renames` for the values that a table holds.
+// Answers of many values: the slices of a block, first files, hashes, directories and renames, each put by a loop.
+// Relies on output.rt, on `rules` for the count of pieces, and on `answers` and `renames` for the values that a table
+// holds.
 use crate::output;
 use crate::output::Reply;
 use renames::Rename;
@@ -35,6 +36,39 @@ fn each_slice(before: Reply, n: usize, files: &[u64], offsets: &[u64], sizes: &[
         i += 1;
     }
     reply
+}
+
+// The file in which each piece begins, of a set that keeps a table of them; else that there is none.
+pub fn first_files(fs: FileStorage, firsts: &[u16]) {
+    if !fs.indexed {
+        return output::end(output::none(output::ok()));
+    }
+    let n = lists::min(rules::count_pieces(fs), firsts.len() as u64);
+    output::end(each_first(output::ok(), firsts, n as usize))
+}
+
+// Puts the first n files of a table.
+fn each_first(before: Reply, firsts: &[u16], n: usize) -> Reply {
+    let mut reply = before;
+    let mut i = 0;
+    while i < n {
+        reply = output::number(reply, first_at(firsts, i));
+        i += 1;
+    }
+    reply
+}
+
+// The file at a place, 0 past the end.
+fn first_at(firsts: &[u16], i: usize) -> u64 {
+    if i < firsts.len() {
+        return widened(firsts[i]);
+    }
+    0
+}
+
+// A file's number as one of 64 bits.
+fn widened(file: u16) -> u64 {
+    file as u64
 }
 
 // The hashes at the start of a table.

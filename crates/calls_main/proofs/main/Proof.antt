@@ -4,11 +4,13 @@ use Rattle.calls_main.proofs.main.Statement.{statement}
 use Rattle.calls_main.proofs.main.Tie as tie
 
 abbrev Inv-loop : tie.InvT-loop
-Inv-loop block₀ line₀ rows₀ roots₀ dirs₀ text₀ all₀ cursor₀ turns₀ block line rows roots dirs text all cursor turns =
+Inv-loop block₀ line₀ rows₀ roots₀ firsts₀ dirs₀ text₀ all₀ cursor₀ turns₀ block line rows roots firsts dirs
+    text all cursor turns =
     Unit {0}
 
 abbrev μ-loop : tie.MeasureT-loop
-μ-loop block₀ line₀ rows₀ roots₀ dirs₀ text₀ all₀ cursor₀ turns₀ block line rows roots dirs text all cursor turns =
+μ-loop block₀ line₀ rows₀ roots₀ firsts₀ dirs₀ text₀ all₀ cursor₀ turns₀ block line rows roots firsts dirs
+    text all cursor turns =
     turns
 
 large-buffer-requires : tie.Need-large-buffer-requires Inv-loop μ-loop

@@ -19,7 +19,7 @@ use Rattle.exports.proofs.niflathen_add_file.Tie as tie
 -- and a time
 abbrev added : tie.Start → FileStorage → Presence → Presence → ℤ → ℤ → Changed
 added c fs given rooted size time =
-    addStored (record { fs = fs; rows = c .args .rows .now; roots = c .args .roots .now; dirs = c .args .dirs .now; text = c .args .text .now })
+    addStored (record { fs = fs; rows = c .args .rows .now; roots = c .args .roots .now; firsts = c .args .firsts .now; dirs = c .args .dirs .now; text = c .args .text .now })
     (record { given = optionalOf given (c .args .filename .now); path = c .args .path .now; size = size; flags = c .args .file-flags; time = time; link = c .args .symlink-path .now; root = optionalOf rooted (c .args .root .now) })
 
 -- what the addition left
@@ -29,14 +29,15 @@ left c =
       says = storageSays (c .add-file .result);
       rows = c .add-file .last .1 .0;
       roots = c .add-file .last .1 .1 .0;
-      dirs = c .add-file .last .1 .1 .1 .0;
-      text = c .add-file .last .1 .1 .1 .1 .0;
+      firsts = c .add-file .last .1 .1 .1 .0;
+      dirs = c .add-file .last .1 .1 .1 .1 .0;
+      text = c .add-file .last .1 .1 .1 .1 .1 .0;
     }
 
 -- and what that is
 module _ (c : tie.After-add-file) where
   abbrev start : tie.Start
-  start = c .before .before .before .before .before .before .before .before .before .before .before .before .before .before .before .before .before
+  start = c .before .before .before .before .before .before .before .before .before .before .before .before .before .before .before .before .before .before .before
 
   abbrev fs : FileStorage
   fs = storageOf (start .args .state .now)
@@ -48,10 +49,10 @@ module _ (c : tie.After-add-file) where
   is-known =
       let size = toZ w64 (ofZ w64 (start .args .file-size)) in
       let time = toZ w64 (ofZ w64 (start .args .mtime)) in
-      let given = c .before .before .before .before .before .before .before .before .presence-of in
-      let rooted = c .before .before .before .before .before .before .before .presence-of2 in
+      let given = c .before .before .before .before .before .before .before .before .before .presence-of in
+      let rooted = c .before .before .before .before .before .before .before .before .presence-of2 in
       c .add-file .ensures
-      ∙ ap (λ (x : FileStorage). added start x (given .result) (rooted .result) size time) (c .before .before .before .before .before .storage-at .ensures)
+      ∙ ap (λ (x : FileStorage). added start x (given .result) (rooted .result) size time) (c .before .before .before .before .before .before .storage-at .ensures)
       ∙ ap (λ (x : Presence). added start fs x (rooted .result) size time) (given .ensures)
       ∙ ap (λ (x : Presence). added start fs (presenceOf (start .args .given)) x size time) (rooted .ensures)
       ∙ ap (λ (x : ℤ). added start fs (presenceOf (start .args .given)) (presenceOf (start .args .rooted)) x time) (toZ-ofZ (start .fits .file-size))
@@ -84,9 +85,12 @@ same-length-3 c = search needs
 same-length-4 : tie.Need-same-length-4
 same-length-4 c = search needs
 
+same-length-5 : tie.Need-same-length-5
+same-length-5 c = search needs
+
 returns : tie.Need-returns
 returns c =
-    let a = c .before .before .before .before .before .before .before .before .before .before in
+    let a = c .before .before .before .before .before .before .before .before .before .before .before .before in
     answered (start a .args .state .now) (c .put-answer .last .0) (c .put-answer .result) (left a) (known a) (is-known a) (c .put-answer .ensures .0) (c .put-answer .ensures .1)
 
 pub niflathen-add-file-spec : {M : Type 1} → statement M
@@ -102,4 +106,5 @@ niflathen-add-file-spec =
     same-length-2
     same-length-3
     same-length-4
+    same-length-5
     returns)

@@ -9,8 +9,11 @@ bit-of-requires c κs = search needs
 bit-of-requires-2 : tie.Need-bit-of-requires-2
 bit-of-requires-2 c κs = search needs
 
+bit-of-requires-3 : tie.Need-bit-of-requires-3
+bit-of-requires-3 c κs = search needs
+
 returns : tie.Need-returns
-returns c = rw (c .before .bit-of .ensures, c .bit-of2 .ensures)
+returns c = rw (c .before .before .bit-of .ensures, c .before .bit-of2 .ensures, c .bit-of3 .ensures)
 
 pub words-of-spec : {M : Type 1} → statement M
-words-of-spec = tie.close (tie.spec bit-of-requires bit-of-requires-2 returns)
+words-of-spec = tie.close (tie.spec bit-of-requires bit-of-requires-2 bit-of-requires-3 returns)

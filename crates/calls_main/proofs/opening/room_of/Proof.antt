@@ -8,7 +8,7 @@ abbrev Inv-loop : tie.InvT-loop
 Inv-loop line name most number₀ number = Unit {0}
 
 abbrev μ-loop : tie.MeasureT-loop
-μ-loop line name most number₀ number = 12 - number
+μ-loop line name most number₀ number = 13 - number
 
 loop-holds : tie.Need-loop-holds Inv-loop μ-loop
 loop-holds c = search needs

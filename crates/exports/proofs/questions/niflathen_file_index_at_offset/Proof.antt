@@ -1,4 +1,5 @@
--- `exports::questions::niflathen_file_index_at_offset` meets its contract: the question's own, at the record that was read.
+-- `exports::questions::niflathen_file_index_at_offset` meets its contract: the question's own, at the record
+-- that was read and the window that the table of first files gives.
 use mathlib.Core.Path.{_∙_}
 use mir.Syntax.{w64}
 use mir.Val.{SFits}
@@ -10,6 +11,9 @@ use Rattle.exports.proofs.questions.niflathen_file_index_at_offset.Tie 
 storage-at-requires : tie.Need-storage-at-requires
 storage-at-requires c κs = search needs
 
+window-for-requires : tie.Need-window-for-requires
+window-for-requires c κs = search needs
+
 file-index-at-offset-requires : tie.Need-file-index-at-offset-requires
 file-index-at-offset-requires c κs = search needs
 
@@ -18,11 +22,11 @@ file-returned-requires c κs = search needs
 
 returns : tie.Need-returns
 returns c =
-    let a = c .before .before .before .before .args in
+    let a = c .before .before .before .before .before .before .args in
     let r : SFits w64 (c .file-returned .result) = search needs in
     let o : SFits w64 (a .offset) = search needs in
-    toZ-ofZ r ∙ (rw (c .before .file-index-at-offset .ensures, c .before .before .storage-at .ensures, toZ-ofZ o) at (c .file-returned .ensures))
+    toZ-ofZ r ∙ (rw (c .before .file-index-at-offset .ensures, c .before .before .window-for .ensures, c .before .before .before .storage-at .ensures, toZ-ofZ o) at (c .file-returned .ensures))
 
 pub niflathen-file-index-at-offset-spec : {M : Type 1} → statement M
 niflathen-file-index-at-offset-spec =
-    tie.close (tie.spec storage-at-requires file-index-at-offset-requires file-returned-requires returns)
+    tie.close (tie.spec storage-at-requires window-for-requires file-index-at-offset-requires file-returned-requires returns)
