@@ -1,4 +1,5 @@
-//! `add_file` of the unchanged Rust and of the port on the same additions; all that both built is compared.
+//! `add_file` of the unchanged Rust and of the port on the same additions, without a table of first files and with one;
+//! all that both built is compared.
 
 use std::time::{Duration, Instant};
 
@@ -35,6 +36,7 @@ struct Times {
     rust: Best,
     reserved: Best,
     port: Best,
+    table: Best,
 }
 
 /// Sets of the Rust without files, with room for so many files if `reserved`.
@@ -62,12 +64,16 @@ pub fn add_port(set: &mut Set, i: &Input) {
     assert_eq!(set.add_file(i), 0, "the port refuses");
 }
 
-/// Runs a case: in each repetition the Rust, the Rust with `reserve`, the port, and the comparison.
+/// Runs a case: in each repetition the Rust, the Rust with `reserve`, the port without and with a table of first files,
+/// and the comparison.
 fn run(case: Case, sets: usize, repetitions: usize) -> Times {
     let inputs = inputs::inputs(case);
     let given = inputs::times(&inputs);
     let text = inputs.iter().map(|i| i.path.len() + 8).sum::<usize>() + 64;
-    let mut port: Vec<Set> = (0..sets).map(|_| Set::new(case.files, case.directories + 1, text)).collect();
+    let pieces = inputs::pieces(&inputs, PIECE_LENGTH.into());
+    let empty = || Set::new(case.files, case.directories + 1, text);
+    let mut port: Vec<Set> = (0..sets).map(|_| empty()).collect();
+    let mut tables: Vec<Set> = (0..sets).map(|_| empty().with_table(pieces)).collect();
     let mut times = Times::default();
     for _ in 0..repetitions {
         let mut rust = rust_sets(sets, case.files, false);
@@ -76,28 +82,38 @@ fn run(case: Case, sets: usize, repetitions: usize) -> Times {
         times.reserved.keep(stretches(&mut reserved, &inputs, add_rust));
         port.iter_mut().for_each(Set::clear);
         times.port.keep(stretches(&mut port, &inputs, add_port));
-        for (rust, port) in rust.iter_mut().zip(&mut port) {
-            compare::compare(rust, &given, port);
-            compare::compare_times(rust, &given);
-            compare::compare_trimmed(rust, &mut given.clone(), port);
+        tables.iter_mut().for_each(Set::clear);
+        times.table.keep(stretches(&mut tables, &inputs, add_port));
+        for (mut rust, ports) in rust.into_iter().zip(port.iter_mut().zip(&mut tables)) {
+            let mut reserved = rust.clone();
+            compare_built(&mut rust, &given, ports.0);
+            compare_built(&mut reserved, &given, ports.1);
         }
     }
     times
+}
+
+/// Compares a set, and again once the pad at the end is removed.
+fn compare_built(rust: &mut FileStorage, given: &[i64], port: &mut Set) {
+    compare::compare(rust, given, port);
+    compare::compare_times(rust, given);
+    compare::compare_trimmed(rust, &mut given.to_vec(), port);
 }
 
 /// Prints a case's row of the table.
 fn print(case: Case, sets: usize, times: &Times) {
     let additions = sets * case.additions();
     let (rust, reserved) = (times.rust.each(additions), times.reserved.each(additions));
-    let port = times.port.each(additions);
+    let (port, table) = (times.port.each(additions), times.table.each(additions));
     println!(
-        "| {} | {} | {} | {} | {rust:.1} | {reserved:.1} | {port:.1} | {:.2} | {:.2} |",
+        "| {} | {} | {} | {} | {rust:.1} | {reserved:.1} | {port:.1} | {table:.1} | {:.2} | {:.2} | {:.2} |",
         if case.v2 { "v2" } else { "v1" },
         case.directories,
         if case.timed { "set" } else { "0" },
         case.files,
         port / rust,
         port / reserved,
+        table / rust,
     );
 }
 
@@ -121,7 +137,10 @@ pub fn check() {
 
 /// Prints the table: nanoseconds for one addition.
 pub fn table() {
-    println!("| kind | directories | time | files | Rust | Rust, `reserve` | port | port / Rust | port / `reserve` |");
-    println!("|---|---:|---|---:|---:|---:|---:|---:|---:|");
+    println!(
+        "| kind | directories | time | files | Rust | Rust, `reserve` | port | port, table | port / Rust | port / `reserve` \
+         | table / Rust |"
+    );
+    println!("|---|---:|---|---:|---:|---:|---:|---:|---:|---:|---:|");
     each(|case, sets, repetitions| print(case, sets, &run(case, sets, repetitions)));
 }

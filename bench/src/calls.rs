@@ -1,7 +1,8 @@
 //! Additions with given names, link texts, flags and times, trims, layout questions, and refused calls, on both sides:
 //! what is refused is compared by document 01's number, and must leave all that is lent as it was; what is built is
 //! compared by its rows. 2, 6 and 7, where the Rust has assertions, and 1 and 10 to 14, where it has no counterpart, are
-//! those that document 01's words ask for; times are those that the additions gave.
+//! those that document 01's words ask for; times are those that the additions gave. A set keeps a table of first files,
+//! or is lent one that it does not keep, or none; tables that are not true must change no answer.
 
 use bitdaemon_common::{FileIndex, PieceIndex, Sha256Hash};
 use bitdaemon_core::Error;
@@ -60,10 +61,12 @@ fn once_in(random: &mut Random, n: u64) -> bool {
 }
 
 /// A random addition; at times its name has 4095 or 4096 bytes, or its size is at a limit.
-fn addition(random: &mut Random, rooted: u64, total: i64) -> Addition {
-    let length = i64::from(PIECE_LENGTH);
-    let sizes = [0, 0, 1, 7, length, length + 1, LIMIT, LIMIT + 1, LIMIT - total, LIMIT - total + 1, -1, i64::MIN];
-    let usual = if once_in(random, 8) { sizes.len() } else { 6 };
+fn addition(random: &mut Random, rooted: u64, rust: &FileStorage) -> Addition {
+    let (length, total) = (i64::from(rust.piece_length()), rust.total_size());
+    let several = length * 3 - total % length;
+    let sizes =
+        [0, 0, 1, 7, length, length + 1, several, LIMIT, LIMIT + 1, LIMIT - total, LIMIT - total + 1, -1, i64::MIN];
+    let usual = if once_in(random, 8) { sizes.len() } else { 7 };
     let long = vec![b'n'; one_of(random, &[4095, 4096])];
     let mut path = one_of(random, &PATHS).to_vec();
     let mut name = once_in(random, 5).then(|| one_of(random, &NAMES).to_vec());
@@ -83,11 +86,43 @@ fn addition(random: &mut Random, rooted: u64, total: i64) -> Addition {
     }
 }
 
+/// A set's table of first files: kept, lent to a set that keeps none, or none. It may hold any numbers.
+fn with_table(random: &mut Random, set: Set) -> Set {
+    let places = (random.next() % 16) as usize;
+    let firsts = numbers(random, 20, places);
+    match random.next() % 4 {
+        0 => set,
+        1 => set.lending(firsts),
+        _ => set.with_table(places).lending(firsts),
+    }
+}
+
+/// So many random numbers of files, most of them among the first.
+fn numbers(random: &mut Random, files: u64, count: usize) -> Vec<u16> {
+    (0..count).map(|_| if once_in(random, 8) { random.next() } else { random.next() % files } as u16).collect()
+}
+
+/// How many pieces a set has.
+fn pieces(set: &FileStorage) -> i64 {
+    let length = i64::from(set.piece_length());
+    (set.total_size() + length - 1) / length
+}
+
+/// An addition leaves the places of all pieces but those that it begins, and all where the set keeps no table.
+fn compare_places(before: &Set, after: &Set, begun: std::ops::Range<i64>) {
+    for (p, (was, is)) in before.firsts().iter().zip(after.firsts()).enumerate() {
+        assert!(was == is || after.has_table() && begun.contains(&(p as i64)), "place {p} of the table");
+    }
+}
+
 /// One set: additions on both sides, with trims among them and one at the end.
 fn play(random: &mut Random) {
+    let length = one_of(random, &[PIECE_LENGTH, PIECE_LENGTH, 10, 7, 1]);
     let mut rust = FileStorage::new();
-    rust.set_piece_length(PIECE_LENGTH);
-    let mut port = Set::new(64, 64, 65536);
+    rust.set_piece_length(length);
+    let mut port = with_table(random, Set::new(64, 64, 65536));
+    port.set_piece_length(length as u64);
+    let has_table = port.has_table();
     let (mut times, mut is_trimmed) = (Vec::new(), false);
     let rooted = one_of(random, &[1, 1, 2, 1000]);
     let trims = one_of(random, &[2, 4, 1000]);
@@ -95,17 +130,22 @@ fn play(random: &mut Random) {
         if once_in(random, trims) {
             is_trimmed |= compare::compare_trimmed(&mut rust, &mut times, &mut port);
         }
-        let addition = addition(random, rooted, rust.total_size());
+        let addition = addition(random, rooted, &rust);
         let mut after = rust.clone();
-        let refusal = add(&mut after, &addition);
-        port.set_unused(7);
+        let mut refusal = add(&mut after, &addition);
+        let begun = pieces(&rust)..pieces(&after);
+        if refusal == 0 && has_table && begun.end > port.firsts().len() as i64 {
+            refusal = 10;
+        }
+        port.mark_otherwise();
         let before = port.clone();
         assert_eq!(port.add(&addition), refusal, "the number of the refusal");
         if refusal == 0 {
             rust = after;
             times.push(addition.time);
             times.resize(rust.num_files() as usize, 0);
-            assert_eq!(port.unused(), 0, "the word that is not used");
+            assert!(port.is_marked_plainly(has_table), "whether there is a table");
+            compare_places(&before, &port, begun);
         } else {
             assert!(port == before, "a refusal changes what was lent");
         }
@@ -115,6 +155,11 @@ fn play(random: &mut Random) {
         if !is_trimmed {
             compare::compare_times(&rust, &times);
         }
+        let count = pieces(&rust).clamp(0, 40) as usize;
+        for places in [0, count.saturating_sub(1), count, count + 3] {
+            let firsts = numbers(random, port.num_files() as u64 + 2, places);
+            ask(random, &rust, &port.clone().lending(firsts));
+        }
         ask(random, &rust, &port);
     }
     compare::compare_trimmed(&mut rust, &mut times, &mut port);
@@ -122,8 +167,7 @@ fn play(random: &mut Random) {
 
 /// Random blocks, into columns and into records that may be too short, random places of files, and random offsets.
 fn ask(random: &mut Random, rust: &FileStorage, port: &Set) {
-    let (length, total) = (i64::from(PIECE_LENGTH), rust.total_size());
-    let count = (total + length - 1) / length;
+    let (length, total, count) = (i64::from(rust.piece_length()), rust.total_size(), pieces(rust));
     let near = [-1, 0, 1, 7, length - 1, length, length + 1, total - 1, total, total + 1, LIMIT, LIMIT + 1];
     for _ in 0..4 {
         let piece = one_of(random, &[-1, 0, 0, 1, count - 1, count]).clamp(-1, i32::MAX.into()) as i32;
@@ -174,7 +218,7 @@ fn ask_file(random: &mut Random, rust: &FileStorage, port: &Set, offset: i64, si
     let size = size.clamp(-1, i32::MAX.into()) as i32;
     let files = rust.num_files();
     let file = one_of(random, &[-1, 0, files / 2, files - 1, files]);
-    let count = (rust.total_size() + i64::from(PIECE_LENGTH) - 1) / i64::from(PIECE_LENGTH);
+    let count = pieces(rust);
     let given = port.map_file(file, offset, size);
     let wanted = if !(0..files).contains(&file) {
         (11, 0, 0, 0)
@@ -234,7 +278,7 @@ fn name_refusal(set: &FileStorage, addition: &Addition) -> u32 {
 /// The refusals of the layout questions, of a set without a piece length, and of tables that are too short.
 fn refusals() {
     let plain = |path: &[u8], size| Addition { path: path.to_vec(), size, ..Addition::default() };
-    let mut set = Set::new(2, 2, 16);
+    let mut set = Set::new(2, 2, 16).with_table(2);
     assert_eq!(set.add(&plain(b"s/a", 7)), 0);
     assert_eq!(set.add(&plain(b"s/b", i64::from(PIECE_LENGTH))), 0);
     assert_eq!(set.add(&plain(b"s/c", 1)), 10, "a third file");
@@ -269,8 +313,19 @@ fn refusals() {
     let mut short = Set::new(2, 2, 3);
     assert_eq!(short.add(&plain(b"s/abc", 1)), 10, "four bytes of text");
     assert_eq!(short.add(&plain(b"s/ab", 1)), 0, "three bytes of text");
+    let length = i64::from(PIECE_LENGTH);
+    let mut table = Set::new(4, 1, 16).with_table(1);
+    assert_eq!(table.add(&plain(b"s/a", length)), 0, "one piece");
+    table.mark_otherwise();
+    let before = table.clone();
+    assert_eq!(table.add(&plain(b"s/b", 1)), 10, "a second piece");
+    assert!(table == before, "a refusal changes what was lent");
+    assert_eq!(table.add(&plain(b"s/b", 0)), 0, "a file without bytes");
+    let mut none = Set::new(4, 1, 16).lending(vec![7; 3]);
+    assert_eq!(none.add(&plain(b"s/a", 5 * length)), 0, "no table is kept");
+    assert_eq!(none.firsts(), [7; 3], "a table that is not kept");
     set.set_piece_length(0);
-    set.set_unused(7);
+    set.mark_otherwise();
     let before = set.clone();
     assert_eq!(set.add(&plain(b"s/d", 1)), 1, "no piece length");
     assert_eq!(set.remove_tail_padding(), 1, "no piece length");

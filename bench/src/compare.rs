@@ -5,8 +5,8 @@ use bitdaemon_core::file_storage::FileStorage;
 
 use crate::port::Set;
 
-/// The counts, the totals, the set's name, the directories, and each file's row, name, time and root. The times are
-/// those that additions gave, also where the Rust has others after a trim.
+/// The counts, the totals, the set's name, the directories, each file's row, name, time and root, and the first file of
+/// each piece. The times are those that additions gave, also where the Rust has others after a trim.
 pub fn compare(rust: &FileStorage, times: &[i64], port: &Set) {
     assert_eq!(rust.num_files() as usize, port.num_files(), "number of files");
     assert_eq!(rust.total_size() as u64, port.total_size(), "total size");
@@ -26,6 +26,23 @@ pub fn compare(rust: &FileStorage, times: &[i64], port: &Set) {
         assert_eq!(rust.pad_file_at(file), row.flags & 1 == 1, "pad of file {i}");
         assert_eq!(times[i], row.time, "time of file {i}");
         assert_eq!(rust.root(file).as_bytes(), port.root(i), "root of file {i}");
+    }
+    compare_firsts(rust, port);
+}
+
+/// The first file of each piece, counted off the Rust's sizes, in a set that keeps a table of them.
+fn compare_firsts(rust: &FileStorage, port: &Set) {
+    if !port.has_table() {
+        return;
+    }
+    let (mut piece, mut start, mut end) = (0, 0, 0);
+    for i in 0..rust.num_files() {
+        end += rust.file_size(FileIndex(i));
+        while start < end {
+            assert_eq!(i32::from(port.firsts()[piece]), i, "first file of piece {piece}");
+            start += i64::from(rust.piece_length());
+            piece += 1;
+        }
     }
 }
 
@@ -57,9 +74,10 @@ pub fn compare_trimmed(rust: &mut FileStorage, times: &mut Vec<i64>, port: &mut 
         times.remove(i as usize);
     }
     rust.remove_tail_padding();
-    port.set_unused(7);
+    let has_table = port.has_table();
+    port.mark_otherwise();
     assert_eq!(port.remove_tail_padding(), 0, "the trim is refused");
-    assert_eq!(port.unused(), 0, "the word that is not used");
+    assert!(port.is_marked_plainly(has_table), "whether there is a table");
     compare(rust, times, port);
     pad.is_some()
 }

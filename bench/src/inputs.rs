@@ -63,6 +63,12 @@ pub fn times(inputs: &[Input]) -> Vec<i64> {
     inputs.iter().flat_map(|i| [Some(i.time), i.root.map(|_| 0)]).flatten().collect()
 }
 
+/// How many pieces the set has.
+pub fn pieces(inputs: &[Input], length: i64) -> usize {
+    let padded = |i: &Input| if i.root.is_some() { (i.size + length - 1) / length * length } else { i.size };
+    ((inputs.iter().map(padded).sum::<i64>() + length - 1) / length) as usize
+}
+
 /// Random numbers, the same in every run (the generator SplitMix64).
 pub struct Random(u64);
 
@@ -89,5 +95,18 @@ pub fn layout_inputs(files: usize) -> Vec<Input> {
             let path = format!("set/name{i:06}.wav").into_bytes();
             Input { path, size: if i % 16 == 5 { 0 } else { 1 + (size & (most - 1)) }, time: 0, root: None }
         })
+        .collect()
+}
+
+/// The additions of a v1 set whose files are empty but for the first and the last: all but those at the end lie in one
+/// piece, between two of the blocks of a size.
+pub fn empty_inputs(files: usize, block: i64) -> Vec<Input> {
+    let size = |i| match i {
+        0 => 2 * block,
+        i if i + 1 == files => 2 * block + 3 * i64::from(PIECE_LENGTH),
+        _ => 0,
+    };
+    (0..files)
+        .map(|i| Input { path: format!("set/name{i:06}.wav").into_bytes(), size: size(i), time: 0, root: None })
         .collect()
 }

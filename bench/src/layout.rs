@@ -1,5 +1,5 @@
 //! `map_block`, `map_file` and `file_index_at_offset` of the unchanged Rust and of the port on the same sets and the same
-//! questions; all answers are compared before any clock starts.
+//! questions; all answers are compared before any clock starts. A table of first files that is not true must change none.
 
 use std::hint::black_box;
 use std::time::{Duration, Instant};
@@ -10,7 +10,7 @@ use bitdaemon_core::file_storage::{FileSlice, FileStorage, calc_num_pieces};
 use crate::additions::{add_port, add_rust, rust_sets};
 use crate::best::{Best, STRETCH};
 use crate::compare;
-use crate::inputs::{self, Input, PIECE_LENGTH, Random, layout_inputs};
+use crate::inputs::{self, Input, PIECE_LENGTH, Random, empty_inputs, layout_inputs};
 use crate::port::{Columns, Set, Slice};
 
 /// How many files the sets have.
@@ -24,6 +24,9 @@ const REPETITIONS: usize = 120;
 
 /// The size of a block, and what `map_file` is asked for.
 const BLOCK: i64 = 16384;
+
+/// The port's sets, as a row names them.
+const KINDS: [(&str, fn(&Sets) -> &Set); 2] = [("", |s| &s.port), (", table", |s| &s.table)];
 
 /// A block of a piece.
 struct Block {
@@ -62,31 +65,46 @@ impl Lists {
     }
 }
 
-/// The same files on both sides, and the questions.
+/// The same files on both sides, the port's without a table of first files and with one, and the questions.
 struct Sets {
     rust: FileStorage,
     port: Set,
+    table: Set,
     blocks: Vec<Block>,
     places: Vec<Place>,
     offsets: Vec<i64>,
 }
 
-/// Both sets with so many files and that piece length, compared, and questions about them.
-fn sets(files: usize, length: i32) -> Sets {
-    let inputs = layout_inputs(files);
+/// The sets of those files and that piece length, compared, and questions about them.
+fn sets(inputs: &[Input], length: i32) -> Sets {
     let text = inputs.iter().map(|i| i.path.len()).sum::<usize>() + 64;
-    let mut rust = rust_sets(1, files, false).remove(0);
-    let mut port = Set::new(files, 1, text);
+    let pieces = inputs::pieces(inputs, length.into());
+    let mut rust = rust_sets(1, inputs.len(), false).remove(0);
+    let mut port = Set::new(inputs.len(), 1, text);
+    let mut table = Set::new(inputs.len(), 1, text).with_table(pieces);
     rust.set_piece_length(length);
     port.set_piece_length(length as u64);
-    for input in &inputs {
+    table.set_piece_length(length as u64);
+    for input in inputs {
         add_rust(&mut rust, input);
         add_port(&mut port, input);
+        add_port(&mut table, input);
     }
     rust.set_num_pieces(calc_num_pieces(&rust));
-    compare::compare(&rust, &inputs::times(&inputs), &port);
-    let (blocks, places, offsets) = questions(&inputs, i64::from(length));
-    Sets { rust, port, blocks, places, offsets }
+    compare::compare(&rust, &inputs::times(inputs), &port);
+    compare::compare(&rust, &inputs::times(inputs), &table);
+    let (blocks, places, offsets) = questions(inputs, i64::from(length));
+    Sets { rust, port, table, blocks, places, offsets }
+}
+
+impl Sets {
+    /// The set with tables of first files that are not true: of any numbers, too short, and of none.
+    fn false_tables(&self) -> impl Iterator<Item = Set> {
+        let (files, places) = (self.table.num_files() as u64, self.table.firsts().len());
+        let mut random = Random::new();
+        let mut any = move |n: usize| (0..n).map(|_| (random.next() % (files + 2)) as u16).collect::<Vec<u16>>();
+        [any(places), any(places / 2), Vec::new()].into_iter().map(|firsts| self.table.clone().lending(firsts))
+    }
 }
 
 /// Random blocks, places in files, and offsets.
@@ -107,11 +125,11 @@ fn questions(inputs: &[Input], length: i64) -> (Vec<Block>, Vec<Place>, Vec<i64>
     (blocks, places, offsets)
 }
 
-/// Asks both sides every question, and compares the answers.
-fn check_answers(sets: &Sets, columns: &mut Columns) {
+/// Asks the Rust and a set of the port every question, and compares the answers.
+fn check_answers(sets: &Sets, port: &Set, columns: &mut Columns) {
     for b in &sets.blocks {
         let rust = sets.rust.map_block(PieceIndex(b.piece), b.offset, BLOCK);
-        assert_eq!(sets.port.map_block(b.piece, b.offset, BLOCK, columns), rust.len() as i64, "number of slices");
+        assert_eq!(port.map_block(b.piece, b.offset, BLOCK, columns), rust.len() as i64, "number of slices");
         for (i, slice) in rust.iter().enumerate() {
             let answer = (slice.file_index.0 as u64, slice.offset as u64, slice.size as u64);
             assert_eq!(columns.slice(i), answer, "slice {i}");
@@ -119,13 +137,13 @@ fn check_answers(sets: &Sets, columns: &mut Columns) {
     }
     for p in &sets.places {
         let rust = sets.rust.map_file(FileIndex(p.file), p.offset, BLOCK as i32);
-        let port = sets.port.map_file(p.file, p.offset, BLOCK as i32);
-        assert_eq!(port.refusal, 0, "`map_file` is refused");
-        assert_eq!((port.piece, port.start, port.length), (rust.piece.0, rust.start, rust.length), "request");
+        let request = port.map_file(p.file, p.offset, BLOCK as i32);
+        assert_eq!(request.refusal, 0, "`map_file` is refused");
+        assert_eq!((request.piece, request.start, request.length), (rust.piece.0, rust.start, rust.length), "request");
     }
     let mut lists = Lists::new(&sets.places);
     for (k, places) in sets.places.chunks(STRETCH).enumerate() {
-        assert_eq!(lists.ask(&sets.port, k), places.len() as i64, "`map_files` is refused");
+        assert_eq!(lists.ask(port, k), places.len() as i64, "`map_files` is refused");
         for (p, answer) in places.iter().zip(lists.answers.chunks(4)) {
             let rust = sets.rust.map_file(FileIndex(p.file), p.offset, BLOCK as i32);
             assert_eq!(answer, [0, rust.piece.0 as u32, rust.start as u32, rust.length as u32], "request of a list");
@@ -133,19 +151,19 @@ fn check_answers(sets: &Sets, columns: &mut Columns) {
     }
     for &offset in &sets.offsets {
         let rust = sets.rust.file_index_at_offset(offset);
-        assert_eq!(sets.port.file_index_at_offset(offset), i64::from(rust.0), "file at an offset");
+        assert_eq!(port.file_index_at_offset(offset), i64::from(rust.0), "file at an offset");
     }
 }
 
-/// Asks both sides for every block, the port's slices as records, and compares the answers.
-fn check_slices(sets: &Sets, slices: &mut [Slice]) {
+/// Asks the Rust and a set of the port for every block, the port's slices as records, and compares the answers.
+fn check_slices(sets: &Sets, port: &Set, slices: &mut [Slice]) {
     for b in &sets.blocks {
         let rust = sets.rust.map_block(PieceIndex(b.piece), b.offset, BLOCK);
-        let number = sets.port.map_block_slices(b.piece, b.offset, BLOCK, slices);
+        let number = port.map_block_slices(b.piece, b.offset, BLOCK, slices);
         assert_eq!(number, rust.len() as i64, "number of records");
-        for (i, (slice, port)) in rust.iter().zip(&*slices).enumerate() {
+        for (i, (slice, record)) in rust.iter().zip(&*slices).enumerate() {
             let answer = (slice.file_index.0, slice.offset, slice.size);
-            assert_eq!((port.file, port.offset, port.size), answer, "record {i}");
+            assert_eq!((record.file, record.offset, record.size), answer, "record {i}");
         }
     }
 }
@@ -228,7 +246,7 @@ fn measure<Q>(
     measure_stretches(question, files, questions, rust, called, |_, stretch| stretch.iter().for_each(&mut port));
 }
 
-/// Measures `map_block` beside one of the port's two.
+/// Measures `map_block` beside one of the port's.
 fn measure_blocks(question: &str, sets: &Sets, port: impl FnMut(&Block)) {
     measure(
         question,
@@ -240,14 +258,34 @@ fn measure_blocks(question: &str, sets: &Sets, port: impl FnMut(&Block)) {
     );
 }
 
-/// Both sets of each size, whose answers are compared, and tables for the slices of a block.
+/// Measures `file_index_at_offset` beside the port's.
+fn measure_offsets(question: &str, sets: &Sets, port: &Set) {
+    measure(
+        question,
+        port.num_files(),
+        &sets.offsets,
+        |&offset| _ = black_box(sets.rust.file_index_at_offset(offset)),
+        |&offset| _ = black_box(file_index_at_offset(&sets.rust, offset)),
+        |&offset| _ = black_box(port.file_index_at_offset(offset)),
+    );
+}
+
+/// The sets of each size and, last, one whose files are empty but for two, and tables for the slices of a block; all
+/// answers are compared.
 fn checked(length: i32) -> (Vec<Sets>, Columns, Vec<Slice>) {
-    let sets: Vec<Sets> = FILES.iter().map(|&files| sets(files, length)).collect();
+    let sets: Vec<Sets> = FILES
+        .iter()
+        .map(|&files| layout_inputs(files))
+        .chain([empty_inputs(FILES[2], BLOCK)])
+        .map(|inputs| sets(&inputs, length))
+        .collect();
     let mut columns = Columns::new(BLOCK as usize);
     let mut slices = vec![Slice::default(); BLOCK as usize];
     for s in &sets {
-        check_answers(s, &mut columns);
-        check_slices(s, &mut slices);
+        for port in [s.port.clone(), s.table.clone()].into_iter().chain(s.false_tables()) {
+            check_answers(s, &port, &mut columns);
+            check_slices(s, &port, &mut slices);
+        }
     }
     (sets, columns, slices)
 }
@@ -262,16 +300,21 @@ pub fn check() {
 pub fn table(length: i32) {
     println!("| question | files | Rust | Rust, called | port | port / Rust | port / called |");
     println!("|---|---:|---:|---:|---:|---:|---:|");
-    let (sets, mut columns, mut slices) = checked(length);
-    for s in &sets {
-        measure_blocks("`map_block`", s, |b| {
-            _ = black_box(s.port.map_block_slices(b.piece, b.offset, BLOCK, &mut slices));
-        });
+    let (mut sets, mut columns, mut slices) = checked(length);
+    let empty = sets.pop().expect("one set more");
+    for (name, set) in KINDS {
+        for s in &sets {
+            measure_blocks(&format!("`map_block`{name}"), s, |b| {
+                _ = black_box(set(s).map_block_slices(b.piece, b.offset, BLOCK, &mut slices));
+            });
+        }
     }
-    for s in &sets {
-        measure_blocks("`map_block`, columns", s, |b| {
-            _ = black_box(s.port.map_block(b.piece, b.offset, BLOCK, &mut columns));
-        });
+    for (name, set) in KINDS {
+        for s in &sets {
+            measure_blocks(&format!("`map_block`, columns{name}"), s, |b| {
+                _ = black_box(set(s).map_block(b.piece, b.offset, BLOCK, &mut columns));
+            });
+        }
     }
     for s in &sets {
         let mut lists = Lists::new(&s.places);
@@ -294,14 +337,17 @@ pub fn table(length: i32) {
             |p| _ = black_box(s.port.map_file(p.file, p.offset, BLOCK as i32)),
         );
     }
-    for s in &sets {
-        measure(
-            "`file_index_at_offset`",
-            s.port.num_files(),
-            &s.offsets,
-            |&offset| _ = black_box(s.rust.file_index_at_offset(offset)),
-            |&offset| _ = black_box(file_index_at_offset(&s.rust, offset)),
-            |&offset| _ = black_box(s.port.file_index_at_offset(offset)),
-        );
+    for (name, set) in KINDS {
+        for s in &sets {
+            measure_offsets(&format!("`file_index_at_offset`{name}"), s, set(s));
+        }
+    }
+    for (name, set) in KINDS {
+        measure_blocks(&format!("`map_block`, empty files{name}"), &empty, |b| {
+            _ = black_box(set(&empty).map_block_slices(b.piece, b.offset, BLOCK, &mut slices));
+        });
+    }
+    for (name, set) in KINDS {
+        measure_offsets(&format!("`file_index_at_offset`, empty files{name}"), &empty, set(&empty));
     }
 }

@@ -46,7 +46,7 @@ fn additions(links: usize) -> Vec<Addition> {
 fn sets(links: usize) -> (FileStorage, Vec<i64>, Set) {
     let all = additions(links);
     let text = all.iter().map(|a| 2 * a.path.len() + a.link.len() + 8).sum::<usize>() + 64;
-    let mut port = Set::new(all.len(), 16, text);
+    let mut port = Set::new(all.len(), 16, text).with_table(1);
     let mut rust = FileStorage::new();
     rust.set_piece_length(PIECE_LENGTH);
     for a in &all {
@@ -60,7 +60,7 @@ fn sets(links: usize) -> (FileStorage, Vec<i64>, Set) {
 /// The best times of so many cleanings by the Rust and by the port.
 fn run(links: usize, count: usize, repetitions: usize) -> (Duration, Duration) {
     let (rust, times, mut port) = sets(links);
-    port.set_unused(7);
+    port.mark_otherwise();
     let (mut best_rust, mut best_port) = (Duration::MAX, Duration::MAX);
     for _ in 0..repetitions {
         let mut cleaned = vec![rust.clone(); count];
@@ -75,7 +75,7 @@ fn run(links: usize, count: usize, repetitions: usize) -> (Duration, Duration) {
         }
         best_port = best_port.min(start.elapsed());
         assert!(work == port.work_space(0), "the work space is not cleared");
-        assert_eq!(ours[0].unused(), 0, "the word that is not used");
+        assert!(ours[0].is_marked_plainly(true), "whether there is a table");
         compare::compare(&cleaned[0], &times, &ours[0]);
         compare::compare_times(&cleaned[0], &times);
         compare::compare_links(&cleaned[0], &ours[0]);
@@ -93,10 +93,10 @@ pub fn check() {
 
 /// Document 01's 10, for each part of the work space and for the text area, and 1; a refusal changes nothing that was lent.
 fn refusals() {
-    let mut set = Set::new(1, 1, 4);
+    let mut set = Set::new(1, 1, 4).with_table(0);
     let link = Addition { path: b"s/d/n".to_vec(), link: b"/".to_vec(), flags: SYMLINK, ..Addition::default() };
     assert_eq!(set.add(&link), 0);
-    set.set_unused(7);
+    set.mark_otherwise();
     let refused = |set: &Set, short: fn(&mut crate::port::WorkSpace), number: u32, why: &str| {
         let (mut ours, mut work, mut lent) = (set.clone(), set.work_space(7), set.work_space(7));
         short(&mut work);

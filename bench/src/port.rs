@@ -10,6 +10,8 @@ unsafe extern "C" {
         rows_len: usize,
         roots: *mut u8,
         roots_len: usize,
+        firsts: *mut u16,
+        firsts_len: usize,
         dirs: *mut u64,
         dirs_len: usize,
         text: *mut u8,
@@ -60,6 +62,8 @@ unsafe extern "C" {
         state: *const [u64; 12],
         rows: *const u64,
         rows_len: usize,
+        firsts: *const u16,
+        firsts_len: usize,
         piece: i32,
         offset: i64,
         size: i64,
@@ -75,6 +79,8 @@ unsafe extern "C" {
         state: *const [u64; 12],
         rows: *const u64,
         rows_len: usize,
+        firsts: *const u16,
+        firsts_len: usize,
         piece: i32,
         offset: i64,
         size: i64,
@@ -82,7 +88,14 @@ unsafe extern "C" {
         out_len: usize,
     ) -> i64;
 
-    fn niflathen_file_index_at_offset(state: *const [u64; 12], rows: *const u64, rows_len: usize, offset: i64) -> i64;
+    fn niflathen_file_index_at_offset(
+        state: *const [u64; 12],
+        rows: *const u64,
+        rows_len: usize,
+        firsts: *const u16,
+        firsts_len: usize,
+        offset: i64,
+    ) -> i64;
 
     fn niflathen_map_file(
         state: *const [u64; 12],
@@ -180,23 +193,29 @@ impl Columns {
     }
 }
 
+/// The place of the record's word that says whether the set keeps a table of first files: 0 for no.
+const MARK: usize = 5;
+
 /// A set: its record's words and its tables.
 #[derive(Clone, PartialEq)]
 pub struct Set {
     state: [u64; 12],
     rows: Vec<u64>,
     roots: Vec<u8>,
+    firsts: Vec<u16>,
     dirs: Vec<u64>,
     text: Vec<u8>,
 }
 
 impl Set {
-    /// A set without files, with tables of zeros for so many files, directories and bytes of text.
+    /// A set without files, with tables of zeros for so many files, directories and bytes of text. It keeps no table of
+    /// first files, and is lent none.
     pub fn new(files: usize, directories: usize, text: usize) -> Self {
         let mut set = Self {
             state: [0; 12],
             rows: vec![0; files * 8],
             roots: vec![0; files * 32],
+            firsts: Vec::new(),
             dirs: vec![0; directories * 2],
             text: vec![0; text],
         };
@@ -204,10 +223,25 @@ impl Set {
         set
     }
 
+    /// The set without files, which keeps a table of first files with so many places, of zeros.
+    pub fn with_table(mut self, places: usize) -> Self {
+        self.state[MARK] = 1;
+        self.lending(vec![0; places])
+    }
+
+    /// The set with another table of first files, whether it keeps one or not.
+    pub fn lending(mut self, firsts: Vec<u16>) -> Self {
+        self.firsts = firsts;
+        self
+    }
+
     /// The set without files again, and zeros in its tables.
     pub fn clear(&mut self) {
+        let mark = self.state[MARK];
         self.state.fill(0);
         self.state[0] = PIECE_LENGTH as u64;
+        self.state[MARK] = mark;
+        self.firsts.fill(0);
         self.rows.fill(0);
         self.roots.fill(0);
         self.dirs.fill(0);
@@ -226,6 +260,8 @@ impl Set {
                 self.rows.len(),
                 self.roots.as_mut_ptr(),
                 self.roots.len(),
+                self.firsts.as_mut_ptr(),
+                self.firsts.len(),
                 self.dirs.as_mut_ptr(),
                 self.dirs.len(),
                 self.text.as_mut_ptr(),
@@ -257,6 +293,8 @@ impl Set {
                 self.rows.len(),
                 self.roots.as_mut_ptr(),
                 self.roots.len(),
+                self.firsts.as_mut_ptr(),
+                self.firsts.len(),
                 self.dirs.as_mut_ptr(),
                 self.dirs.len(),
                 self.text.as_mut_ptr(),
@@ -337,6 +375,8 @@ impl Set {
                 &self.state,
                 self.rows.as_ptr(),
                 self.rows.len(),
+                self.firsts.as_ptr(),
+                self.firsts.len(),
                 piece,
                 offset,
                 size,
@@ -359,6 +399,8 @@ impl Set {
                 &self.state,
                 self.rows.as_ptr(),
                 self.rows.len(),
+                self.firsts.as_ptr(),
+                self.firsts.len(),
                 piece,
                 offset,
                 size,
@@ -372,7 +414,16 @@ impl Set {
     #[inline]
     pub fn file_index_at_offset(&self, offset: i64) -> i64 {
         // SAFETY: as above.
-        unsafe { niflathen_file_index_at_offset(&self.state, self.rows.as_ptr(), self.rows.len(), offset) }
+        unsafe {
+            niflathen_file_index_at_offset(
+                &self.state,
+                self.rows.as_ptr(),
+                self.rows.len(),
+                self.firsts.as_ptr(),
+                self.firsts.len(),
+                offset,
+            )
+        }
     }
 
     /// Gives the request, or the number of the refusal.
@@ -408,13 +459,26 @@ impl Set {
         self.state[0] = length;
     }
 
-    /// The word of the record that is not used.
-    pub fn unused(&self) -> u64 {
-        self.state[5]
+    /// Whether the set keeps a table of first files.
+    pub fn has_table(&self) -> bool {
+        self.state[MARK] != 0
     }
 
-    pub fn set_unused(&mut self, word: u64) {
-        self.state[5] = word;
+    /// Says by another number than 1 that the set keeps a table, if it does.
+    pub fn mark_otherwise(&mut self) {
+        if self.has_table() {
+            self.state[MARK] = 7;
+        }
+    }
+
+    /// Whether the record says by 1 or 0 whether the set keeps a table, as it does after a change.
+    pub fn is_marked_plainly(&self, has_table: bool) -> bool {
+        self.state[MARK] == u64::from(has_table)
+    }
+
+    /// The table of first files that is lent.
+    pub fn firsts(&self) -> &[u16] {
+        &self.firsts
     }
 
     pub fn v2(&self) -> bool {

@@ -11,6 +11,8 @@ pub enum Value {
     Root([u8; 32]),
     /// The number of a file, the offset in it and the size of a slice.
     Slice(i32, i64, i64),
+    /// What there is not.
+    Nothing,
 }
 
 /// Document 01's refusals, each with its number.

@@ -102,6 +102,7 @@ fn set_question(name: &[u8]) -> Option<SetQuestion> {
         b"text_bytes" => SetQuestion::TextBytes,
         b"all_path_hashes" => SetQuestion::AllPathHashes,
         b"export" => SetQuestion::Export,
+        b"first_files" => SetQuestion::FirstFiles,
         _ => return None,
     })
 }
@@ -183,8 +184,9 @@ fn row_question(name: &[u8]) -> Option<RowQuestion> {
 
 /// The call of a line `open LENGTH`: each kind of room at most once, in any order.
 fn opening(words: &mut Words) -> Option<Call> {
-    const KINDS: [&[u8]; 10] =
-        [b"files", b"dirs", b"text", b"renames", b"names", b"output", b"slices", b"hashes", b"marks", b"sum"];
+    const KINDS: [&[u8]; 11] = [
+        b"files", b"dirs", b"text", b"renames", b"names", b"output", b"slices", b"hashes", b"marks", b"sum", b"pieces",
+    ];
     let piece_length = words.number()?;
     let mut named = [None; KINDS.len()];
     while let Some(word) = words.next() {
@@ -194,7 +196,7 @@ fn opening(words: &mut Words) -> Option<Call> {
             return None;
         }
     }
-    let [files, directories, text, renames, names, output, slices, hashes, marks, sum] = named;
+    let [files, directories, text, renames, names, output, slices, hashes, marks, sum, pieces] = named;
     let room = Room {
         files: files.unwrap_or(USUAL_ROOM.files),
         directories: directories.unwrap_or(USUAL_ROOM.directories),
@@ -208,6 +210,7 @@ fn opening(words: &mut Words) -> Option<Call> {
         hashes: hashes.unwrap_or(USUAL_LENT.hashes),
         marks: marks.unwrap_or(USUAL_LENT.marks),
         sum: sum.unwrap_or(USUAL_LENT.sum),
+        pieces,
     };
     Some(Call::Open(piece_length, room, lent))
 }

@@ -32,6 +32,7 @@ fn value(value: &Value, text: &mut Vec<u8>) {
         Value::Boolean(b) => text.push(if *b { b'1' } else { b'0' }),
         Value::Root(bytes) => root(bytes, text),
         Value::Slice(file, offset, size) => slice(*file, *offset, *size, text),
+        Value::Nothing => text.push(b'-'),
     }
 }
 

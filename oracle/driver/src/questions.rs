@@ -21,6 +21,7 @@ pub enum SetQuestion {
     TextBytes,
     AllPathHashes,
     Export,
+    FirstFiles,
 }
 
 /// A question on one file.
@@ -61,6 +62,7 @@ pub fn on_set(set: &Set, question: &SetQuestion) -> Answer {
         SetQuestion::TextBytes => number(set.text_bytes() as i128),
         SetQuestion::AllPathHashes => all_path_hashes(set),
         SetQuestion::Export => export(set),
+        SetQuestion::FirstFiles => first_files(set),
     }
 }
 
@@ -74,6 +76,14 @@ fn all_path_hashes(set: &Set) -> Answer {
         return Err(Refusal::NoRoom);
     }
     Ok(hashes.into_iter().map(|hash| Value::Number(hash.into())).collect())
+}
+
+/// The first file of each piece, or that the set keeps no table of them.
+fn first_files(set: &Set) -> Answer {
+    match set.first_files() {
+        Some(files) => Ok(files.into_iter().map(|file| Value::Number(file.0.into())).collect()),
+        None => one(Value::Nothing),
+    }
 }
 
 /// The numbers and texts of a set's renames, ascending by number.

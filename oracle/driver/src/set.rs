@@ -11,7 +11,7 @@ use bitdaemon_core::file_storage::{FileFlags, FileStorage, RenamedFiles, calc_nu
 use bitdaemon_core::path::{has_parent_path, is_complete};
 
 use crate::answer::{Answer, Refusal, done};
-use crate::layout::test_file;
+use crate::layout::{piece_count, test_file};
 
 /// The most files or directories, from document 01's table.
 const MOST_ROWS: usize = 65535;
@@ -28,7 +28,8 @@ pub struct Room {
 pub const USUAL_ROOM: Room = Room { files: 256, directories: 256, text: 262_144 };
 
 /// What is lent besides: places for renames and bytes of their texts, bytes for a composed text, places for slices and
-/// for hashes, and for a cleaning the marks and the sum over the links for which the work space has room.
+/// for hashes, and for a cleaning the marks and the sum over the links for which the work space has room; and the places
+/// for the first files of pieces, in a set that keeps a table of them.
 #[derive(Clone, Copy)]
 pub struct Lent {
     pub renames: usize,
@@ -38,6 +39,7 @@ pub struct Lent {
     pub hashes: usize,
     pub marks: usize,
     pub sum: usize,
+    pub pieces: Option<usize>,
 }
 
 /// What is lent where nothing is named.
@@ -49,6 +51,7 @@ pub const USUAL_LENT: Lent = Lent {
     hashes: usize::MAX,
     marks: usize::MAX,
     sum: usize::MAX,
+    pieces: None,
 };
 
 /// The arguments of an addition.
@@ -214,6 +217,22 @@ impl Set {
         time
     }
 
+    /// Document 02's table, in a set that keeps one: for each piece the file that has its first byte, counted off the
+    /// sizes.
+    pub fn first_files(&self) -> Option<Vec<FileIndex>> {
+        self.lent.pieces?;
+        let length = i64::from(self.files.piece_length());
+        let (mut firsts, mut start, mut end) = (Vec::new(), 0, 0);
+        for file in self.places() {
+            end += self.files.file_size(file);
+            while start < end {
+                firsts.push(file);
+                start += length;
+            }
+        }
+        Some(firsts)
+    }
+
     /// The flagged links, and the sum over them of directory length, text length and 2.
     pub fn work_space(&self) -> (usize, usize) {
         let is_flagged = |file: &FileIndex| self.files.file_flags(*file).contains(FileFlags::SYMLINK);
@@ -319,6 +338,7 @@ impl Set {
         need.files > self.room.files.min(MOST_ROWS)
             || need.directories > self.room.directories.min(MOST_ROWS)
             || need.text > self.room.text
+            || self.lent.pieces.is_some_and(|places| piece_count(&self.files) as usize > places)
     }
 }
 

@@ -8,7 +8,7 @@ use crate::random::Random;
 use crate::script::{Script, Word};
 
 /// The questions on a set as a whole.
-const ON_SET: [&str; 10] = [
+const ON_SET: [&str; 11] = [
     "name",
     "num_files",
     "total_size",
@@ -19,6 +19,7 @@ const ON_SET: [&str; 10] = [
     "text_bytes",
     "all_path_hashes",
     "export",
+    "first_files",
 ];
 
 /// The questions on one file.

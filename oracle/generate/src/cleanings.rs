@@ -8,6 +8,7 @@ use driver::Sets;
 
 use crate::additions::{plain, time, timed};
 use crate::asking;
+use crate::firsts;
 use crate::layout_questions;
 use crate::playing::{ask, current, play, turn_to};
 use crate::random::Random;
@@ -167,6 +168,9 @@ fn lines(random: &mut Random, taste: &Taste) -> Vec<Vec<u8>> {
         0 | 1 => opening += &format!(" text={}", 8 + random.below(60)),
         2 => opening += &format!(" text={}", (need(&opening, &changes) + random.below(3)).saturating_sub(1)),
         _ => {}
+    }
+    if random.once_in(2) {
+        opening += &firsts::word(random, 10);
     }
     changes.insert(0, opening.into_bytes());
     changes

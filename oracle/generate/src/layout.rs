@@ -7,6 +7,7 @@ use driver::{Set, Sets};
 
 use crate::additions::{time, timed};
 use crate::asking;
+use crate::firsts;
 use crate::layout_questions as questions;
 use crate::layout_scenes::SCENES;
 use crate::playing::{self, ask, current};
@@ -33,28 +34,32 @@ const LINKS: [&str; 8] = ["t", "0", "1", "x", "x/1", "../0", "/etc", "."];
 const ASKED: usize = 60;
 
 /// All sets of at most `most` files whose sizes are below `sizes`, at the piece lengths below `lengths`: v1, v2, and v2
-/// with its padding trimmed. Each is asked every small question.
+/// with its padding trimmed. Each is asked every small question, without a table of first files and with one; tables of
+/// every length are asked for.
 pub fn small(script: &mut Script, most: u32, sizes: i64, lengths: i32) -> io::Result<()> {
-    let mut sets = Sets::default();
     for length in 1..lengths {
-        for root in ["-", "*01", "trim"] {
+        for (root, is_trimmed) in [("-", false), ("*01", false), ("*01", true)] {
             for files in 1..=most {
                 for code in 0..sizes.pow(files) {
-                    open(script, &mut sets, length)?;
-                    for i in 0..files {
-                        let size = code / sizes.pow(i) % sizes;
-                        let root = if root == "trim" { "*01" } else { root };
-                        ask(script, &mut sets, format!("add - :s/{i} {size} 0 0 : {root}").as_bytes())?;
-                    }
-                    if root == "trim" {
-                        ask(script, &mut sets, b"trim")?;
-                    }
-                    questions::every(script, current(&mut sets))?;
+                    let size = |i| code / sizes.pow(i) % sizes;
+                    let addition = |i| format!("add - :s/{i} {} 0 0 : {root}", size(i)).into_bytes();
+                    let mut changes: Vec<Vec<u8>> = (0..files).map(addition).collect();
+                    changes.extend(is_trimmed.then(|| b"trim".to_vec()));
+                    without_table(script, length, &changes)?;
+                    firsts::every_length(script, length, &changes, questions::every)?;
                 }
             }
         }
     }
     Ok(())
+}
+
+/// A set of those changes that keeps no table of first files, and every small question.
+fn without_table(script: &mut Script, length: i32, changes: &[Vec<u8>]) -> io::Result<()> {
+    let mut sets = Sets::default();
+    open(script, &mut sets, length)?;
+    changes.iter().try_for_each(|line| ask(script, &mut sets, line).map(drop))?;
+    questions::every(script, current(&mut sets))
 }
 
 /// The sets of SCENES, each with the questions at its boundaries and a few random ones.
@@ -72,11 +77,9 @@ pub fn random(script: &mut Script, random: &mut Random, count: usize) -> io::Res
         let length = if random.once_in(3) { 1 + random.below(12) as i32 } else { random.one_of(&LENGTHS) };
         let taste = Taste::new(random);
         let changes = if random.once_in(50) { 120 } else { 1 + random.below(9) };
-        if random.once_in(4) {
-            ask(script, &mut sets, format!("open {length} slices={}", random.below(5)).as_bytes())?;
-        } else {
-            open(script, &mut sets, length)?;
-        }
+        let slices = if random.once_in(4) { format!(" slices={}", random.below(5)) } else { String::new() };
+        let table = if taste.has_table { firsts::word(random, 1000) } else { String::new() };
+        ask(script, &mut sets, format!("open {length}{slices}{table}").as_bytes())?;
         for i in 0..changes {
             let line = taste.change(random, current(&mut sets), i);
             ask(script, &mut sets, &line)?;
@@ -124,9 +127,10 @@ enum Sizes {
     Any,
 }
 
-/// What the files of a set are like; of the numbers, once in so many times.
+/// What the files of a set are like, and whether it may keep a table of first files; of the numbers, once in so many times.
 struct Taste {
     is_v2: bool,
+    has_table: bool,
     sizes: Sizes,
     empty: usize,
     pads: usize,
@@ -138,17 +142,20 @@ struct Taste {
 
 impl Taste {
     fn new(random: &mut Random) -> Self {
+        let sizes = random.one_of(&[
+            Sizes::Few,
+            Sizes::Few,
+            Sizes::Pieces,
+            Sizes::Pieces,
+            Sizes::Blocks,
+            Sizes::Many,
+            Sizes::Any,
+        ]);
+        let has_few = matches!(sizes, Sizes::Few | Sizes::Pieces);
         Self {
             is_v2: random.once_in(2),
-            sizes: random.one_of(&[
-                Sizes::Few,
-                Sizes::Few,
-                Sizes::Pieces,
-                Sizes::Pieces,
-                Sizes::Blocks,
-                Sizes::Many,
-                Sizes::Any,
-            ]),
+            has_table: random.once_in(if has_few { 2 } else { 8 }),
+            sizes,
             empty: random.one_of(&[2, 4, 20]),
             pads: random.one_of(&[3, 8, 40]),
             links: random.one_of(&[3, 8, 40]),

@@ -8,7 +8,7 @@ use crate::random::Random;
 use crate::script::{Script, Word};
 
 /// The questions that take no number.
-const PLAIN: [&str; 5] = ["num_pieces", "last_piece", "piece_range", "file_range", "blocks_per_piece"];
+const PLAIN: [&str; 6] = ["num_pieces", "last_piece", "piece_range", "file_range", "blocks_per_piece", "first_files"];
 
 /// The questions on one piece.
 const ON_PIECE: [&str; 5] =
@@ -69,6 +69,19 @@ pub fn every(script: &mut Script, set: &Set) -> io::Result<()> {
     }
     (-1..=total + 1).try_for_each(|offset| numbers(script, "file_index_at_offset", &[offset]))?;
     ROOTS.iter().try_for_each(|root| for_root(script, root))
+}
+
+/// Every question on each piece, and the blocks and files at its start and its last byte.
+pub fn on_pieces(script: &mut Script, set: &Set) -> io::Result<()> {
+    let (length, _, _) = sizes(set);
+    for piece in 0..=piece_count(&set.files) {
+        on_piece(script, piece)?;
+        for (offset, size) in [(0, 1), (0, length), (length - 1, 2 * length)] {
+            numbers(script, "map_block", &[piece, offset, size])?;
+            numbers(script, "file_index_at_offset", &[piece * length + offset])?;
+        }
+    }
+    Ok(())
 }
 
 /// Every question on the numbers at the boundaries of a set.

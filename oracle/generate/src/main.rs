@@ -10,6 +10,7 @@ mod asking;
 mod bytes;
 mod calls;
 mod cleanings;
+mod firsts;
 mod layout;
 mod layout_questions;
 mod layout_scenes;
@@ -72,14 +73,15 @@ fn with_numbers(seed: &str, count: &str, write: impl FnOnce(u64, usize) -> io::R
     }
 }
 
-/// Lines out of form, then sets that show one rule each, then all short rows of changes that move times, then random
-/// changes.
+/// Lines out of form, then sets that show one rule each, then all short rows of changes that move times or places of a
+/// table, then random changes.
 fn sets(script: &mut Script, seed: u64, count: usize) -> io::Result<()> {
     let mut random = Random::new(seed);
     malformed::fixed_sets(script)?;
     sets::scenes(script, &mut random)?;
     sets::long_scenes(script, &mut random)?;
     times::small(script, 5)?;
+    firsts::small(script, 4)?;
     sets::random(script, &mut random, count)
 }
 

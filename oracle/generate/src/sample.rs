@@ -4,6 +4,7 @@ use std::io;
 
 use crate::calls;
 use crate::cleanings;
+use crate::firsts;
 use crate::layout;
 use crate::malformed;
 use crate::random::Random;
@@ -25,7 +26,7 @@ const SETS_HEAD: &[&str] = &[
     "# A sample of calls on sets, printed by `generate sample sets` of the folder oracle; the answers beside it are those of",
     "# the Rust, unchanged but for the line that ends a walk, and of the times kept beside it (oracle/README.md).",
     "# `oracle/store` writes both files. First come the lines out of form, then sets that show one rule each, then all rows of",
-    "# at most three changes that move times, then random changes, then cleanings.",
+    "# at most three changes that move times and of two that move places of a table, then random changes, then cleanings.",
 ];
 
 pub fn write_sets(script: &mut Script) -> io::Result<()> {
@@ -33,6 +34,7 @@ pub fn write_sets(script: &mut Script) -> io::Result<()> {
     malformed::fixed_sets(script)?;
     sets::scenes(script, &mut random)?;
     times::small(script, 3)?;
+    firsts::small(script, 2)?;
     long_names(script)?;
     sets::random(script, &mut random, 50)?;
     cleanings::random(script, &mut random, 50)

@@ -3,11 +3,12 @@
 
 use std::io;
 
-use driver::{Room, SETS, Set, Sets, USUAL_ROOM};
+use driver::{Room, SETS, Set, Sets, USUAL_ROOM, piece_count};
 
 use crate::additions::{Taste, addition, plain};
 use crate::asking;
 use crate::cleanings;
+use crate::firsts;
 use crate::layout_questions;
 use crate::playing::{self, ask, current, play, turn_to};
 use crate::random::Random;
@@ -26,11 +27,12 @@ const KINDS: [&str; 3] = ["files", "dirs", "text"];
 /// The words by which little is lent to renames and to answers, each with a number that few sets need.
 const LENT: [(&str, usize); 5] = [("renames", 5), ("names", 30), ("output", 40), ("slices", 5), ("hashes", 8)];
 
-/// A set to be built: its piece length, its changes, and what it has after each where there is room for all.
+/// A set to be built: its piece length, its changes, and what it has after each where there is room for all, pieces too.
 struct Plan {
     piece_length: i32,
     changes: Vec<Vec<u8>>,
     needs: Vec<Room>,
+    pieces: Vec<i64>,
 }
 
 /// As many random changes as wanted, to sets that are built one at a time or side by side, alike ones among them.
@@ -60,10 +62,15 @@ pub fn random(script: &mut Script, random: &mut Random, count: usize) -> io::Res
     Ok(())
 }
 
-/// The sets of SCENES, each with every question at the end, and those of FAMILIES. The first set is spoken of.
+/// The sets of SCENES, each with every question at the end, those with tables of first files, and those of FAMILIES. The
+/// first set is spoken of.
 pub fn scenes(script: &mut Script, random: &mut Random) -> io::Result<()> {
     let mut sets = Sets::default();
     playing::scenes(script, &mut sets, SCENES, |script, set| asking::all(script, random, set))?;
+    playing::scenes(script, &mut sets, firsts::SCENES, |script, set| {
+        asking::some(script, random, set)?;
+        layout_questions::boundary(script, random, set)
+    })?;
     twins::scenes(script, &mut sets)
 }
 
@@ -137,6 +144,10 @@ impl Plan {
                 let count = 1 + random.below(30);
                 Self::by(random, most, count, times::random)
             }
+            60..100 => {
+                let count = 1 + random.below(24);
+                Self::by(random, most, count, firsts::random)
+            }
             0 => Self::by(random, most, 300, |random, set, _| addition(random, &taste, set)),
             1 => Self::by(random, most, 600, many_directories),
             2 => Self::by(random, most, 300, much_text),
@@ -184,27 +195,29 @@ impl Plan {
         };
         let mut sets = Sets::default();
         play(&mut sets, format!("open {piece_length} files=65535 dirs=65535 text=1000000000").as_bytes());
-        let mut plan = Self { piece_length, changes: Vec::new(), needs: Vec::new() };
+        let mut plan = Self { piece_length, changes: Vec::new(), needs: Vec::new(), pieces: Vec::new() };
         for i in 0..count.min(most) {
             let line = change(random, current(&mut sets), i);
             play(&mut sets, &line);
             plan.changes.push(line);
             plan.needs.push(current(&mut sets).need());
+            plan.pieces.push(piece_count(&current(&mut sets).files));
         }
         plan
     }
 
-    /// The line that opens the set: with the usual room, or with what a late step needs, or one less or more; at times
-    /// little is lent to its renames and its answers.
+    /// The line that opens the set: with the usual room, or with what a late step needs, or one less or more, also for a
+    /// table of first files; at times little is lent to its renames and its answers.
     fn opening(&self, random: &mut Random) -> Vec<u8> {
         let mut line = call("open", &[Word::Number(self.piece_length.into())]);
+        let pieces = self.pieces[self.late(random)];
+        line.extend_from_slice(firsts::word(random, pieces).as_bytes());
         if self.changes.len() > 20 || random.once_in(3) {
             return line;
         }
         for (kind, (name, most)) in KINDS.into_iter().zip(numbers(&USUAL_ROOM)).enumerate() {
             if random.once_in(3) {
-                let step = random.below(self.needs.len()).max(random.below(self.needs.len()));
-                let need = numbers(&self.needs[step])[kind];
+                let need = numbers(&self.needs[self.late(random)])[kind];
                 let room = (need + random.below(3)).saturating_sub(1).min(most);
                 line.extend_from_slice(format!(" {name}={room}").as_bytes());
             }
@@ -215,6 +228,11 @@ impl Plan {
             }
         }
         line
+    }
+
+    /// A step of the plan, more often a late one.
+    fn late(&self, random: &mut Random) -> usize {
+        random.below(self.needs.len()).max(random.below(self.needs.len()))
     }
 }
 

@@ -5,10 +5,11 @@ use std::io;
 use driver::{SETS, Sets};
 
 use crate::asking;
+use crate::firsts;
 use crate::layout_questions;
 use crate::playing::{ask, current, turn_to};
 use crate::random::Random;
-use crate::script::{Script, Word, call};
+use crate::script::Script;
 use crate::sets::other;
 
 /// Sets each: the first is compared with each behind it. Those that differ in what doesn't count come first, then those
@@ -84,7 +85,8 @@ pub fn random(
         turn_to(script, sets, place)?;
         let is_longer = place > 0 && changed == changes.len() && random.once_in(4) && piece_length < i32::MAX;
         let length = if is_longer { piece_length + 1 } else { piece_length };
-        ask(script, sets, &call("open", &[Word::Number(length.into())]))?;
+        let table = if random.once_in(2) { firsts::word(random, 100) } else { String::new() };
+        ask(script, sets, format!("open {length}{table}").as_bytes())?;
         for (i, line) in changes.iter().enumerate() {
             let line = if place > 0 && i == changed { varied(random, line) } else { line.clone() };
             ask(script, sets, &line)?;
