@@ -135,8 +135,8 @@ fn find_far(rows: &[u64], n: usize, low: usize, high: usize, target: u64) -> usi
     find(&rows[0..], n, target)
 }
 
-// The file found at the target, where the search begins with the files from `low` on up to `high`. The rows and the two
-// numbers go in registers, so this is a call of its own in each question.
+// The file found at the target, where the search begins with the files from `low` on up to `high`. It is one call in each
+// question: taken in, it would make the start of a block too large to be taken in itself.
 fn find_between(rows: &[u64], n: usize, low: usize, high: usize, target: u64) -> usize
     requires { ⌜ n ≤ length (now rows) / 8 ⌝ }
     ensures { λ r. ⌜ r ≡ foundWithin (now (rows .entry)) n (record { low = low; high = high }) target ⌝ }
