@@ -22,7 +22,7 @@ const LIMIT: u64 = 281474976710655;
 const NAME_LIMIT: usize = 4096;
 
 // The size of an addition, whether the set is v2 after it, and the size of the pad after it, 0 for none.
-#[derive(Drop)]
+#[derive(Clone, Copy)]
 pub struct Sizes {
     pub size: u64,
     pub v2: bool,

@@ -11,7 +11,7 @@ const MAX_LINKS: usize = 32766;
 
 // A file to add, besides its texts: whether a name is given, its size, flags and modified time, and its root, if it is
 // there.
-#[derive(Drop)]
+#[derive(Clone, Copy)]
 pub struct FileInfo {
     pub given: Presence,
     pub size: i64,

@@ -13,7 +13,7 @@ use tables::{FileStorage, Span};
 
 // Where a file lies: at a single name, at an absolute path, in a directory under the set's name, or in
 // one outside it.
-#[derive(Drop)]
+#[derive(Clone, Copy)]
 pub enum PathKind {
     Single,
     Absolute,
@@ -29,7 +29,7 @@ pub(crate) struct Place {
 }
 
 // The parts of a path, as spans in it.
-#[derive(Drop)]
+#[derive(Clone, Copy)]
 pub struct PathParts {
     // Its last part.
     pub leaf: Span,

@@ -18,7 +18,7 @@ pub(crate) type Dirs = [u64; 2048];
 pub(crate) type Texts = [u8; 1310720];
 
 // A part of a table: where it begins, and how many places it has.
-#[derive(Drop)]
+#[derive(Clone, Copy)]
 pub(crate) struct Place {
     pub start: usize,
     pub count: usize,
@@ -26,7 +26,7 @@ pub(crate) struct Place {
 
 // The parts of a set: in the rows, the roots, the first files, the directories and the texts; its renames' parts in the
 // rows and in the texts.
-#[derive(Drop)]
+#[derive(Clone, Copy)]
 pub(crate) struct Places {
     pub rows: Place,
     pub roots: Place,

@@ -9,7 +9,7 @@ use types::Refusal;
 
 // A set: whether it was opened, its parts of the tables, its record, that of its renames, and what its questions and
 // its cleanings are lent.
-#[derive(Drop)]
+#[derive(Clone, Copy)]
 pub(crate) struct Set {
     pub is_open: bool,
     pub parts: Places,
@@ -20,14 +20,14 @@ pub(crate) struct Set {
 }
 
 // The work space of a cleaning: the marks, and the sum over the links for which it has room.
-#[derive(Drop)]
+#[derive(Clone, Copy)]
 pub(crate) struct Work {
     pub marks: usize,
     pub sum: usize,
 }
 
 // The sets, and the place of the one that is spoken of.
-#[derive(Drop)]
+#[derive(Clone, Copy)]
 pub(crate) struct Sets {
     pub at: usize,
     sets: [Set; 4],

@@ -3,7 +3,7 @@ use tables::FileStorage;
 use types::Refusal;
 
 // A set's record, or why there is none.
-#[derive(Drop)]
+#[derive(Clone, Copy)]
 pub enum StorageResult {
     Ok(FileStorage),
     Err(Refusal),

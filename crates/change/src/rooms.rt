@@ -8,7 +8,7 @@ use rules::MAX_ENTRIES;
 use tables::{DIR_WIDTH, FileStorage, ROOT_WIDTH, ROW_WIDTH};
 
 // How many files, directories and bytes of text the lent tables can hold.
-#[derive(Drop)]
+#[derive(Clone, Copy)]
 pub struct Rooms {
     pub files: usize,
     pub directories: usize,

@@ -16,7 +16,7 @@ use tables::{FileStorage, Row, Span, directory_span};
 use types::Refusal;
 
 // A file: its set's record, and its row.
-#[derive(Drop)]
+#[derive(Clone, Copy)]
 struct NamedFile {
     fs: FileStorage,
     row: Row,

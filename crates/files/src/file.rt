@@ -35,7 +35,7 @@ use types::{
 };
 
 // A request in unsigned numbers.
-#[derive(Drop)]
+#[derive(Clone, Copy)]
 pub(crate) struct UnsignedRequest {
     piece: u64,
     start: u64,

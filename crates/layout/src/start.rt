@@ -15,7 +15,7 @@ use tables::FileStorage;
 use types::{PieceIndex, Refusal, clamped64, is_negative64};
 
 // Where the bytes still to map begin: place `skip` of file `file` of `files`; `left` is how many they are.
-#[derive(Drop)]
+#[derive(Clone, Copy)]
 pub struct Cursor {
     pub file: usize,
     pub files: usize,

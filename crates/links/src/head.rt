@@ -15,7 +15,7 @@ use rope::{covers_in, own_in, path_byte, seek};
 pub(crate) const HEAD_SIZE: usize = 4096;
 
 // The first e bytes of a path that `depth` frames hold.
-#[derive(Drop)]
+#[derive(Clone, Copy)]
 pub(crate) struct Part {
     pub depth: u32,
     pub e: usize,

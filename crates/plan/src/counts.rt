@@ -23,7 +23,7 @@ pub(crate) struct Counts {
 
 // What an addition brings: the flags that are given, whether its link text is kept, whether it has a root, and its time
 // as a word. The flags are a word: three bytes would be put together in one.
-#[derive(Drop)]
+#[derive(Clone, Copy)]
 pub(crate) struct FileFacts {
     pub flags: u64,
     pub keeps_link: bool,

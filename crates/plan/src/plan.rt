@@ -43,7 +43,7 @@ pub(crate) enum TextSpansResult {
 }
 
 // A directory row to be written, if it is new.
-#[derive(Drop)]
+#[derive(Clone, Copy)]
 pub struct NewDir {
     pub new: bool,
     pub slot: usize,
@@ -53,7 +53,7 @@ pub struct NewDir {
 // What an addition writes: the set's record before and after it, the file's row, the pad's row, which has size 0 where
 // no pad follows, both directories, the set's old name, which is removed, the position where the new texts begin, and
 // the parts of the path, in which they stand.
-#[derive(Drop)]
+#[derive(Clone, Copy)]
 pub struct AddPlan {
     pub before: FileStorage,
     pub after: FileStorage,

@@ -15,7 +15,7 @@ pub use answer::on_set;
 pub use no_set::on_no_set;
 
 // How many places the tables have that a question's answer is lent: bytes for a composed text, slices, and hashes.
-#[derive(Drop)]
+#[derive(Clone, Copy)]
 pub struct Lent {
     pub output: usize,
     pub slices: usize,

@@ -20,7 +20,7 @@ pub struct Rename {
 
 // The number of renames and the bytes of their texts. The entries, three words each (file, mode,
 // length of the text), and the text area are slices that the caller lends.
-#[derive(Drop)]
+#[derive(Clone, Copy)]
 pub struct RenamedFiles {
     pub num_renames: usize,
     pub text_len: usize,

@@ -8,7 +8,7 @@ use types::Refusal;
 
 // The entry of a rename, the number of entries that it has already (one or none), the position of its text, and the
 // bytes of text that it has already.
-#[derive(Drop)]
+#[derive(Clone, Copy)]
 pub(crate) struct Slot {
     pub entry: usize,
     pub same: usize,

@@ -48,7 +48,7 @@ pub const NO_PATH: u64 = 1073741823;
 pub const PATH_IS_ABSOLUTE: u64 = 1073741822;
 
 // A root.
-#[derive(Drop)]
+#[derive(Clone, Copy)]
 pub struct Sha256Hash {
     pub bytes: [u8; ROOT_WIDTH],
 }
@@ -64,14 +64,14 @@ impl Sha256Hash {
 }
 
 // Whether something that may be missing is there.
-#[derive(Drop)]
+#[derive(Clone, Copy)]
 pub enum Presence {
     Absent,
     Present,
 }
 
 // A file's row as the table holds it.
-#[derive(Drop)]
+#[derive(Clone, Copy)]
 pub struct Row {
     pub offset: u64,
     pub size: u64,

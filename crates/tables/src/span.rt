@@ -6,7 +6,7 @@ ghost use Rattle.tables.specs.Span.{end_of, text_at, lower, low, clip, slid};
 use lists::{min_usize, saturating_sub_usize};
 
 // Where a text lies in the text area.
-#[derive(Drop)]
+#[derive(Clone, Copy)]
 pub struct Span {
     pub at: usize,
     pub len: usize,

@@ -2,7 +2,7 @@
 use crate::span::Span;
 
 // What a set is besides its tables.
-#[derive(Drop)]
+#[derive(Clone, Copy)]
 pub struct FileStorage {
     // From 1 to 2147483647; anything else is refusal 1.
     pub piece_length: u64,

@@ -2,12 +2,12 @@
 // index_range.rs and file_storage.rs. It relies on nothing else.
 
 // The number of a piece.
-#[derive(Drop)]
+#[derive(Clone, Copy)]
 pub struct PieceIndex(pub i32);
 
 // The number of a file. It lies as C lays it, since a `FileSlice` holds it.
 #[repr(C)]
-#[derive(Drop)]
+#[derive(Clone, Copy)]
 pub struct FileIndex(pub i32);
 
 // The pieces from `begin` up to, and without, `end`.

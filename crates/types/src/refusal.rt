@@ -3,7 +3,7 @@ ghost use Rattle.std.specs.Prelude.{◌≡◌};
 ghost use Rattle.types.specs.Refusals.{number_of};
 
 // Why a call is refused; 01's table 'Refusals, by place' gives each its number.
-#[derive(Drop)]
+#[derive(Clone, Copy)]
 pub enum Refusal {
     InvalidPieceLength,
     NegativeSize,
