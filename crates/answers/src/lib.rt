@@ -1,5 +1,7 @@
 // Plain answers about a set and its files, from file_storage.rs. A text is given by its span of the text area, or
 // composed into a lent buffer. Relies on `rules` for the refusals, and on `tables`, `path` and `types`.
+#![tactic(auto)]
+
 mod file;
 mod set;
 mod text;

@@ -1,6 +1,8 @@
 // The core of `map_block`, from file_storage.rs: the slices of files that a block covers, put into three columns of
 // numbers. `layout` finds where the slices begin and whether there is room; the code here makes one after another and
 // stores it.
+#![tactic(auto)]
+
 ghost use Rattle.std.specs.Prelude.{◌≡◌, [], length};
 ghost use Rattle.std.proofs.lemmas.List.Edits.{sets};
 ghost use Rattle.types.specs.Refusals.{usize_says};

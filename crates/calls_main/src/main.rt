@@ -1,6 +1,8 @@
 // Answers a script of calls on standard input over the port's libraries, a line of output for each
 // call, in the form that the driver over the Rust speaks too. What it answers is the libraries' to
 // promise; proved here is that the program is safe and ends.
+#![tactic(auto)]
+
 mod addition;
 mod asking;
 mod calls;

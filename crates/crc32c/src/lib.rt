@@ -1,6 +1,8 @@
 // CRC-32C (RFC 3720) over bytes, a byte at a time over a table, and the lower-casing of ASCII that
 // path hashes use. The running state is the CRC so far, 0 at the start, so parts are fed one after
 // another. Relies on the laws of proofs/.
+#![tactic(auto)]
+
 ghost use Rattle.std.specs.Prelude.{◌≡◌, map};
 ghost use Rattle.crc32c.specs.Crc.{byte_step, feed, crc_of, crc_from, lower};
 ghost use Rattle.crc32c.specs.private.Table.{IsTable};

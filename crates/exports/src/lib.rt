@@ -2,6 +2,8 @@
 // arrays with their sizes in their types. A change returns 0 or document 01's number; questions.rt and slices.rt say
 // what a question returns. An addition has 15 parameters and can't have fewer in C: each table and each text is a slice
 // of its own. Relies on `storage`, `trim`, `tables`, `layout`, `files`, `blocks` and `mapping`.
+#![tactic(auto)]
+
 ghost use Rattle.std.specs.Prelude.{◌≡◌, List, ℕ};
 ghost use Rattle.change.specs.Changes.{storage_says};
 ghost use Rattle.additions.specs.Addition.{optional_of};

@@ -1,6 +1,8 @@
 // Layout answers about one file, from file_storage.rs: its pieces, blocks and trees, and `map_file`. Every answer
 // decides document 01's refusals first, in their order. Relies on `rules` for the refusals, and on `answers`, `merkle`,
 // `layout`, `tables`, `types` and `lists`.
+#![tactic(auto)]
+
 mod file;
 mod list;
 mod number;

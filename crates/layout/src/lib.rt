@@ -1,6 +1,8 @@
 // Layout answers, from file_storage.rs: pieces, files at offsets, and where the slices of a block begin. Every answer
 // tests document 01's refusals first, in its order. Relies on `rules` for the refusals, and on `tables`, `types` and
 // `lists`.
+#![tactic(auto)]
+
 mod piece;
 mod plan;
 mod search;

@@ -1,6 +1,8 @@
 // Which links' texts a cleaning keeps, from `sanitize_symlinks` of file_storage.rs: a verdict for each flagged link,
 // with all that is lent untouched. Relies on `lookup` for what stands at a path and on `rope` for the path of a walk;
 // what a walk must remember stands in local arrays.
+#![tactic(auto)]
+
 mod cut;
 mod first;
 mod front;

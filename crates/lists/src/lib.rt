@@ -2,6 +2,8 @@
 // What a function writes past a slice's end is dropped, and what it reads there is 0 or nothing. Beside
 // them the same for numbers: differences and quotients that answer for every pair. The crate relies on
 // the kit only; its laws on lists and numbers are in proofs/, stated once for all crates.
+#![tactic(auto)]
+
 mod access;
 mod decimal;
 mod number;

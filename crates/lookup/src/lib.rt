@@ -1,5 +1,7 @@
 // What stands at a path in a set: a directory, a file or a flagged link; and the work space that its links need. Relies
 // on `tables` for the set, and on `path` and `lists` for paths.
+#![tactic(auto)]
+
 mod parts;
 mod set;
 mod space;

@@ -1,5 +1,7 @@
 // `map_block`, from file_storage.rs: the slices of files that a block covers, put into a lent slice of
 // `FileSlice`. `layout` plans the block; the code here makes one slice after another and stores it.
+#![tactic(auto)]
+
 ghost use Rattle.std.specs.Prelude.{◌≡◌, ◌∷◌, ◌+◌, ◌-◌, ◌<◌, ◌^◌, min, length, set};
 ghost use Rattle.types.specs.Refusals.{usize_says};
 ghost use Rattle.layout.specs.Start.{slices_from};

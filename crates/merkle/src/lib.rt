@@ -1,5 +1,7 @@
 // Tree widths and first nodes, what document 01 needs of merkle.rs. Relies on `types` for the refusal
 // and on the laws of proofs/Widths.antt.
+#![tactic(auto)]
+
 ghost use Rattle.std.specs.Prelude.{◌≡◌, ◌≤◌};
 ghost use Rattle.types.specs.Refusals.{usize_says};
 ghost use Rattle.merkle.specs.Width.{width_of, num_leafs, first_node};

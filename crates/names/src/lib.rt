@@ -1,5 +1,7 @@
 // Composed paths and their hashes, from file_storage.rs. Relies on `path` for joins, on `crc32c` for the
 // running hash and on `rules` for the refusals of a question.
+#![tactic(auto)]
+
 mod compose;
 mod decide;
 mod file;

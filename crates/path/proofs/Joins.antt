@@ -59,14 +59,14 @@ module _ (branch leaf : List ℕ) (n : ℕ) (closed : Bool) (e : n ≡ length br
 
   -- where there was room for it or not
   module _ (buf : List ℕ) (room : Bool) (f : room ≡ leb (n + cond closed (length leaf) (length leaf + 1)) (length buf)) where
-    pub glued-refused : not room ≡ true
+    pub glued-refused : room ≡ false
         → ◌≡◌ {A = Joined} (record { says = refused 10; buf = buf }) (joined_if (fits (glued branch leaf) buf) (glued branch leaf) buf)
     glued-refused q =
-        refused-is (fits (glued branch leaf) buf) (glued branch leaf) buf (rw length-glued at (sym f ∙ not-true room q))
+        refused-is (fits (glued branch leaf) buf) (glued branch leaf) buf (rw length-glued at (sym f ∙ q))
 
-    pub glued-written : not room ≡ false → (x : List ℕ) (r : ℕ) → r ≡ n + cond closed (length leaf) (length leaf + 1)
+    pub glued-written : room ≡ true → (x : List ℕ) (r : ℕ) → r ≡ n + cond closed (length leaf) (length leaf + 1)
         → x ≡ sets (sets buf 0 branch) n (cond closed leaf (47 ∷ leaf))
         → ◌≡◌ {A = Joined} (record { says = value r; buf = x }) (joined_if (fits (glued branch leaf) buf) (glued branch leaf) buf)
     glued-written q x r k w =
         written_is (fits (glued branch leaf) buf) (glued branch leaf) buf r x
-        (rw length-glued at (sym f ∙ not-false room q)) (k ∙ length-glued) (w ∙ sets-glued buf)
+        (rw length-glued at (sym f ∙ q)) (k ∙ length-glued) (w ∙ sets-glued buf)

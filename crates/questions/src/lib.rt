@@ -2,6 +2,8 @@
 // of standard output, and what is no question by `badcall`. So nothing is returned and nothing lent is changed: there
 // is nothing to promise but that the functions are safe and end. Relies on the libraries' answers, on `script` and on
 // `replies`.
+#![tactic(auto)]
+
 mod answer;
 mod file_paths;
 mod file_rows;

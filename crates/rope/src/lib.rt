@@ -1,5 +1,7 @@
 // The path of a walk through links, held as frames: its bytes are read where they stand, and nothing is composed.
 // Relies on `lookup` for what a row says of a link, and on `path` and `lists` for paths.
+#![tactic(auto)]
+
 mod frame;
 mod lead;
 mod part;

@@ -1,5 +1,7 @@
 // Refusals in order: document 01's table, the rows for questions, rendered once. A call decides by them before it
 // answers; an answer is a value or a refusal. Relies on `types`, `tables`, `lists` and `path`.
+#![tactic(auto)]
+
 mod decide;
 mod result;
 mod test;

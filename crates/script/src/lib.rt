@@ -1,5 +1,7 @@
 // What stands in a line of a script of calls: words, the form of a call, numbers, byte strings and roots. Relies on
 // the accessors of `lists`, and on `types` for signed numbers; specs/ says what a line holds.
+#![tactic(auto)]
+
 mod forms;
 mod numbers;
 mod roots;

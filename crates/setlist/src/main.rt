@@ -1,5 +1,7 @@
 // The program `setlist` of document 01: it reads standard input, and writes the listing of what it read.
 // One byte more than an input may have is read, so that a longer one is known. Relies on `listing`.
+#![tactic(auto)]
+
 use libc::{STDIN_FILENO, STDOUT_FILENO};
 use types::UsizeResult;
 

@@ -1,6 +1,8 @@
 // The set's tables: file rows, roots, directory rows and the text area, lent by the caller as slices of
 // numbers, and the set's own record. Every function answers for tables of any content and
 // length. Relies on `lists` for total accessors; what tables mean is in specs/Model.antt.
+#![tactic(auto)]
+
 mod lower;
 mod rows;
 mod span;

@@ -1,6 +1,8 @@
 // The index types, ranges, requests and slices of types.rs, index_range.rs and file_storage.rs, and
 // document 01's refusals, and the ways from signed numbers to unsigned ones and back. This crate relies
 // on the kit only.
+#![tactic(auto)]
+
 mod index;
 mod refusal;
 mod signed;

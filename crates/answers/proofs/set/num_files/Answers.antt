@@ -1,0 +1,25 @@
+-- `answers::set::num_files` meets its contract.
+use mathlib.Core.Path.{refl, ◌∙◌}
+use mathlib.Core.Bool.{true, false}
+use native.Mathlib.Omega.{arith}
+use lib.IntN.{pos}
+use mir.Syntax.{w32}
+use mir.Val.{SFits}
+use mir.Facts.{to_z-of_z}
+use borrow.Author.Rules.{rules}
+use Rattle.rules.proofs.Deciding.{set_value, set-refused, set-few, low-i32}
+use Rattle.answers.proofs.set.num_files.Goals as goal
+
+pub returns-in-Go : goal.returns-in-Go
+returns-in-Go c =
+    let a = c.args in
+    let d = c.ask_set in
+    let fits : SFits w32 c.signed32.result = search rules in
+    let l = (set-few a.fs false true d.ensures c.in-Go.is).0 in
+    set_value a.fs (pos a.fs.num_files) true true d.result d.ensures refl c.in-Go.is _ (to_z-of_z fits ∙ c.signed32.ensures ∙ low-i32 a.fs.num_files (omega (arith, l)))
+
+pub returns-in-Stop : goal.returns-in-Stop
+returns-in-Stop c =
+    let a = c.args in
+    let d = c.ask_set in
+    set-refused a.fs (pos a.fs.num_files) true true d.result d.ensures refl _ c.in-Stop.is

@@ -1,0 +1,35 @@
+-- `cleaning::rewrite::empty_links` meets its contract. The loop's invariant: the pass is going on at file i.
+use Prim.Native.Nat.{ℕ, ◌-◌}
+use mathlib.Core.Path.{ap, ◌∙◌}
+use native.Mathlib.Omega.{arith}
+use Rattle.lookup.specs.Lookup.{lent}
+use Rattle.cleaning.specs.Cleaning.{emptied_at}
+use Rattle.cleaning.specs.private.Writing.{flags_in, verdict_by, mark_after, verdicts_by}
+use Rattle.cleaning.proofs.Passes.{emptied-keeps, emptied-pass, going_start, going-turn, going_end}
+use Rattle.cleaning.proofs.rewrite.empty_links.Goals as goal
+
+pub loop-i-init : goal.loop-i-init
+loop-i-init c =
+    let a = c.args in
+    going_start emptied_at a.marks.now a.n (lent a.fs a.rows.now a.dirs.now a.text.now)
+
+pub overflow_add-i : goal.overflow_add-i
+overflow_add-i c = record { fits = omega (arith, c.loop-i-test.true, c.ranges.n) }
+
+pub loop-i-preserved : goal.loop-i-preserved
+loop-i-preserved c =
+    let a = c.args in
+    let l = c.loop-i in
+    let flags = c.flags_at-flags.ensures in
+    let verdict = c.verdict_of-verdict.ensures ∙ ap (λ (x : ℕ). verdict_by x a.marks.now l.k) flags in
+    let mark = c.mark_after-k.ensures ∙ ap (λ (x : ℕ). mark_after x l.k) flags in
+    let step = c.empty_link-set in
+    going-turn emptied_at a.marks.now a.n (lent a.fs a.rows.now a.dirs.now a.text.now) emptied-keeps (lent l.set l.rows l.dirs l.text) l.i l.k l.invariant c.loop-i-test.true (lent step.result step.new.rows step.new.dirs step.new.text) verdict step.ensures mark step.auto.1.0 step.auto.1.1.0 step.auto.1.1.1.0
+
+pub returns : goal.returns
+returns c =
+    let a = c.args in
+    let l = c.loop-i in
+    let s = lent a.fs a.rows.now a.dirs.now a.text.now in
+    going_end emptied_at a.marks.now a.n s (lent l.set l.rows l.dirs l.text) l.i l.k l.invariant c.loop-i-test.false
+    ∙ emptied-pass (verdicts_by (flags_in a.rows.now) a.marks.now a.n 0 0) 0 s

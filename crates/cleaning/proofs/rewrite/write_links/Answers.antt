@@ -1,0 +1,44 @@
+-- `cleaning::rewrite::write_links` meets its contract. The loop's invariant: the pass is going on at file i, and the scratch space is as
+-- long as it was.
+use Prim.Native.Nat.{ℕ, ◌-◌}
+use mathlib.Core.Path.{refl, ap, ◌∙◌}
+use native.Mathlib.Omega.{arith}
+use lib.ListN.{length}
+use Rattle.lookup.specs.Lookup.{lent}
+use Rattle.cleaning.specs.Cleaning.{rewritten_at}
+use Rattle.cleaning.specs.private.Writing.{flags_in, verdict_by, mark_after, verdicts_by}
+use Rattle.cleaning.proofs.Passes.{rewritten-keeps, rewritten-pass, going_start, going-turn, going_end}
+use Rattle.cleaning.proofs.rewrite.write_links.Goals as goal
+
+pub loop-i-init : goal.loop-i-init
+loop-i-init c =
+    let a = c.args in
+    (refl, going_start (rewritten_at (length a.scratch.now)) a.marks.now a.n (lent a.fs a.rows.now a.dirs.now a.text.now))
+
+pub mark_after-k-requires : goal.mark_after-k-requires
+mark_after-k-requires c = omega (arith, c.loop-i-test.true, c.loop-i.invariant.1.counted, c.ranges.n)
+
+pub overflow_add-i : goal.overflow_add-i
+overflow_add-i c = record { fits = omega (arith, c.loop-i-test.true, c.ranges.n) }
+
+pub loop-i-preserved : goal.loop-i-preserved
+loop-i-preserved c =
+    let a = c.args in
+    let l = c.loop-i in
+    let n = length a.scratch.now in
+    let s = lent l.set l.rows l.dirs l.text in
+    let flags = c.flags_at-flags.ensures in
+    let verdict = c.verdict_of-verdict.ensures ∙ ap (λ (x : ℕ). verdict_by x a.marks.now l.k) flags in
+    let mark = c.mark_after-k.ensures ∙ ap (λ (x : ℕ). mark_after x l.k) flags in
+    let step = c.write_link-set in
+    let put = step.ensures ∙ ap (λ (x : ℕ). rewritten_at x c.verdict_of-verdict.result s l.i) l.invariant.0 in
+    (step.auto.1.1.1.1.0 ∙ l.invariant.0, going-turn (rewritten_at n) a.marks.now a.n (lent a.fs a.rows.now a.dirs.now a.text.now) (rewritten-keeps n) s l.i l.k l.invariant.1 c.loop-i-test.true (lent step.result step.new.rows step.new.dirs step.new.text) verdict put mark step.auto.1.0 step.auto.1.1.0 step.auto.1.1.1.0)
+
+pub returns : goal.returns
+returns c =
+    let a = c.args in
+    let l = c.loop-i in
+    let n = length a.scratch.now in
+    let s = lent a.fs a.rows.now a.dirs.now a.text.now in
+    going_end (rewritten_at n) a.marks.now a.n s (lent l.set l.rows l.dirs l.text) l.i l.k l.invariant.1 c.loop-i-test.false
+    ∙ rewritten-pass n (verdicts_by (flags_in a.rows.now) a.marks.now a.n 0 0) 0 s

@@ -1,0 +1,48 @@
+-- `hashes::hashes::has_room` meets its contract. The loop's invariant: the table holds the first n of the hashes from some bound on,
+-- and these fit what is left where all hashes fit the room.
+use Rattle.hashes.proofs.Counting.{counted-first, counted_next, counted-over, counted-last}
+use Rattle.hashes.specs.private.Gathering.{hashes_within}
+use lib.ListN.{length}
+use native.Mathlib.Omega.{arith}
+use mathlib.Core.Path.{refl, ◌∙◌}
+use Prim.Native.Nat.{◌-◌, ◌<◌}
+use Rattle.hashes.proofs.hashes.has_room.Goals as goal
+
+pub loop-n-init : goal.loop-n-init
+loop-n-init c =
+    let a = c.args in
+    let g = c.gather-n in
+    let k = g.auto.0 in
+    let z : 0 < length a.table.now = c.requires in
+    (omega arith, refl, counted-first (hashes_within a.state a.dirs.now a.text.now a.count) a.room g.result a.table.now g.new.table g.ensures)
+
+pub returns-then-left-n : goal.returns-then-left-n
+returns-then-left-n c =
+    let l = c.loop-n in
+    let a = c.args in
+    counted-over (hashes_within a.state a.dirs.now a.text.now a.count) a.room l.left l.n l.table l.invariant.2 c.if-left-n.true
+
+pub overflow_cast-bound : goal.overflow_cast-bound
+overflow_cast-bound c = omega (arith, c.slice_known-in-loop-n-1.given (c.loop-n.n - 1))
+
+pub overflow_add-bound : goal.overflow_add-bound
+overflow_add-bound c = omega (arith, c.slice_known-in-loop-n-1.given (c.loop-n.n - 1))
+
+pub loop-n-preserved : goal.loop-n-preserved
+loop-n-preserved c =
+    let l = c.loop-n in
+    let a = c.args in
+    let g = c.gather-n-in-loop-n in
+    let k = g.auto.0 in
+    let i = l.invariant.0 in
+    let t = c.loop-n-test.true in (
+      omega arith,
+      k ∙ l.invariant.1,
+      counted_next (hashes_within a.state a.dirs.now a.text.now a.count) a.room l.left l.n l.table l.invariant.2 g.result _ g.new.table t (omega arith) c.if-left-n.false refl g.ensures,
+    )
+
+pub returns : goal.returns
+returns c =
+    let l = c.loop-n in
+    let a = c.args in
+    counted-last (hashes_within a.state a.dirs.now a.text.now a.count) a.room l.left l.n l.table l.invariant.2 c.loop-n-test.false

@@ -1,0 +1,18 @@
+-- `layout::piece::piece_range` meets its contract.
+use Rattle.std.proofs.Common.{◌∙◌, arith}
+use Rattle.types.proofs.Boundary.{low}
+use Rattle.layout.proofs.Deciding.{pieces-known}
+use Rattle.rules.proofs.Deciding.{go, stop}
+use Rattle.rules.specs.Questions.{num_pieces}
+use Rattle.layout.proofs.piece.piece_range.Goals as goal
+
+pub returns-in-Go : goal.returns-in-Go
+returns-in-Go c =
+    let a = c.args in
+    let d = c.ask_pieces in
+    let k = pieces-known a.fs d.ensures c.in-Go.is in
+    let e = (rw c.count_pieces.ensures at c.new-in-Go.ensures) ∙ low 31 (num_pieces a.fs) (omega arith) in
+    go _ d.ensures c.in-Go.is _ (cc (c.new.ensures, e))
+
+pub returns-in-Stop : goal.returns-in-Stop
+returns-in-Stop c = stop _ c.ask_pieces.ensures _ c.in-Stop.is

@@ -1,0 +1,10 @@
+-- `layout::search::turns` meets its contract. The loop's invariant: the search stands at level j, from `top` down to `low`.
+use Rattle.std.proofs.Common.{◌-◌, ◌≤◌}
+use Rattle.layout.specs.private.Level.{Level}
+use Rattle.layout.proofs.search.turns.Given as goal
+
+abbrev pub invariant-loop-j : goal.invariant-loop-j
+invariant-loop-j l = (l.low ≤ l.j) × (l.j ≤ l.top) × Level l.rows l.n l.target l.j l.e
+
+abbrev pub decreases-loop-j : goal.decreases-loop-j
+decreases-loop-j l = l.j

@@ -1,0 +1,39 @@
+-- `links::scan::dir_in` meets its contract. Its loop keeps: the directories from d on decide.
+use Prim.Native.Nat.{ℕ, ◌-◌}
+use mathlib.Core.Path.{refl, sym, ap, ◌∙◌}
+use mathlib.Core.List.{List}
+use native.Mathlib.Omega.{arith}
+use Rattle.tables.specs.Model.{Store}
+use Rattle.lookup.specs.Lookup.{is_directory, lent}
+use Rattle.lookup.proofs.Rows.{directories-start, directories-turn, directories-hit, directories-end}
+use Rattle.rope.specs.Rope.{front}
+use Rattle.links.proofs.scan.dir_in.Goals as goal
+use Rattle.links.proofs.scan.dir_in.Goals.{Start}
+
+abbrev the_set : Start → Store
+the_set c = lent c.args.fs c.args.rows.now c.args.dirs.now c.args.text.now
+
+-- the part
+abbrev here : Start → List ℕ
+here c = front c.args.rows.now c.args.dirs.now c.args.text.now c.args.frames.now c.args.part.depth c.args.part.e
+
+pub loop-d-init : goal.loop-d-init
+loop-d-init c = (omega arith, ap (λ (l : List (List ℕ)). is_directory l (here c.before.before.before.before.before)) (directories-start (the_set c.before.before.before.before.before) c.args.fs.num_paths refl))
+
+pub covers_part-requires : goal.covers_part-requires
+covers_part-requires c = c.requires
+
+pub returns-then-covers_part : goal.returns-then-covers_part
+returns-then-covers_part c =
+    let l = c.loop-d in
+    sym (directories-hit (the_set c.before.before.before.before.before.before.before.before.before.before) (here c.before.before.before.before.before.before.before.before.before.before) c.args.fs.num_paths l.d c.loop-d-test.true (sym c.covers_part.ensures ∙ c.if-covers_part.true)) ∙ l.invariant.1
+
+pub loop-d-preserved : goal.loop-d-preserved
+loop-d-preserved c =
+    let l = c.loop-d in
+    (omega (arith, c.loop-d-test.true), directories-turn (the_set c.before.before.before.before.before.before.before.before.before.before) (here c.before.before.before.before.before.before.before.before.before.before) c.args.fs.num_paths l.d c.loop-d-test.true (sym c.covers_part.ensures ∙ c.if-covers_part.false) ∙ l.invariant.1)
+
+pub returns : goal.returns
+returns c =
+    let l = c.loop-d in
+    sym (directories-end (the_set c.before.before.before.before.before.before.before.before) (here c.before.before.before.before.before.before.before.before) c.args.fs.num_paths l.d c.loop-d-test.false) ∙ l.invariant.1

@@ -1,0 +1,81 @@
+-- `listing::run::add_lines` meets its contract. The loop's invariant: the run is going on at place `at`, after `line`
+-- lines.
+use Prim.Native.Nat.{ℕ, ◌+◌, ◌-◌}
+use mathlib.Core.Path.{◌≡◌, refl, ap, ◌∙◌}
+use mathlib.Core.List.{List, []}
+use native.Mathlib.Omega.{arith}
+use Rattle.lists.specs.Lists.{part_of}
+use Rattle.tables.specs.Model.{store_of}
+use Rattle.change.specs.declared.result.StorageResult.{StorageResult}
+use Rattle.change.specs.Changes.{Changed, storage_says}
+use Rattle.listing_input.specs.Form.{file_in}
+use Rattle.listing.specs.declared.run.RunResult.{RunResult}
+use Rattle.listing.specs.private.Steps.{obeyed, stopped_by, run_says, Placed}
+use Rattle.listing.proofs.Steps.{line-few, run_ends, run-stops, run-goes, counted_is}
+use Rattle.listing.proofs.run.add_lines.Goals as goal
+use Rattle.listing.proofs.run.add_lines.Goals.{After-add_line-answer}
+
+-- what a line leaves
+abbrev left_by : After-add_line-answer → Changed
+left_by c =
+    record {
+      says = storage_says c.add_line-answer.result;
+      rows = c.add_line-answer.new.rows;
+      roots = c.add_line-answer.new.roots;
+      firsts = [];
+      dirs = c.add_line-answer.new.dirs;
+      text = c.add_line-answer.new.text;
+    }
+
+changed : (c : After-add_line-answer) → left_by c ≡ obeyed (file_in (part_of c.args.input.now c.loop-at.at c.line_length-n.result)) (store_of c.loop-at.set c.loop-at.rows c.loop-at.roots [] c.loop-at.dirs c.loop-at.text)
+changed c = c.add_line-answer.ensures ∙ ap (λ (l : List ℕ). obeyed (file_in l) (store_of c.loop-at.set c.loop-at.rows c.loop-at.roots [] c.loop-at.dirs c.loop-at.text)) c.part.ensures
+
+placed : (c : After-add_line-answer) → Placed (left_by c).rows (left_by c).roots (left_by c).dirs (left_by c).text
+placed c =
+    let p = c.loop-at.invariant.placed in
+    let k = c.add_line-answer.auto in
+    record {
+      rows_are = k.1.0 ∙ p.rows_are;
+      roots-are = k.1.1.0 ∙ p.roots-are;
+      dirs-are = k.1.1.1.0 ∙ p.dirs-are;
+      text-is = k.1.1.1.1.0 ∙ p.text-is;
+    }
+
+pub loop-at-init : goal.loop-at-init
+loop-at-init c = record { after_line = c.requires.le_from.0; within = c.requires.le_from.1; placed = c.requires.placed; sound = c.requires.sound; unindexed = c.requires.indexed_value; rest = refl }
+
+pub overflow_add-line : goal.overflow_add-line
+overflow_add-line c = omega (arith, c.loop-at.invariant.after_line, c.loop-at-test.true, c.well_formed.0)
+
+pub returns-in_default : goal.returns-in_default
+returns-in_default c =
+    let told = c.in_default.is in
+    let line = c.loop-at.line + 1 in
+    let t = left_by c.before.before.before.before.before.before.before.before.before.before in
+    ap (λ (x : RunResult). run_says x t.rows t.roots t.dirs t.text) (c.stopped_by.ensures ∙ ap (λ (a : StorageResult). stopped_by a line) told)
+    ∙ run-stops _ _ _ _ _ c.loop-at.invariant c.loop-at-test.true _ c.line_length-n.ensures t (changed c.before.before.before.before.before.before.before.before.before.before) _ (ap storage_says told)
+
+pub overflow_add-at : goal.overflow_add-at
+overflow_add-at c =
+    let l = c.loop-at in
+    omega (arith, l.invariant.after_line, c.loop-at-test.true, c.well_formed.0, c.line_length-n.ensures, line-few c.args.input.now l.at)
+
+pub overflow_add-at-in-loop-at : goal.overflow_add-at-in-loop-at
+overflow_add-at-in-loop-at c =
+    let l = c.loop-at in
+    omega (arith, l.invariant.after_line, c.loop-at-test.true, c.well_formed.0, c.line_length-n.ensures, line-few c.args.input.now l.at)
+
+pub loop-at-smaller : goal.loop-at-smaller
+loop-at-smaller c =
+    let l = c.loop-at in
+    omega (arith, l.invariant.after_line, c.loop-at-test.true, c.well_formed.0, c.line_length-n.ensures, line-few c.args.input.now l.at)
+
+pub loop-at-preserved : goal.loop-at-preserved
+loop-at-preserved c = run-goes _ _ _ _ _ c.loop-at.invariant c.loop-at-test.true _ c.line_length-n.ensures (left_by c.before.before.before.before.before.before.before.before.before) (changed c.before.before.before.before.before.before.before.before.before) _ (ap storage_says c.in-Ok.is) (placed c.before.before.before.before.before.before.before.before.before)
+
+pub returns : goal.returns
+returns c =
+    let l = c.loop-at in
+    ap (λ (x : RunResult). run_says x l.rows l.roots l.dirs l.text) c.counted_by.ensures
+    ∙ counted_is l.set l.rows l.roots l.dirs l.text l.line
+    ∙ run_ends _ _ _ _ _ l.invariant c.loop-at-test.false

@@ -1,0 +1,40 @@
+-- `lookup::parts::joins_to` meets its contract.
+use mathlib.Core.Path.{◌≡◌, sym, ap, ◌∙◌}
+use mathlib.Core.Bool.{cond, false}
+use mathlib.Core.List.{◌∷◌}
+use lib.ListN.{length, drop}
+use Rattle.lists.specs.Lists.{equal}
+use Rattle.path.specs.Join.{is_alone, is_closed}
+use Rattle.path.proofs.Ends.{part-rest}
+use Rattle.lookup.proofs.Paths.{joins-alone, joins-empty, joins-on, joins-not}
+use Rattle.lookup.proofs.parts.joins_to.Goals as goal
+use Rattle.lookup.proofs.parts.joins_to.Goals.{After-is_tail, Else-is_alone}
+
+alone-not : (c : Else-is_alone) → is_alone c.args.d.now ≡ false
+alone-not c = sym c.is_alone.ensures ∙ c.if-is_alone.false
+
+tail-is : (c : After-is_tail) → c.is_tail.result ≡ equal (cond (is_closed c.args.d.now) c.args.name.now (47 ∷ c.args.name.now)) (drop (length c.args.d.now) c.args.p.now)
+tail-is c =
+    let a = c.args in
+    c.is_tail.ensures ∙ rw (c.is_closed.ensures, c.part.ensures, part-rest a.p.now (length a.d.now))
+
+pub returns-then-is_alone : goal.returns-then-is_alone
+returns-then-is_alone c =
+    let a = c.args in
+    c.same.ensures ∙ joins-alone a.d.now a.name.now a.p.now (sym c.is_alone.ensures ∙ c.if-is_alone.true)
+
+pub returns-then-name-eq0 : goal.returns-then-name-eq0
+returns-then-name-eq0 c =
+    let a = c.args in
+    c.same-then-name-eq0.ensures ∙ joins-empty a.d.now a.name.now a.p.now (alone-not c.before.before) c.if-name-eq0.true
+
+pub returns-then-is_tail : goal.returns-then-is_tail
+returns-then-is_tail c =
+    let a = c.args in
+    c.same-then-is_tail.ensures ∙ ap (equal a.d.now) c.part-then-is_tail.ensures
+    ∙ joins-on a.d.now a.name.now a.p.now (alone-not c.before.before.before.before.before.before.before) c.if-name-eq0.false (sym (tail-is c.before.before.before) ∙ c.if-is_tail.true)
+
+pub returns : goal.returns
+returns c =
+    let a = c.args in
+    joins-not a.d.now a.name.now a.p.now (alone-not c.before.before.before.before.before) c.if-name-eq0.false (sym (tail-is c.before) ∙ c.if-is_tail.false)

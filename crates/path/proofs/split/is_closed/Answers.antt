@@ -1,0 +1,7 @@
+-- `path::split::is_closed` meets its contract.
+use Rattle.path.proofs.Ends.{closed_is}
+use Rattle.path.proofs.split.is_closed.Goals as goal
+
+pub returns : goal.returns
+returns c =
+    rw c.byte.ensures (closed_is c.args.path.now c.saturating_sub_usize.result c.saturating_sub_usize.ensures)

@@ -1,0 +1,12 @@
+-- `script::numbers::digit_value` meets its contract.
+use borrow.Author.Tests.{lt-ltb, le-ltb, le-leb, lt-leb}
+use Rattle.script.proofs.numbers.digit_value.Goals as goal
+
+pub returns-then-c-lt48 : goal.returns-then-c-lt48
+returns-then-c-lt48 c = simp (lt-ltb _ 48 c.if-c-lt48.true)
+
+pub returns-then-c-le57 : goal.returns-then-c-le57
+returns-then-c-le57 c = simp (le-ltb _ 48 c.if-c-lt48.false, le-leb _ 57 c.if-c-le57.true, c.wide.ensures)
+
+pub returns : goal.returns
+returns c = simp (le-ltb _ 48 c.if-c-lt48.false, lt-leb _ 57 c.if-c-le57.false)
