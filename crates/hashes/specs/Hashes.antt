@@ -1,7 +1,7 @@
 -- Document 01, 'Names': `all_path_hashes`: the hash of each directory and of each part of it that stands before a
 -- separator, after the set's name. 'unordered sets and maps come out ascending', each hash once. It relies on the hash
 -- of a path in Paths.antt of `names`.
-use Rattle.std.specs.Prelude.{ℕ, cond, not, ◌&&◌, List, [], ◌∷◌, ◌++◌, map, eqb, ltb, leb, length}
+use Rattle.std.specs.Prelude.{ℕ, cond, ◌&&◌, List, [], ◌∷◌, ◌++◌, map, eqb, ltb, leb, length}
 use Rattle.std.proofs.lemmas.List.Edits.{sets}
 use Rattle.types.specs.Refusals.{Outcome, value, refused, usize_says}
 use Rattle.types.specs.declared.refusal.UsizeResult.{UsizeResult}

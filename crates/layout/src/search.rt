@@ -1,7 +1,7 @@
 // The file at an offset, by halving over the rows' offsets: over all rows, or first over those of a window, of which
 // the first four are looked at one by one. It relies on `tables` for the offsets and on the laws of
 // proofs/Halving.antt, proofs/Levels.antt and proofs/Near.antt.
-ghost use Rattle.std.specs.Prelude.{◌≡◌, ◌+◌, ◌-◌, ◌/◌, ◌%◌, ◌^◌, ◌<◌, ◌≤◌, length, if◌then◌else◌, nat_le, slice_index};
+ghost use Rattle.std.specs.Prelude.{◌≡◌, ◌+◌, ◌-◌, ◌/◌, ◌%◌, ◌^◌, ◌<◌, ◌≤◌, length, if◌then◌else◌, cond, nat_le, slice_index};
 ghost use Rattle.layout.specs.Search.{partition_point, file_found, first_with, found_far, has_byte, found_within};
 ghost use Rattle.layout.specs.Steps.{reach};
 ghost use Rattle.layout.specs.private.Level.{Level};

@@ -1,7 +1,7 @@
 -- What the walk of `resolve` keeps, turn by turn: its path is in frames, the texts of open links still fit, and there is a frame for
 -- each. Before that, the number of a link's text, and the part in the buffer. These laws rely on those of proofs/Events.antt,
 -- proofs/Room.antt and on those of `lookup` about rows.
-use Prim.Native.Nat.{ℕ, zero, suc, ◌+◌, ◌*◌, ◌/◌, ◌%◌, ◌^◌, ◌<◌, ◌≤◌}
+use Prim.Native.Nat.{ℕ, zero, suc, ◌+◌, ◌-◌, ◌*◌, ◌/◌, ◌%◌, ◌^◌, ◌<◌, ◌≤◌}
 use mathlib.Core.Path.{◌≡◌, refl, sym, ap, ◌∙◌}
 use mathlib.Core.Bool.{Bool, true, false}
 use mathlib.Core.List.{List, map}
@@ -10,16 +10,17 @@ use borrow.Author.Tests.{le-ltb}
 use lib.ListN.{length, take, drop, set}
 use lib.Seq.{take_all, length-take-le}
 use Rattle.path.specs.Join.{appended, combined}
-use Rattle.tables.specs.Model.{Store}
-use Rattle.lookup.specs.Lookup.{known, entries_of, directories_of}
-use Rattle.lookup.specs.private.Rows.{entry_at}
+use Rattle.tables.specs.Model.{Store, directory_text}
+use Rattle.lookup.specs.Lookup.{covers, is_directory, known, entries_of, directories_of}
+use Rattle.lookup.specs.private.Rows.{entry_at, entries_from, directories_from}
 use Rattle.lookup.proofs.Rows.{text_at_lem, branch_at, beside_at}
 use Rattle.links.specs.Clean.{part_end, weight, left}
 use Rattle.rope.specs.Rope.{row_lead, leads, held_path, front, frame_width}
 use Rattle.links.specs.private.Walking.{lead, verdict, untraversed, lead_text, open_of, path_of, Walkable, Fronted}
 use Rattle.links.proofs.Walk.{part-within}
+use Rattle.links.proofs.Scans.{Scan}
 use Rattle.links.proofs.Room.{open-few}
-use Rattle.links.proofs.Events.{dir_here, goes_on, walked_end, dir-on, Met, open-fewer, link-marks, link_fits, link_on, link-less}
+use Rattle.links.proofs.Events.{dir_here, goes_on, walked_end, no-dir, is-dir, dir-on, dir-stop, link-none, Met, open-fewer, link-marks, link_fits, link_on, link-less}
 
 -- ---- the text by which a link leads
 
@@ -156,10 +157,26 @@ module _ (s : Store) (marks₀ frames₀ : List ℕ) (answer : Bool) (marks fram
 -- ---- the walk's end
 
 -- what holds where the walk is left, at its end or before it
-pub record Over (s : Store) (marks₀ frames₀ : List ℕ) (answer : Bool) (marks frames buf : List ℕ) (depth e : ℕ) : Type 0 where
+pub record Over (s : Store) (marks₀ frames₀ : List ℕ) (answer : Bool) (marks frames : List ℕ) (depth e : ℕ) : Type 0 where
   pub walking : Walking s marks₀ frames₀ answer marks frames depth e
-  pub buffer : length buf ≡ 4096
   pub stopped : e < length (path_of s frames depth) → false ≡ answer
 
-pub over-is : (s : Store) (marks₀ frames₀ : List ℕ) (answer : Bool) (marks frames marks' frames' buf' : List ℕ) (depth e depth' e' : ℕ) (buf : List ℕ) → marks' ≡ marks → frames' ≡ frames → buf' ≡ buf → depth' ≡ depth → e' ≡ e → Over s marks₀ frames₀ answer marks frames buf depth e → Over s marks₀ frames₀ answer marks' frames' buf' depth' e'
-over-is s marks₀ frames₀ answer marks frames marks' frames' buf' depth e depth' e' buf i j k l m h = rw (i, j, k, l, m) h
+module _ (s : Store) (marks₀ frames₀ : List ℕ) (answer : Bool) (marks frames : List ℕ) (depth e : ℕ) (w : Walking s marks₀ frames₀ answer marks frames depth e) (marks' frames' : List ℕ) (depth' e' : ℕ) (i : marks' ≡ marks) (j : frames' ≡ frames) (k : depth' ≡ depth) (l : e' ≡ e) where
+  over-is : (e < length (path_of s frames depth) → false ≡ answer) → Over s marks₀ frames₀ answer marks' frames' depth' e'
+  over-is h = rw (i, j, k, l) (record { walking = w; stopped = h })
+
+  -- at the path's end
+  pub left_end : length (path_of s frames depth) ≤ e → Over s marks₀ frames₀ answer marks' frames' depth' e'
+  left_end q = over-is (λ h. absurd (omega arith))
+
+  -- at directory d, behind which there is nothing
+  pub left_dir : (d next : ℕ) → is_directory (directories_from s (s.fs.num_paths - d) d) (take e (path_of s frames depth)) ≡ dir_here s (map lead marks) (path_of s frames depth) e → d < s.fs.num_paths → covers (directory_text s d) (take e (path_of s frames depth)) ≡ true → next ≡ part_end (path_of s frames depth) (e + 1) → next ≤ e → Over s marks₀ frames₀ answer marks' frames' depth' e'
+  left_dir d next x q c m n =
+      let p = path_of s frames depth in
+      over-is (λ h. sym (dir-stop s (map lead marks) p e h next (is-dir s (map lead marks) p e d x q c) m n) ∙ w.goes)
+
+  -- at no directory and at no link
+  pub left_link : (d f n : ℕ) → is_directory (directories_from s (s.fs.num_paths - d) d) (take e (path_of s frames depth)) ≡ dir_here s (map lead marks) (path_of s frames depth) e → s.fs.num_paths ≤ d → Scan (entries_of s) (entries_from s (s.fs.num_files - f) f) (map lead marks) (take e (path_of s frames depth)) n → s.fs.num_files ≤ f → Over s marks₀ frames₀ answer marks' frames' depth' e'
+  left_link d f n x q c y =
+      let p = path_of s frames depth in
+      over-is (λ h. sym (link-none s (map lead marks) p e h f n (no-dir s (map lead marks) p e d x q) c y) ∙ w.goes)

@@ -187,7 +187,7 @@ line-few input at =
 
 -- the run at a place of the input: the lines before it are obeyed, their number is `line`, and what is left makes the whole
 pub record Going (input : List ℕ) (whole : Run) (at line : ℕ) (s : Store) : Type 0 where
-  pub after_line_lem : line ≤ at
+  pub after_line : line ≤ at
   pub within : at ≤ length input + 1
   pub placed : Placed s.rows s.roots s.dirs s.text
   pub sound : Sound s
@@ -222,7 +222,7 @@ module _ (input : List ℕ) (whole : Run) (at line : ℕ) (s : Store) (g : Going
           let ls = lines (drop (at + n + 1) input) in
           let m = go-at s g.placed g.sound g.unindexed line l ls (file_in l) fs (sym (ap (λ (x : Changed). x.says) q) ∙ r) in
           record {
-            after_line_lem = omega (arith, g.after_line_lem);
+            after_line = omega (arith, g.after_line);
             within = omega (arith, line-few input at);
             placed = p;
             sound = subst (λ (x : Changed). Sound (new_store fs x)) (sym q) m.0;

@@ -1,6 +1,7 @@
 -- `files::file::first_node` meets its contract.
-use Rattle.std.proofs.Common.{◌≡◌, ◌-◌, true, false, not, ◌&&◌, ◌||◌, sym, refl, ◌∙◌, ap₂}
+use Rattle.std.proofs.Common.{◌≡◌, ℕ, ◌-◌, Bool, true, false, not, ◌&&◌, ◌||◌, List, ℤ, sym, refl, ◌∙◌, ap₂}
 use borrow.Author.Tests.{not-false}
+use Rattle.tables.specs.declared.storage.FileStorage.{FileStorage}
 use Rattle.tables.specs.Rows.{row_at}
 use Rattle.merkle.specs.Width.{has_tree, width_of, first_node}
 use Rattle.rules.specs.Questions.{row_there, rows_are_held, bad_piece_length, no_file, no_tree, short, few_entries}
@@ -11,17 +12,18 @@ use Rattle.files.proofs.Deciding.{file-known, file-there}
 use Rattle.rules.proofs.Deciding.{go, stop, either-rule}
 use Rattle.types.specs.Refusals.{value}
 use Rattle.files.proofs.file.first_node.Goals as goal
-use Rattle.files.proofs.file.first_node.Goals.{After-ask_file}
 
 -- whether the file has no tree, as the contract says it
-tree_of : (c : After-ask_file) → c.is_either-no_tree.result ≡ ((no_tree c.args.fs (row_at c.args.rows.now (clamped_of c.args.index.0))).test || (no_node (row_there c.args.rows.now (clamped_of c.args.index.0)) c.args.leaves).test)
-tree_of c = c.is_either-no_tree.ensures ∙ ap₂ ◌||◌ (rw c.get-k.ensures at c.is_no_tree.ensures) (rw c.get-k.ensures at c.is_no_node.ensures)
+tree_of : (fs : FileStorage) (rows : List ℕ) (z : ℤ) (leaves : ℕ) {k : ℕ} {b tree node : Bool} → k ≡ clamped_of z
+    → tree ≡ (no_tree fs (row_at rows k)).test → node ≡ (no_node (row_there rows k) leaves).test → b ≡ (tree || node)
+    → b ≡ ((no_tree fs (row_at rows (clamped_of z))).test || (no_node (row_there rows (clamped_of z)) leaves).test)
+tree_of fs rows z leaves e t n h = h ∙ ap₂ ◌||◌ (rw e at t) (rw e at n)
 
 pub returns-in-Go : goal.returns-in-Go
 returns-in-Go c =
     let a = c.args in
     let t = (no_tree a.fs (row_at a.rows.now (clamped_of a.index.0))).test in
-    let e = tree_of c.before.before in
+    let e = tree_of a.fs a.rows.now a.index.0 a.leaves c.get-k.ensures c.is_no_tree.ensures c.is_no_node.ensures c.is_either-no_tree.ensures in
     let k = file-known a.fs a.index.0 false false c.is_either-no_tree.result _ c.ask_file.ensures c.in-Go.is in
     let w = (no_node (row_there a.rows.now (clamped_of a.index.0)) a.leaves).test in
     let here = file-there a.fs a.index.0 false false c.is_either-no_tree.result _ c.ask_file.ensures c.in-Go.is in
@@ -35,4 +37,4 @@ pub returns-in-Stop : goal.returns-in-Stop
 returns-in-Stop c =
     let a = c.args in
     let t = (no_tree a.fs (row_at a.rows.now (clamped_of a.index.0))).test in
-    stop _ ((rw (tree_of c.before) at c.ask_file.ensures) ∙ either-rule (bad_piece_length a.fs) (no_file a.fs a.index.0) (short (rows_are_held a.fs a.rows.now && few_entries a.fs)) t (no_node (row_there a.rows.now (clamped_of a.index.0)) a.leaves).test) _ c.in-Stop.is
+    stop _ ((rw (tree_of a.fs a.rows.now a.index.0 a.leaves c.get-k.ensures c.is_no_tree.ensures c.is_no_node.ensures c.is_either-no_tree.ensures) at c.ask_file.ensures) ∙ either-rule (bad_piece_length a.fs) (no_file a.fs a.index.0) (short (rows_are_held a.fs a.rows.now && few_entries a.fs)) t (no_node (row_there a.rows.now (clamped_of a.index.0)) a.leaves).test) _ c.in-Stop.is

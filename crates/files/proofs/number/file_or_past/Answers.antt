@@ -58,5 +58,5 @@ pub returns : goal.returns
 returns c =
     let z = c.args.index.0 in
     let f : SFits w32 c.args.index.0 = search rules in
-    let e = rw (sum_is z f, to_z-of_z (sum_fits z f)) at c.wrapping_sub_u64.ensures in
+    let e = rw (sum_is z f, to_z-of_z (sum_fits z f)) at c.wrapping_sub_u64.ensures.value in
     lowered z f c.wrapping_sub_u64.result (search rules) e

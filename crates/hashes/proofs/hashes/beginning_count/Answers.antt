@@ -1,6 +1,6 @@
 -- `hashes::hashes::beginning_count` meets its contract. The loop's invariant: n and the number of the beginnings behind the one that
 -- ends at `end` come to what is due.
-use Prim.Native.Nat.{◌+◌, ◌-◌, ◌≤◌, ◌<◌}
+use Prim.Native.Nat.{◌+◌, ◌≤◌, ◌<◌}
 use mathlib.Core.Path.{ap}
 use native.Mathlib.Omega.{arith}
 use lib.ListN.{length}

@@ -13,7 +13,7 @@ use lib.ListN.{length, drop}
 use native.Mathlib.Omega.{arith}
 use mathlib.Core.List.{List, map}
 use mathlib.Core.Path.{◌≡◌, refl, ◌∙◌, ap}
-use Prim.Native.Nat.{◌-◌, min, ℕ, ◌+◌}
+use Prim.Native.Nat.{min, ℕ, ◌+◌}
 use Rattle.hashes.proofs.hashes.gather.Goals as goal
 
 pub loop-i-init : goal.loop-i-init
@@ -33,7 +33,7 @@ loop-i-preserved c =
     let e : t.result.now ≡ g l.i = t.ensures ∙ ap (λ (s : Span). text_at a.text.now s) c.dir_at-place.ensures in
     let hs = hashes_after a.state t.result.now in (
       omega arith,
-      c.keep_dir-kept.auto.0 ∙ l.invariant.1,
+      c.keep_dir-kept.auto.table ∙ l.invariant.1,
       gone-on a.bound hs (joined_lists (map (hashes_after a.state) (drop (l.i + 1) (tabled a.count g)))) l.invariant.2
           (dirs-turn (hashes_after a.state) a.count g l.i hs c.loop-i-test.true (ap (hashes_after a.state) e)) c.keep_dir-kept.ensures.0,
     )
@@ -44,7 +44,7 @@ returns c =
     let a = c.args in
     let hs = hashes_within a.state a.dirs.now a.text.now a.count in
     let g = rw (dirs-end (hashes_after a.state) a.count (λ i. text_at a.text.now (dir_at a.dirs.now i)) l.i c.loop-i-test.false) at l.invariant.2 in
-    let r = arrived a.bound l.auto.held g in
+    let r = arrived a.bound l.kept.held g in
     record {
       stored = r.0 ∙ ap (sets a.table.now 0) (gathered-is a.bound hs);
       count = r.1 ∙ ap (λ (xs : List ℕ). min (length a.table.now) (length xs)) (gathered-is a.bound hs);

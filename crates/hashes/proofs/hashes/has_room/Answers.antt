@@ -12,7 +12,7 @@ pub loop-n-init : goal.loop-n-init
 loop-n-init c =
     let a = c.args in
     let g = c.gather-n in
-    let k = g.auto.0 in
+    let k = g.auto.table in
     let z : 0 < length a.table.now = c.requires in
     (omega arith, refl, counted-first (hashes_within a.state a.dirs.now a.text.now a.count) a.room g.result a.table.now g.new.table g.ensures)
 
@@ -23,17 +23,17 @@ returns-then-left-n c =
     counted-over (hashes_within a.state a.dirs.now a.text.now a.count) a.room l.left l.n l.table l.invariant.2 c.if-left-n.true
 
 pub overflow_cast-bound : goal.overflow_cast-bound
-overflow_cast-bound c = omega (arith, c.slice_known-in-loop-n-1.given (c.loop-n.n - 1))
+overflow_cast-bound c = omega (arith, c.type_inv.table (c.loop-n.n - 1))
 
 pub overflow_add-bound : goal.overflow_add-bound
-overflow_add-bound c = omega (arith, c.slice_known-in-loop-n-1.given (c.loop-n.n - 1))
+overflow_add-bound c = omega (arith, c.type_inv.table (c.loop-n.n - 1))
 
 pub loop-n-preserved : goal.loop-n-preserved
 loop-n-preserved c =
     let l = c.loop-n in
     let a = c.args in
     let g = c.gather-n-in-loop-n in
-    let k = g.auto.0 in
+    let k = g.auto.table in
     let i = l.invariant.0 in
     let t = c.loop-n-test.true in (
       omega arith,

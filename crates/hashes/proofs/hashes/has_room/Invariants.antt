@@ -4,7 +4,7 @@ use Rattle.hashes.proofs.Counting.{Counting}
 use Rattle.hashes.specs.private.Gathering.{hashes_within}
 use lib.ListN.{length}
 use mathlib.Core.Path.{◌≡◌}
-use Prim.Native.Nat.{◌-◌, ◌<◌}
+use Prim.Native.Nat.{◌<◌}
 use Rattle.hashes.proofs.hashes.has_room.Given as goal
 
 abbrev pub invariant-loop-n : goal.invariant-loop-n

@@ -14,8 +14,8 @@ use Rattle.hashes.proofs.hashes.repeats_fit.Given as goal
 
 abbrev pub invariant-loop-i : goal.invariant-loop-i
 invariant-loop-i l =
-    (i ≤ l.count)
-    × (leb (length (joined_lists (map beginnings (drop i (tabled l.count (λ i. text_at l.text (dir_at l.dirs i))))))) l.left ≡ leb (length (beginnings_within l.dirs l.text l.count)) l.room)
+    (l.i ≤ l.count)
+    × (leb (length (joined_lists (map beginnings (drop l.i (tabled l.count (λ i. text_at l.text (dir_at l.dirs i))))))) l.left ≡ leb (length (beginnings_within l.dirs l.text l.count)) l.room)
 
 abbrev pub decreases-loop-i : goal.decreases-loop-i
 decreases-loop-i l = l.count - l.i

@@ -17,4 +17,4 @@ differs d t o s e b o-low s-low = by (le-or-lt o t)
     by (inr p) = rw (lt-leb o t p) (le-ltb d s (omega arith))
 
 pub returns : goal.returns
-returns c = differs c.wrapping_sub_u64.result _ _ _ c.wrapping_sub_u64.ensures (search rules) (omega arith) (omega arith)
+returns c = differs c.wrapping_sub_u64.result _ _ _ c.wrapping_sub_u64.ensures.value (search rules) (omega arith) (omega arith)

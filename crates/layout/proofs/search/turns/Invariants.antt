@@ -1,5 +1,5 @@
 -- `layout::search::turns` meets its contract. The loop's invariant: the search stands at level j, from `top` down to `low`.
-use Rattle.std.proofs.Common.{◌-◌, ◌≤◌}
+use Rattle.std.proofs.Common.{◌≤◌}
 use Rattle.layout.specs.private.Level.{Level}
 use Rattle.layout.proofs.search.turns.Given as goal
 

@@ -10,19 +10,18 @@ use Rattle.links.proofs.Cuts.{complete-is}
 use Rattle.links.proofs.cut.skipped_in.Goals as goal
 use Rattle.links.proofs.cut.skipped_in.Goals.{Start}
 
-abbrev path : Start → List ℕ
-path c = held_path c.args.rows.now c.args.dirs.now c.args.text.now c.args.frames.now c.args.depth
-
 -- src/cut.rt:21:9
 pub returns-then-path_byte-eq47 : goal.returns-then-path_byte-eq47
 returns-then-path_byte-eq47 c =
-    let p = path c.before.before.before.before.before.before in
+    let path : List ℕ = held_path c.args.rows.now c.args.dirs.now c.args.text.now c.args.frames.now c.args.depth in
+    let p = path in
     let e : is_complete p ≡ true = sym (complete-is p) ∙ eq-eqb _ 47 (sym c.path_byte.ensures ∙ c.if-path_byte-eq47.true) in
     rw e
 
 -- src/cut.rt:14:1
 pub returns : goal.returns
 returns c =
-    let p = path c.before.before.before.before.before.before in
+    let path : List ℕ = held_path c.args.rows.now c.args.dirs.now c.args.text.now c.args.frames.now c.args.depth in
+    let p = path in
     let e : is_complete p ≡ false = sym (complete-is p) ∙ ne_eqb _ 47 (λ q. c.if-path_byte-eq47.false (c.path_byte.ensures ∙ q)) in
     rw e

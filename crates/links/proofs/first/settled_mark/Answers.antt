@@ -11,31 +11,37 @@ use Rattle.links.proofs.Marking.{code-link, code-file, code-nothing, settled-dir
 use Rattle.links.proofs.first.settled_mark.Goals as goal
 use Rattle.links.proofs.first.settled_mark.Goals.{Else-dir_in, Start}
 
-abbrev the_set : Start → Store
-the_set c = lent c.args.fs c.args.rows.now c.args.dirs.now c.args.text.now
-
--- the part
-abbrev here : Start → List ℕ
-here c = front c.args.rows.now c.args.dirs.now c.args.text.now c.args.frames.now c.args.part.depth c.args.part.e
-
--- what stands there
-abbrev is_dir : Start → Bool
-is_dir c = is_directory (directories_of (the_set c)) (here c)
-
-abbrev seen : Start → Seen
-seen c = file_at (entries_of (the_set c)) (here c)
-
-no-dir : (c : Else-dir_in) → is_dir c.before.before.before.before.before.before.before ≡ false
-no-dir c = sym c.dir_in.ensures ∙ c.if-dir_in.false
-
 pub returns-then-dir_in : goal.returns-then-dir_in
-returns-then-dir_in c = settled-dir (is_dir c.before.before.before.before.before.before.before) (seen c.before.before.before.before.before.before.before) walk_decides (sym c.dir_in.ensures ∙ c.if-dir_in.true)
+returns-then-dir_in c =
+    let the_set : Store = lent c.args.fs c.args.rows.now c.args.dirs.now c.args.text.now in
+    let here : List ℕ = front c.args.rows.now c.args.dirs.now c.args.text.now c.args.frames.now c.args.part.depth c.args.part.e in
+    let is_dir : Bool = is_directory (directories_of the_set) here in
+    let seen : Seen = file_at (entries_of the_set) here in
+    settled-dir is_dir seen walk_decides (sym c.dir_in.ensures ∙ c.if-dir_in.true)
 
 pub returns-then-seen-eq2 : goal.returns-then-seen-eq2
-returns-then-seen-eq2 c = settled-link (is_dir c.before.before.before.before.before.before.before.before.before) (seen c.before.before.before.before.before.before.before.before.before) walk_decides (no-dir c.before.before) (code-link (seen c.before.before.before.before.before.before.before.before.before) (sym c.if-seen-eq2.true ∙ c.file_in-seen.ensures))
+returns-then-seen-eq2 c =
+    let the_set : Store = lent c.args.fs c.args.rows.now c.args.dirs.now c.args.text.now in
+    let here : List ℕ = front c.args.rows.now c.args.dirs.now c.args.text.now c.args.frames.now c.args.part.depth c.args.part.e in
+    let is_dir : Bool = is_directory (directories_of the_set) here in
+    let seen : Seen = file_at (entries_of the_set) here in
+    let no-dir : is_dir ≡ false = sym c.dir_in.ensures ∙ c.if-dir_in.false in
+    settled-link is_dir seen walk_decides no-dir (code-link seen (sym c.if-seen-eq2.true ∙ c.file_in-seen.ensures))
 
 pub returns-then-seen-eq1 : goal.returns-then-seen-eq1
-returns-then-seen-eq1 c = settled-file (is_dir c.before.before.before.before.before.before.before.before.before.before) (seen c.before.before.before.before.before.before.before.before.before.before) walk_decides (no-dir c.before.before.before) (code-file (seen c.before.before.before.before.before.before.before.before.before.before) (sym c.if-seen-eq1.true ∙ c.file_in-seen.ensures))
+returns-then-seen-eq1 c =
+    let the_set : Store = lent c.args.fs c.args.rows.now c.args.dirs.now c.args.text.now in
+    let here : List ℕ = front c.args.rows.now c.args.dirs.now c.args.text.now c.args.frames.now c.args.part.depth c.args.part.e in
+    let is_dir : Bool = is_directory (directories_of the_set) here in
+    let seen : Seen = file_at (entries_of the_set) here in
+    let no-dir : is_dir ≡ false = sym c.dir_in.ensures ∙ c.if-dir_in.false in
+    settled-file is_dir seen walk_decides no-dir (code-file seen (sym c.if-seen-eq1.true ∙ c.file_in-seen.ensures))
 
 pub returns : goal.returns
-returns c = settled-other (is_dir c.before.before.before.before.before.before.before.before.before.before) (seen c.before.before.before.before.before.before.before.before.before.before) walk_decides (no-dir c.before.before.before) (code-nothing (seen c.before.before.before.before.before.before.before.before.before.before) c.file_in-seen.result c.file_in-seen.ensures c.if-seen-eq2.false c.if-seen-eq1.false)
+returns c =
+    let the_set : Store = lent c.args.fs c.args.rows.now c.args.dirs.now c.args.text.now in
+    let here : List ℕ = front c.args.rows.now c.args.dirs.now c.args.text.now c.args.frames.now c.args.part.depth c.args.part.e in
+    let is_dir : Bool = is_directory (directories_of the_set) here in
+    let seen : Seen = file_at (entries_of the_set) here in
+    let no-dir : is_dir ≡ false = sym c.dir_in.ensures ∙ c.if-dir_in.false in
+    settled-other is_dir seen walk_decides no-dir (code-nothing seen c.file_in-seen.result c.file_in-seen.ensures c.if-seen-eq2.false c.if-seen-eq1.false)

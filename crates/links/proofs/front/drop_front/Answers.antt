@@ -13,13 +13,6 @@ use Rattle.links.proofs.Fronts.{flat-moved}
 use Rattle.links.proofs.front.drop_front.Goals as goal
 use Rattle.links.proofs.front.drop_front.Goals.{Else-is_in, Then-is_in}
 
--- byte `left` is one of the front frame's, or one behind them
-inside : (c : Then-is_in) → c.loop-k.left < c.text_left-n.result + c.tail_in-t.result
-inside c = ltb-true _ _ (sym c.is_in.ensures ∙ c.if-is_in.true)
-
-behind : (c : Else-is_in) → c.text_left-n.result + c.tail_in-t.result ≤ c.loop-k.left
-behind c = ltb-false _ _ (sym c.is_in.ensures ∙ c.if-is_in.false)
-
 -- src/front.rt:57:5
 pub loop-k-init : goal.loop-k-init
 loop-k-init c = (refl, omega arith, c.requires, refl)
@@ -27,38 +20,45 @@ loop-k-init c = (refl, omega arith, c.requires, refl)
 -- src/front.rt:61:13
 pub advance-requires : goal.advance-requires
 advance-requires c =
-    let i = inside c.before in
+    let inside : c.loop-k.left < c.text_left-n.result + c.tail_in-t.result = ltb-true _ _ (sym c.is_in.ensures ∙ c.if-is_in.true) in
+    let i = inside in
     (omega arith, omega (arith, i, c.text_left-n.ensures.result_bound, c.tail_in-t.ensures))
 
 -- src/front.rt:62:13
 pub returns-then-is_in : goal.returns-then-is_in
 returns-then-is_in c =
+    let inside : c.loop-k.left < c.text_left-n.result + c.tail_in-t.result = ltb-true _ _ (sym c.is_in.ensures ∙ c.if-is_in.true) in
     let a = c.args in
     let l = c.loop-k in
     let t = leads a.rows.now a.dirs.now a.text.now in record {
-        result_after = ap (λ (f : List ℕ). flat t f l.k) c.advance.ensures
-          ∙ flat-moved t l.frames l.k l.left (omega arith) (omega arith) (omega (arith, inside c.before.before.before.before, c.text_left-n.ensures.value, c.tail_in-t.ensures))
+      result_after = ap (λ (f : List ℕ). flat t f l.k) c.advance.ensures
+          ∙ flat-moved t l.frames l.k l.left (omega arith) (omega arith) (omega (arith, inside, c.text_left-n.ensures.value, c.tail_in-t.ensures))
           ∙ l.invariant.3;
-        upper_bound = l.invariant.1;
+      upper_bound = l.invariant.1;
     }
 
 -- src/front.rt:64:16
 pub overflow_sub-left : goal.overflow_sub-left
-overflow_sub-left c = omega (arith, behind c)
+overflow_sub-left c =
+    let behind : c.text_left-n.result + c.tail_in-t.result ≤ c.loop-k.left = ltb-false _ _ (sym c.is_in.ensures ∙ c.if-is_in.false) in
+    omega (arith, behind)
 
 -- src/front.rt:64:16
 pub overflow_sub-left-in-loop-k : goal.overflow_sub-left-in-loop-k
-overflow_sub-left-in-loop-k c = omega (arith, behind c)
+overflow_sub-left-in-loop-k c =
+    let behind : c.text_left-n.result + c.tail_in-t.result ≤ c.loop-k.left = ltb-false _ _ (sym c.is_in.ensures ∙ c.if-is_in.false) in
+    omega (arith, behind)
 
 -- src/front.rt:57:5
 pub loop-k-preserved : goal.loop-k-preserved
 loop-k-preserved c =
+    let behind : c.text_left-n.result + c.tail_in-t.result ≤ c.loop-k.left = ltb-false _ _ (sym c.is_in.ensures ∙ c.if-is_in.false) in
     let a = c.args in
     let l = c.loop-k in (
       l.invariant.0,
       omega arith,
       l.invariant.2,
-      flat-dropped (leads a.rows.now a.dirs.now a.text.now) l.frames l.k l.left c.text_left-n.result c.tail_in-t.result (omega arith) c.text_left-n.ensures.value c.tail_in-t.ensures (behind c) ∙ l.invariant.3,
+      flat-dropped (leads a.rows.now a.dirs.now a.text.now) l.frames l.k l.left c.text_left-n.result c.tail_in-t.result (omega arith) c.text_left-n.ensures.value c.tail_in-t.ensures behind ∙ l.invariant.3,
     )
 
 -- src/front.rt:40:1
@@ -67,6 +67,6 @@ returns c =
     let a = c.args in
     let l = c.loop-k in
     let t = leads a.rows.now a.dirs.now a.text.now in record {
-        result_after = flat-none t l.frames 0 refl ∙ sym (drop-nil l.left) ∙ ap (drop l.left) (sym (flat-none t l.frames l.k (omega arith))) ∙ l.invariant.3;
-        upper_bound = omega arith;
+      result_after = flat-none t l.frames 0 refl ∙ sym (drop-nil l.left) ∙ ap (drop l.left) (sym (flat-none t l.frames l.k (omega arith))) ∙ l.invariant.3;
+      upper_bound = omega arith;
     }

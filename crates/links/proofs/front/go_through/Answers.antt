@@ -10,45 +10,43 @@ use Rattle.links.proofs.Fronts.{combined-rest, combined-text, tail-small, flat-a
 use Rattle.links.proofs.front.go_through.Goals as goal
 use Rattle.links.proofs.front.go_through.Goals.{Start}
 
--- the texts, and what is left of the path
-abbrev texts : Start → ℕ → List ℕ
-texts c = leads c.args.rows.now c.args.dirs.now c.args.text.now
-
-abbrev rest : Start → List ℕ
-rest c = drop (c.args.e + 1) (flat (texts c) c.args.frames.now c.args.depth)
-
 -- src/front.rt:145:9
 pub returns-then-is_lead_alone : goal.returns-then-is_lead_alone
 returns-then-is_lead_alone c =
-    let d = (c.drop_front-k.ensures.result_after, c.drop_front-k.ensures.upper_bound) in record {
-        result_after = c.drop_front-k.ensures.result_after ∙ combined-rest (texts c.before.before.before.before.before.before.before.before.before.before c.args.v) (rest c.before.before.before.before.before.before.before.before.before.before) (sym c.is_lead_alone.ensures ∙ c.if-is_lead_alone.true);
-        upper_bound = omega (arith, c.drop_front-k.ensures.upper_bound);
+    let texts : ℕ → List ℕ = leads c.args.rows.now c.args.dirs.now c.args.text.now in
+    let rest : List ℕ = drop (c.args.e + 1) (flat texts c.args.frames.now c.args.depth) in
+    record {
+      result_after = c.drop_front-k.ensures.result_after ∙ combined-rest (texts c.args.v) rest (sym c.is_lead_alone.ensures ∙ c.if-is_lead_alone.true);
+      upper_bound = omega (arith, c.drop_front-k.ensures.upper_bound);
     }
 
 -- src/front.rt:150:9
 pub returns-then-is_path_alone : goal.returns-then-is_path_alone
 returns-then-is_path_alone c =
-    let d = (c.drop_front-k.ensures.result_after, c.drop_front-k.ensures.upper_bound) in
+    let texts : ℕ → List ℕ = leads c.args.rows.now c.args.dirs.now c.args.text.now in
+    let rest : List ℕ = drop (c.args.e + 1) (flat texts c.args.frames.now c.args.depth) in
     let f = c.drop_front-k.new.frames in
-    let n : 1 * frame_width ≤ length f = omega (arith, c.frames-1.given, c.requires) in record {
-        result_after = ap (λ (x : List ℕ). flat (texts c.before.before.before.before.before.before.before.before.before.before.before.before.before.before.before.before) x 1) c.put_frame.ensures ∙ flat-alone (texts c.before.before.before.before.before.before.before.before.before.before.before.before.before.before.before.before) f c.args.v n
-          ∙ combined-text (texts c.before.before.before.before.before.before.before.before.before.before.before.before.before.before.before.before c.args.v) (rest c.before.before.before.before.before.before.before.before.before.before.before.before.before.before.before.before) (sym c.is_lead_alone.ensures ∙ c.if-is_lead_alone.false) (sym (ap is_alone c.drop_front-k.ensures.result_after) ∙ sym c.is_path_alone.ensures ∙ c.if-is_path_alone.true);
-        upper_bound = omega arith;
+    let n : 1 * frame_width ≤ length f = omega (arith, c.drop_front-k.auto.frames, c.requires) in record {
+      result_after = ap (λ (x : List ℕ). flat texts x 1) c.put_frame.ensures ∙ flat-alone texts f c.args.v n
+          ∙ combined-text (texts c.args.v) rest (sym c.is_lead_alone.ensures ∙ c.if-is_lead_alone.false) (sym (ap is_alone c.drop_front-k.ensures.result_after) ∙ sym c.is_path_alone.ensures ∙ c.if-is_path_alone.true);
+      upper_bound = omega arith;
     }
 
 -- src/front.rt:153:26
 pub overflow_add-kind : goal.overflow_add-kind
-overflow_add-kind c = omega (arith, c.lead_tail-t.ensures, tail-small (is_closed (texts c.before.before.before.before.before.before.before.before.before.before.before.before.before.before c.args.v)), c.requires)
+overflow_add-kind c =
+    let texts : ℕ → List ℕ = leads c.args.rows.now c.args.dirs.now c.args.text.now in
+    omega (arith, c.lead_tail-t.ensures, tail-small (is_closed (texts c.args.v)), c.requires)
 
 -- src/front.rt:123:1
 pub returns : goal.returns
 returns c =
-    let d = (c.drop_front-k.ensures.result_after, c.drop_front-k.ensures.upper_bound) in
+    let texts : ℕ → List ℕ = leads c.args.rows.now c.args.dirs.now c.args.text.now in
     let f = c.drop_front-k.new.frames in
     let k = c.drop_front-k.result in
     let s = c.lead_tail-t.result in record {
-        result_after = ap (λ (x : List ℕ). flat (texts c.before.before.before.before.before.before.before.before.before.before.before.before.before.before.before.before.before) x (k + 1)) c.put_frame-2.ensures
-          ∙ flat-through (texts c.before.before.before.before.before.before.before.before.before.before.before.before.before.before.before.before.before) f c.args.v k s (omega (arith, c.drop_front-k.ensures.upper_bound, c.frames-1.given, c.requires)) c.lead_tail-t.ensures (sym c.is_lead_alone.ensures ∙ c.if-is_lead_alone.false) (sym c.is_path_alone.ensures ∙ c.if-is_path_alone.false)
-          ∙ ap (combined (texts c.before.before.before.before.before.before.before.before.before.before.before.before.before.before.before.before.before c.args.v)) c.drop_front-k.ensures.result_after;
-        upper_bound = omega (arith, c.drop_front-k.ensures.upper_bound);
+      result_after = ap (λ (x : List ℕ). flat texts x (k + 1)) c.put_frame-2.ensures
+          ∙ flat-through texts f c.args.v k s (omega (arith, c.drop_front-k.ensures.upper_bound, c.drop_front-k.auto.frames, c.requires)) c.lead_tail-t.ensures (sym c.is_lead_alone.ensures ∙ c.if-is_lead_alone.false) (sym c.is_path_alone.ensures ∙ c.if-is_path_alone.false)
+          ∙ ap (combined (texts c.args.v)) c.drop_front-k.ensures.result_after;
+      upper_bound = omega (arith, c.drop_front-k.ensures.upper_bound);
     }

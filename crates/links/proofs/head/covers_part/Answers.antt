@@ -12,19 +12,16 @@ use Rattle.links.proofs.Heads.{head-part}
 use Rattle.links.proofs.head.covers_part.Goals as goal
 use Rattle.links.proofs.head.covers_part.Goals.{Start}
 
--- the path, and the directory
-abbrev path : Start → List ℕ
-path c = held_path c.args.rows.now c.args.dirs.now c.args.text.now c.args.frames.now c.args.part.depth
-
-abbrev its : Start → List ℕ
-its c = text_at c.args.text.now (dir_at c.args.dirs.now c.args.d)
-
 pub returns-then-head-part : goal.returns-then-head-part
 returns-then-head-part c =
-    c.covers_at.ensures ∙ ap (covers (its c.before.before.before.before.before.before.before.before)) (head-part c.args.head.now (path c.before.before.before.before.before.before.before.before) c.args.part.e c.requires.head c.if-head-part.true)
+    let path : List ℕ = held_path c.args.rows.now c.args.dirs.now c.args.text.now c.args.frames.now c.args.part.depth in
+    let its : List ℕ = text_at c.args.text.now (dir_at c.args.dirs.now c.args.d) in
+    c.covers_at.ensures ∙ ap (covers its) (head-part c.args.head.now path c.args.part.e c.requires.head c.if-head-part.true)
 
 pub returns : goal.returns
 returns c =
+    let path : List ℕ = held_path c.args.rows.now c.args.dirs.now c.args.text.now c.args.frames.now c.args.part.depth in
+    let its : List ℕ = text_at c.args.text.now (dir_at c.args.dirs.now c.args.d) in
     c.covers_in.ensures
-    ∙ ap (λ (x : List ℕ). covers_front x (path c.before.before.before.before.before.before.before.before.before.before) c.args.part.e) (c.text_at.ensures ∙ ap (text_at c.args.text.now) c.dir_at.ensures)
-    ∙ covers-front (its c.before.before.before.before.before.before.before.before.before.before) (path c.before.before.before.before.before.before.before.before.before.before) c.args.part.e c.requires.long
+    ∙ ap (λ (x : List ℕ). covers_front x path c.args.part.e) (c.text_at.ensures ∙ ap (text_at c.args.text.now) c.dir_at.ensures)
+    ∙ covers-front its path c.args.part.e c.requires.long

@@ -12,17 +12,14 @@ use Rattle.links.proofs.Heads.{head-whole}
 use Rattle.links.proofs.head.own_part.Goals as goal
 use Rattle.links.proofs.head.own_part.Goals.{Start}
 
--- the path, and the file's internal path
-abbrev path : Start → List ℕ
-path c = held_path c.args.rows.now c.args.dirs.now c.args.text.now c.args.frames.now c.args.part.depth
-
-abbrev its : Start → List ℕ
-its c = internal_path c.args.dirs.now c.args.text.now (row_at c.args.rows.now c.args.i)
-
 pub returns-then-head-part : goal.returns-then-head-part
 returns-then-head-part c =
-    c.own_is.ensures ∙ ap (equal (its c.before.before.before.before.before.before.before.before)) (head-whole c.args.head.now (path c.before.before.before.before.before.before.before.before) c.args.part.e c.requires.head c.if-head-part.true)
+    let path : List ℕ = held_path c.args.rows.now c.args.dirs.now c.args.text.now c.args.frames.now c.args.part.depth in
+    let its : List ℕ = internal_path c.args.dirs.now c.args.text.now (row_at c.args.rows.now c.args.i) in
+    c.own_is.ensures ∙ ap (equal its) (head-whole c.args.head.now path c.args.part.e c.requires.head c.if-head-part.true)
 
 pub returns : goal.returns
 returns c =
-    c.own_in.ensures ∙ front-is (its c.before.before.before.before.before.before.before.before) (path c.before.before.before.before.before.before.before.before) c.args.part.e c.requires.long
+    let path : List ℕ = held_path c.args.rows.now c.args.dirs.now c.args.text.now c.args.frames.now c.args.part.depth in
+    let its : List ℕ = internal_path c.args.dirs.now c.args.text.now (row_at c.args.rows.now c.args.i) in
+    c.own_in.ensures ∙ front-is its path c.args.part.e c.requires.long

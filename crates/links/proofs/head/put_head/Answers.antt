@@ -1,6 +1,6 @@
 -- `links::head::put_head` meets its contract. Its loop keeps: the first i bytes of the buffer are those of the path, and
 -- the place (k, at) is that of byte i.
-use Prim.Native.Nat.{ℕ, ◌-◌}
+use Prim.Native.Nat.{ℕ}
 use mathlib.Core.Path.{◌≡◌, refl, sym, ap, ◌∙◌}
 use mathlib.Core.List.{List}
 use native.Mathlib.Omega.{arith}
@@ -10,14 +10,6 @@ use Rattle.rope.proofs.Places.{head-same, next-same}
 use Rattle.links.proofs.Heads.{head-turn}
 use Rattle.links.proofs.head.put_head.Goals as goal
 use Rattle.links.proofs.head.put_head.Goals.{After-seek-p, Start}
-
--- the path that the first n frames hold
-abbrev path : Start → ℕ → List ℕ
-path c n = held_path c.args.rows.now c.args.dirs.now c.args.text.now c.args.frames.now n
-
--- the place that is found is that of byte i
-found : (c : After-seek-p) → drop c.seek-p.result.at (path c.before.before.before.before.before.before.before.before.before.before.before c.seek-p.result.k) ≡ drop c.loop-i.i (path c.before.before.before.before.before.before.before.before.before.before.before c.args.part.depth)
-found c = c.seek-p.ensures.k_value ∙ c.loop-i.invariant.4
 
 pub returns-then-buf-part : goal.returns-then-buf-part
 returns-then-buf-part c = (omega arith, omega arith, refl)
@@ -39,6 +31,8 @@ loop-i-smaller c = omega (arith, c.loop-i-test.true)
 
 pub loop-i-preserved : goal.loop-i-preserved
 loop-i-preserved c =
+    let path : ℕ → List ℕ = λ n. held_path c.args.rows.now c.args.dirs.now c.args.text.now c.args.frames.now n in
+    let found : drop c.seek-p.result.at (path c.seek-p.result.k) ≡ drop c.loop-i.i (path c.args.part.depth) = c.seek-p.ensures.k_value ∙ c.loop-i.invariant.4 in
     let l = c.loop-i in
     let r = c.seek-p.result in
     let h = c.loop-i-test.true in
@@ -47,15 +41,16 @@ loop-i-preserved c =
       omega (arith, c.seek-p.ensures.k_le_depth, l.invariant.1),
       omega (arith, n, l.invariant.2),
       n ∙ l.invariant.3,
-      next-same (path c.before.before.before.before.before.before.before.before.before.before.before.before.before r.k) (path c.before.before.before.before.before.before.before.before.before.before.before.before.before c.args.part.depth) r.at l.i (found c.before.before),
-      head-turn l.buf (path c.before.before.before.before.before.before.before.before.before.before.before.before.before c.args.part.depth) l.i c.path_byte.result (omega (arith, h, l.invariant.2)) (omega (arith, h, c.requires))
-          (c.path_byte.ensures ∙ head-same (path c.before.before.before.before.before.before.before.before.before.before.before.before.before r.k) (path c.before.before.before.before.before.before.before.before.before.before.before.before.before c.args.part.depth) r.at l.i (found c.before.before)) l.invariant.5,
+      next-same (path r.k) (path c.args.part.depth) r.at l.i found,
+      head-turn l.buf (path c.args.part.depth) l.i c.path_byte.result (omega (arith, h, l.invariant.2)) (omega (arith, h, c.requires))
+          (c.path_byte.ensures ∙ head-same (path r.k) (path c.args.part.depth) r.at l.i found) l.invariant.5,
     )
 
 pub returns : goal.returns
 returns c =
+    let path : ℕ → List ℕ = λ n. held_path c.args.rows.now c.args.dirs.now c.args.text.now c.args.frames.now n in
     let l = c.loop-i in
-    let p = path c.before.before.before.before.before.before.before.before.before.before c.args.part.depth in
+    let p = path c.args.part.depth in
     let q : l.i ≡ c.args.part.e = omega (arith, c.loop-i-test.false, l.invariant.0) in (
       omega arith,
       l.invariant.2,

@@ -1,5 +1,5 @@
 -- `links::judge::keep_verdicts` meets its contract.
-use Prim.Native.Nat.{ℕ, ◌+◌, ◌-◌, ◌<◌}
+use Prim.Native.Nat.{ℕ, ◌+◌, ◌<◌}
 use mathlib.Core.Path.{◌≡◌, refl, ◌∙◌}
 use mathlib.Core.List.{List, map, ◌++◌}
 use native.Mathlib.Omega.{arith}

@@ -1,5 +1,5 @@
 -- `links::judge::keep_verdicts` meets its contract.
-use Prim.Native.Nat.{◌+◌, ◌-◌, ◌≤◌}
+use Prim.Native.Nat.{◌-◌, ◌≤◌}
 use mathlib.Core.Path.{◌≡◌}
 use mathlib.Core.List.{map, ◌++◌}
 use lib.ListN.{length, take, drop}

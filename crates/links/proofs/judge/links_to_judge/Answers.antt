@@ -10,26 +10,25 @@ use Rattle.lookup.proofs.Spaces.{count-rows}
 use Rattle.links.proofs.judge.links_to_judge.Goals as goal
 use Rattle.links.proofs.judge.links_to_judge.Goals.{Else-is_bad_length, Else-not-is_held, Start}
 
-abbrev the_set : Start → Store
-the_set c = lent c.args.fs c.args.rows.now c.args.dirs.now c.args.text.now
-
-is-good : (c : Else-is_bad_length) → bad_length c.args.fs.piece_length ≡ false
-is-good c = sym c.is_bad_length.ensures ∙ c.if-is_bad_length.false
-
-is_whole : (c : Else-not-is_held) → ((rows_are_held c.args.fs c.args.rows.now && (dirs_held c.args.fs c.args.dirs.now && text_held c.args.fs c.args.text.now)) && few_entries c.args.fs) ≡ true
-is_whole c = sym c.is_held.ensures ∙ c.if-not-is_held.false
-
 pub returns-then-is_bad_length : goal.returns-then-is_bad_length
 returns-then-is_bad_length c = let e = sym c.is_bad_length.ensures ∙ c.if-is_bad_length.true in rw e
 
 pub returns-then-not-is_held : goal.returns-then-not-is_held
-returns-then-not-is_held c = let e = sym c.is_held.ensures ∙ c.if-not-is_held.true in rw (is-good c.before.before, e)
+returns-then-not-is_held c =
+    let is-good : bad_length c.args.fs.piece_length ≡ false = sym c.is_bad_length.ensures ∙ c.if-is_bad_length.false in
+    let e = sym c.is_held.ensures ∙ c.if-not-is_held.true in rw (is-good, e)
 
 pub returns-then-lacks_space : goal.returns-then-lacks_space
-returns-then-lacks_space c = let e = sym c.lacks_space.ensures ∙ c.if-lacks_space.true in rw (is-good c.before.before.before.before, is_whole c.before.before, e)
+returns-then-lacks_space c =
+    let is-good : bad_length c.args.fs.piece_length ≡ false = sym c.is_bad_length.ensures ∙ c.if-is_bad_length.false in
+    let is_whole : ((rows_are_held c.args.fs c.args.rows.now && (dirs_held c.args.fs c.args.dirs.now && text_held c.args.fs c.args.text.now)) && few_entries c.args.fs) ≡ true = sym c.is_held.ensures ∙ c.if-not-is_held.false in
+    let e = sym c.lacks_space.ensures ∙ c.if-lacks_space.true in rw (is-good, is_whole, e)
 
 pub returns : goal.returns
 returns c =
+    let the_set : Store = lent c.args.fs c.args.rows.now c.args.dirs.now c.args.text.now in
+    let is-good : bad_length c.args.fs.piece_length ≡ false = sym c.is_bad_length.ensures ∙ c.if-is_bad_length.false in
+    let is_whole : ((rows_are_held c.args.fs c.args.rows.now && (dirs_held c.args.fs c.args.dirs.now && text_held c.args.fs c.args.text.now)) && few_entries c.args.fs) ≡ true = sym c.is_held.ensures ∙ c.if-not-is_held.false in
     let e = sym c.lacks_space.ensures ∙ c.if-lacks_space.false in
-    let k = c.count_links.ensures ∙ count-rows (lent c.args.fs c.args.rows.now [] []) (the_set c.before.before.before.before.before.before.before.before.before.before) refl refl in
-    rw (is-good c.before.before.before.before.before, is_whole c.before.before.before, e, k)
+    let k = c.count_links.ensures ∙ count-rows (lent c.args.fs c.args.rows.now [] []) the_set refl refl in
+    rw (is-good, is_whole, e, k)

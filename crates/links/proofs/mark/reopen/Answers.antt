@@ -1,5 +1,5 @@
 -- The proof of `reopen`. Its loop keeps: of the leads, the first k are fresh and the others are those at the start; the verdicts stay.
-use Prim.Native.Nat.{ℕ, ◌+◌, ◌-◌, ◌<◌}
+use Prim.Native.Nat.{ℕ, ◌+◌, ◌<◌}
 use mathlib.Core.Path.{◌≡◌, ap, ◌∙◌}
 use mathlib.Core.List.{List, ◌++◌, map}
 use native.Mathlib.Omega.{arith}
@@ -26,6 +26,6 @@ loop-k-preserved c =
 pub returns : goal.returns
 returns c =
     let l = c.loop-k in let m₀ = c.args.marks.now in record {
-        marks_after = l.invariant.1 ∙ map-end untraversed (map lead m₀) l.k (omega (arith, length-map m₀ lead, c.loop-k-test.false, l.invariant.0));
-        marks_unchanged = l.invariant.2;
+      marks_after = l.invariant.1 ∙ map-end untraversed (map lead m₀) l.k (omega (arith, length-map m₀ lead, c.loop-k-test.false, l.invariant.0));
+      marks_unchanged = l.invariant.2;
     }

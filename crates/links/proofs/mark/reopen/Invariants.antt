@@ -1,5 +1,5 @@
 -- The proof of `reopen`. Its loop keeps: of the leads, the first k are fresh and the others are those at the start; the verdicts stay.
-use Prim.Native.Nat.{◌+◌, ◌-◌}
+use Prim.Native.Nat.{◌-◌}
 use mathlib.Core.Path.{◌≡◌}
 use mathlib.Core.List.{◌++◌, map}
 use lib.ListN.{length, take, drop}

@@ -12,8 +12,8 @@ pub returns : goal.returns
 returns c =
     let a = c.args in
     let h = held_path a.rows.now a.dirs.now a.text.now a.frames.now a.part.depth in record {
-        result_after = c.go_through.ensures.result_after ∙ ap (λ (t : List ℕ). combined t (drop (a.part.e + 1) h)) (text-number a.rows.now a.dirs.now a.text.now a.i a.m c.requires.0);
-        upper_bound = c.go_through.ensures.upper_bound;
-        marks_after = c.put_lead.ensures.marks_after;
-        marks_unchanged = c.put_lead.ensures.marks_unchanged;
+      result_after = c.go_through.ensures.result_after ∙ ap (λ (t : List ℕ). combined t (drop (a.part.e + 1) h)) (text-number a.rows.now a.dirs.now a.text.now a.i a.m c.requires.0);
+      upper_bound = c.go_through.ensures.upper_bound;
+      marks_after = c.put_lead.ensures.marks_after;
+      marks_unchanged = c.put_lead.ensures.marks_unchanged;
     }

@@ -16,38 +16,6 @@ use Rattle.links.proofs.Scans.{link-at, any-turn, any-hit}
 use Rattle.links.proofs.scan.has_link.Goals as goal
 use Rattle.links.proofs.scan.has_link.Goals.{After-is_link_at, After-link_count-k, Start}
 
-abbrev the_set : Start → Store
-the_set c = lent c.args.fs c.args.rows.now c.args.dirs.now c.args.text.now
-
--- the part
-abbrev here : Start → List ℕ
-here c = front c.args.rows.now c.args.dirs.now c.args.text.now c.args.frames.now c.args.part.depth c.args.part.e
-
--- the leads
-abbrev its : Start → List ℕ
-its c = map lead c.args.marks.now
-
--- the files behind file i
-abbrev behind : Start → ℕ → List Entry
-behind c i = entries_from (the_set c) (c.args.fs.num_files - (i + 1)) (i + 1)
-
--- the test on file i
-at-is : (c : After-is_link_at) → c.is_link_at.result ≡ link_at (entry_at (the_set c.before.before.before.before.before.before.before.before.before.before) c.loop-i.i) (get_or (its c.before.before.before.before.before.before.before.before.before.before) c.loop-i.k 0) (here c.before.before.before.before.before.before.before.before.before.before)
-at-is c = c.is_link_at.ensures ∙ link-at (the_set c.before.before.before.before.before.before.before.before.before.before) c.loop-i.i (get_or (its c.before.before.before.before.before.before.before.before.before.before) c.loop-i.k 0) (here c.before.before.before.before.before.before.before.before.before.before)
-
--- its count
-count-is : (c : After-link_count-k) → c.link_count-k.result ≡ cond (entry_at (the_set c.before.before.before.before.before.before.before.before.before.before.before.before) c.loop-i.i).flagged 1 0
-count-is c = c.link_count-k.ensures ∙ ap (λ (b : Bool). cond b 1 0) (flagged-at (the_set c.before.before.before.before.before.before.before.before.before.before.before.before) c.loop-i.i)
-
-few : (c : After-link_count-k) → c.link_count-k.result ≤ 1
-few c = one-or-none (entry_at (the_set c.before.before.before.before.before.before.before.before.before.before.before.before) c.loop-i.i).flagged c.link_count-k.result (count-is c)
-
--- what is to be searched
-split : (c : After-is_link_at)
-    → any_at (entries_from (the_set c.before.before.before.before.before.before.before.before.before.before) (c.args.fs.num_files - c.loop-i.i) c.loop-i.i) (drop c.loop-i.k (its c.before.before.before.before.before.before.before.before.before.before)) (here c.before.before.before.before.before.before.before.before.before.before)
-    ≡ any_at (entry_at (the_set c.before.before.before.before.before.before.before.before.before.before) c.loop-i.i ∷ behind c.before.before.before.before.before.before.before.before.before.before c.loop-i.i) (drop c.loop-i.k (its c.before.before.before.before.before.before.before.before.before.before)) (here c.before.before.before.before.before.before.before.before.before.before)
-split c = ap (λ (l : List Entry). any_at l (drop c.loop-i.k (its c.before.before.before.before.before.before.before.before.before.before)) (here c.before.before.before.before.before.before.before.before.before.before)) (entries-cons (the_set c.before.before.before.before.before.before.before.before.before.before) c.args.fs.num_files c.loop-i.i c.loop-i-test.true)
-
 pub loop-i-init : goal.loop-i-init
 loop-i-init c = (c.requires.0, refl)
 
@@ -56,20 +24,41 @@ is_link_at-requires c = c.requires.1
 
 pub returns-then-is_link_at : goal.returns-then-is_link_at
 returns-then-is_link_at c =
+    let the_set : Store = lent c.args.fs c.args.rows.now c.args.dirs.now c.args.text.now in
+    let here : List ℕ = front c.args.rows.now c.args.dirs.now c.args.text.now c.args.frames.now c.args.part.depth c.args.part.e in
+    let its : List ℕ = map lead c.args.marks.now in
+    let behind : ℕ → List Entry = λ i. entries_from the_set (c.args.fs.num_files - (i + 1)) (i + 1) in
+    let at-is : c.is_link_at.result ≡ link_at (entry_at the_set c.loop-i.i) (get_or its c.loop-i.k 0) here = c.is_link_at.ensures ∙ link-at the_set c.loop-i.i (get_or its c.loop-i.k 0) here in
+    let split : any_at (entries_from the_set (c.args.fs.num_files - c.loop-i.i) c.loop-i.i) (drop c.loop-i.k its) here ≡ any_at (entry_at the_set c.loop-i.i ∷ behind c.loop-i.i) (drop c.loop-i.k its) here = ap (λ (l : List Entry). any_at l (drop c.loop-i.k its) here) (entries-cons the_set c.args.fs.num_files c.loop-i.i c.loop-i-test.true) in
     let l = c.loop-i in
-    sym (any-hit (entry_at (the_set c.before.before.before.before.before.before.before.before.before.before.before) l.i) (behind c.before.before.before.before.before.before.before.before.before.before.before l.i) (its c.before.before.before.before.before.before.before.before.before.before.before) (here c.before.before.before.before.before.before.before.before.before.before.before) l.k (sym c.if-is_link_at.true ∙ at-is c.before)) ∙ sym (split c.before) ∙ l.invariant.1
+    sym (any-hit (entry_at the_set l.i) (behind l.i) its here l.k (sym c.if-is_link_at.true ∙ at-is)) ∙ sym split ∙ l.invariant.1
 
 pub overflow_add-k : goal.overflow_add-k
-overflow_add-k c = omega (arith, few c, c.loop-i.invariant.0, c.loop-i-test.true)
+overflow_add-k c =
+    let the_set : Store = lent c.args.fs c.args.rows.now c.args.dirs.now c.args.text.now in
+    let count-is : c.link_count-k.result ≡ cond (entry_at the_set c.loop-i.i).flagged 1 0 = c.link_count-k.ensures ∙ ap (λ (b : Bool). cond b 1 0) (flagged-at the_set c.loop-i.i) in
+    let few : c.link_count-k.result ≤ 1 = one-or-none (entry_at the_set c.loop-i.i).flagged c.link_count-k.result count-is in
+    omega (arith, few, c.loop-i.invariant.0, c.loop-i-test.true)
 
 pub loop-i-preserved : goal.loop-i-preserved
 loop-i-preserved c =
+    let the_set : Store = lent c.args.fs c.args.rows.now c.args.dirs.now c.args.text.now in
+    let here : List ℕ = front c.args.rows.now c.args.dirs.now c.args.text.now c.args.frames.now c.args.part.depth c.args.part.e in
+    let its : List ℕ = map lead c.args.marks.now in
+    let behind : ℕ → List Entry = λ i. entries_from the_set (c.args.fs.num_files - (i + 1)) (i + 1) in
+    let at-is : c.is_link_at.result ≡ link_at (entry_at the_set c.loop-i.i) (get_or its c.loop-i.k 0) here = c.is_link_at.ensures ∙ link-at the_set c.loop-i.i (get_or its c.loop-i.k 0) here in
+    let count-is : c.link_count-k.result ≡ cond (entry_at the_set c.loop-i.i).flagged 1 0 = c.link_count-k.ensures ∙ ap (λ (b : Bool). cond b 1 0) (flagged-at the_set c.loop-i.i) in
+    let few : c.link_count-k.result ≤ 1 = one-or-none (entry_at the_set c.loop-i.i).flagged c.link_count-k.result count-is in
+    let split : any_at (entries_from the_set (c.args.fs.num_files - c.loop-i.i) c.loop-i.i) (drop c.loop-i.k its) here ≡ any_at (entry_at the_set c.loop-i.i ∷ behind c.loop-i.i) (drop c.loop-i.k its) here = ap (λ (l : List Entry). any_at l (drop c.loop-i.k its) here) (entries-cons the_set c.args.fs.num_files c.loop-i.i c.loop-i-test.true) in
     let l = c.loop-i in (
-      omega (arith, few c, l.invariant.0),
-      any-turn (entry_at (the_set c.before.before.before.before.before.before.before.before.before.before.before.before) l.i) (behind c.before.before.before.before.before.before.before.before.before.before.before.before l.i) (its c.before.before.before.before.before.before.before.before.before.before.before.before) (here c.before.before.before.before.before.before.before.before.before.before.before.before) l.k c.link_count-k.result (sym c.if-is_link_at.false ∙ at-is c.before.before) (count-is c) ∙ sym (split c.before.before) ∙ l.invariant.1,
+      omega (arith, few, l.invariant.0),
+      any-turn (entry_at the_set l.i) (behind l.i) its here l.k c.link_count-k.result (sym c.if-is_link_at.false ∙ at-is) count-is ∙ sym split ∙ l.invariant.1,
     )
 
 pub returns : goal.returns
 returns c =
+    let the_set : Store = lent c.args.fs c.args.rows.now c.args.dirs.now c.args.text.now in
+    let here : List ℕ = front c.args.rows.now c.args.dirs.now c.args.text.now c.args.frames.now c.args.part.depth c.args.part.e in
+    let its : List ℕ = map lead c.args.marks.now in
     let l = c.loop-i in
-    sym (ap (λ (x : List Entry). any_at x (drop l.k (its c.before.before.before.before.before.before.before.before.before)) (here c.before.before.before.before.before.before.before.before.before)) (entries_none (the_set c.before.before.before.before.before.before.before.before.before) c.args.fs.num_files l.i c.loop-i-test.false)) ∙ l.invariant.1
+    sym (ap (λ (x : List Entry). any_at x (drop l.k its) here) (entries_none the_set c.args.fs.num_files l.i c.loop-i-test.false)) ∙ l.invariant.1

@@ -11,13 +11,6 @@ use Rattle.rope.specs.Rope.{front}
 use Rattle.links.proofs.scan.known_in.Goals as goal
 use Rattle.links.proofs.scan.known_in.Goals.{Start}
 
-abbrev the_set : Start → Store
-the_set c = lent c.args.fs c.args.rows.now c.args.dirs.now c.args.text.now
-
--- the part
-abbrev here : Start → List ℕ
-here c = front c.args.rows.now c.args.dirs.now c.args.text.now c.args.frames.now c.args.part.depth c.args.part.e
-
 -- what the number of what is seen tells
 there : (s : Seen) → (seen_code s ≡ 0 → ⊥) → is_there s ≡ true
 there nothing h = absurd (h refl)
@@ -31,12 +24,16 @@ away link h = absurd (omega arith)
 
 pub returns-then-file_in-ne0 : goal.returns-then-file_in-ne0
 returns-then-file_in-ne0 c =
-    let s = the_set c.before.before.before.before.before.before.before in
-    let p = here c.before.before.before.before.before.before.before in
+    let the_set : Store = lent c.args.fs c.args.rows.now c.args.dirs.now c.args.text.now in
+    let here : List ℕ = front c.args.rows.now c.args.dirs.now c.args.text.now c.args.frames.now c.args.part.depth c.args.part.e in
+    let s = the_set in
+    let p = here in
     known-file (entries_of s) (directories_of s) p (there (file_at (entries_of s) p) (λ q. c.if-file_in-ne0.true (c.file_in.ensures ∙ q)))
 
 pub returns : goal.returns
 returns c =
-    let s = the_set c.before.before.before.before.before.before.before.before in
-    let p = here c.before.before.before.before.before.before.before.before in
+    let the_set : Store = lent c.args.fs c.args.rows.now c.args.dirs.now c.args.text.now in
+    let here : List ℕ = front c.args.rows.now c.args.dirs.now c.args.text.now c.args.frames.now c.args.part.depth c.args.part.e in
+    let s = the_set in
+    let p = here in
     c.dir_in.ensures ∙ known-dir (entries_of s) (directories_of s) p (away (file_at (entries_of s) p) (sym c.file_in.ensures ∙ c.if-file_in-ne0.false))

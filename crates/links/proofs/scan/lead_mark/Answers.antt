@@ -18,55 +18,47 @@ use Rattle.links.proofs.Scans.{leading-not, leading-yes, mark-plain, mark-off, m
 use Rattle.links.proofs.scan.lead_mark.Goals as goal
 use Rattle.links.proofs.scan.lead_mark.Goals.{After-is_link, After-may_stand, After-own_part, Start}
 
-abbrev the_set : Start → Store
-the_set c = lent c.args.fs c.args.rows.now c.args.dirs.now c.args.text.now
-
--- the part
-abbrev here : Start → List ℕ
-here c = front c.args.rows.now c.args.dirs.now c.args.text.now c.args.frames.now c.args.part.depth c.args.part.e
-
--- the link, its lead, and whether a later one is at the part
-abbrev this : Start → Entry
-this c = entry_at (the_set c) c.args.i
-
-abbrev its : Start → ℕ
-its c = get_or (map lead c.args.marks.now) c.args.k 0
-
-abbrev later : Start → Bool
-later c = any_at (entries_from (the_set c) (c.args.fs.num_files - (c.args.i + 1)) (c.args.i + 1)) (drop (c.args.k + 1) (map lead c.args.marks.now)) (here c)
-
--- the two tests on its row
-flag_is : (c : After-is_link) → c.is_link.result ≡ (this c.before.before.before.before.before.before.before).flagged
-flag_is c = c.is_link.ensures ∙ flagged-at (the_set c.before.before.before.before.before.before.before) c.args.i
-
-own_is : (c : Start) → equal (internal_path c.args.dirs.now c.args.text.now (row_at c.args.rows.now c.args.i)) (here c) ≡ equal (own_path (this c)) (here c)
-own_is c = ap (λ (x : List ℕ). equal x (here c)) (own_at (the_set c) c.args.i)
-
-path-is : (c : After-own_part) → c.own_part.result ≡ equal (own_path (this c.before.before.before.before.before.before.before.before.before.before.before.before.before.before)) (here c.before.before.before.before.before.before.before.before.before.before.before.before.before.before)
-path-is c = c.own_part.ensures ∙ own_is c.before.before.before.before.before.before.before.before.before.before.before.before.before.before
-
-path-not : (c : After-may_stand) → c.may_stand.result ≡ false → equal (own_path (this c.before.before.before.before.before.before.before.before.before.before.before.before)) (here c.before.before.before.before.before.before.before.before.before.before.before.before) ≡ false
-path-not c e =
-    let a = c.args in
-    let q = c.may_stand.ensures e in
-    sym (own_is c.before.before.before.before.before.before.before.before.before.before.before.before)
-    ∙ head-not a.head.now (held_path a.rows.now a.dirs.now a.text.now a.frames.now a.part.depth) a.part.e c.requires.2.head q.0 (internal_path a.dirs.now a.text.now (row_at a.rows.now a.i)) (q.1 a.dirs.now)
-
 pub returns-then-not-is_link : goal.returns-then-not-is_link
 returns-then-not-is_link c =
-    mark-plain (this c.before.before.before.before.before.before.before.before) (its c.before.before.before.before.before.before.before.before) (here c.before.before.before.before.before.before.before.before) (later c.before.before.before.before.before.before.before.before) (sym (flag_is c.before) ∙ c.if-not-is_link.true)
+    let the_set : Store = lent c.args.fs c.args.rows.now c.args.dirs.now c.args.text.now in
+    let here : List ℕ = front c.args.rows.now c.args.dirs.now c.args.text.now c.args.frames.now c.args.part.depth c.args.part.e in
+    let this : Entry = entry_at the_set c.args.i in
+    let its : ℕ = get_or (map lead c.args.marks.now) c.args.k 0 in
+    let later : Bool = any_at (entries_from the_set (c.args.fs.num_files - (c.args.i + 1)) (c.args.i + 1)) (drop (c.args.k + 1) (map lead c.args.marks.now)) here in
+    let flag_is : c.is_link.result ≡ this.flagged = c.is_link.ensures ∙ flagged-at the_set c.args.i in
+    mark-plain this its here later (sym flag_is ∙ c.if-not-is_link.true)
 
 pub returns-then-m-eq0 : goal.returns-then-m-eq0
 returns-then-m-eq0 c =
-    mark-off (this c.before.before.before.before.before.before.before.before.before.before) (its c.before.before.before.before.before.before.before.before.before.before) (here c.before.before.before.before.before.before.before.before.before.before) (later c.before.before.before.before.before.before.before.before.before.before) (ap leading (sym c.lead_at-m.ensures ∙ c.if-m-eq0.true))
+    let the_set : Store = lent c.args.fs c.args.rows.now c.args.dirs.now c.args.text.now in
+    let here : List ℕ = front c.args.rows.now c.args.dirs.now c.args.text.now c.args.frames.now c.args.part.depth c.args.part.e in
+    let this : Entry = entry_at the_set c.args.i in
+    let its : ℕ = get_or (map lead c.args.marks.now) c.args.k 0 in
+    let later : Bool = any_at (entries_from the_set (c.args.fs.num_files - (c.args.i + 1)) (c.args.i + 1)) (drop (c.args.k + 1) (map lead c.args.marks.now)) here in
+    mark-off this its here later (ap leading (sym c.lead_at-m.ensures ∙ c.if-m-eq0.true))
 
 pub returns-then-m-gt2 : goal.returns-then-m-gt2
 returns-then-m-gt2 c =
-    mark-off (this c.before.before.before.before.before.before.before.before.before.before.before) (its c.before.before.before.before.before.before.before.before.before.before.before) (here c.before.before.before.before.before.before.before.before.before.before.before) (later c.before.before.before.before.before.before.before.before.before.before.before) (ap leading (sym c.lead_at-m.ensures) ∙ leading-not c.lead_at-m.result c.if-m-gt2.true)
+    let the_set : Store = lent c.args.fs c.args.rows.now c.args.dirs.now c.args.text.now in
+    let here : List ℕ = front c.args.rows.now c.args.dirs.now c.args.text.now c.args.frames.now c.args.part.depth c.args.part.e in
+    let this : Entry = entry_at the_set c.args.i in
+    let its : ℕ = get_or (map lead c.args.marks.now) c.args.k 0 in
+    let later : Bool = any_at (entries_from the_set (c.args.fs.num_files - (c.args.i + 1)) (c.args.i + 1)) (drop (c.args.k + 1) (map lead c.args.marks.now)) here in
+    mark-off this its here later (ap leading (sym c.lead_at-m.ensures) ∙ leading-not c.lead_at-m.result c.if-m-gt2.true)
 
 pub returns-then-not-may_stand : goal.returns-then-not-may_stand
 returns-then-not-may_stand c =
-    mark-there (this c.before.before.before.before.before.before.before.before.before.before.before.before.before) (its c.before.before.before.before.before.before.before.before.before.before.before.before.before) (here c.before.before.before.before.before.before.before.before.before.before.before.before.before) (later c.before.before.before.before.before.before.before.before.before.before.before.before.before) (path-not c.before c.if-not-may_stand.true)
+    let the_set : Store = lent c.args.fs c.args.rows.now c.args.dirs.now c.args.text.now in
+    let here : List ℕ = front c.args.rows.now c.args.dirs.now c.args.text.now c.args.frames.now c.args.part.depth c.args.part.e in
+    let this : Entry = entry_at the_set c.args.i in
+    let its : ℕ = get_or (map lead c.args.marks.now) c.args.k 0 in
+    let later : Bool = any_at (entries_from the_set (c.args.fs.num_files - (c.args.i + 1)) (c.args.i + 1)) (drop (c.args.k + 1) (map lead c.args.marks.now)) here in
+    let own_is : equal (internal_path c.args.dirs.now c.args.text.now (row_at c.args.rows.now c.args.i)) here ≡ equal (own_path this) here = ap (λ (x : List ℕ). equal x here) (own_at the_set c.args.i) in
+    let path-not : c.may_stand.result ≡ false → equal (own_path this) here ≡ false = λ e. let a = c.args in
+    let q = c.may_stand.ensures e in
+    sym own_is
+    ∙ head-not a.head.now (held_path a.rows.now a.dirs.now a.text.now a.frames.now a.part.depth) a.part.e c.requires.2.head q.0 (internal_path a.dirs.now a.text.now (row_at a.rows.now a.i)) (q.1 a.dirs.now) in
+    mark-there this its here later (path-not c.if-not-may_stand.true)
 
 pub own_part-requires : goal.own_part-requires
 own_part-requires c = c.requires.2
@@ -76,18 +68,38 @@ has_link-requires c = (omega arith, c.requires.2)
 
 pub returns-then-has_link : goal.returns-then-has_link
 returns-then-has_link c =
-    mark-before (this c.before.before.before.before.before.before.before.before.before.before.before.before.before.before.before.before.before) (its c.before.before.before.before.before.before.before.before.before.before.before.before.before.before.before.before.before) (here c.before.before.before.before.before.before.before.before.before.before.before.before.before.before.before.before.before) (later c.before.before.before.before.before.before.before.before.before.before.before.before.before.before.before.before.before) (sym c.has_link.ensures ∙ c.if-has_link.true)
+    let the_set : Store = lent c.args.fs c.args.rows.now c.args.dirs.now c.args.text.now in
+    let here : List ℕ = front c.args.rows.now c.args.dirs.now c.args.text.now c.args.frames.now c.args.part.depth c.args.part.e in
+    let this : Entry = entry_at the_set c.args.i in
+    let its : ℕ = get_or (map lead c.args.marks.now) c.args.k 0 in
+    let later : Bool = any_at (entries_from the_set (c.args.fs.num_files - (c.args.i + 1)) (c.args.i + 1)) (drop (c.args.k + 1) (map lead c.args.marks.now)) here in
+    mark-before this its here later (sym c.has_link.ensures ∙ c.if-has_link.true)
 
 pub returns-then-own_part : goal.returns-then-own_part
 returns-then-own_part c =
+    let the_set : Store = lent c.args.fs c.args.rows.now c.args.dirs.now c.args.text.now in
+    let here : List ℕ = front c.args.rows.now c.args.dirs.now c.args.text.now c.args.frames.now c.args.part.depth c.args.part.e in
+    let this : Entry = entry_at the_set c.args.i in
+    let its : ℕ = get_or (map lead c.args.marks.now) c.args.k 0 in
+    let later : Bool = any_at (entries_from the_set (c.args.fs.num_files - (c.args.i + 1)) (c.args.i + 1)) (drop (c.args.k + 1) (map lead c.args.marks.now)) here in
+    let flag_is : c.is_link.result ≡ this.flagged = c.is_link.ensures ∙ flagged-at the_set c.args.i in
+    let own_is : equal (internal_path c.args.dirs.now c.args.text.now (row_at c.args.rows.now c.args.i)) here ≡ equal (own_path this) here = ap (λ (x : List ℕ). equal x here) (own_at the_set c.args.i) in
+    let path-is : c.own_part.result ≡ equal (own_path this) here = c.own_part.ensures ∙ own_is in
     let m = c.lead_at-m in
     m.ensures
-    ∙ mark-here (this c.before.before.before.before.before.before.before.before.before.before.before.before.before.before.before.before.before) (its c.before.before.before.before.before.before.before.before.before.before.before.before.before.before.before.before.before) (here c.before.before.before.before.before.before.before.before.before.before.before.before.before.before.before.before.before) (later c.before.before.before.before.before.before.before.before.before.before.before.before.before.before.before.before.before)
-    (sym (flag_is c.before.before.before.before.before.before.before.before.before.before) ∙ c.if-not-is_link.false)
+    ∙ mark-here this its here later
+    (sym flag_is ∙ c.if-not-is_link.false)
     (ap leading (sym m.ensures) ∙ leading-yes m.result c.if-m-eq0.false c.if-m-gt2.false)
-    (sym (path-is c.before.before.before) ∙ c.if-own_part.true)
+    (sym path-is ∙ c.if-own_part.true)
     (sym c.has_link.ensures ∙ c.if-has_link.false)
 
 pub returns : goal.returns
 returns c =
-    mark-there (this c.before.before.before.before.before.before.before.before.before.before.before.before.before.before.before) (its c.before.before.before.before.before.before.before.before.before.before.before.before.before.before.before) (here c.before.before.before.before.before.before.before.before.before.before.before.before.before.before.before) (later c.before.before.before.before.before.before.before.before.before.before.before.before.before.before.before) (sym (path-is c.before) ∙ c.if-own_part.false)
+    let the_set : Store = lent c.args.fs c.args.rows.now c.args.dirs.now c.args.text.now in
+    let here : List ℕ = front c.args.rows.now c.args.dirs.now c.args.text.now c.args.frames.now c.args.part.depth c.args.part.e in
+    let this : Entry = entry_at the_set c.args.i in
+    let its : ℕ = get_or (map lead c.args.marks.now) c.args.k 0 in
+    let later : Bool = any_at (entries_from the_set (c.args.fs.num_files - (c.args.i + 1)) (c.args.i + 1)) (drop (c.args.k + 1) (map lead c.args.marks.now)) here in
+    let own_is : equal (internal_path c.args.dirs.now c.args.text.now (row_at c.args.rows.now c.args.i)) here ≡ equal (own_path this) here = ap (λ (x : List ℕ). equal x here) (own_at the_set c.args.i) in
+    let path-is : c.own_part.result ≡ equal (own_path this) here = c.own_part.ensures ∙ own_is in
+    mark-there this its here later (sym path-is ∙ c.if-own_part.false)

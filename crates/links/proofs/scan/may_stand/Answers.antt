@@ -6,9 +6,9 @@ use Rattle.lookup.proofs.Rows.{not_own}
 use Rattle.links.proofs.scan.may_stand.Goals as goal
 
 pub returns-then-head-part : goal.returns-then-head-part
-returns-then-head-part c =
+returns-then-head-part c = λ e.
     let a = c.args in
     (c.if-head-part.true, λ dirs. not_own dirs a.text.now a.head.now (row_at a.rows.now a.i) (sym c.ends_with_name.ensures ∙ e))
 
 pub returns : goal.returns
-returns c = absurd (true≢false e)
+returns c = λ e. absurd (true≢false e)

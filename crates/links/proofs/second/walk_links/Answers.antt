@@ -11,15 +11,10 @@ use Rattle.links.proofs.Walked.{judging-start, judging-turn, judging-end}
 use Rattle.links.proofs.second.walk_links.Goals as goal
 use Rattle.links.proofs.second.walk_links.Goals.{After-walk_one-k, Start}
 
-abbrev the_set : Start → Store
-the_set c = lent c.args.fs c.args.rows.now c.args.dirs.now c.args.text.now
-
-few : (c : After-walk_one-k) → c.walk_one-k.result ≤ 1
-few c = one-or-none (entry_at (the_set c.before.before.before.before.before.before.before.before.before.before.before) c.loop-i.i).flagged c.walk_one-k.result c.walk_one-k.ensures.value
-
 pub loop-i-init : goal.loop-i-init
 loop-i-init c =
-    let s = the_set c.before.before.before.before.before in
+    let the_set : Store = lent c.args.fs c.args.rows.now c.args.dirs.now c.args.text.now in
+    let s = the_set in
     (omega arith, refl, refl, rw (entries-start s c.args.fs.num_files refl) (judging-start (entries_of s) (directories_of s) c.args.marks.now c.requires.0))
 
 pub walk_one-k-requires : goal.walk_one-k-requires
@@ -29,22 +24,28 @@ walk_one-k-requires c =
     (c.loop-i-test.true, l.invariant.3.leads, record { few = b.few; small = b.small; room = omega (arith, b.room, l.invariant.2) })
 
 pub overflow_add-k : goal.overflow_add-k
-overflow_add-k c = omega (arith, few c.before.before.before.before, c.loop-i.invariant.0, c.loop-i-test.true)
+overflow_add-k c =
+    let the_set : Store = lent c.args.fs c.args.rows.now c.args.dirs.now c.args.text.now in
+    let few : c.walk_one-k.result ≤ 1 = one-or-none (entry_at the_set c.loop-i.i).flagged c.walk_one-k.result c.walk_one-k.ensures.value in
+    omega (arith, few, c.loop-i.invariant.0, c.loop-i-test.true)
 
 pub loop-i-preserved : goal.loop-i-preserved
 loop-i-preserved c =
+    let the_set : Store = lent c.args.fs c.args.rows.now c.args.dirs.now c.args.text.now in
+    let few : c.walk_one-k.result ≤ 1 = one-or-none (entry_at the_set c.loop-i.i).flagged c.walk_one-k.result c.walk_one-k.ensures.value in
     let l = c.loop-i in
     let w = c.walk_one-k in
-    let s = the_set c.before.before.before.before.before.before.before.before.before.before.before.before.before.before.before in
+    let s = the_set in
     let n = c.args.fs.num_files in (
-      omega (arith, few c.before.before.before.before, l.invariant.0),
-      w.auto.1.1.1.1.0 ∙ l.invariant.1,
-      w.auto.1.1.1.1.1.0 ∙ l.invariant.2,
+      omega (arith, few, l.invariant.0),
+      w.auto.marks ∙ l.invariant.1,
+      w.auto.frames ∙ l.invariant.2,
       judging-turn (entries_of s) (directories_of s) (entry_at s l.i) (entries_from s (n - (l.i + 1)) (l.i + 1)) l.marks l.k (rw (entries-cons s n l.i c.loop-i-test.true) at l.invariant.3) w.new.marks w.result w.ensures.value w.ensures.marks_after,
     )
 
 pub returns : goal.returns
 returns c =
+    let the_set : Store = lent c.args.fs c.args.rows.now c.args.dirs.now c.args.text.now in
     let l = c.loop-i in
-    let s = the_set c.before.before.before.before.before.before.before.before in
+    let s = the_set in
     judging-end (entries_of s) (directories_of s) l.marks l.k (rw (entries_none s c.args.fs.num_files l.i c.loop-i-test.false) at l.invariant.3)

@@ -16,28 +16,6 @@ use Rattle.links.proofs.Walked.{walked_by, walked-not}
 use Rattle.links.proofs.second.walk_one.Goals as goal
 use Rattle.links.proofs.second.walk_one.Goals.{After-is_link, Else-not-is_link, Start, Then-not-is_link}
 
-abbrev the_set : Start → Store
-the_set c = lent c.args.fs c.args.rows.now c.args.dirs.now c.args.text.now
-
-abbrev this : Start → Entry
-this c = entry_at (the_set c) c.args.i
-
--- its mark, and that after the second pass
-abbrev mark : Start → ℕ
-mark c = get_or c.args.marks.now c.args.k 0
-
-abbrev then : Start → ℕ
-then c = walked_mark (entries_of (the_set c)) (directories_of (the_set c)) (this c) (mark c)
-
-flag_is : (c : After-is_link) → c.is_link.result ≡ (this c.before.before.before.before.before.before).flagged
-flag_is c = c.is_link.ensures ∙ flagged-at (the_set c.before.before.before.before.before.before) c.args.i
-
-plain-is : (c : Then-not-is_link) → (this c.before.before.before.before.before.before.before).flagged ≡ false
-plain-is c = sym (flag_is c.before) ∙ c.if-not-is_link.true
-
-link-is : (c : Else-not-is_link) → (this c.before.before.before.before.before.before.before).flagged ≡ true
-link-is c = sym (flag_is c.before) ∙ c.if-not-is_link.false
-
 one : (f : Bool) → f ≡ true → ◌≡◌ {A = ℕ} 1 (cond f 1 0)
 one f h = sym (cond_yes 1 0 f h)
 
@@ -55,33 +33,55 @@ given ms ms' ms'' k v w e q h = q ∙ rw (e, h)
 
 pub returns-then-not-is_link : goal.returns-then-not-is_link
 returns-then-not-is_link c =
-    let f = plain-is c in record {
-        value = sym (cond_no 1 0 (this c.before.before.before.before.before.before.before).flagged f);
-        marks_after = sym (cond_no (set c.args.marks.now c.args.k (then c.before.before.before.before.before.before.before)) c.args.marks.now (this c.before.before.before.before.before.before.before).flagged f);
+    let the_set : Store = lent c.args.fs c.args.rows.now c.args.dirs.now c.args.text.now in
+    let this : Entry = entry_at the_set c.args.i in
+    let mark : ℕ = get_or c.args.marks.now c.args.k 0 in
+    let then : ℕ = walked_mark (entries_of the_set) (directories_of the_set) this mark in
+    let flag_is : c.is_link.result ≡ this.flagged = c.is_link.ensures ∙ flagged-at the_set c.args.i in
+    let plain-is : this.flagged ≡ false = sym flag_is ∙ c.if-not-is_link.true in
+    let f = plain-is in record {
+      value = sym (cond_no 1 0 this.flagged f);
+      marks_after = sym (cond_no (set c.args.marks.now c.args.k then) c.args.marks.now this.flagged f);
     }
 
 pub returns-then-verdict_at-ne-VERDICT_WALK : goal.returns-then-verdict_at-ne-VERDICT_WALK
 returns-then-verdict_at-ne-VERDICT_WALK c =
-    let f = link-is c.before.before in record {
-        value = one (this c.before.before.before.before.before.before.before.before.before).flagged f;
-        marks_after = link-marks (this c.before.before.before.before.before.before.before.before.before).flagged c.args.marks.now c.args.marks.now c.args.k (then c.before.before.before.before.before.before.before.before.before) f (sym (set-get_or c.args.marks.now c.args.k 0) ∙ ap (set c.args.marks.now c.args.k) (walked-not (entries_of (the_set c.before.before.before.before.before.before.before.before.before)) (directories_of (the_set c.before.before.before.before.before.before.before.before.before)) (this c.before.before.before.before.before.before.before.before.before) (mark c.before.before.before.before.before.before.before.before.before) (λ q. c.if-verdict_at-ne-VERDICT_WALK.true (c.verdict_at.ensures ∙ q))));
+    let the_set : Store = lent c.args.fs c.args.rows.now c.args.dirs.now c.args.text.now in
+    let this : Entry = entry_at the_set c.args.i in
+    let mark : ℕ = get_or c.args.marks.now c.args.k 0 in
+    let then : ℕ = walked_mark (entries_of the_set) (directories_of the_set) this mark in
+    let flag_is : c.is_link.result ≡ this.flagged = c.is_link.ensures ∙ flagged-at the_set c.args.i in
+    let link-is : this.flagged ≡ true = sym flag_is ∙ c.if-not-is_link.false in
+    let f = link-is in record {
+      value = one this.flagged f;
+      marks_after = link-marks this.flagged c.args.marks.now c.args.marks.now c.args.k then f (sym (set-get_or c.args.marks.now c.args.k 0) ∙ ap (set c.args.marks.now c.args.k) (walked-not (entries_of the_set) (directories_of the_set) this mark (λ q. c.if-verdict_at-ne-VERDICT_WALK.true (c.verdict_at.ensures ∙ q))));
     }
 
 pub walk_link-resolved-requires : goal.walk_link-resolved-requires
 walk_link-resolved-requires c =
+    let the_set : Store = lent c.args.fs c.args.rows.now c.args.dirs.now c.args.text.now in
+    let this : Entry = entry_at the_set c.args.i in
+    let flag_is : c.is_link.result ≡ this.flagged = c.is_link.ensures ∙ flagged-at the_set c.args.i in
+    let link-is : this.flagged ≡ true = sym flag_is ∙ c.if-not-is_link.false in
     let p = c.requires in
-    (p.2, record { row = p.0; flag = link-is c.before.before.before.before; marked = p.1 })
+    (p.2, record { row = p.0; flag = link-is; marked = p.1 })
 
 pub put_verdict-requires : goal.put_verdict-requires
 put_verdict-requires c = small c.walk_link-resolved.result c.verdict_by-verdict.result c.verdict_by-verdict.ensures
 
 pub returns : goal.returns
 returns c =
-    let f = link-is c.before.before.before.before.before.before.before.before.before.before.before.before.before.before in
+    let the_set : Store = lent c.args.fs c.args.rows.now c.args.dirs.now c.args.text.now in
+    let this : Entry = entry_at the_set c.args.i in
+    let mark : ℕ = get_or c.args.marks.now c.args.k 0 in
+    let then : ℕ = walked_mark (entries_of the_set) (directories_of the_set) this mark in
+    let flag_is : c.is_link.result ≡ this.flagged = c.is_link.ensures ∙ flagged-at the_set c.args.i in
+    let link-is : this.flagged ≡ true = sym flag_is ∙ c.if-not-is_link.false in
+    let f = link-is in
     let w = c.walk_link-resolved in
     let v = c.verdict_by-verdict in
     let p = c.put_verdict in
-    let m = walked_by (entries_of (the_set c.before.before.before.before.before.before.before.before.before.before.before.before.before.before.before.before.before.before.before.before.before)) (directories_of (the_set c.before.before.before.before.before.before.before.before.before.before.before.before.before.before.before.before.before.before.before.before.before)) (this c.before.before.before.before.before.before.before.before.before.before.before.before.before.before.before.before.before.before.before.before.before) (mark c.before.before.before.before.before.before.before.before.before.before.before.before.before.before.before.before.before.before.before.before.before) v.result (sym c.verdict_at.ensures ∙ c.if-verdict_at-ne-VERDICT_WALK.false) (sym (v.ensures ∙ ap (λ (b : Bool). cond b 0 1) w.ensures.value)) in record {
-        value = one (this c.before.before.before.before.before.before.before.before.before.before.before.before.before.before.before.before.before.before.before.before.before).flagged f;
-        marks_after = link-marks (this c.before.before.before.before.before.before.before.before.before.before.before.before.before.before.before.before.before.before.before.before.before).flagged c.args.marks.now p.new.marks c.args.k (then c.before.before.before.before.before.before.before.before.before.before.before.before.before.before.before.before.before.before.before.before.before) f (given c.args.marks.now w.new.marks p.new.marks c.args.k v.result (then c.before.before.before.before.before.before.before.before.before.before.before.before.before.before.before.before.before.before.before.before.before) w.ensures.marks_unchanged p.ensures m);
+    let m = walked_by (entries_of the_set) (directories_of the_set) this mark v.result (sym c.verdict_at.ensures ∙ c.if-verdict_at-ne-VERDICT_WALK.false) (sym (v.ensures ∙ ap (λ (b : Bool). cond b 0 1) w.ensures.value)) in record {
+      value = one this.flagged f;
+      marks_after = link-marks this.flagged c.args.marks.now p.new.marks c.args.k then f (given c.args.marks.now w.new.marks p.new.marks c.args.k v.result then w.ensures.marks_unchanged p.ensures m);
     }

@@ -39,9 +39,9 @@ returns c =
     let size = c.in-Of.size in
     let flags = c.in-Of.flags in
     let told = sym (ap (λ (f : FileLine). file_says f a.line.now) c.in-Of.is) ∙ c.file_in.ensures in
-    let g : SFits w64 c.signed64.result = record { sfits = c.signed64.type-inv } in
+    let g : SFits w64 c.signed64.result = record { sfits = c.signed64.type_inv } in
     let f = c.add_file in
-    ap (λ (l : List ℕ). changed_of (storage_says f.result) f.new.rows f.new.roots l f.new.dirs f.new.text) (sym (nil_is f.new.firsts f.auto.1.1.1.0))
+    ap (λ (l : List ℕ). changed_of (storage_says f.result) f.new.rows f.new.roots l f.new.dirs f.new.text) (sym (nil_is f.new.firsts f.auto.firsts))
     ∙ f.ensures
     ∙ ap (add_stored s)
     (addition-is size flags c.part-none.result.now c.part-path.result.now a.line.now _ _ _ c.part-none.ensures (c.part-path.ensures ∙ part-rest a.line.now 19)

@@ -15,32 +15,6 @@ use Rattle.listing.proofs.Steps.{line-few, run_ends, run-stops, run-goes, counte
 use Rattle.listing.proofs.run.add_lines.Goals as goal
 use Rattle.listing.proofs.run.add_lines.Goals.{After-add_line-answer}
 
--- what a line leaves
-abbrev left_by : After-add_line-answer → Changed
-left_by c =
-    record {
-      says = storage_says c.add_line-answer.result;
-      rows = c.add_line-answer.new.rows;
-      roots = c.add_line-answer.new.roots;
-      firsts = [];
-      dirs = c.add_line-answer.new.dirs;
-      text = c.add_line-answer.new.text;
-    }
-
-changed : (c : After-add_line-answer) → left_by c ≡ obeyed (file_in (part_of c.args.input.now c.loop-at.at c.line_length-n.result)) (store_of c.loop-at.set c.loop-at.rows c.loop-at.roots [] c.loop-at.dirs c.loop-at.text)
-changed c = c.add_line-answer.ensures ∙ ap (λ (l : List ℕ). obeyed (file_in l) (store_of c.loop-at.set c.loop-at.rows c.loop-at.roots [] c.loop-at.dirs c.loop-at.text)) c.part.ensures
-
-placed : (c : After-add_line-answer) → Placed (left_by c).rows (left_by c).roots (left_by c).dirs (left_by c).text
-placed c =
-    let p = c.loop-at.invariant.placed in
-    let k = c.add_line-answer.auto in
-    record {
-      rows_are = k.1.0 ∙ p.rows_are;
-      roots-are = k.1.1.0 ∙ p.roots-are;
-      dirs-are = k.1.1.1.0 ∙ p.dirs-are;
-      text-is = k.1.1.1.1.0 ∙ p.text-is;
-    }
-
 pub loop-at-init : goal.loop-at-init
 loop-at-init c = record { after_line = c.requires.le_from.0; within = c.requires.le_from.1; placed = c.requires.placed; sound = c.requires.sound; unindexed = c.requires.indexed_value; rest = refl }
 
@@ -49,11 +23,20 @@ overflow_add-line c = omega (arith, c.loop-at.invariant.after_line, c.loop-at-te
 
 pub returns-in_default : goal.returns-in_default
 returns-in_default c =
+    let left_by : Changed = record {
+      says = storage_says c.add_line-answer.result;
+      rows = c.add_line-answer.new.rows;
+      roots = c.add_line-answer.new.roots;
+      firsts = [];
+      dirs = c.add_line-answer.new.dirs;
+      text = c.add_line-answer.new.text;
+    } in
+    let changed : left_by ≡ obeyed (file_in (part_of c.args.input.now c.loop-at.at c.line_length-n.result)) (store_of c.loop-at.set c.loop-at.rows c.loop-at.roots [] c.loop-at.dirs c.loop-at.text) = c.add_line-answer.ensures ∙ ap (λ (l : List ℕ). obeyed (file_in l) (store_of c.loop-at.set c.loop-at.rows c.loop-at.roots [] c.loop-at.dirs c.loop-at.text)) c.part.ensures in
     let told = c.in_default.is in
     let line = c.loop-at.line + 1 in
-    let t = left_by c.before.before.before.before.before.before.before.before.before.before in
+    let t = left_by in
     ap (λ (x : RunResult). run_says x t.rows t.roots t.dirs t.text) (c.stopped_by.ensures ∙ ap (λ (a : StorageResult). stopped_by a line) told)
-    ∙ run-stops _ _ _ _ _ c.loop-at.invariant c.loop-at-test.true _ c.line_length-n.ensures t (changed c.before.before.before.before.before.before.before.before.before.before) _ (ap storage_says told)
+    ∙ run-stops _ _ _ _ _ c.loop-at.invariant c.loop-at-test.true _ c.line_length-n.ensures t changed _ (ap storage_says told)
 
 pub overflow_add-at : goal.overflow_add-at
 overflow_add-at c =
@@ -71,7 +54,25 @@ loop-at-smaller c =
     omega (arith, l.invariant.after_line, c.loop-at-test.true, c.well_formed.0, c.line_length-n.ensures, line-few c.args.input.now l.at)
 
 pub loop-at-preserved : goal.loop-at-preserved
-loop-at-preserved c = run-goes _ _ _ _ _ c.loop-at.invariant c.loop-at-test.true _ c.line_length-n.ensures (left_by c.before.before.before.before.before.before.before.before.before) (changed c.before.before.before.before.before.before.before.before.before) _ (ap storage_says c.in-Ok.is) (placed c.before.before.before.before.before.before.before.before.before)
+loop-at-preserved c =
+    let left_by : Changed = record {
+      says = storage_says c.add_line-answer.result;
+      rows = c.add_line-answer.new.rows;
+      roots = c.add_line-answer.new.roots;
+      firsts = [];
+      dirs = c.add_line-answer.new.dirs;
+      text = c.add_line-answer.new.text;
+    } in
+    let changed : left_by ≡ obeyed (file_in (part_of c.args.input.now c.loop-at.at c.line_length-n.result)) (store_of c.loop-at.set c.loop-at.rows c.loop-at.roots [] c.loop-at.dirs c.loop-at.text) = c.add_line-answer.ensures ∙ ap (λ (l : List ℕ). obeyed (file_in l) (store_of c.loop-at.set c.loop-at.rows c.loop-at.roots [] c.loop-at.dirs c.loop-at.text)) c.part.ensures in
+    let placed : Placed (left_by).rows (left_by).roots (left_by).dirs (left_by).text = let p = c.loop-at.invariant.placed in
+    let k = c.add_line-answer.auto in
+    record {
+      rows_are = k.rows ∙ p.rows_are;
+      roots-are = k.roots ∙ p.roots-are;
+      dirs-are = k.dirs ∙ p.dirs-are;
+      text-is = k.text ∙ p.text-is;
+    } in
+    run-goes _ _ _ _ _ c.loop-at.invariant c.loop-at-test.true _ c.line_length-n.ensures left_by changed _ (ap storage_says c.in-Ok.is) placed
 
 pub returns : goal.returns
 returns c =

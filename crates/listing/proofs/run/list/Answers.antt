@@ -13,10 +13,6 @@ use Rattle.listing_output.proofs.Printed.{shown-is}
 use Rattle.listing.proofs.run.list.Goals as goal
 use Rattle.listing.proofs.run.list.Goals.{After-run_input-ended}
 
--- what the run's answer says is what is printed
-said : (c : After-run_input-ended) (e : RunResult) → c.run_input-ended.result ≡ e → run_says e c.run_input-ended.new.rows c.run_input-ended.new.roots c.run_input-ended.new.dirs c.run_input-ended.new.text ≡ run places c.args.input.now
-said c e q = ap (λ (x : RunResult). run_says x c.run_input-ended.new.rows c.run_input-ended.new.roots c.run_input-ended.new.dirs c.run_input-ended.new.text) (sym q) ∙ c.run_input-ended.ensures
-
 -- the places of a run, as `list` makes them
 fresh : Placed (replicate 3200 0) (replicate 12800 0) (replicate 800 0) (replicate 65536 0)
 fresh =
@@ -47,13 +43,15 @@ put_refusal-requires c = tt
 
 pub returns-in-Listed : goal.returns-in-Listed
 returns-in-Listed c =
+    let said : (e : RunResult) → c.run_input-ended.result ≡ e → run_says e c.run_input-ended.new.rows c.run_input-ended.new.roots c.run_input-ended.new.dirs c.run_input-ended.new.text ≡ run places c.args.input.now = λ e q. ap (λ (x : RunResult). run_says x c.run_input-ended.new.rows c.run_input-ended.new.roots c.run_input-ended.new.dirs c.run_input-ended.new.text) (sym q) ∙ c.run_input-ended.ensures in
     let a = c.args in
-    let e = c.run_input-ended.new.input in
+    let e = c.run_input-ended.new in
     c.put_set.ensures
     ∙ ap (λ (t : List ℕ). put_text t a.out.now)
-    (shown-is (store_of c.in-Listed.fs c.run_input-ended.new.rows c.run_input-ended.new.roots [] c.run_input-ended.new.dirs c.run_input-ended.new.text) ∙ ap printed (said c.before.before.before.before.before.before.before.before.before.before.before.before _ c.in-Listed.is))
+    (shown-is (store_of c.in-Listed.fs e.rows e.roots [] e.dirs e.text) ∙ ap printed (said _ c.in-Listed.is))
 
 pub returns-in-Stopped : goal.returns-in-Stopped
 returns-in-Stopped c =
+    let said : (e : RunResult) → c.run_input-ended.result ≡ e → run_says e c.run_input-ended.new.rows c.run_input-ended.new.roots c.run_input-ended.new.dirs c.run_input-ended.new.text ≡ run places c.args.input.now = λ e q. ap (λ (x : RunResult). run_says x c.run_input-ended.new.rows c.run_input-ended.new.roots c.run_input-ended.new.dirs c.run_input-ended.new.text) (sym q) ∙ c.run_input-ended.ensures in
     let a = c.args in
-    c.put_refusal.ensures ∙ ap (λ (t : List ℕ). put_text t a.out.now) (ap printed (said c.before.before.before.before.before.before.before.before.before _ c.in-Stopped.is))
+    c.put_refusal.ensures ∙ ap (λ (t : List ℕ). put_text t a.out.now) (ap printed (said _ c.in-Stopped.is))

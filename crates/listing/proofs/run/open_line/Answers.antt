@@ -17,7 +17,7 @@ returns-in_default c = ap opened_by (sym (ap number_says c.in_default.is) ∙ c.
 pub returns : goal.returns
 returns c =
     let told = sym (ap number_says c.in-Of.is) ∙ c.piece_length_in.ensures in
-    let f : SFits w32 c.signed32.result = record { sfits = c.signed32.type-inv } in
+    let f : SFits w32 c.signed32.result = record { sfits = c.signed32.type_inv } in
     c.«open».ensures
     ∙ ap (λ (z : ℤ). opened z false) (to_z-of_z f ∙ c.signed32.ensures ∙ ap pos (piece-length-is c.args.line.now c.in-Of.n told))
     ∙ ap opened_by told

@@ -21,16 +21,6 @@ use Rattle.listing.proofs.Steps.{line-few, run_long, run_none, first_stops, firs
 use Rattle.listing.proofs.run.run_input.Goals as goal
 use Rattle.listing.proofs.run.run_input.Goals.{After-open_line-answer, In-Ok}
 
--- what the first line says
-said : (c : After-open_line-answer) → storage_says c.open_line-answer.result ≡ opened_by (piece_length_in (part_of c.args.input.now 0 c.line_length-n.result))
-said c = c.open_line-answer.ensures ∙ ap (λ (l : List ℕ). opened_by (piece_length_in l)) c.part.ensures
-
--- the set that it opens
-begun : (c : In-Ok) → (m : ℕ) × (c.in-Ok.fs ≡ new_storage m false) × (run_from places 1 (new_model m) (lines (drop (c.line_length-n.result + 1) c.args.input.now)) ≡ run places c.args.input.now)
-begun c =
-    first_goes c.args.input.now c.line_length-n.result c.if-input-gt65536.false c.if-input-eq0.false c.line_length-n.ensures c.in-Ok.fs
-    (sym (said c.before) ∙ ap storage_says c.in-Ok.is)
-
 pub returns-then-input-gt65536 : goal.returns-then-input-gt65536
 returns-then-input-gt65536 c = run_long c.args.input.now c.if-input-gt65536.true
 
@@ -39,18 +29,22 @@ returns-then-input-eq0 c = run_none c.args.input.now c.if-input-gt65536.false c.
 
 pub returns-in_default : goal.returns-in_default
 returns-in_default c =
+    let said : storage_says c.open_line-answer.result ≡ opened_by (piece_length_in (part_of c.args.input.now 0 c.line_length-n.result)) = c.open_line-answer.ensures ∙ ap (λ (l : List ℕ). opened_by (piece_length_in l)) c.part.ensures in
     let a = c.args in
     let told = c.in_default.is in
     ap (λ (x : RunResult). run_says x a.rows.now a.roots.now a.dirs.now a.text.now) (c.stopped_by.ensures ∙ ap (λ (r : StorageResult). stopped_by r 1) told)
-    ∙ first_stops a.input.now c.line_length-n.result c.if-input-gt65536.false c.if-input-eq0.false c.line_length-n.ensures _ (sym (said c.before.before) ∙ ap storage_says told)
+    ∙ first_stops a.input.now c.line_length-n.result c.if-input-gt65536.false c.if-input-eq0.false c.line_length-n.ensures _ (sym said ∙ ap storage_says told)
 
 pub overflow_add-n : goal.overflow_add-n
 overflow_add-n c = omega (arith, c.line_length-n.ensures, line-few c.args.input.now 0, c.if-input-gt65536.false)
 
 pub add_lines-requires : goal.add_lines-requires
 add_lines-requires c =
+    let said : storage_says c.open_line-answer.result ≡ opened_by (piece_length_in (part_of c.args.input.now 0 c.line_length-n.result)) = c.open_line-answer.ensures ∙ ap (λ (l : List ℕ). opened_by (piece_length_in l)) c.part.ensures in
+    let begun : (m : ℕ) × (c.in-Ok.fs ≡ new_storage m false) × (run_from places 1 (new_model m) (lines (drop (c.line_length-n.result + 1) c.args.input.now)) ≡ run places c.args.input.now) = first_goes c.args.input.now c.line_length-n.result c.if-input-gt65536.false c.if-input-eq0.false c.line_length-n.ensures c.in-Ok.fs
+    (sym said ∙ ap storage_says c.in-Ok.is) in
     let a = c.args in
-    let b = begun c.before.before.before.before in record {
+    let b = begun in record {
         placed = c.requires;
         sound = subst (λ (f : FileStorage). Sound (store_of f a.rows.now a.roots.now [] a.dirs.now a.text.now)) (sym b.1) (sound-opened b.0 false a.rows.now a.roots.now [] a.dirs.now a.text.now);
         indexed_value = ap (λ (f : FileStorage). f.indexed) b.1;
@@ -59,8 +53,11 @@ add_lines-requires c =
 
 pub returns : goal.returns
 returns c =
+    let said : storage_says c.open_line-answer.result ≡ opened_by (piece_length_in (part_of c.args.input.now 0 c.line_length-n.result)) = c.open_line-answer.ensures ∙ ap (λ (l : List ℕ). opened_by (piece_length_in l)) c.part.ensures in
+    let begun : (m : ℕ) × (c.in-Ok.fs ≡ new_storage m false) × (run_from places 1 (new_model m) (lines (drop (c.line_length-n.result + 1) c.args.input.now)) ≡ run places c.args.input.now) = first_goes c.args.input.now c.line_length-n.result c.if-input-gt65536.false c.if-input-eq0.false c.line_length-n.ensures c.in-Ok.fs
+    (sym said ∙ ap storage_says c.in-Ok.is) in
     let a = c.args in
-    let b = begun c.before.before.before.before.before.before.before.before.before.before.before.before.before in
+    let b = begun in
     c.add_lines.ensures
     ∙ ap (λ (f : FileStorage). run_from places 1 (view_of (store_of f a.rows.now a.roots.now [] a.dirs.now a.text.now)) (lines (drop (c.line_length-n.result + 1) a.input.now))) b.1
     ∙ ap (λ (m : Model). run_from places 1 m (lines (drop (c.line_length-n.result + 1) a.input.now))) (view-opened b.0 false a.rows.now a.roots.now [] a.dirs.now a.text.now)

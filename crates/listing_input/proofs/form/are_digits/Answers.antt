@@ -1,6 +1,5 @@
 -- `listing_input::form::are_digits` meets its contract. The loop's invariant: i is at most the length, and all bytes are
 -- digits where those from i on are.
-use Prim.Native.Nat.{◌-◌}
 use mathlib.Core.Path.{refl, sym, ap, ◌∙◌}
 use native.Mathlib.Omega.{arith}
 use lib.ListN.{drop_of_length-le}

@@ -1,6 +1,5 @@
 -- `listing_input::form::line_length` meets its contract. The loop's invariant: i is not before `at`, and the line that begins
 -- at `at` is as long as the bytes between and the line that begins at i.
-use Prim.Native.Nat.{◌-◌}
 use native.Mathlib.Omega.{arith}
 use Rattle.listing_input.proofs.Reading.{line-turn, line-stop, line-end}
 use Rattle.listing_input.proofs.form.line_length.Goals as goal

@@ -1,6 +1,5 @@
 -- `listing_input::form::unblank` meets its contract. The loop's invariant: i is at most the length, and the column from i on
 -- is the whole column but for blanks at its start.
-use Prim.Native.Nat.{◌-◌}
 use mathlib.Core.Path.{refl, sym, ap, ◌∙◌}
 use native.Mathlib.Omega.{arith}
 use lib.ListN.{drop_of_length-le}

@@ -1,6 +1,5 @@
 -- `listing_input::form::value_of` meets its contract. The loop's invariant: i is at most the length, the digits from i on with
 -- v before them are worth the whole, and v is what i bytes can be worth.
-use Prim.Native.Nat.{◌-◌}
 use mathlib.Core.Path.{refl, sym, ap, ◌∙◌}
 use native.Mathlib.Omega.{arith}
 use lib.ListN.{drop_of_length-le}

@@ -13,27 +13,25 @@ use Rattle.listing_output.proofs.Printed.{next-length, no_line, put_next}
 use Rattle.listing_output.proofs.print.put_lines.Goals as goal
 use Rattle.listing_output.proofs.print.put_lines.Goals.{After-row_at}
 
--- the line that a turn writes is that of row i
-measured : (c : After-row_at) → length (row_path c.args.dirs.now c.args.text.now c.row_at.result) ≡ length (row_path c.args.dirs.now c.args.text.now (row_at c.args.rows.now c.loop-i.i))
-measured c = ap (λ (r : Row). length (row_path c.args.dirs.now c.args.text.now r)) c.row_at.ensures
-
 pub loop-i-init : goal.loop-i-init
 loop-i-init c = (zero-add _, refl, refl)
 
 pub put_row_line-at-requires : goal.put_row_line-at-requires
 put_row_line-at-requires c =
+    let measured : length (row_path c.args.dirs.now c.args.text.now c.row_at.result) ≡ length (row_path c.args.dirs.now c.args.text.now (row_at c.args.rows.now c.loop-i.i)) = ap (λ (r : Row). length (row_path c.args.dirs.now c.args.text.now r)) c.row_at.ensures in
     let a = c.args in
     let l = c.loop-i in
-    omega (arith, l.invariant.0, l.invariant.1, c.requires, measured c, next-length a.fs a.rows.now a.dirs.now a.text.now l.i c.loop-i-test.true)
+    omega (arith, l.invariant.0, l.invariant.1, c.requires, measured, next-length a.fs a.rows.now a.dirs.now a.text.now l.i c.loop-i-test.true)
 
 pub loop-i-preserved : goal.loop-i-preserved
 loop-i-preserved c =
+    let measured : length (row_path c.args.dirs.now c.args.text.now c.row_at.result) ≡ length (row_path c.args.dirs.now c.args.text.now (row_at c.args.rows.now c.loop-i.i)) = ap (λ (r : Row). length (row_path c.args.dirs.now c.args.text.now r)) c.row_at.ensures in
     let a = c.args in
     let l = c.loop-i in
     let p = c.put_row_line-at in
-    let m = measured c.before.before.before in (
+    let m = measured in (
       omega (arith, l.invariant.0, p.ensures.value, m, next-length a.fs a.rows.now a.dirs.now a.text.now l.i c.loop-i-test.true),
-      omega (arith, l.invariant.1, p.auto.0),
+      omega (arith, l.invariant.1, p.auto.out),
       rw (p.ensures.value, p.ensures.out_after, c.row_at.ensures) (put_next a.fs a.rows.now a.dirs.now a.text.now l.i l.out l.at c.loop-i-test.true) ∙ l.invariant.2,
     )
 
@@ -42,6 +40,6 @@ returns c =
     let a = c.args in
     let l = c.loop-i in
     let n = no_line a.fs a.rows.now a.dirs.now a.text.now l.i c.loop-i-test.false in record {
-        value = omega (arith, l.invariant.0, ap length n);
-        out_after = sym (ap (sets l.out l.at) n) ∙ l.invariant.2;
+      value = omega (arith, l.invariant.0, ap length n);
+      out_after = sym (ap (sets l.out l.at) n) ∙ l.invariant.2;
     }

@@ -24,8 +24,8 @@ returns-in-Ok c =
     let a = c.args in
     let w = c.join_path in
     let p = c.requires in record {
-        value = ends c;
-        out_after = rw (joined-text a.out.now a.dir.now a.name.now w.new.buf a.at w.result p w.ensures)
+      value = ends c;
+      out_after = rw (joined-text a.out.now a.dir.now a.name.now w.new.buf a.at w.result p w.ensures)
           (sets-lent a.out.now a.at (length a.out.now - a.at) (appended a.dir.now a.name.now) (omega (arith, p)) refl);
     }
 

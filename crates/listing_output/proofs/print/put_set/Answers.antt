@@ -30,13 +30,6 @@ module _ (needed room : ℕ) where
       at true q p = let z : left ≡ room - needed = cc in omega (arith, leb-true needed room q)
       at false q p = let z : ◌≡◌ {A = ℕ} 0 1 = cc in absurd (omega arith)
 
--- the lines and the room that they leave are as long as the buffer
-room-is : (c : In-Ok) → c.in-Ok.left + length (lines_of c.args.fs c.args.rows.now c.args.dirs.now c.args.text.now) ≡ length c.args.out.now
-room-is c =
-    let a = c.args in
-    left-some (length (lines_of a.fs a.rows.now a.dirs.now a.text.now)) (length a.out.now) c.in-Ok.left
-    (sym (ap usize_says c.in-Ok.is) ∙ c.room_left.ensures)
-
 pub returns-in_default : goal.returns-in_default
 returns-in_default c =
     let a = c.args in
@@ -46,23 +39,41 @@ returns-in_default c =
 
 pub returns-then-left-lt46 : goal.returns-then-left-lt46
 returns-then-left-lt46 c =
+    let room-is : c.in-Ok.left + length (lines_of c.args.fs c.args.rows.now c.args.dirs.now c.args.text.now) ≡ length c.args.out.now = let a = c.args in
+    left-some (length (lines_of a.fs a.rows.now a.dirs.now a.text.now)) (length a.out.now) c.in-Ok.left
+    (sym (ap usize_says c.in-Ok.is) ∙ c.room_left.ensures) in
     let a = c.args in
     put-no (printed (listed (shown a.fs a.rows.now a.dirs.now a.text.now))) a.out.now
-    (omega (arith, c.if-left-lt46.true, room-is c.before, set-length a.fs a.rows.now a.dirs.now a.text.now))
+    (omega (arith, c.if-left-lt46.true, room-is, set-length a.fs a.rows.now a.dirs.now a.text.now))
 
 pub put_lines-at-requires : goal.put_lines-at-requires
-put_lines-at-requires c = omega (arith, room-is c.before.before)
+put_lines-at-requires c =
+    let room-is : c.in-Ok.left + length (lines_of c.args.fs c.args.rows.now c.args.dirs.now c.args.text.now) ≡ length c.args.out.now = let a = c.args in
+    left-some (length (lines_of a.fs a.rows.now a.dirs.now a.text.now)) (length a.out.now) c.in-Ok.left
+    (sym (ap usize_says c.in-Ok.is) ∙ c.room_left.ensures) in
+    omega (arith, room-is)
 
 pub put_columns-requires : goal.put_columns-requires
-put_columns-requires c = omega (arith, room-is c.before.before.before.before.before.before.before, c.if-left-lt46.false, c.put_lines-at.ensures.value, c.put_lines-at.auto.1.1.1.1.0)
+put_columns-requires c =
+    let room-is : c.in-Ok.left + length (lines_of c.args.fs c.args.rows.now c.args.dirs.now c.args.text.now) ≡ length c.args.out.now = let a = c.args in
+    left-some (length (lines_of a.fs a.rows.now a.dirs.now a.text.now)) (length a.out.now) c.in-Ok.left
+    (sym (ap usize_says c.in-Ok.is) ∙ c.room_left.ensures) in
+    omega (arith, room-is, c.if-left-lt46.false, c.put_lines-at.ensures.value, c.put_lines-at.auto.out)
 
 pub overflow_add-end : goal.overflow_add-end
-overflow_add-end c = omega (arith, room-is c.before.before.before.before.before.before.before.before.before.before, c.if-left-lt46.false, c.put_lines-at.ensures.value, c.well_formed.1.1.1.1.0)
+overflow_add-end c =
+    let room-is : c.in-Ok.left + length (lines_of c.args.fs c.args.rows.now c.args.dirs.now c.args.text.now) ≡ length c.args.out.now = let a = c.args in
+    left-some (length (lines_of a.fs a.rows.now a.dirs.now a.text.now)) (length a.out.now) c.in-Ok.left
+    (sym (ap usize_says c.in-Ok.is) ∙ c.room_left.ensures) in
+    omega (arith, room-is, c.if-left-lt46.false, c.put_lines-at.ensures.value, c.well_formed.1.1.1.1.0)
 
 pub returns : goal.returns
 returns c =
+    let room-is : c.in-Ok.left + length (lines_of c.args.fs c.args.rows.now c.args.dirs.now c.args.text.now) ≡ length c.args.out.now = let a = c.args in
+    left-some (length (lines_of a.fs a.rows.now a.dirs.now a.text.now)) (length a.out.now) c.in-Ok.left
+    (sym (ap usize_says c.in-Ok.is) ∙ c.room_left.ensures) in
     let a = c.args in
     put-yes (printed (listed (shown a.fs a.rows.now a.dirs.now a.text.now))) a.out.now (c.put_lines-at.result + 46) c.put_columns.new.out
-    (omega (arith, room-is c.before.before.before.before.before.before.before.before.before.before, c.if-left-lt46.false, set-length a.fs a.rows.now a.dirs.now a.text.now))
+    (omega (arith, room-is, c.if-left-lt46.false, set-length a.fs a.rows.now a.dirs.now a.text.now))
     (omega (arith, c.put_lines-at.ensures.value, set-length a.fs a.rows.now a.dirs.now a.text.now))
     (c.put_columns.ensures ∙ rw c.put_lines-at.ensures.out_after (set-put a.fs a.rows.now a.dirs.now a.text.now a.out.now c.put_lines-at.result c.div_ceil-pieces.result c.put_lines-at.ensures.value c.div_ceil-pieces.ensures))

@@ -13,10 +13,6 @@ use Rattle.listing_output.proofs.Printed.{next-length, no_line}
 use Rattle.listing_output.proofs.print.room_left.Goals as goal
 use Rattle.listing_output.proofs.print.room_left.Goals.{After-path_length-n}
 
--- the line that a turn measures is that of row i
-measured : (c : After-path_length-n) → c.path_length-n.result ≡ length (row_path c.args.dirs.now c.args.text.now (row_at c.args.rows.now c.loop-i.i))
-measured c = c.path_length-n.ensures ∙ ap (λ (r : Row). length (row_path c.args.dirs.now c.args.text.now r)) c.row_at.ensures
-
 left-no : (needed room : ℕ) → room < needed → ◌≡◌ {A = Outcome ℕ} (refused 10) (left_in needed room)
 left-no needed room h = rw (lt-leb needed room h)
 
@@ -28,23 +24,26 @@ loop-i-init c = refl
 
 pub returns-then-left-lt39 : goal.returns-then-left-lt39
 returns-then-left-lt39 c =
+    let measured : c.path_length-n.result ≡ length (row_path c.args.dirs.now c.args.text.now (row_at c.args.rows.now c.loop-i.i)) = c.path_length-n.ensures ∙ ap (λ (r : Row). length (row_path c.args.dirs.now c.args.text.now r)) c.row_at.ensures in
     let a = c.args in
     let l = c.loop-i in
     left-no (length (lines_of a.fs a.rows.now a.dirs.now a.text.now)) a.room
-    (omega (arith, l.invariant, c.if-left-lt39.true, measured c.before, next-length a.fs a.rows.now a.dirs.now a.text.now l.i c.loop-i-test.true))
+    (omega (arith, l.invariant, c.if-left-lt39.true, measured, next-length a.fs a.rows.now a.dirs.now a.text.now l.i c.loop-i-test.true))
 
 pub returns-then-left-n : goal.returns-then-left-n
 returns-then-left-n c =
+    let measured : c.path_length-n.result ≡ length (row_path c.args.dirs.now c.args.text.now (row_at c.args.rows.now c.loop-i.i)) = c.path_length-n.ensures ∙ ap (λ (r : Row). length (row_path c.args.dirs.now c.args.text.now r)) c.row_at.ensures in
     let a = c.args in
     let l = c.loop-i in
     left-no (length (lines_of a.fs a.rows.now a.dirs.now a.text.now)) a.room
-    (omega (arith, l.invariant, c.if-left-lt39.false, c.if-left-n.true, measured c.before.before, next-length a.fs a.rows.now a.dirs.now a.text.now l.i c.loop-i-test.true))
+    (omega (arith, l.invariant, c.if-left-lt39.false, c.if-left-n.true, measured, next-length a.fs a.rows.now a.dirs.now a.text.now l.i c.loop-i-test.true))
 
 pub loop-i-preserved : goal.loop-i-preserved
 loop-i-preserved c =
+    let measured : c.path_length-n.result ≡ length (row_path c.args.dirs.now c.args.text.now (row_at c.args.rows.now c.loop-i.i)) = c.path_length-n.ensures ∙ ap (λ (r : Row). length (row_path c.args.dirs.now c.args.text.now r)) c.row_at.ensures in
     let a = c.args in
     let l = c.loop-i in
-    omega (arith, l.invariant, c.if-left-lt39.false, c.if-left-n.false, measured c.before.before, next-length a.fs a.rows.now a.dirs.now a.text.now l.i c.loop-i-test.true)
+    omega (arith, l.invariant, c.if-left-lt39.false, c.if-left-n.false, measured, next-length a.fs a.rows.now a.dirs.now a.text.now l.i c.loop-i-test.true)
 
 pub returns : goal.returns
 returns c =

@@ -1,5 +1,4 @@
 -- `lookup::parts::is_covered` meets its contract.
-use Prim.Native.Nat.{◌-◌}
 use mathlib.Core.Path.{refl, sym, ◌∙◌}
 use native.Mathlib.Omega.{arith}
 use Rattle.lookup.proofs.Paths.{covers-short, covers-turn, covers-stop, covers_more, covers-end}

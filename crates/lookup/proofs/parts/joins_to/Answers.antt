@@ -10,14 +10,6 @@ use Rattle.lookup.proofs.Paths.{joins-alone, joins-empty, joins-on, joins-not}
 use Rattle.lookup.proofs.parts.joins_to.Goals as goal
 use Rattle.lookup.proofs.parts.joins_to.Goals.{After-is_tail, Else-is_alone}
 
-alone-not : (c : Else-is_alone) → is_alone c.args.d.now ≡ false
-alone-not c = sym c.is_alone.ensures ∙ c.if-is_alone.false
-
-tail-is : (c : After-is_tail) → c.is_tail.result ≡ equal (cond (is_closed c.args.d.now) c.args.name.now (47 ∷ c.args.name.now)) (drop (length c.args.d.now) c.args.p.now)
-tail-is c =
-    let a = c.args in
-    c.is_tail.ensures ∙ rw (c.is_closed.ensures, c.part.ensures, part-rest a.p.now (length a.d.now))
-
 pub returns-then-is_alone : goal.returns-then-is_alone
 returns-then-is_alone c =
     let a = c.args in
@@ -25,16 +17,23 @@ returns-then-is_alone c =
 
 pub returns-then-name-eq0 : goal.returns-then-name-eq0
 returns-then-name-eq0 c =
+    let alone-not : is_alone c.args.d.now ≡ false = sym c.is_alone.ensures ∙ c.if-is_alone.false in
     let a = c.args in
-    c.same-then-name-eq0.ensures ∙ joins-empty a.d.now a.name.now a.p.now (alone-not c.before.before) c.if-name-eq0.true
+    c.same-then-name-eq0.ensures ∙ joins-empty a.d.now a.name.now a.p.now alone-not c.if-name-eq0.true
 
 pub returns-then-is_tail : goal.returns-then-is_tail
 returns-then-is_tail c =
+    let alone-not : is_alone c.args.d.now ≡ false = sym c.is_alone.ensures ∙ c.if-is_alone.false in
+    let tail-is : c.is_tail.result ≡ equal (cond (is_closed c.args.d.now) c.args.name.now (47 ∷ c.args.name.now)) (drop (length c.args.d.now) c.args.p.now) = let a = c.args in
+    c.is_tail.ensures ∙ rw (c.is_closed.ensures, c.part.ensures, part-rest a.p.now (length a.d.now)) in
     let a = c.args in
     c.same-then-is_tail.ensures ∙ ap (equal a.d.now) c.part-then-is_tail.ensures
-    ∙ joins-on a.d.now a.name.now a.p.now (alone-not c.before.before.before.before.before.before.before) c.if-name-eq0.false (sym (tail-is c.before.before.before) ∙ c.if-is_tail.true)
+    ∙ joins-on a.d.now a.name.now a.p.now alone-not c.if-name-eq0.false (sym tail-is ∙ c.if-is_tail.true)
 
 pub returns : goal.returns
 returns c =
+    let alone-not : is_alone c.args.d.now ≡ false = sym c.is_alone.ensures ∙ c.if-is_alone.false in
+    let tail-is : c.is_tail.result ≡ equal (cond (is_closed c.args.d.now) c.args.name.now (47 ∷ c.args.name.now)) (drop (length c.args.d.now) c.args.p.now) = let a = c.args in
+    c.is_tail.ensures ∙ rw (c.is_closed.ensures, c.part.ensures, part-rest a.p.now (length a.d.now)) in
     let a = c.args in
-    joins-not a.d.now a.name.now a.p.now (alone-not c.before.before.before.before.before) c.if-name-eq0.false (sym (tail-is c.before) ∙ c.if-is_tail.false)
+    joins-not a.d.now a.name.now a.p.now alone-not c.if-name-eq0.false (sym tail-is ∙ c.if-is_tail.false)

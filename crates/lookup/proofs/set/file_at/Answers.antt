@@ -13,55 +13,54 @@ use Rattle.lookup.proofs.Rows.{own_at, not_own, flagged-at, back_start, back-tur
 use Rattle.lookup.proofs.set.file_at.Goals as goal
 use Rattle.lookup.proofs.set.file_at.Goals.{After-ends_with_name, After-own_is, After-struct_known-in-loop-k-1, Start}
 
-abbrev the_set : Start → Store
-the_set c = lent c.args.fs c.args.rows.now c.args.dirs.now c.args.text.now
-
--- the file looked at
-abbrev place : After-struct_known-in-loop-k-1 → ℕ
-place c = c.args.fs.num_files - (c.loop-k.k + 1)
-
--- it stands at p, or its name says that it doesn't
-is-own : (c : After-own_is) → c.own_is.result ≡ equal (own_path (entry_at (the_set c.before.before.before.before.before.before.before.before.before.before.before) (place c.before.before.before))) c.args.p.now
-is-own c = c.own_is.ensures ∙ ap (λ (x : List ℕ). equal x c.args.p.now) (own_at (the_set c.before.before.before.before.before.before.before.before.before.before.before) (place c.before.before.before))
-
-is-not : (c : After-ends_with_name) → c.ends_with_name.result ≡ false → equal (own_path (entry_at (the_set c.before.before.before.before.before.before.before.before.before) (place c.before))) c.args.p.now ≡ false
-is-not c e =
-    let a = c.args in
-    ap (λ (x : List ℕ). equal x a.p.now) (sym (own_at (the_set c.before.before.before.before.before.before.before.before.before) (place c.before)))
-    ∙ not_own a.dirs.now a.text.now a.p.now (row_at a.rows.now (place c.before)) (sym c.ends_with_name.ensures ∙ e)
-
 pub loop-k-init : goal.loop-k-init
 loop-k-init c =
+    let the_set : Store = lent c.args.fs c.args.rows.now c.args.dirs.now c.args.text.now in
     let a = c.args in
     let e : a.fs.num_files - 0 ≡ a.fs.num_files = omega arith in
-    (omega arith, rw e (back_start (the_set c.before.before.before.before) a.p.now a.fs.num_files))
+    (omega arith, rw e (back_start the_set a.p.now a.fs.num_files))
 
 pub returns-then-is_link : goal.returns-then-is_link
 returns-then-is_link c =
+    let the_set : Store = lent c.args.fs c.args.rows.now c.args.dirs.now c.args.text.now in
+    let place : ℕ = c.args.fs.num_files - (c.loop-k.k + 1) in
+    let is-own : c.own_is.result ≡ equal (own_path (entry_at the_set place)) c.args.p.now = c.own_is.ensures ∙ ap (λ (x : List ℕ). equal x c.args.p.now) (own_at the_set place) in
     let a = c.args in
     let l = c.loop-k in
-    back-link (the_set c.before.before.before.before.before.before.before.before.before.before.before.before.before.before) a.p.now a.fs.num_files (a.fs.num_files - l.k) (place c.before.before.before.before.before.before) (omega arith) (omega arith) l.invariant.1 refl (sym (is-own c.before.before.before) ∙ c.if-own_is.true) (sym (flagged-at (the_set c.before.before.before.before.before.before.before.before.before.before.before.before.before.before) (place c.before.before.before.before.before.before)) ∙ sym c.is_link.ensures ∙ c.if-is_link.true)
+    back-link the_set a.p.now a.fs.num_files (a.fs.num_files - l.k) place (omega arith) (omega arith) l.invariant.1 refl (sym is-own ∙ c.if-own_is.true) (sym (flagged-at the_set place) ∙ sym c.is_link.ensures ∙ c.if-is_link.true)
 
 pub returns-then-own_is : goal.returns-then-own_is
 returns-then-own_is c =
+    let the_set : Store = lent c.args.fs c.args.rows.now c.args.dirs.now c.args.text.now in
+    let place : ℕ = c.args.fs.num_files - (c.loop-k.k + 1) in
+    let is-own : c.own_is.result ≡ equal (own_path (entry_at the_set place)) c.args.p.now = c.own_is.ensures ∙ ap (λ (x : List ℕ). equal x c.args.p.now) (own_at the_set place) in
     let a = c.args in
     let l = c.loop-k in
-    back-file (the_set c.before.before.before.before.before.before.before.before.before.before.before.before.before.before) a.p.now a.fs.num_files (a.fs.num_files - l.k) (place c.before.before.before.before.before.before) (omega arith) (omega arith) l.invariant.1 refl (sym (is-own c.before.before.before) ∙ c.if-own_is.true) (sym (flagged-at (the_set c.before.before.before.before.before.before.before.before.before.before.before.before.before.before) (place c.before.before.before.before.before.before)) ∙ sym c.is_link.ensures ∙ c.if-is_link.false)
+    back-file the_set a.p.now a.fs.num_files (a.fs.num_files - l.k) place (omega arith) (omega arith) l.invariant.1 refl (sym is-own ∙ c.if-own_is.true) (sym (flagged-at the_set place) ∙ sym c.is_link.ensures ∙ c.if-is_link.false)
 
 pub loop-k-preserved-else-own_is : goal.loop-k-preserved-else-own_is
 loop-k-preserved-else-own_is c =
+    let the_set : Store = lent c.args.fs c.args.rows.now c.args.dirs.now c.args.text.now in
+    let place : ℕ = c.args.fs.num_files - (c.loop-k.k + 1) in
+    let is-own : c.own_is.result ≡ equal (own_path (entry_at the_set place)) c.args.p.now = c.own_is.ensures ∙ ap (λ (x : List ℕ). equal x c.args.p.now) (own_at the_set place) in
     let a = c.args in
     let l = c.loop-k in
-    (omega (arith, c.loop-k-test.true), back-turn (the_set c.before.before.before.before.before.before.before.before.before.before.before.before) a.p.now a.fs.num_files (a.fs.num_files - l.k) (place c.before.before.before.before) (omega arith) (omega arith) l.invariant.1 (sym (is-own c.before) ∙ c.if-own_is.false))
+    (omega (arith, c.loop-k-test.true), back-turn the_set a.p.now a.fs.num_files (a.fs.num_files - l.k) place (omega arith) (omega arith) l.invariant.1 (sym is-own ∙ c.if-own_is.false))
 
 pub loop-k-preserved : goal.loop-k-preserved
 loop-k-preserved c =
+    let the_set : Store = lent c.args.fs c.args.rows.now c.args.dirs.now c.args.text.now in
+    let place : ℕ = c.args.fs.num_files - (c.loop-k.k + 1) in
+    let is-not : c.ends_with_name.result ≡ false → equal (own_path (entry_at the_set place)) c.args.p.now ≡ false = λ e. let a = c.args in
+    ap (λ (x : List ℕ). equal x a.p.now) (sym (own_at the_set place))
+    ∙ not_own a.dirs.now a.text.now a.p.now (row_at a.rows.now place) (sym c.ends_with_name.ensures ∙ e) in
     let a = c.args in
     let l = c.loop-k in
-    (omega (arith, c.loop-k-test.true), back-turn (the_set c.before.before.before.before.before.before.before.before.before.before) a.p.now a.fs.num_files (a.fs.num_files - l.k) (place c.before.before) (omega arith) (omega arith) l.invariant.1 (is-not c.before c.if-ends_with_name.false))
+    (omega (arith, c.loop-k-test.true), back-turn the_set a.p.now a.fs.num_files (a.fs.num_files - l.k) place (omega arith) (omega arith) l.invariant.1 (is-not c.if-ends_with_name.false))
 
 pub returns : goal.returns
 returns c =
+    let the_set : Store = lent c.args.fs c.args.rows.now c.args.dirs.now c.args.text.now in
     let a = c.args in
     let l = c.loop-k in
-    back_end (the_set c.before.before.before.before.before.before.before) a.p.now a.fs.num_files (a.fs.num_files - l.k) refl (omega arith) l.invariant.1
+    back_end the_set a.p.now a.fs.num_files (a.fs.num_files - l.k) refl (omega arith) l.invariant.1

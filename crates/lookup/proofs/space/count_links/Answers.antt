@@ -1,5 +1,5 @@
 -- `lookup::space::count_links` meets its contract.
-use Prim.Native.Nat.{◌-◌, ◌≤◌}
+use Prim.Native.Nat.{◌≤◌}
 use mathlib.Core.Path.{◌≡◌, refl, ap, ◌∙◌}
 use mathlib.Core.Bool.{Bool, cond}
 use mathlib.Core.List.{[]}
@@ -13,20 +13,17 @@ use Rattle.lookup.proofs.Spaces.{count_turn, count-end}
 use Rattle.lookup.proofs.space.count_links.Goals as goal
 use Rattle.lookup.proofs.space.count_links.Goals.{After-link_count-n, Start}
 
-abbrev the_set : Start → Store
-the_set c = lent c.args.fs c.args.rows.now [] []
-
-counted : (c : After-link_count-n) → c.link_count-n.result ≡ cond (entry_at (the_set c.before.before.before.before.before) c.loop-i.i).flagged 1 0
-counted c = c.link_count-n.ensures ∙ ap (λ (b : Bool). cond b 1 0) (flagged-at (the_set c.before.before.before.before.before) c.loop-i.i)
-
-at_most_one : (c : After-link_count-n) → c.link_count-n.result ≤ 1
-at_most_one c = one-or-none (entry_at (the_set c.before.before.before.before.before) c.loop-i.i).flagged c.link_count-n.result (counted c)
-
 pub loop-i-init : goal.loop-i-init
-loop-i-init c = (omega arith, omega arith, omega (arith, ap link_count (entries-start (the_set c.before) c.args.fs.num_files refl)))
+loop-i-init c =
+    let the_set : Store = lent c.args.fs c.args.rows.now [] [] in
+    (omega arith, omega arith, omega (arith, ap link_count (entries-start the_set c.args.fs.num_files refl)))
 
 pub overflow_add-n : goal.overflow_add-n
-overflow_add-n c = omega (arith, at_most_one c, c.loop-i.invariant.1, c.loop-i-test.true)
+overflow_add-n c =
+    let the_set : Store = lent c.args.fs c.args.rows.now [] [] in
+    let counted : c.link_count-n.result ≡ cond (entry_at the_set c.loop-i.i).flagged 1 0 = c.link_count-n.ensures ∙ ap (λ (b : Bool). cond b 1 0) (flagged-at the_set c.loop-i.i) in
+    let at_most_one : c.link_count-n.result ≤ 1 = one-or-none (entry_at the_set c.loop-i.i).flagged c.link_count-n.result counted in
+    omega (arith, at_most_one, c.loop-i.invariant.1, c.loop-i-test.true)
 
 pub overflow_add-i : goal.overflow_add-i
 overflow_add-i c = omega (arith, c.loop-i-test.true)
@@ -35,7 +32,13 @@ pub loop-i-smaller : goal.loop-i-smaller
 loop-i-smaller c = omega (arith, c.loop-i-test.true)
 
 pub loop-i-preserved : goal.loop-i-preserved
-loop-i-preserved c = (omega (arith, c.loop-i-test.true), omega (arith, at_most_one c, c.loop-i.invariant.1), omega (arith, counted c, c.loop-i.invariant.2, count_turn (the_set c.before.before.before.before.before) c.args.fs.num_files c.loop-i.i c.loop-i-test.true))
+loop-i-preserved c =
+    let the_set : Store = lent c.args.fs c.args.rows.now [] [] in
+    let counted : c.link_count-n.result ≡ cond (entry_at the_set c.loop-i.i).flagged 1 0 = c.link_count-n.ensures ∙ ap (λ (b : Bool). cond b 1 0) (flagged-at the_set c.loop-i.i) in
+    let at_most_one : c.link_count-n.result ≤ 1 = one-or-none (entry_at the_set c.loop-i.i).flagged c.link_count-n.result counted in
+    (omega (arith, c.loop-i-test.true), omega (arith, at_most_one, c.loop-i.invariant.1), omega (arith, counted, c.loop-i.invariant.2, count_turn the_set c.args.fs.num_files c.loop-i.i c.loop-i-test.true))
 
 pub returns : goal.returns
-returns c = omega (arith, c.loop-i.invariant.2, count-end (the_set c.before.before.before.before) c.args.fs.num_files c.loop-i.i c.loop-i-test.false)
+returns c =
+    let the_set : Store = lent c.args.fs c.args.rows.now [] [] in
+    omega (arith, c.loop-i.invariant.2, count-end the_set c.args.fs.num_files c.loop-i.i c.loop-i-test.false)

@@ -10,18 +10,16 @@ use Rattle.lookup.proofs.Spaces.{count-rows, lacks-marks, lacks-room}
 use Rattle.lookup.proofs.space.lacks_space.Goals as goal
 use Rattle.lookup.proofs.space.lacks_space.Goals.{After-count_links, Start}
 
-abbrev the_set : Start → Store
-the_set c = lent c.args.fs c.args.rows.now c.args.dirs.now c.args.text.now
-
-counted : (c : After-count_links) → c.count_links.result ≡ link_count (entries_of (the_set c.before.before.before.before))
-counted c = c.count_links.ensures ∙ count-rows (lent c.args.fs c.args.rows.now [] []) (the_set c.before.before.before.before) refl refl
-
 pub returns-then-marks-count_links : goal.returns-then-marks-count_links
 returns-then-marks-count_links c =
+    let the_set : Store = lent c.args.fs c.args.rows.now c.args.dirs.now c.args.text.now in
+    let counted : c.count_links.result ≡ link_count (entries_of the_set) = c.count_links.ensures ∙ count-rows (lent c.args.fs c.args.rows.now [] []) the_set refl refl in
     let a = c.args in
-    lacks-marks (entries_of (the_set c.before.before.before.before.before)) a.marks a.scratch a.walk_path (omega (arith, counted c.before, c.if-marks-count_links.true))
+    lacks-marks (entries_of the_set) a.marks a.scratch a.walk_path (omega (arith, counted, c.if-marks-count_links.true))
 
 pub returns : goal.returns
 returns c =
+    let the_set : Store = lent c.args.fs c.args.rows.now c.args.dirs.now c.args.text.now in
+    let counted : c.count_links.result ≡ link_count (entries_of the_set) = c.count_links.ensures ∙ count-rows (lent c.args.fs c.args.rows.now [] []) the_set refl refl in
     let a = c.args in
-    lacks-room (entries_of (the_set c.before.before.before.before.before.before.before)) a.marks a.scratch a.walk_path (omega (arith, counted c.before.before.before, c.if-marks-count_links.false)) c.space_left.result (c.space_left.ensures ∙ ap (λ (k : ℕ). k + 1 - space (entries_of (the_set c.before.before.before.before.before.before.before))) c.min_usize-room.ensures)
+    lacks-room (entries_of the_set) a.marks a.scratch a.walk_path (omega (arith, counted, c.if-marks-count_links.false)) c.space_left.result (c.space_left.ensures ∙ ap (λ (k : ℕ). k + 1 - space (entries_of the_set)) c.min_usize-room.ensures)

@@ -9,7 +9,6 @@ use lib.Seq.{sets}
 use Rattle.path.specs.Join.{is_alone, appended}
 use Rattle.names.proofs.Composed.{longer, kept-appended, fits-there, length-there, text-there}
 use Rattle.names.proofs.compose.put_kept.Goals as goal
-use Rattle.names.proofs.compose.put_kept.Goals.{After-grown-used2, After-grown-used3}
 
 -- the first two parts and the first three are kept, and no longer than the whole
 module _ (a b c d : List ℕ) (n : ℕ) (kept : is_alone a ≡ false) (h : length (appended (appended (appended a b) c) d) ≤ n) where
@@ -102,6 +101,6 @@ returns c =
     let e = after3 in
     let t = appended (appended a.first.now a.second.now) a.third.now in
     let q = kept3 a.first.now a.second.now a.third.now a.last.now (length a.buf.now) p.0 p.1 in record {
-        value = length-there t a.last.now a.buf.now w.new.buf w.result q e.0 e.1 p.1 g.result g.ensures.value;
-        buf_after = text-there t a.last.now a.buf.now w.new.buf w.result q e.0 e.1 p.1 g.new.buf g.ensures.buf_after;
+      value = length-there t a.last.now a.buf.now w.new.buf w.result q e.0 e.1 p.1 g.result g.ensures.value;
+      buf_after = text-there t a.last.now a.buf.now w.new.buf w.result q e.0 e.1 p.1 g.new.buf g.ensures.buf_after;
     }

@@ -6,7 +6,6 @@ use Rattle.rules.specs.Questions.{rows_are_held}
 use Rattle.rules.proofs.Deciding.{composed-value, composed-refused}
 use Rattle.names.specs.Paths.{names_held, file_path}
 use Rattle.names.proofs.file.file_path.Goals as goal
-use Rattle.names.proofs.file.file_path.Goals.{After-are_held-held}
 
 pub returns-in-Ok : goal.returns-in-Ok
 returns-in-Ok c =

@@ -8,7 +8,6 @@ use Rattle.rules.specs.Questions.{rows_are_held}
 use Rattle.rules.proofs.Deciding.{file-value, file-refused}
 use Rattle.names.specs.Paths.{names_held, hashed_path, hash_of}
 use Rattle.names.proofs.file.file_path_hash.Goals as goal
-use Rattle.names.proofs.file.file_path_hash.Goals.{After-are_held-held}
 
 pub returns-in-Ok : goal.returns-in-Ok
 returns-in-Ok c =

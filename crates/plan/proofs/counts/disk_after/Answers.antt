@@ -4,4 +4,4 @@ use Rattle.plan.specs.Write.{on_disk_added}
 use Rattle.plan.proofs.counts.disk_after.Goals as goal
 
 pub returns : goal.returns
-returns c = c.wrapping_add_u64.ensures ∙ ap (λ (x : ℕ). on_disk_added c.args.disk x) c.on_disk.ensures
+returns c = c.wrapping_add_u64.ensures.value ∙ ap (λ (x : ℕ). on_disk_added c.args.disk x) c.on_disk.ensures

@@ -1,6 +1,6 @@
 -- `plan::dirs::find_among` meets its contract. The loop's invariant: i is at most m, and the search of the
 -- first i rows gives what that of all m gives.
-use Rattle.std.proofs.Common.{◌≡◌, ◌-◌, ◌≤◌}
+use Rattle.std.proofs.Common.{◌≡◌, ◌≤◌}
 use Rattle.plan.specs.Write.{directory_index_from}
 use Rattle.plan.specs.private.Steps.{dir_texts}
 use Rattle.plan.proofs.dirs.find_among.Given as goal

@@ -1,16 +1,17 @@
 -- `plan::dirs::find_dir` meets its contract.
-use Rattle.std.proofs.Common.{◌∙◌, ⊎_elim, arith, eqb-true}
+use Rattle.std.proofs.Common.{◌∙◌, arith}
 use Rattle.plan.proofs.Directories.{empty-last, table-alone}
-use borrow.Author.Tests.{eqb-false}
 use Rattle.plan.proofs.dirs.find_dir.Goals as goal
+use Rattle.plan.proofs.dirs.find_dir.Goals.{else-m-n-via-then-m-n+else-dir-eq0, else-m-n-via-else-m-n}
 
 pub returns-then-dir-eq0 : goal.returns-then-dir-eq0
 returns-then-dir-eq0 c =
     let a = c.args in
-    empty-last a.dirs.now a.text.now a.dir.now a.n (omega arith) (eqb-true _ _ c.if-dir-eq0.true)
+    empty-last a.dirs.now a.text.now a.dir.now a.n (omega arith) c.if-dir-eq0.true
 
 pub returns : goal.returns
 returns c =
     let a = c.args in
     c.find_among.ensures
-    ∙ table-alone a.dirs.now a.text.now a.dir.now a.n c.min_usize-m.result c.min_usize-m.ensures (λ h e. ⊎_elim (λ w. eqb-false _ _ w.1.left e) (λ w. omega arith) c.else-m-n.branch)
+    ∙ table-alone a.dirs.now a.text.now a.dir.now a.n c.min_usize-m.result c.min_usize-m.ensures
+    (λ h e. elim c.else-m-n.branch [ else-m-n-via-then-m-n+else-dir-eq0 w ↦ w.if-dir-eq0.false e | else-m-n-via-else-m-n w ↦ omega arith ])

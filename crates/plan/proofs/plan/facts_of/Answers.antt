@@ -1,5 +1,5 @@
 -- `plan::plan::facts_of` meets its contract.
-use Rattle.std.proofs.Common.{◌≡◌, ℕ, Bool, ap, ◌∙◌, to_z-of_z, w64}
+use Rattle.std.proofs.Common.{◌≡◌, ℕ, Bool, ap, ◌∙◌, to_z-of_z, w64, rules}
 use Rattle.types.specs.Signed.{zigzag}
 use Rattle.plan.specs.declared.counts.FileFacts.{FileFacts}
 use Rattle.plan.proofs.plan.facts_of.Goals as goal
@@ -12,4 +12,4 @@ same e f g = cc
 pub returns : goal.returns
 returns c =
     let i = c.args.file in
-    same c.keeps_link.ensures c.is_here.ensures (c.zigzag64.ensures ∙ ap zigzag (to_z-of_z {w = w64} {z = i.mtime} (record { sfits = c.struct_told-1.given.1.1.1.0.1 })))
+    same c.keeps_link.ensures c.is_here.ensures (c.zigzag64.ensures ∙ ap zigzag (to_z-of_z {w = w64} {z = i.mtime} (record { sfits = search rules })))

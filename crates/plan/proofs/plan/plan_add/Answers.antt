@@ -39,8 +39,8 @@ is_full-requires c =
     let sum : c.args.fs.total_size + c.in-Ok.sizes.size + c.in-Ok.sizes.pad ≤ limit = let p = settled in
     sum-in c.args.fs (call).given parts (call).size (call).link (is_present (call).root) c.in-Ok.sizes p.1 p.0 in
     record {
-        piece_length_value = add-length tables call (settled).0;
-        pad_bound = sum;
+      piece_length_value = add-length tables call (settled).0;
+      pad_bound = sum;
     }
 
 pub returns-then-is_full : goal.returns-then-is_full
@@ -81,9 +81,9 @@ plan_texts-requires c =
     ∙ full_is tables call c.in-Ok.sizes (settled).1 in
     let room : full tables call ≡ false = sym test ∙ c.if-is_full.false in
     record {
-        rooms_value = rw c.rooms_in-rooms.ensures (full-not tables call room);
-        pad_bound = sum;
-        parts_within = subst (λ (q : PathParts). PartsWithin (length c.args.path.now) q) (sym c.parts_of-parts.ensures) (parts_within c.args.fs.num_files (view_of tables).name c.args.path.now);
+      rooms_value = rw c.rooms_in-rooms.ensures (full-not tables call room);
+      pad_bound = sum;
+      parts_within = subst (λ (q : PathParts). PartsWithin (length c.args.path.now) q) (sym c.parts_of-parts.ensures) (parts_within c.args.fs.num_files (view_of tables).name c.args.path.now);
     }
 
 pub returns-in-Err : goal.returns-in-Err

@@ -14,7 +14,6 @@ use Rattle.plan.specs.declared.plan.TextLengths.{TextLengths}
 use Rattle.plan.specs.private.Steps.{dir_texts, dirs_with, pad_dir_plan_of, row_facts_of, planned_in}
 use Rattle.plan.proofs.Plans.{with-directory}
 use Rattle.plan.proofs.plan.plan_dirs.Goals as goal
-use Rattle.plan.proofs.plan.plan_dirs.Goals.{After-plan_pad_dir-second, After-row_facts-file, After-shared_slice_known-3-1}
 
 module _ (fs : FileStorage) (rooms : Rooms) (z : Sizes) (l : TextLengths) (parts : PathParts) where
   same : {a a' : Counts} {f f' : RowFacts} {p p' q q' : DirPlan} → a ≡ a' → f ≡ f' → p ≡ p' → q ≡ q'

@@ -28,10 +28,10 @@ part_of-dir-requires c = c.requires.parts_within.directory
 
 pub plan_dirs-requires : goal.plan_dirs-requires
 plan_dirs-requires c = record {
-        rooms_value = c.requires.rooms_value;
-        pad_bound = c.requires.pad_bound;
-        num_symlinks_bound = λ k. link-in c.args.fs.num_symlinks c.args.symlink_path.now (sym (ap (λ (f : FileFacts). f.keeps_link) c.facts_of-facts.ensures) ∙ k);
-    }
+  rooms_value = c.requires.rooms_value;
+  pad_bound = c.requires.pad_bound;
+  num_symlinks_bound = λ k. link-in c.args.fs.num_symlinks c.args.symlink_path.now (sym (ap (λ (f : FileFacts). f.keeps_link) c.facts_of-facts.ensures) ∙ k);
+}
 
 pub returns : goal.returns
 returns c =

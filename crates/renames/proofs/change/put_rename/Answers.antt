@@ -8,7 +8,6 @@ use Rattle.renames.specs.Renames.{Renamed}
 use Rattle.renames.specs.private.Slots.{spliced}
 use Rattle.renames.proofs.Changes.{slot-in, put-state, put_entries, put-text}
 use Rattle.renames.proofs.change.put_rename.Goals as goal
-use Rattle.renames.proofs.change.put_rename.Goals.{Start}
 
 pub replace_text-requires : goal.replace_text-requires
 replace_text-requires c =
@@ -44,7 +43,7 @@ returns c =
     let r : Renamed = record { file = a.file; mode = a.mode; name = a.name.now } in
     let held : n * 3 ≤ length a.entries.now = omega (arith, c.requires.2) in
     let word = ap (λ (m : ℕ). spliced a.entries.now (n * 3) (a.p.entry * 3) (a.p.same * 3) (a.file ∷ m ∷ length a.name.now ∷ [])) c.mode_word.ensures in record {
-        value = put-state n u r a.entries.now a.text.now c.requires.0 held c.requires.3 a.p c.requires.1;
-        entries_after = c.put_entry.ensures ∙ word ∙ put_entries n u r a.entries.now a.text.now c.requires.0 held c.requires.3 a.p c.requires.1;
-        text_after = c.replace_text.ensures ∙ put-text n u r a.entries.now a.text.now c.requires.0 held c.requires.3 a.p c.requires.1;
+      value = put-state n u r a.entries.now a.text.now c.requires.0 held c.requires.3 a.p c.requires.1;
+      entries_after = c.put_entry.ensures ∙ word ∙ put_entries n u r a.entries.now a.text.now c.requires.0 held c.requires.3 a.p c.requires.1;
+      text_after = c.replace_text.ensures ∙ put-text n u r a.entries.now a.text.now c.requires.0 held c.requires.3 a.p c.requires.1;
     }

@@ -11,7 +11,6 @@ use Rattle.renames.specs.Renames.{Renamed, state_of, words_of, texts_of, with_re
 use Rattle.renames.specs.private.Changing.{slot_says, slot_given}
 use Rattle.renames.proofs.Decisions.{slot-known, slot-changed, slot-refused}
 use Rattle.renames.proofs.change.rename_file.Goals as goal
-use Rattle.renames.proofs.change.rename_file.Goals.{After-get, In-At-2}
 
 -- the rename that is written is the file's, with the name's mode
 same-rename : (i i' : ℕ) (m m' : RenameMode) (name : List ℕ) → i ≡ i' → m ≡ m'
@@ -33,7 +32,6 @@ returns-in-At c =
     let a = c.args in
     let rs = renames_of a.renames a.rename_entries.now a.rename_text.now in
     let k = same-rename _ _ _ _ a.new_filename.now file-is c.mode_for.ensures in
-    let w = (c.put_rename.ensures.value, (c.put_rename.ensures.entries_after, c.put_rename.ensures.text_after)) in
     slot-changed a.fs a.renames a.rename_entries.now a.rename_text.now a.index.0 a.new_filename.now _ slot_is _ _ _
     (c.put_rename.ensures.value ∙ ap (λ (r : Renamed). state_of (with_rename r rs)) k)
     (c.put_rename.ensures.entries_after ∙ ap (λ (r : Renamed). sets a.rename_entries.now 0 (words_of (with_rename r rs))) k)

@@ -15,7 +15,6 @@ use Rattle.renames.proofs.Ordered.{order-bytes}
 use Rattle.renames.proofs.Changes.{slot-in}
 use Rattle.renames.proofs.Decisions.{order-in, slot-number, slot-goes, slot-disorder, slot-stops}
 use Rattle.renames.proofs.change.slot_in.Goals as goal
-use Rattle.renames.proofs.change.slot_in.Goals.{After-is_short, After-slot_of-p, Else-not-is_in_order, In-Ok-2}
 
 pub returns-then-not-is_in_order : goal.returns-then-not-is_in_order
 returns-then-not-is_in_order c =

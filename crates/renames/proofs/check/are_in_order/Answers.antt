@@ -11,7 +11,6 @@ use lib.ListN.{get_or}
 use Rattle.renames.specs.Renames.{ordered_from}
 use Rattle.renames.proofs.Ordered.{entry_ordered, entry_in, order-step}
 use Rattle.renames.proofs.check.are_in_order.Goals as goal
-use Rattle.renames.proofs.check.are_in_order.Goals.{After-is_entry_in_order, Else-not-is_entry_in_order}
 
 -- one entry: the check goes on behind it, or stops
 module _ (n i least left : ℕ) (e : List ℕ) (b : i < n) where

@@ -11,7 +11,6 @@ use Rattle.renames.proofs.Slots.{bytes-first}
 use Rattle.renames.proofs.Decisions.{order-in}
 use Rattle.renames.proofs.Finding.{rename-is}
 use Rattle.renames.proofs.find.export_filename.Goals as goal
-use Rattle.renames.proofs.find.export_filename.Goals.{Else-not-is_in_order}
 
 pub returns-then-renames-i : goal.returns-then-renames-i
 returns-then-renames-i c = rw (le-leb _ _ c.if-renames-i.true)

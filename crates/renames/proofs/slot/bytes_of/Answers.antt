@@ -1,6 +1,5 @@
 -- `renames::slot::bytes_of` meets its contract. The loop's invariant: the sum and the bytes of the entries from i on give the
 -- whole, which fits.
-use Prim.Native.Nat.{◌-◌}
 use mathlib.Core.Path.{sym, ◌∙◌}
 use native.Mathlib.Nat.{sub-zero, zero-add}
 use native.Mathlib.Omega.{arith}

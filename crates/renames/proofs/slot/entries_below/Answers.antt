@@ -1,6 +1,5 @@
 -- `renames::slot::entries_below` meets its contract. The loop's invariant: i and the entries from i on that stand below give the
 -- whole count.
-use Prim.Native.Nat.{◌-◌}
 use mathlib.Core.Path.{sym, ◌∙◌}
 use native.Mathlib.Nat.{sub-zero, zero-add}
 use native.Mathlib.Omega.{arith}

@@ -13,6 +13,6 @@ returns c =
     let n : c.lead_length-n.result ≡ length (t (kind a.frames.now a.k / 2)) = c.lead_length-n.ensures ∙ rw c.lead_in.ensures in
     let s = c.start_in.ensures in
     let l = length-drop (start a.frames.now a.k) (t (kind a.frames.now a.k / 2)) in record {
-        value = omega (arith, n, s, l, c.saturating_sub_usize.ensures);
-        result_bound = omega (arith, n, s, l, c.saturating_sub_usize.ensures);
+      value = omega (arith, n, s, l, c.saturating_sub_usize.ensures);
+      result_bound = omega (arith, n, s, l, c.saturating_sub_usize.ensures);
     }

@@ -21,8 +21,8 @@ returns-then-is_in c =
     let l = c.loop-k in
     let a = c.args in
     let here : l.at < c.text_left-n.result + c.tail_in-t.result = ltb-true _ _ (sym c.is_in.ensures ∙ c.if-is_in.true) in record {
-        k_value = l.invariant.2;
-        k_le_depth = (l.invariant.0, l.invariant.1, place_here (leads a.rows.now a.dirs.now a.text.now) a.frames.now l.k l.at (omega arith) (omega (arith, here, c.text_left-n.ensures.value, c.tail_in-t.ensures)) ∙ l.invariant.3);
+      k_value = l.invariant.2;
+      k_le_depth = (l.invariant.0, l.invariant.1, place_here (leads a.rows.now a.dirs.now a.text.now) a.frames.now l.k l.at (omega arith) (omega (arith, here, c.text_left-n.ensures.value, c.tail_in-t.ensures)) ∙ l.invariant.3);
     }
 
 pub overflow_sub-at : goal.overflow_sub-at
@@ -42,6 +42,6 @@ returns c =
     let l = c.loop-k in
     let z : l.k ≡ 0 = omega arith in
     let a = c.args in record {
-        k_value = rw z at l.invariant.2;
-        k_le_depth = (omega arith, l.invariant.1, place_none (leads a.rows.now a.dirs.now a.text.now) a.frames.now l.k l.at z ∙ l.invariant.3);
+      k_value = rw z at l.invariant.2;
+      k_le_depth = (omega arith, l.invariant.1, place_none (leads a.rows.now a.dirs.now a.text.now) a.frames.now l.k l.at z ∙ l.invariant.3);
     }

@@ -1,6 +1,5 @@
 -- `script::numbers::digits` meets its contract. The loop's invariant: the digits from i on, after `value`, give the
 -- number of the whole.
-use Prim.Native.Nat.{◌-◌}
 use mathlib.Core.Path.{refl, sym, ap, ◌∙◌}
 use native.Mathlib.Omega.{arith}
 use lib.ListN.{drop_of_length-le}

@@ -1,6 +1,5 @@
 -- `script::scan::before_first` meets its contract. The loop's invariant: i bytes are passed, and the scan of the rest
 -- gives what is left of the count.
-use Prim.Native.Nat.{◌-◌}
 use mathlib.Core.Path.{ap}
 use native.Mathlib.Omega.{arith}
 use lib.ListN.{drop_of_length-le}

@@ -16,12 +16,12 @@ module _ (high low h l : ℕ) (p : h ≡ hex_of high) (q : l ≡ hex_of low) whe
 
 pub returns-then-code : goal.returns-then-code
 returns-then-code c = let whole = coded-yes c.args.high c.args.low _ _ c.hex_value.ensures c.hex_value-2.ensures (sym c.hex_byte-code.ensures.is_formed_value ∙ c.if-code.true) _ c.hex_byte-code.ensures.byte_value in record {
-        width_value = whole.0;
-        byte_value = whole.1;
-    }
+  width_value = whole.0;
+  byte_value = whole.1;
+}
 
 pub returns : goal.returns
 returns c = let whole = coded-no c.args.high c.args.low _ _ c.hex_value.ensures c.hex_value-2.ensures (sym c.hex_byte-code.ensures.is_formed_value ∙ c.if-code.false) in record {
-        width_value = whole.0;
-        byte_value = whole.1;
-    }
+  width_value = whole.0;
+  byte_value = whole.1;
+}

@@ -1,6 +1,5 @@
 -- `script::words::count` meets its contract. The loop's invariant: n words begin in the first i bytes, and the rest has
 -- the others.
-use Prim.Native.Nat.{◌-◌}
 use mathlib.Core.Path.{ap}
 use native.Mathlib.Omega.{arith}
 use lib.ListN.{get_or, drop_of_length-le}

@@ -8,11 +8,9 @@ write_pad-requires c = c.requires.num_files_bound
 
 pub returns : goal.returns
 returns c =
-    let a = c.args in
-    let file = (c.write_file.ensures.rows_after, c.write_file.ensures.roots_after) in
-    let pad = (c.write_pad.ensures.rows_after, (c.write_pad.ensures.dirs_after, c.write_pad.ensures.text_after)) in record {
-        rows_after = c.write_pad.ensures.rows_after ∙ ap (pad_row_written a.plan.before.num_files a.plan) c.write_file.ensures.rows_after;
-        roots_after = c.write_file.ensures.roots_after;
-        dirs_after = c.write_pad.ensures.dirs_after ∙ ap (pad_dir_written a.plan) c.write_dirs.ensures;
-        text_after = c.write_pad.ensures.text_after ∙ ap (pad_text_written a.plan) c.write_texts.ensures;
+    let a = c.args in record {
+      rows_after = c.write_pad.ensures.rows_after ∙ ap (pad_row_written a.plan.before.num_files a.plan) c.write_file.ensures.rows_after;
+      roots_after = c.write_file.ensures.roots_after;
+      dirs_after = c.write_pad.ensures.dirs_after ∙ ap (pad_dir_written a.plan) c.write_dirs.ensures;
+      text_after = c.write_pad.ensures.text_after ∙ ap (pad_text_written a.plan) c.write_texts.ensures;
     }

@@ -16,8 +16,7 @@ root_is Absent roots i root = refl
 
 pub returns : goal.returns
 returns c =
-    let a = c.args in
-    let e = (c.put_entry.ensures.rows_after, c.put_entry.ensures.roots_after) in record {
-        rows_after = c.put_entry.ensures.rows_after;
-        roots_after = c.put_entry.ensures.roots_after ∙ root_is a.presence a.roots.now a.i a.root.bytes;
+    let a = c.args in record {
+      rows_after = c.put_entry.ensures.rows_after;
+      roots_after = c.put_entry.ensures.roots_after ∙ root_is a.presence a.roots.now a.i a.root.bytes;
     }

@@ -22,16 +22,16 @@ returns-then-plan-gt0 c =
     let a = c.args in
     let p = a.plan in
     let e : eqb p.pad_row.size 0 ≡ false = ne_eqb p.pad_row.size 0 (λ z. omega (arith, c.if-plan-gt0.true)) in record {
-        rows_after = there (eqb p.pad_row.size 0) _ _ _ e c.put_row.ensures;
-        dirs_after = there (eqb p.pad_row.size 0) _ _ _ e c.put_new_dir.ensures;
-        text_after = there (eqb p.pad_row.size 0) _ _ _ e (c.put_pad.ensures ∙ ap (λ (l : List ℕ). sets l p.pad_row.name.at (pad_digits p.pad_row.size)) c.put_new.ensures);
+      rows_after = there (eqb p.pad_row.size 0) _ _ _ e c.put_row.ensures;
+      dirs_after = there (eqb p.pad_row.size 0) _ _ _ e c.put_new_dir.ensures;
+      text_after = there (eqb p.pad_row.size 0) _ _ _ e (c.put_pad.ensures ∙ ap (λ (l : List ℕ). sets l p.pad_row.name.at (pad_digits p.pad_row.size)) c.put_new.ensures);
     }
 
 pub returns-else-plan-gt0 : goal.returns-else-plan-gt0
 returns-else-plan-gt0 c =
     let p = c.args.plan in
     let e : eqb p.pad_row.size 0 ≡ true = eq-eqb p.pad_row.size 0 (omega (arith, c.if-plan-gt0.false)) in record {
-        rows_after = absent (eqb p.pad_row.size 0) _ _ e;
-        dirs_after = absent (eqb p.pad_row.size 0) _ _ e;
-        text_after = absent (eqb p.pad_row.size 0) _ _ e;
+      rows_after = absent (eqb p.pad_row.size 0) _ _ e;
+      dirs_after = absent (eqb p.pad_row.size 0) _ _ e;
+      text_after = absent (eqb p.pad_row.size 0) _ _ e;
     }

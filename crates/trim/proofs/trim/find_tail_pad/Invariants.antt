@@ -1,7 +1,6 @@
 -- `storage::trim::find_tail_pad` meets its contract. The loop's invariant: what the search of the first i rows finds,
 -- which is still to do, is what the search of all n finds.
 use mathlib.Core.Path.{◌≡◌}
-use Prim.Native.Nat.{◌-◌}
 use Rattle.trim.specs.private.Search.{tail_pad_in}
 use Rattle.trim.proofs.trim.find_tail_pad.Given as goal
 

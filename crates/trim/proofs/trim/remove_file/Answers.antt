@@ -5,7 +5,7 @@ use Rattle.trim.proofs.Trims.{trimmed}
 use Rattle.trim.proofs.trim.remove_file.Goals as goal
 
 pub returns : goal.returns
-returns c =
+returns c firsts =
     let a = c.args in
     let row = c.row_at-row in
     let first = c.first_gone-c in

@@ -12,7 +12,7 @@ use Rattle.trim.proofs.trim.remove_tail_padding.Goals as goal
 use Rattle.trim.proofs.trim.remove_tail_padding.Goals.{Else-is_bad_length, Else-not-holds, Start}
 
 pub returns-then-is_bad_length : goal.returns-then-is_bad_length
-returns-then-is_bad_length c =
+returns-then-is_bad_length c firsts =
     let lent : List ℕ → Store = λ firsts. record {
       fs = c.args.fs;
       rows = c.args.rows.now;
@@ -24,7 +24,7 @@ returns-then-is_bad_length c =
     trim-refused (lent firsts) (sym c.is_bad_length.ensures ∙ c.if-is_bad_length.true)
 
 pub returns-then-not-holds : goal.returns-then-not-holds
-returns-then-not-holds c =
+returns-then-not-holds c firsts =
     let lent : List ℕ → Store = λ firsts. record {
       fs = c.args.fs;
       rows = c.args.rows.now;
@@ -37,7 +37,7 @@ returns-then-not-holds c =
     trim-roomless (lent firsts) good (sym (rw c.rooms_in-rooms.ensures at c.holds.ensures) ∙ c.if-not-holds.true)
 
 pub returns-in_default : goal.returns-in_default
-returns-in_default c =
+returns-in_default c firsts =
     let lent : List ℕ → Store = λ firsts. record {
       fs = c.args.fs;
       rows = c.args.rows.now;
@@ -66,7 +66,7 @@ remove_file-requires c =
     (found_below s.rows s.fs.num_files c.in-At.f found, few-files s (held []))
 
 pub returns : goal.returns
-returns c =
+returns c firsts =
     let lent : List ℕ → Store = λ firsts. record {
       fs = c.args.fs;
       rows = c.args.rows.now;
