@@ -8,7 +8,6 @@ use native.Mathlib.Nat.{mod-lt, mod_self, mod-eq_of_lt, sub-zero}
 use native.Mathlib.Omega.{arith}
 use lib.Dec.{ltb}
 use lib.IntN.{ℤ}
-use lib.ListN.{length}
 use borrow.Author.Tests.{ltb-true, ltb-false, lt-ltb, le-ltb}
 use Rattle.path.specs.Join.{is_empty}
 use Rattle.types.specs.Refusals.{number_of, Outcome, value, refused}

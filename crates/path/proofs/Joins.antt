@@ -2,13 +2,12 @@
 -- glue. They rely on the laws of runs of stores of `lists`.
 use Prim.Native.Nat.{ℕ, ◌+◌}
 use mathlib.Core.Path.{◌≡◌, refl, sym, ◌∙◌}
-use mathlib.Core.Bool.{Bool, true, false, cond, not}
+use mathlib.Core.Bool.{Bool, true, false, cond}
 use mathlib.Core.List.{List, [], ◌∷◌}
 use native.Mathlib.Omega.{arith}
 use lib.Dec.{leb}
 use lib.ListN.{length, length-append}
 use lib.Seq.{sets}
-use borrow.Author.Tests.{not-true, not-false}
 use Rattle.lists.proofs.Runs.{sets-append}
 use Rattle.types.specs.Refusals.{value, refused}
 use Rattle.path.specs.Join.{is_alone, is_empty, is_closed, glued, appended, Joined, joined_if, fits}

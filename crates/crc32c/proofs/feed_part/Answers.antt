@@ -1,6 +1,5 @@
 -- `crc32c::feed_part` meets its contract. The loop's invariant: `i` is at most the length, and what is left, fed to the
 -- register so far, comes to what all of the bytes, fed to the first register, come to. Assumes nothing.
-use Prim.Native.Nat.{◌-◌}
 use mathlib.Core.Path.{◌≡◌, refl, sym, ◌∙◌}
 use native.Mathlib.Omega.{arith}
 use lib.ListN.{length}

@@ -1,6 +1,5 @@
 -- `additions::parts::first_length` meets its contract. The loop's invariant: i is at most the length, and with the bytes
 -- before the first separator from i on it is the number of those before the text's first.
-use Prim.Native.Nat.{◌-◌}
 use native.Mathlib.Omega.{arith}
 use Rattle.additions.proofs.Texts.{before-turn, before-stop, before-end}
 use Rattle.additions.proofs.parts.first_length.Goals as goal

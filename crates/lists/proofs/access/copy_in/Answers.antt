@@ -2,7 +2,6 @@
 -- length, and the source from i on, stored from i on, gives the whole copy.
 use native.Mathlib.Omega.{arith}
 use mathlib.Core.Path.{refl, sym, ◌∙◌}
-use Prim.Native.Nat.{◌-◌}
 use lib.ListN.{drop, length-set, length-drop}
 use Rattle.lists.proofs.Runs.{copy-turn, sets-none}
 use Rattle.lists.proofs.access.copy_in.Goals as goal

@@ -1,7 +1,7 @@
 -- `lists::access::same` meets its contract. The loop's invariant: both slices have n bytes, i is at most n, and from i on
 -- they are the same.
 use mathlib.Core.Path.{◌≡◌}
-use Prim.Native.Nat.{◌≤◌, ◌-◌}
+use Prim.Native.Nat.{◌≤◌}
 use lib.ListN.{length, drop}
 use Rattle.lists.proofs.access.same.Given as goal
 

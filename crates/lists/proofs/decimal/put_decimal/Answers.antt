@@ -11,13 +11,13 @@ pub returns-then-at-target : goal.returns-then-at-target
 returns-then-at-target c =
     let k = c.digit_count-k in
     let e : length (decimal c.args.n) - k.result ≡ 0 = omega (arith, k.ensures) in record {
-        value = k.ensures;
-        target_after = rw e at c.put_digits.ensures;
+      value = k.ensures;
+      target_after = rw e at c.put_digits.ensures;
     }
 
 pub returns-else-at-target : goal.returns-else-at-target
 returns-else-at-target c =
     let a = c.args in record {
-        value = c.digit_count-k.ensures;
-        target_after = sym (sets-past (decimal a.n) a.target.now a.at c.if-at-target.false);
+      value = c.digit_count-k.ensures;
+      target_after = sym (sets-past (decimal a.n) a.target.now a.at c.if-at-target.false);
     }

@@ -2,7 +2,6 @@
 -- and the last i digits of the rest, stored from `at` on, give the whole.
 use native.Mathlib.Omega.{arith}
 use mathlib.Core.Path.{refl, sym, ◌∙◌}
-use Prim.Native.Nat.{◌-◌}
 use lib.ListN.{length-set}
 use Rattle.lists.proofs.Decimals.{last_digits_lem, decimal-few, digit-turn, digit-end}
 use Rattle.lists.proofs.decimal.put_digits.Goals as goal

@@ -1,6 +1,6 @@
 -- `path::split::first_separator` meets its contract. The loop's invariant: i is at most the length, and a split at the
 -- first separator at or after i is that at or after `from`.
-use Prim.Native.Nat.{ℕ, ◌+◌, ◌-◌, ◌≤◌, ◌<◌}
+use Prim.Native.Nat.{ℕ, ◌+◌, ◌≤◌, ◌<◌}
 use mathlib.Core.Path.{◌≡◌, ◌∙◌}
 use mathlib.Core.List.{List, ◌++◌, append-nil}
 use native.Mathlib.Omega.{arith}
@@ -42,9 +42,9 @@ pub returns-then-path-i-eq47 : goal.returns-then-path-i-eq47
 returns-then-path-i-eq47 c =
     let l = c.loop-i in
     let p = c.args.path.now in record {
-        upper_bound = l.invariant.0;
-        path_value = first-stop p l.i (omega arith) c.if-path-i-eq47.true ∙ l.invariant.1;
-        path_value_2 = rest-stop p l.i (omega arith) c.if-path-i-eq47.true ∙ l.invariant.2;
+      upper_bound = l.invariant.0;
+      path_value = first-stop p l.i (omega arith) c.if-path-i-eq47.true ∙ l.invariant.1;
+      path_value_2 = rest-stop p l.i (omega arith) c.if-path-i-eq47.true ∙ l.invariant.2;
     }
 
 pub loop-i-preserved : goal.loop-i-preserved
@@ -57,7 +57,7 @@ pub returns : goal.returns
 returns c =
     let l = c.loop-i in
     let p = c.args.path.now in record {
-        upper_bound = l.invariant.0;
-        path_value = first-end p l.i (omega arith) ∙ l.invariant.1;
-        path_value_2 = rest_end p l.i (omega arith) ∙ l.invariant.2;
+      upper_bound = l.invariant.0;
+      path_value = first-end p l.i (omega arith) ∙ l.invariant.1;
+      path_value_2 = rest_end p l.i (omega arith) ∙ l.invariant.2;
     }

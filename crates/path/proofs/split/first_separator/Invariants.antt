@@ -1,6 +1,6 @@
 -- `path::split::first_separator` meets its contract. The loop's invariant: i is at most the length, and a split at the
 -- first separator at or after i is that at or after `from`.
-use Prim.Native.Nat.{◌+◌, ◌-◌, ◌≤◌}
+use Prim.Native.Nat.{◌-◌, ◌≤◌}
 use mathlib.Core.Path.{◌≡◌}
 use mathlib.Core.List.{◌++◌}
 use lib.ListN.{length, take, drop}

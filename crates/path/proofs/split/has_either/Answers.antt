@@ -1,6 +1,5 @@
 -- `path::split::has_either` meets its contract. The loop's invariant: i is at most the length, and the path has a
 -- separator of either kind where what stands from place i on has one.
-use Prim.Native.Nat.{◌-◌}
 use mathlib.Core.Path.{refl, sym, ◌∙◌}
 use native.Mathlib.Omega.{arith}
 use Rattle.lists.proofs.Tests.{any-turn, any-stop, any-end}

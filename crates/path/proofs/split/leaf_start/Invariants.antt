@@ -1,6 +1,6 @@
 -- `path::split::leaf_start` meets its contract. The loop's invariant: i is at most the length, and no separator stands
 -- from place i on.
-use Prim.Native.Nat.{◌-◌, ◌≤◌}
+use Prim.Native.Nat.{◌≤◌}
 use mathlib.Core.Path.{◌≡◌}
 use mathlib.Core.Bool.{false}
 use lib.ListN.{length, drop}

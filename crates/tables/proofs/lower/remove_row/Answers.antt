@@ -1,7 +1,7 @@
 -- `tables::lower::remove_row` meets its contract. The loop's invariant: m is the number of rows to write, of which i are
 -- written, and the rest is untouched.
 use mathlib.Core.Path.{refl, ap, ◌∙◌}
-use Prim.Native.Nat.{ℕ, ◌-◌}
+use Prim.Native.Nat.{ℕ}
 use native.Mathlib.Omega.{arith}
 use lib.Seq.{sets}
 use Rattle.tables.specs.declared.rows.Row.{Row}
