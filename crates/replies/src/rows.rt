@@ -5,52 +5,56 @@ use crate::output;
 use crate::output::Reply;
 use renames::{Rename, RenameResult, RenamedFiles};
 use rules::{I32Result, SpanResult};
+use std::io;
+use std::io::Stdout;
 use tables::FileStorage;
 use types::UsizeResult;
 
 // The number of slices of a block, and the slices, which stand at the start of three columns.
-pub fn slices(res: UsizeResult, files: &[u64], offsets: &[u64], sizes: &[u64]) {
+pub fn slices(
+    out: Stdout,
+    res: UsizeResult,
+    files: &[u64],
+    offsets: &[u64],
+    sizes: &[u64],
+) -> io::Result<()> {
     match res {
         UsizeResult::Ok(n) => {
-            let count = output::number(output::ok(), n as u64);
+            let count = output::number(output::ok(out), n as u64);
             output::end(each_slice(count, n, files, offsets, sizes))
         }
-        UsizeResult::Err(refusal) => output::refused(refusal),
+        UsizeResult::Err(refusal) => output::refused(out, refusal),
     }
 }
 
 // Puts the first n slices.
 fn each_slice(before: Reply, n: usize, files: &[u64], offsets: &[u64], sizes: &[u64]) -> Reply {
     let mut reply = before;
-    let mut i = 0;
-    while i < n {
+    for i in 0..n {
         reply = output::slice(
             reply,
             lists::word(files, i),
             lists::word(offsets, i),
             lists::word(sizes, i),
         );
-        i += 1;
     }
     reply
 }
 
 // The file in which each piece begins, of a set that keeps a table of them; else that there is none.
-pub fn first_files(fs: FileStorage, firsts: &[u16]) {
+pub fn first_files(out: Stdout, fs: FileStorage, firsts: &[u16]) -> io::Result<()> {
     if !fs.indexed {
-        return output::end(output::none(output::ok()));
+        return output::end(output::none(output::ok(out)));
     }
     let n = lists::min(rules::count_pieces(fs), firsts.len() as u64);
-    output::end(each_first(output::ok(), firsts, n as usize))
+    output::end(each_first(output::ok(out), firsts, n as usize))
 }
 
 // Puts the first n files of a table.
 fn each_first(before: Reply, firsts: &[u16], n: usize) -> Reply {
     let mut reply = before;
-    let mut i = 0;
-    while i < n {
+    for i in 0..n {
         reply = output::number(reply, first_at(firsts, i));
-        i += 1;
     }
     reply
 }
@@ -69,20 +73,18 @@ fn widened(file: u16) -> u64 {
 }
 
 // The hashes at the start of a table.
-pub fn hashes(res: UsizeResult, table: &[u32]) {
+pub fn hashes(out: Stdout, res: UsizeResult, table: &[u32]) -> io::Result<()> {
     match res {
-        UsizeResult::Ok(n) => output::end(each_hash(output::ok(), table, n)),
-        UsizeResult::Err(refusal) => output::refused(refusal),
+        UsizeResult::Ok(n) => output::end(each_hash(output::ok(out), table, n)),
+        UsizeResult::Err(refusal) => output::refused(out, refusal),
     }
 }
 
 // Puts the first n hashes.
 fn each_hash(before: Reply, table: &[u32], n: usize) -> Reply {
     let mut reply = before;
-    let mut i = 0;
-    while i < n {
+    for i in 0..n {
         reply = output::number(reply, hash_at(table, i));
-        i += 1;
     }
     reply
 }
@@ -101,10 +103,10 @@ fn wide(hash: u32) -> u64 {
 }
 
 // The texts of all directories of a set.
-pub fn directories(fs: FileStorage, dirs: &[u64], text: &[u8]) {
+pub fn directories(out: Stdout, fs: FileStorage, dirs: &[u64], text: &[u8]) -> io::Result<()> {
     match answers::num_paths(fs) {
-        I32Result::Ok(n) => output::end(each_directory(output::ok(), fs, dirs, text, n)),
-        I32Result::Err(refusal) => output::refused(refusal),
+        I32Result::Ok(n) => output::end(each_directory(output::ok(out), fs, dirs, text, n)),
+        I32Result::Err(refusal) => output::refused(out, refusal),
     }
 }
 
@@ -112,10 +114,8 @@ pub fn directories(fs: FileStorage, dirs: &[u64], text: &[u8]) {
 fn each_directory(before: Reply, fs: FileStorage, dirs: &[u64], text: &[u8], n: i32) -> Reply {
     let count = types::FileIndex(n).get();
     let mut reply = before;
-    let mut i = 0;
-    while i < count {
+    for i in 0..count {
         reply = directory(reply, answers::path_at(fs, dirs, text, i), text);
-        i += 1;
     }
     reply
 }
@@ -129,22 +129,20 @@ fn directory(reply: Reply, res: SpanResult, text: &[u8]) -> Reply {
 }
 
 // All renames of a set, as pairs of number and name.
-pub fn export(held: RenamedFiles, entries: &[u64], area: &[u8]) {
-    output::end(each_rename(output::ok(), held, entries, area))
+pub fn export(out: Stdout, held: RenamedFiles, entries: &[u64], area: &[u8]) -> io::Result<()> {
+    output::end(each_rename(output::ok(out), held, entries, area))
 }
 
 // Puts all renames.
 fn each_rename(before: Reply, held: RenamedFiles, entries: &[u64], area: &[u8]) -> Reply {
     let count = held.num_renames;
     let mut reply = before;
-    let mut i = 0;
-    while i < count {
+    for i in 0..count {
         reply = exported(
             reply,
             renames::export_filename(held, entries, area, i),
             area,
         );
-        i += 1;
     }
     reply
 }

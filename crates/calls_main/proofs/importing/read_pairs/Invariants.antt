@@ -1,5 +1,5 @@
 -- The loop counts no more pairs than bytes were read. The bytes that are left are its measure: a pair ends after its start.
-use Prim.Native.Nat.{◌+◌, ◌≤◌}
+use Rattle.std.proofs.Common.{◌+◌, ◌≤◌}
 use Rattle.calls_main.proofs.importing.read_pairs.Given as goal
 
 abbrev pub invariant-loop-pair : goal.invariant-loop-pair
