@@ -6,7 +6,7 @@ use mathlib.Core.Bool.{Bool, true, false, cond, not, ◌&&◌, ◌||◌}
 use mathlib.Core.List.{List, [], ◌∷◌}
 use native.Mathlib.Nat.{sub-zero}
 use native.Mathlib.Omega.{arith}
-use borrow.Author.Tests.{eq-eqb, ne_eqb, not-true, not-false}
+use borrow.Author.Tests.{eq-eqb, ne_eqb}
 use Rattle.lists.specs.Lists.{equal}
 use Rattle.path.specs.Join.{appended}
 use Rattle.types.specs.Refusals.{Outcome, value, refused}
@@ -39,12 +39,12 @@ module _ (a b : NamedSet) (r q : Row) where
   other-size e = rw (ne_eqb r.size q.size e)
 
   module _ (e : r.size ≡ q.size) (t : Bool) (h : t ≡ equal (path_of a r) (path_of b q)) where
-    pub other_path : not t ≡ true → false ≡ same_named a b r q
-    other_path f = rw (eq-eqb r.size q.size e, ← h, not-true t f)
+    pub other_path : t ≡ false → false ≡ same_named a b r q
+    other_path f = rw (eq-eqb r.size q.size e, ← h, f)
 
-    module _ (f : not t ≡ false) where
+    module _ (f : t ≡ true) where
       path-same : equal (path_of a r) (path_of b q) ≡ true
-      path-same = sym h ∙ not-false t f
+      path-same = sym h ∙ f
 
       pub other_offset : (r.offset ≡ q.offset → ⊥) → false ≡ same_named a b r q
       other_offset g = rw (eq-eqb r.size q.size e, path-same, ne_eqb r.offset q.offset g)

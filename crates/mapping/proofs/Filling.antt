@@ -1,10 +1,10 @@
--- Laws of a table that is filled from its front, as the walk of `map_block` uses them. They rely on the definitions of
+-- Laws of a table that is filled from its front, as the loop of `map_block` uses them. They rely on the definitions of
 -- `layout`.
 --     Inv                       what holds between two stores: n slices are in the table and those from a cursor on are to come
---     begin, some, more, all    before the first store; where one is to come; after it; after the last
+--     begin, more, all          before the first store; after one; after the last
 use mathlib.Core.Path.{◌≡◌, refl, ap, ◌∙◌}
 use mathlib.Core.List.{List, [], ◌∷◌, map}
-use Prim.Native.Nat.{ℕ, ◌+◌, ◌≤◌, ◌<◌}
+use Prim.Native.Nat.{ℕ, ◌+◌, ◌≤◌}
 use native.Mathlib.Omega.{arith}
 use native.Mathlib.Numerals.{add-one}
 use lib.ListN.{length, set, length-set, length-map}
@@ -27,9 +27,6 @@ module _ (rows : List ℕ) (ys : List FileSlice) (count : ℕ) (from : Cursor) w
   begin e = record { sum = omega arith; len = refl; whole = refl }
 
   module _ (n : ℕ) (l : List FileSlice) (c : Cursor) (i : Inv rows ys count from n l c) where
-    pub some : n < count → 0 < length (slices_from rows c)
-    some h = omega arith
-
     pub more : (v : FileSlice) (c' : Cursor) → records_from rows c ≡ v ∷ records_from rows c' → Inv rows ys count from (n + 1) (set l n v) c'
     more v c' e =
         let k = ap length e in

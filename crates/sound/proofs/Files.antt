@@ -73,7 +73,7 @@ laid-append gs (next {o} {f} {fs} e p) q =
 pub laid-take : {o : ℕ} {fs : List File} (n : ℕ) → Laid o fs → Laid o (take n fs)
 laid-take zero p = done
 laid-take (suc n) done = done
-laid-take (suc n) (next e p) = next e (laid-take n p)
+laid-take {o = o} (suc n) (next {f = f} {fs = fs} e p) = next e (laid-take {o = o + f.size} n p)
 
 -- files that lie and are as long as those
 pub laid-map : (g : File → File) → ((f : File) → (g f).offset ≡ f.offset) → ((f : File) → (g f).size ≡ f.size) → {o : ℕ} {fs : List File} → Laid o fs → Laid o (map g fs)

@@ -1,3 +1,2 @@
 // What opening, additions and trims do to the meaning of a set's tables: definitions and theorems, no code.
 #![tactic(auto)]
-

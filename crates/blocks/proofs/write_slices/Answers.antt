@@ -25,11 +25,13 @@ loop-k-init c = record { low = omega arith; len-f = refl; len-o = refl; len-s = 
 pub returns-then-left-eq0 : goal.returns-then-left-eq0
 returns-then-left-eq0 c =
     let l = c.loop-k in
-    let a = c.args in let whole = over l.invariant (walk_none a.rows.now (a.at.files - l.k) l.k l.s l.left c.if-left-eq0.true) in record {
-        value = whole.0;
-        out_file_after = whole.1.0;
-        out_offset_after = whole.1.1.0;
-        out_size_after = whole.1.1.1;
+    let a = c.args in
+    let whole = over l.invariant (walk_none a.rows.now (a.at.files - l.k) l.k l.s l.left c.if-left-eq0.true) in
+    record {
+      value = whole.0;
+      out_file_after = whole.1.0;
+      out_offset_after = whole.1.1.0;
+      out_size_after = whole.1.1.1;
     }
 
 pub overflow_add-n : goal.overflow_add-n
@@ -47,9 +49,9 @@ loop-k-preserved c =
     let m : l.n + c.slice_count-n.result ≡ l.n + length x = ap (λ (j : ℕ). l.n + j) (c.slice_count-n.ensures ∙ sym (before-length (record { file = l.k; offset = l.s; size = c.min-part.result }))) in
     record {
       low = omega (arith, one-le c.min-part.result, c.slice_count-n.ensures);
-      len-f = p.auto.0 ∙ l.invariant.len-f;
-      len-o = p.auto.1.0 ∙ l.invariant.len-o;
-      len-s = p.auto.1.1.0 ∙ l.invariant.len-s;
+      len-f = p.auto.out_file ∙ l.invariant.len-f;
+      len-o = p.auto.out_offset ∙ l.invariant.len-o;
+      len-s = p.auto.out_size ∙ l.invariant.len-s;
       in_f = column-turn (λ s. s.file) l.out_file l.n x _ l.invariant.in_f e p.ensures.out_file_after m;
       in-o = column-turn (λ s. s.offset) l.out_offset l.n x _ l.invariant.in-o e p.ensures.out_offset_after m;
       in-s = column-turn (λ s. s.size) l.out_size l.n x _ l.invariant.in-s e p.ensures.out_size_after m;
@@ -59,9 +61,11 @@ loop-k-preserved c =
 pub returns : goal.returns
 returns c =
     let l = c.loop-k in
-    let a = c.args in let whole = over l.invariant (walk_end a.rows.now a.at.files l.k l.s l.left c.loop-k-test.false) in record {
-        value = whole.0;
-        out_file_after = whole.1.0;
-        out_offset_after = whole.1.1.0;
-        out_size_after = whole.1.1.1;
+    let a = c.args in
+    let whole = over l.invariant (walk_end a.rows.now a.at.files l.k l.s l.left c.loop-k-test.false) in
+    record {
+      value = whole.0;
+      out_file_after = whole.1.0;
+      out_offset_after = whole.1.1.0;
+      out_size_after = whole.1.1.1;
     }

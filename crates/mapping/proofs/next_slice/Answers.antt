@@ -3,7 +3,6 @@
 use borrow.Author.Rules.{rules}
 use mathlib.Core.Path.{refl, ◌∙◌}
 use native.Mathlib.Omega.{arith}
-use Prim.Native.Nat.{◌-◌}
 use Rattle.mapping.proofs.Steps.{size_low, some-file, some_bytes, pass, found, taken}
 use Rattle.mapping.proofs.next_slice.Goals as goal
 

@@ -23,7 +23,7 @@ use Rattle.tables.proofs.Tabled.{tabled-same}
 use Rattle.trim.specs.Trim.{beginning_at, without_file}
 use Rattle.sound.specs.Sound.{set_name, dir_name, file_name, link_text, Sound}
 use Rattle.sound.proofs.Files.{number-tabled, tabled-except}
-use Rattle.sound.proofs.Trimmed.Texts.{c, l, new, row_is, text-after}
+use Rattle.sound.proofs.Trimmed.Texts.{l, new, row_is, text-after}
 
 -- ---- roots
 

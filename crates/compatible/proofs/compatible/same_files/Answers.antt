@@ -1,6 +1,5 @@
 -- `compatible::compatible::same_files` meets its contract. The loop's invariant: k is at most the number of files, and the files from k on are
 -- the same exactly where all are.
-use Prim.Native.Nat.{◌-◌}
 use mathlib.Core.Path.{◌≡◌, sym, ◌∙◌}
 use mathlib.Core.Bool.{true, false}
 use native.Mathlib.Omega.{arith}

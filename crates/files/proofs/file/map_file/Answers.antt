@@ -1,5 +1,5 @@
 -- `files::file::map_file` meets its contract.
-use Rattle.std.proofs.Common.{◌≡◌, ℕ, ◌+◌, ◌/◌, ◌^◌, ◌<◌, Bool, true, false, ◌&&◌, eqb, leb, List, length, ℤ, pos, sym, refl, ap, ◌∙◌, arith, to_z-of_z, w32, w64, SFits, to_z, of_z, rules, eqb-true, leb-true}
+use Rattle.std.proofs.Common.{◌≡◌, ℕ, ◌+◌, ◌/◌, ◌^◌, ◌<◌, Bool, true, ◌&&◌, eqb, leb, List, length, ℤ, pos, sym, refl, ap, ◌∙◌, arith, to_z-of_z, w32, w64, SFits, to_z, of_z, rules, eqb-true, leb-true}
 use borrow.Author.Tests.{not-false}
 use Rattle.types.specs.Refusals.{value, refused}
 use Rattle.tables.specs.declared.storage.FileStorage.{FileStorage}

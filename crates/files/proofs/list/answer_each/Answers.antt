@@ -1,6 +1,6 @@
 -- `files::list::answer_each` meets its contract. The loop's invariant: of the n questions i are answered, their answers stand
 -- in the first places, and the rest of the table is untouched.
-use Rattle.std.proofs.Common.{◌≡◌, ◌-◌, ◌*◌, length, get_or, pos, refl, ap, ◌∙◌, to_z-of_z, w32, w64, SFits, rules}
+use Rattle.std.proofs.Common.{◌≡◌, ◌*◌, length, get_or, pos, refl, ap, ◌∙◌, to_z-of_z, w32, w64, SFits, rules}
 use lib.Seq.{sets}
 use Rattle.types.specs.Refusals.{Outcome, value, refused}
 use Rattle.rules.specs.Results.{SignedRequest, request_says}

@@ -1,7 +1,7 @@
 -- `texts::cut::lower_rows` meets its contract. The loop's invariant: m is the number of rows to lower, of which i are
 -- written, and the rest is untouched.
 use mathlib.Core.Path.{refl, ap, ◌∙◌}
-use Prim.Native.Nat.{ℕ, ◌-◌}
+use Prim.Native.Nat.{ℕ}
 use native.Mathlib.Omega.{arith}
 use lib.Seq.{sets}
 use Rattle.tables.specs.declared.rows.Row.{Row}

@@ -20,6 +20,6 @@ pub returns : goal.returns
 returns c =
     let a = c.args in
     let n = ap length c.text_at-part.ensures in record {
-        value = n;
-        text_after = span-put a.text.now a.s a.to n c.copy_within.ensures;
+      value = n;
+      text_after = span-put a.text.now a.s a.to n c.copy_within.ensures;
     }

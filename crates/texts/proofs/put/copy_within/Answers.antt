@@ -1,6 +1,5 @@
 -- `texts::put::copy_within` meets its contract. The loop's invariant: j bytes are copied, and what stands before `to` is
 -- untouched.
-use Prim.Native.Nat.{◌-◌}
 use Rattle.texts.proofs.Placed.{copying-start, copying-turn, copying-end}
 use Rattle.texts.proofs.put.copy_within.Goals as goal
 

@@ -39,7 +39,7 @@ returns c =
     let a = c.args in
     let t = a.text.now in
     let p = put-join t (text_at t a.branch) a.leaf a.to c.requires.1 (ap length c.text_at-part.ensures) (c.put_prefix-k.ensures.value, c.put_prefix-k.ensures.text_after) c.copy_span.ensures.value c.copy_span.ensures.text_after in record {
-        value = p.0;
-        result_bound = omega (arith, p.0, c.requires.2, c.well_formed.0.0, c.ranges.to);
-        text_after = p.1;
+      value = p.0;
+      result_bound = omega (arith, p.0, c.requires.2, c.well_formed.0.0, c.ranges.to);
+      text_after = p.1;
     }

@@ -11,6 +11,6 @@ returns c =
     let a = c.args in
     let link : Span = record { at = a.fs.text_len; len = a.n } in
     let new = c.row_with.ensures ∙ ap (λ (r : Row). row_with r r.name link) c.row_at-row.ensures in record {
-        value = c.storage_with.ensures;
-        rows_after = c.put_row.ensures ∙ ap (put_row a.rows.now a.i) new;
+      value = c.storage_with.ensures;
+      rows_after = c.put_row.ensures ∙ ap (put_row a.rows.now a.i) new;
     }

@@ -8,19 +8,16 @@ use Rattle.texts.proofs.OneLink.{own_of, own_fit, own-kept, own-written, own-pla
 use Rattle.texts.proofs.put.write_own.Goals as goal
 use Rattle.texts.proofs.put.write_own.Goals.{Else-not-own_fits, Start}
 
--- the set that the call brings, and that the path has its place
-abbrev given : Start → Store
-given c = lent c.args.fs c.args.rows.now c.args.dirs.now c.args.text.now
-
-fit_is : (c : Else-not-own_fits) → own_fit (given c.before.before.before.before.before.before.before.before) c.args.i c.row_at-row.result c.directory_span-branch.result c.row_at-row.ensures c.directory_span-branch.ensures ≡ true
-fit_is c = sym c.own_fits.ensures ∙ c.if-not-own_fits.false
-
 pub returns-then-not-own_fits : goal.returns-then-not-own_fits
-returns-then-not-own_fits c = own-kept (given c.before.before.before.before.before.before.before.before) c.args.i c.row_at-row.result c.directory_span-branch.result c.row_at-row.ensures c.directory_span-branch.ensures (sym c.own_fits.ensures ∙ c.if-not-own_fits.true)
+returns-then-not-own_fits c =
+    let given : Store = lent c.args.fs c.args.rows.now c.args.dirs.now c.args.text.now in
+    own-kept given c.args.i c.row_at-row.result c.directory_span-branch.result c.row_at-row.ensures c.directory_span-branch.ensures (sym c.own_fits.ensures ∙ c.if-not-own_fits.true)
 
 pub put_joined-n-requires : goal.put_joined-n-requires
 put_joined-n-requires c =
-    let p = own-places (given c.before.before.before.before.before.before.before.before.before) c.args.i c.row_at-row.result c.directory_span-branch.result c.row_at-row.ensures c.directory_span-branch.ensures (fit_is c.before) in
+    let given : Store = lent c.args.fs c.args.rows.now c.args.dirs.now c.args.text.now in
+    let fit_is : own_fit given c.args.i c.row_at-row.result c.directory_span-branch.result c.row_at-row.ensures c.directory_span-branch.ensures ≡ true = sym c.own_fits.ensures ∙ c.if-not-own_fits.false in
+    let p = own-places given c.args.i c.row_at-row.result c.directory_span-branch.result c.row_at-row.ensures c.directory_span-branch.ensures fit_is in
     p
 
 pub put_link-requires : goal.put_link-requires
@@ -28,10 +25,12 @@ put_link-requires c = c.put_joined-n.ensures.result_bound
 
 pub returns : goal.returns
 returns c =
-    let s = given c.before.before.before.before.before.before.before.before.before.before.before.before.before.before.before.before in
+    let given : Store = lent c.args.fs c.args.rows.now c.args.dirs.now c.args.text.now in
+    let fit_is : own_fit given c.args.i c.row_at-row.result c.directory_span-branch.result c.row_at-row.ensures c.directory_span-branch.ensures ≡ true = sym c.own_fits.ensures ∙ c.if-not-own_fits.false in
+    let s = given in
     let a = c.args in
     let r = c.row_at-row in
     let b = c.directory_span-branch in
     let t = own_of s a.i r.result b.result r.ensures b.ensures in
     let put = linked-is s.fs s.rows s.dirs s.text a.i t c.put_joined-n.ensures.value c.put_link.ensures.value c.put_link.ensures.rows_after c.put_joined-n.ensures.text_after in
-    own-written s a.i r.result b.result r.ensures b.ensures (fit_is c.before.before.before.before.before.before.before.before) _ put
+    own-written s a.i r.result b.result r.ensures b.ensures fit_is _ put
