@@ -1,7 +1,7 @@
 -- Document 01, 'Layout answers': where bytes of a file lie, as `map_file` gives it. It relies on the number of pieces
 -- (`rules`).
 --
--- Names from elsewhere: `cond t a b` is a where t is true, else b; `eqb`, `ltb` and `leb` test =, < and ≤; `a - b` is 0
+-- Names from elsewhere: `cond t a b` is a where t is true, else b; `nat_le` tests ≤; `a - b` is 0
 -- where b is larger. `row_at rows k` is the row of file k, with its offset and size; `num_pieces` is the number of the
 -- set's pieces, the last one counted whole.
 use Rattle.std.specs.Prelude.{ℕ, ◌+◌, ◌-◌, ◌/◌, ◌%◌, min, cond, List, pos, nat_le}

@@ -1,6 +1,6 @@
 -- A list of names as it is lent: an import of a list that is whole is that of its pairs, one of a list that is not is refused
 -- and leaves all as it was, and every list of pairs can be lent whole. These laws rely on those of `lists` for sums.
-use Prim.Native.Nat.{ℕ, ◌+◌}
+use Prim.Native.Nat.{ℕ}
 use mathlib.Core.Path.{◌≡◌, refl, ap}
 use mathlib.Core.Bool.{true, false}
 use mathlib.Core.List.{List, [], ◌∷◌, ◌++◌}

@@ -40,9 +40,9 @@ given_at l p lengths names k = record { file = k; mode = FullPath; name = name_n
 -- ---- the files in order
 
 -- of renames of files from k on, that of file k, and the others
-abbrev pub field_own : ℕ → List Renamed → List Renamed
-field_own k [] = []
-field_own k (r ∷ rs) = cond (eqb r.file k) (r ∷ []) []
+abbrev pub own_at : ℕ → List Renamed → List Renamed
+own_at k [] = []
+own_at k (r ∷ rs) = cond (eqb r.file k) (r ∷ []) []
 
 abbrev pub left_at : ℕ → List Renamed → List Renamed
 left_at k [] = []
@@ -50,7 +50,7 @@ left_at k (r ∷ rs) = cond (eqb r.file k) rs (r ∷ rs)
 
 -- what file k gets, and the kept renames that are left after it
 abbrev pub step_at : (ℕ → Bool) → (ℕ → Renamed) → ℕ → List Renamed → List Renamed
-step_at named given k rs = cond (named k) (given k ∷ []) (field_own k rs)
+step_at named given k rs = cond (named k) (given k ∷ []) (own_at k rs)
 
 abbrev pub rest_at : (ℕ → Bool) → ℕ → List Renamed → List Renamed
 rest_at named k rs = cond (named k) rs (left_at k rs)

@@ -13,7 +13,6 @@ use Rattle.imports.specs.private.Importing.{renames_given, import_asked}
 use Rattle.imports.proofs.Noting.{few-files, zeros-noted}
 use Rattle.imports.proofs.Importing.{import-held, import-sum, import-ready, import-changed, import-refused}
 use Rattle.imports.proofs.import.import_filenames.Goals as goal
-use Rattle.imports.proofs.import.import_filenames.Goals.{In-Ok-2}
 
 -- what lies in a table is no longer than a word says
 wide : (n l : ℕ) → n * 3 ≤ l → l < 2 ^ 64 → n < 2 ^ 64
@@ -69,7 +68,6 @@ returns-in-Ok c =
     let few : c.args.fs.num_files ≤ 65535 = let a = c.args in
     few-files a.fs (import-held a.fs a.renames a.rename_entries.now a.rename_text.now a.numbers.now a.lengths.now a.names.now _ decided).1 in
     let a = c.args in
-    let g = (c.give.ensures.entries_after, c.give.ensures.text_after) in
     import-changed a.fs a.renames a.rename_entries.now a.rename_text.now a.numbers.now a.lengths.now a.names.now _ decided _ _ (zeros-noted a.fs.num_files a.numbers.now _ c.note_last.ensures few) c.note_places.ensures _ c.count_given-come.ensures _ _ c.give.ensures.entries_after c.give.ensures.text_after
 
 pub returns-in-Err : goal.returns-in-Err

@@ -9,13 +9,6 @@ use Rattle.imports.specs.private.Importing.{kept_count, kept_bytes}
 use Rattle.imports.specs.private.Merging.{is_noted}
 use Rattle.imports.proofs.Keeping.{counted, count-end, size-end, kept-few, kept-short}
 use Rattle.imports.proofs.keep.count_kept.Goals as goal
-use Rattle.imports.proofs.keep.count_kept.Goals.{After-word-len}
-
--- what the entry adds
-adds : (c : After-word-len) → let a = c.args in let n = a.renames.num_renames in let i = c.loop-i.i in (kept_count (is_noted a.files a.notes.now) (n - i) i a.entries.now ≡ cond (not c.is_noted-stays.result) 1 0 + kept_count (is_noted a.files a.notes.now) (n - (i + 1)) (i + 1) a.entries.now) × (kept_bytes (is_noted a.files a.notes.now) (n - i) i a.entries.now ≡ cond (not c.is_noted-stays.result) c.word-len.result 0 + kept_bytes (is_noted a.files a.notes.now) (n - (i + 1)) (i + 1) a.entries.now)
-adds c =
-    let a = c.args in
-    counted (is_noted a.files a.notes.now) a.renames.num_renames c.loop-i.i a.entries.now c.loop-i-test.true (not c.is_noted-stays.result) c.word-len.result (ap not (c.is_noted-stays.ensures ∙ ap (is_noted a.files a.notes.now) c.word.ensures)) c.word-len.ensures
 
 pub loop-i-init : goal.loop-i-init
 loop-i-init c =
@@ -24,28 +17,36 @@ loop-i-init c =
 
 pub overflow_add-count : goal.overflow_add-count
 overflow_add-count c =
+    let adds : let a = c.args in let n = a.renames.num_renames in let i = c.loop-i.i in (kept_count (is_noted a.files a.notes.now) (n - i) i a.entries.now ≡ cond (not c.is_noted-stays.result) 1 0 + kept_count (is_noted a.files a.notes.now) (n - (i + 1)) (i + 1) a.entries.now) × (kept_bytes (is_noted a.files a.notes.now) (n - i) i a.entries.now ≡ cond (not c.is_noted-stays.result) c.word-len.result 0 + kept_bytes (is_noted a.files a.notes.now) (n - (i + 1)) (i + 1) a.entries.now) = let a = c.args in
+    counted (is_noted a.files a.notes.now) a.renames.num_renames c.loop-i.i a.entries.now c.loop-i-test.true (not c.is_noted-stays.result) c.word-len.result (ap not (c.is_noted-stays.ensures ∙ ap (is_noted a.files a.notes.now) c.word.ensures)) c.word-len.ensures in
     let a = c.args in
-    let k = (adds c.before).0 in
+    let k = (adds).0 in
     record { fits = omega (arith, rw c.if-stays.true at k, c.loop-i.invariant.3, kept-few (is_noted a.files a.notes.now) a.renames.num_renames 0 a.entries.now) }
 
 pub overflow_add-bytes : goal.overflow_add-bytes
 overflow_add-bytes c =
+    let adds : let a = c.args in let n = a.renames.num_renames in let i = c.loop-i.i in (kept_count (is_noted a.files a.notes.now) (n - i) i a.entries.now ≡ cond (not c.is_noted-stays.result) 1 0 + kept_count (is_noted a.files a.notes.now) (n - (i + 1)) (i + 1) a.entries.now) × (kept_bytes (is_noted a.files a.notes.now) (n - i) i a.entries.now ≡ cond (not c.is_noted-stays.result) c.word-len.result 0 + kept_bytes (is_noted a.files a.notes.now) (n - (i + 1)) (i + 1) a.entries.now) = let a = c.args in
+    counted (is_noted a.files a.notes.now) a.renames.num_renames c.loop-i.i a.entries.now c.loop-i-test.true (not c.is_noted-stays.result) c.word-len.result (ap not (c.is_noted-stays.ensures ∙ ap (is_noted a.files a.notes.now) c.word.ensures)) c.word-len.ensures in
     let a = c.args in
-    let k = (adds c.before).1 in
+    let k = (adds).1 in
     record { fits = omega (arith, rw c.if-stays.true at k, c.loop-i.invariant.4, kept-short (is_noted a.files a.notes.now) a.renames.num_renames 0 a.entries.now) }
 
 pub loop-i-preserved-then-stays : goal.loop-i-preserved-then-stays
 loop-i-preserved-then-stays c =
+    let adds : let a = c.args in let n = a.renames.num_renames in let i = c.loop-i.i in (kept_count (is_noted a.files a.notes.now) (n - i) i a.entries.now ≡ cond (not c.is_noted-stays.result) 1 0 + kept_count (is_noted a.files a.notes.now) (n - (i + 1)) (i + 1) a.entries.now) × (kept_bytes (is_noted a.files a.notes.now) (n - i) i a.entries.now ≡ cond (not c.is_noted-stays.result) c.word-len.result 0 + kept_bytes (is_noted a.files a.notes.now) (n - (i + 1)) (i + 1) a.entries.now) = let a = c.args in
+    counted (is_noted a.files a.notes.now) a.renames.num_renames c.loop-i.i a.entries.now c.loop-i-test.true (not c.is_noted-stays.result) c.word-len.result (ap not (c.is_noted-stays.ensures ∙ ap (is_noted a.files a.notes.now) c.word.ensures)) c.word-len.ensures in
     let v = c.loop-i.invariant in
-    let x = (adds c.before).0 in
-    let y = (adds c.before).1 in
+    let x = (adds).0 in
+    let y = (adds).1 in
     (omega arith, v.1, v.2, omega (arith, v.3, rw c.if-stays.true at x), omega (arith, v.4, rw c.if-stays.true at y))
 
 pub loop-i-preserved : goal.loop-i-preserved
 loop-i-preserved c =
+    let adds : let a = c.args in let n = a.renames.num_renames in let i = c.loop-i.i in (kept_count (is_noted a.files a.notes.now) (n - i) i a.entries.now ≡ cond (not c.is_noted-stays.result) 1 0 + kept_count (is_noted a.files a.notes.now) (n - (i + 1)) (i + 1) a.entries.now) × (kept_bytes (is_noted a.files a.notes.now) (n - i) i a.entries.now ≡ cond (not c.is_noted-stays.result) c.word-len.result 0 + kept_bytes (is_noted a.files a.notes.now) (n - (i + 1)) (i + 1) a.entries.now) = let a = c.args in
+    counted (is_noted a.files a.notes.now) a.renames.num_renames c.loop-i.i a.entries.now c.loop-i-test.true (not c.is_noted-stays.result) c.word-len.result (ap not (c.is_noted-stays.ensures ∙ ap (is_noted a.files a.notes.now) c.word.ensures)) c.word-len.ensures in
     let v = c.loop-i.invariant in
-    let x = (adds c.before).0 in
-    let y = (adds c.before).1 in
+    let x = (adds).0 in
+    let y = (adds).1 in
     (omega arith, v.1, v.2, omega (arith, v.3, rw c.if-stays.false at x), omega (arith, v.4, rw c.if-stays.false at y))
 
 pub returns : goal.returns

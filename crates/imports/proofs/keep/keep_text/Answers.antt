@@ -1,6 +1,6 @@
 -- `imports::keep::keep_text` meets its contract.
 use Prim.Native.Nat.{ℕ, ◌+◌, ◌-◌, ◌≤◌}
-use mathlib.Core.Path.{◌≡◌, refl, ap, ◌∙◌}
+use mathlib.Core.Path.{◌≡◌, ap, ◌∙◌}
 use mathlib.Core.List.{List}
 use native.Mathlib.Omega.{arith}
 use lib.ListN.{take, drop}
@@ -18,7 +18,8 @@ slides t from len to h =
 
 pub returns-then-stays : goal.returns-then-stays
 returns-then-stays c =
-    let a = c.args in let whole = rw c.if-stays.true (refl, c.remove_text.ensures ∙ ap (λ (x : List ℕ). sets a.text.now a.to x) (slides a.text.now a.from a.len a.to c.requires.0)) in record {
-        value = whole.0;
-        text_after = whole.1;
+    let a = c.args in
+    record {
+      value = rw c.if-stays.true;
+      text_after = rw c.if-stays.true (c.remove_text.ensures ∙ ap (λ (x : List ℕ). sets a.text.now a.to x) (slides a.text.now a.from a.len a.to c.requires.0));
     }

@@ -1,6 +1,5 @@
 -- `imports::keep::keep_texts` meets its contract. The loop's invariant: the texts from `from` on are as they were, and what is left
 -- of them behind those that were moved gives the whole.
-use Prim.Native.Nat.{◌-◌}
 use mathlib.Core.Path.{◌≡◌, ap, ◌∙◌}
 use mathlib.Core.Bool.{not}
 use native.Mathlib.Omega.{arith}

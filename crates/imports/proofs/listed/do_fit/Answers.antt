@@ -1,5 +1,5 @@
 -- `imports::listed::do_fit` meets its contract. The loop's invariant: the first i lengths and what is left make up the room.
-use Prim.Native.Nat.{◌+◌, ◌-◌}
+use Prim.Native.Nat.{◌+◌}
 use mathlib.Core.Path.{sym}
 use native.Mathlib.Omega.{arith}
 use borrow.Author.Tests.{le-leb, lt-leb}

@@ -1,5 +1,4 @@
 -- `imports::listed::has_negative` meets its contract. The loop's invariant: the numbers from i on say what all say.
-use Prim.Native.Nat.{◌-◌}
 use mathlib.Core.Path.{refl, sym, ◌∙◌}
 use lib.IntN.{pos}
 use Rattle.lists.proofs.Tests.{any-turn, any-stop, any-end}

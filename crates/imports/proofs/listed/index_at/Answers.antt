@@ -8,5 +8,5 @@ use Rattle.imports.proofs.listed.index_at.Goals as goal
 
 pub returns : goal.returns
 returns c =
-    let f : SFits w32 c.number_at.result = record { sfits = c.number_at.type-inv } in
+    let f : SFits w32 c.number_at.result = record { sfits = c.number_at.type_inv } in
     (to_z-of_z f ∙ c.number_at.ensures, rw (to_z-of_z f) (index-small c.number_at.result f))

@@ -24,7 +24,7 @@ negative-is (negsuc n) = refl
 -- what is read of the number
 told : (c : After-unsigned32) → is_below_zero c.unsigned32.result ≡ is_negative (get_or c.args.numbers.now c.args.i (pos 0))
 told c =
-    let f : SFits w32 c.number_at.result = record { sfits = c.number_at.type-inv } in
+    let f : SFits w32 c.number_at.result = record { sfits = c.number_at.type_inv } in
     ap is_below_zero c.unsigned32.ensures ∙ negative-is (to_z w32 (of_z w32 c.number_at.result)) ∙ ap is_negative (to_z-of_z f ∙ c.number_at.ensures)
 
 pub returns-in-Of : goal.returns-in-Of

@@ -27,7 +27,7 @@ merge-requires c =
 pub returns : goal.returns
 returns c =
     let a = c.args in
-    let m = (c.merge.ensures.entries_after, c.merge.ensures.text_after) in let whole = merge-done (is_noted a.files a.notes.now) (given_at a.notes.now a.places.now a.lengths.now a.names.now) a.files a.renames a.stay a.come a.entries.now a.text.now c.requires.0 c.requires.1 c.requires.2 c.requires.3 c.requires.4 c.requires.5 _ _ c.keep_entries.ensures c.keep_texts.ensures _ _ c.move_words.ensures c.move_up.ensures c.requires.6 c.requires.7 _ _ c.merge.ensures.entries_after c.merge.ensures.text_after in record {
-        entries_after = whole.0;
-        text_after = whole.1;
+    let whole = merge-done (is_noted a.files a.notes.now) (given_at a.notes.now a.places.now a.lengths.now a.names.now) a.files a.renames a.stay a.come a.entries.now a.text.now c.requires.0 c.requires.1 c.requires.2 c.requires.3 c.requires.4 c.requires.5 _ _ c.keep_entries.ensures c.keep_texts.ensures _ _ c.move_words.ensures c.move_up.ensures c.requires.6 c.requires.7 _ _ c.merge.ensures.entries_after c.merge.ensures.text_after in record {
+      entries_after = whole.0;
+      text_after = whole.1;
     }

@@ -1,6 +1,6 @@
 -- `imports::merge::merge` meets its contract. The loop's invariant: the files before k have got what they get, the kept renames that are
 -- left are as they were, and what is left to write gives the whole.
-use Prim.Native.Nat.{ℕ, ◌-◌}
+use Prim.Native.Nat.{ℕ}
 use mathlib.Core.Path.{refl}
 use native.Mathlib.Omega.{arith}
 use Rattle.imports.specs.private.Merging.{is_noted, given_at}
@@ -24,13 +24,12 @@ pub loop-k-preserved : goal.loop-k-preserved
 loop-k-preserved c =
     let a = c.args in
     let l = c.loop-k in
-    let f = (c.put_file-p.ensures.value, (c.put_file-p.ensures.entries_after, c.put_file-p.ensures.text_after)) in
     going-turn (is_noted a.files a.notes.now) (given_at a.notes.now a.places.now a.lengths.now a.names.now) (λ (k : ℕ). refl) (λ (k : ℕ). refl) a.files a.total a.come.num_renames a.come.text_len a.entries.now a.text.now l.k l.p l.entries l.text l.invariant c.loop-k-test.true _ _ _ c.put_file-p.ensures.value c.put_file-p.ensures.entries_after c.put_file-p.ensures.text_after
 
 pub returns : goal.returns
 returns c =
     let a = c.args in
     let l = c.loop-k in let whole = going_end (is_noted a.files a.notes.now) (given_at a.notes.now a.places.now a.lengths.now a.names.now) (λ (k : ℕ). refl) (λ (k : ℕ). refl) a.files a.total a.come.num_renames a.come.text_len a.entries.now a.text.now l.k l.p l.entries l.text l.invariant c.loop-k-test.false in record {
-        entries_after = whole.0;
-        text_after = whole.1;
+      entries_after = whole.0;
+      text_after = whole.1;
     }

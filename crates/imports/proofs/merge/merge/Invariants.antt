@@ -7,7 +7,7 @@ use Rattle.imports.proofs.Merging.{Going}
 use Rattle.imports.proofs.merge.merge.Given as goal
 
 abbrev pub invariant-loop-k : goal.invariant-loop-k
-invariant-loop-k l = Going (is_noted l.files l.notes) (given_at l.notes l.places l.lengths l.names) (λ (k : ℕ). refl) (λ (k : ℕ). refl) l.files l.total l.initial.p.next l.initial.p.from l.initial.entries l.initial.text k l.p l.entries l.text
+invariant-loop-k l = Going (is_noted l.files l.notes) (given_at l.notes l.places l.lengths l.names) (λ (k : ℕ). refl) (λ (k : ℕ). refl) l.files l.total l.initial.p.next l.initial.p.from l.initial.entries l.initial.text l.k l.p l.entries l.text
 
 abbrev pub decreases-loop-k : goal.decreases-loop-k
 decreases-loop-k l = l.files - l.k

@@ -5,9 +5,8 @@ use Rattle.imports.proofs.merge.put_kept.Goals as goal
 pub returns : goal.returns
 returns c =
     let w = c.word-len.ensures in
-    let k = (c.keep_entry-to.ensures.value, c.keep_entry-to.ensures.entries_after) in
-    let t = (c.keep_text-at.ensures.value, c.keep_text-at.ensures.text_after) in record {
-        value = rw (c.keep_entry-to.ensures.value, c.keep_text-at.ensures.value, w);
-        entries_after = c.keep_entry-to.ensures.entries_after;
-        text_after = c.keep_text-at.ensures.text_after ∙ rw w;
+    record {
+      value = rw (c.keep_entry-to.ensures.value, c.keep_text-at.ensures.value, w);
+      entries_after = c.keep_entry-to.ensures.entries_after;
+      text_after = c.keep_text-at.ensures.text_after ∙ rw w;
     }

@@ -1,5 +1,4 @@
 -- `imports::notes::note_last` meets its contract. The loop's invariant: the numbers from i on, written down too, give the whole.
-use Prim.Native.Nat.{◌-◌}
 use mathlib.Core.Path.{refl, sym, ◌∙◌}
 use Rattle.imports.proofs.Noting.{noted-turn, noted-end}
 use borrow.Author.Rules.{rules}

@@ -1,6 +1,6 @@
 -- `imports::notes::note_places` meets its contract. The loop's invariant: the names before number i end at `at`, and the numbers from i
 -- on, written down too, give the whole.
-use Prim.Native.Nat.{◌+◌, ◌-◌}
+use Prim.Native.Nat.{◌+◌}
 use mathlib.Core.Path.{refl, sym, ◌∙◌}
 use native.Mathlib.Omega.{arith}
 use lib.ListN.{length, drop}
