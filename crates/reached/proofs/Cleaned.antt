@@ -140,11 +140,11 @@ module _ (s : Store) (ok : Sound s) where
 
   -- ---- the text needed
 
-  abbrev file_of : ℕ → File
-  file_of k = rewritten_file (verdict_in vs 0 k) (emptied_file (verdict_in vs 0 k) (file_of s k))
+  abbrev file_after : ℕ → File
+  file_after k = rewritten_file (verdict_in vs 0 k) (emptied_file (verdict_in vs 0 k) (file_of s k))
 
   -- a file's texts, with the new text instead of the old
-  text-of : (k : ℕ) → k < n → file_text (file_of k) + replaced (verdict_in vs 0 k) (entry_of (file_of s k)) ≡ file_text (file_of s k) + new (verdict_in vs 0 k) (entry_of (file_of s k))
+  text-of : (k : ℕ) → k < n → file_text (file_after k) + replaced (verdict_in vs 0 k) (entry_of (file_of s k)) ≡ file_text (file_of s k) + new (verdict_in vs 0 k) (entry_of (file_of s k))
   text-of k h = at (verdict_in vs 0 k) (held k h)
     where
       at : (v : LinkVerdict) → (changes v ≡ true → is_held (file_of s k).link ≡ true)
@@ -167,9 +167,9 @@ module _ (s : Store) (ok : Sound s) where
         amount-all replaced,
         amount-all new,
         ap (λ (fs : List File). sum (map file_text fs)) files-cleaned,
-        sum-tabled file_text n file_of,
+        sum-tabled file_text n file_after,
         sum-tabled file_text n (file_of s),
-        sum-two n (λ k. file_text (file_of k)) (λ k. replaced (verdict_in vs 0 k) (entry_of (file_of s k))) (λ k. file_text (file_of s k)) (λ k. new (verdict_in vs 0 k) (entry_of (file_of s k))) text-of,
+        sum-two n (λ k. file_text (file_after k)) (λ k. replaced (verdict_in vs 0 k) (entry_of (file_of s k))) (λ k. file_text (file_of s k)) (λ k. new (verdict_in vs 0 k) (entry_of (file_of s k))) text-of,
       )
 
   -- ---- where there is room and work space enough

@@ -12,35 +12,33 @@ use Rattle.cleaning.proofs.Cleans.{within-stops, within_none, within-local}
 use Rattle.cleaning.proofs.clean.clean.Goals as goal
 use Rattle.cleaning.proofs.clean.clean.Goals.{Start}
 
--- the set that the call brings
-abbrev given : Start → Store
-given c = lent c.args.fs c.args.rows.now c.args.dirs.now c.args.text.now
-
--- the number of the judgement
-abbrev number : Start → ℕ
-number c = judging_number (given c) c.args.marks (length c.args.scratch.now) c.args.walk_path
-
 pub returns-then-n-eq0 : goal.returns-then-n-eq0
 returns-then-n-eq0 c =
-    let s = given c.before.before.before.before.before.before.before.before.before.before.before in
+    let given : Store = lent c.args.fs c.args.rows.now c.args.dirs.now c.args.text.now in
+    let number : ℕ = judging_number given c.args.marks (length c.args.scratch.now) c.args.walk_path in
+    let s = given in
     let a = c.args in
     let n = c.in-Ok.n in
-    let told = outcome-value (number c.before.before.before.before.before.before.before.before.before.before.before) n (link_count (entries_of s)) (sym (ap usize_says c.in-Ok.is) ∙ c.links_to_judge.ensures) in
+    let told = outcome-value number n (link_count (entries_of s)) (sym (ap usize_says c.in-Ok.is) ∙ c.links_to_judge.ensures) in
     let none = sym told.1 ∙ c.if-n-eq0.true in
     within_none s a.marks a.scratch.now a.walk_path told.0 none c.clear.ensures
 
 pub returns-else-n-eq0 : goal.returns-else-n-eq0
 returns-else-n-eq0 c =
-    let s = given c.before.before.before.before.before.before.before.before.before.before.before.before.before.before.before.before.before.before.before.before in
+    let given : Store = lent c.args.fs c.args.rows.now c.args.dirs.now c.args.text.now in
+    let number : ℕ = judging_number given c.args.marks (length c.args.scratch.now) c.args.walk_path in
+    let s = given in
     let a = c.args in
     let n = c.in-Ok.n in
-    let told = outcome-value (number c.before.before.before.before.before.before.before.before.before.before.before.before.before.before.before.before.before.before.before.before) n (link_count (entries_of s)) (sym (ap usize_says c.in-Ok.is) ∙ c.links_to_judge.ensures) in
+    let told = outcome-value number n (link_count (entries_of s)) (sym (ap usize_says c.in-Ok.is) ∙ c.links_to_judge.ensures) in
     c.clean_links.ensures ∙ within-local s a.marks a.scratch.now a.walk_path told.0
 
 pub returns-in-Err : goal.returns-in-Err
 returns-in-Err c =
-    let s = given c.before.before.before.before.before.before in
+    let given : Store = lent c.args.fs c.args.rows.now c.args.dirs.now c.args.text.now in
+    let number : ℕ = judging_number given c.args.marks (length c.args.scratch.now) c.args.walk_path in
+    let s = given in
     let a = c.args in
     let e = c.in-Err.e in
-    let told = outcome-refused (number c.before.before.before.before.before.before) (number_of e) (link_count (entries_of s)) (sym (ap usize_says c.in-Err.is) ∙ c.links_to_judge.ensures) in
+    let told = outcome-refused number (number_of e) (link_count (entries_of s)) (sym (ap usize_says c.in-Err.is) ∙ c.links_to_judge.ensures) in
     within-stops s a.marks a.scratch.now a.walk_path e told

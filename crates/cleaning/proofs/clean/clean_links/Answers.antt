@@ -11,25 +11,21 @@ use Rattle.cleaning.proofs.Cleans.{judging-stops, judging-goes}
 use Rattle.cleaning.proofs.clean.clean_links.Goals as goal
 use Rattle.cleaning.proofs.clean.clean_links.Goals.{After-judge_links, Start}
 
--- the set that the call brings
-abbrev given : Start → Store
-given c = lent c.args.fs c.args.rows.now c.args.dirs.now c.args.text.now
-
--- what the judgement says, and leaves in the marks
-abbrev saying : After-judge_links → UsizeResult → Judged
-saying c x = judged_of (usize_says x) c.judge_links.new.marks
-
 pub returns-in-Ok : goal.returns-in-Ok
 returns-in-Ok c =
-    let s = given c.before.before.before.before.before.before.before.before.before.before.before.before.before.before.before.before.before.before.before.before.before.before in
+    let given : Store = lent c.args.fs c.args.rows.now c.args.dirs.now c.args.text.now in
+    let saying : UsizeResult → Judged = λ x. judged_of (usize_says x) c.judge_links.new.marks in
+    let s = given in
     let a = c.args in
-    let told = sym (ap (saying c.before.before.before.before.before.before.before.before.before.before.before.before.before.before.before.before) c.in-Ok.is) ∙ c.judge_links.ensures in
+    let told = sym (ap saying c.in-Ok.is) ∙ c.judge_links.ensures in
     c.write_judged.ensures
     ∙ judging-goes s (replicate 65535 0) 65535 (length-replicate {A = ℕ} 65535 0) a.scratch.now a.walk_path c.judge_links.new.marks _ told
 
 pub returns-in-Err : goal.returns-in-Err
 returns-in-Err c =
-    let s = given c.before.before.before.before.before.before.before.before in
+    let given : Store = lent c.args.fs c.args.rows.now c.args.dirs.now c.args.text.now in
+    let saying : UsizeResult → Judged = λ x. judged_of (usize_says x) c.judge_links.new.marks in
+    let s = given in
     let a = c.args in
-    let told = sym (ap (saying c.before.before) c.in-Err.is) ∙ c.judge_links.ensures in
+    let told = sym (ap saying c.in-Err.is) ∙ c.judge_links.ensures in
     judging-stops s (replicate 65535 0) 65535 (length-replicate {A = ℕ} 65535 0) a.scratch.now a.walk_path c.judge_links.new.marks c.in-Err.e told

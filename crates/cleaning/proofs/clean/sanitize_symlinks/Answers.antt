@@ -11,19 +11,12 @@ use Rattle.cleaning.proofs.Cleans.{clean_is}
 use Rattle.cleaning.proofs.clean.sanitize_symlinks.Goals as goal
 use Rattle.cleaning.proofs.clean.sanitize_symlinks.Goals.{After-clean-made, Start}
 
--- the set that the call brings
-abbrev given : Start → Store
-given c = lent c.args.fs c.args.rows.now c.args.dirs.now c.args.text.now
-
--- what the cleaning by lengths says and leaves
-abbrev saying : After-clean-made → Cleaned
-saying c =
-    let w = c.clean-made in
-    cleaning_of (storage_says w.result) w.new.rows w.new.dirs w.new.text [] w.new.scratch []
-
 pub returns : goal.returns
 returns c =
+    let given : Store = lent c.args.fs c.args.rows.now c.args.dirs.now c.args.text.now in
+    let saying : Cleaned = let w = c.clean-made in
+    cleaning_of (storage_says w.result) w.new.rows w.new.dirs w.new.text [] w.new.scratch [] in
     let a = c.args in
     let done = c.is_done-done.ensures in
     rw (c.clear_if.ensures ∙ ap (λ (t : Bool). cleared_if t a.marks.now) done, c.clear_if-2.ensures ∙ ap (λ (t : Bool). cleared_if t a.walk_path.now) done)
-    (clean_is (given c.before.before.before.before.before.before.before.before.before.before.before.before.before.before.before.before.before.before.before.before.before.before.before.before.before.before.before.before) a.marks.now a.scratch.now a.walk_path.now (saying c.before.before.before.before.before.before.before.before.before.before.before.before.before.before.before.before.before) c.clean-made.ensures)
+    (clean_is given a.marks.now a.scratch.now a.walk_path.now saying c.clean-made.ensures)

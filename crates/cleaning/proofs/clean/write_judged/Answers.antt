@@ -7,20 +7,18 @@ use Rattle.cleaning.proofs.Cleans.{cleaned-short, cleaned-done}
 use Rattle.cleaning.proofs.clean.write_judged.Goals as goal
 use Rattle.cleaning.proofs.clean.write_judged.Goals.{Start}
 
--- the set that the call brings
-abbrev given : Start → Store
-given c = lent c.args.fs c.args.rows.now c.args.dirs.now c.args.text.now
-
 pub returns-then-lacks_room : goal.returns-then-lacks_room
 returns-then-lacks_room c =
-    let s = given c.before.before.before.before.before.before.before in
+    let given : Store = lent c.args.fs c.args.rows.now c.args.dirs.now c.args.text.now in
+    let s = given in
     let a = c.args in
     cleaned-short (all_verdicts s a.marks.now) s a.scratch.now (sym c.lacks_room.ensures ∙ c.if-lacks_room.true)
 
 pub returns : goal.returns
 returns c =
-    let s = given c.before.before.before.before.before.before.before.before.before.before.before.before.before.before.before.before.before.before.before.before.before.before.before.before in
+    let given : Store = lent c.args.fs c.args.rows.now c.args.dirs.now c.args.text.now in
+    let s = given in
     let a = c.args in
     let w = c.rewrite_links-cleaned in
     let t = lent w.result w.new.rows w.new.dirs w.new.text in
-    cleaned-done (all_verdicts s a.marks.now) s a.scratch.now (sym c.lacks_room.ensures ∙ c.if-lacks_room.false) t w.new.scratch w.ensures c.clear.ensures w.auto.1.1.1.1.1.1.0
+    cleaned-done (all_verdicts s a.marks.now) s a.scratch.now (sym c.lacks_room.ensures ∙ c.if-lacks_room.false) t w.new.scratch w.ensures c.clear.ensures w.auto.scratch

@@ -1,5 +1,5 @@
 -- `cleaning::rewrite::empty_links` meets its contract. The loop's invariant: the pass is going on at file i.
-use Prim.Native.Nat.{ℕ, ◌-◌}
+use Prim.Native.Nat.{ℕ}
 use mathlib.Core.Path.{ap, ◌∙◌}
 use native.Mathlib.Omega.{arith}
 use Rattle.lookup.specs.Lookup.{lent}
@@ -24,7 +24,7 @@ loop-i-preserved c =
     let verdict = c.verdict_of-verdict.ensures ∙ ap (λ (x : ℕ). verdict_by x a.marks.now l.k) flags in
     let mark = c.mark_after-k.ensures ∙ ap (λ (x : ℕ). mark_after x l.k) flags in
     let step = c.empty_link-set in
-    going-turn emptied_at a.marks.now a.n (lent a.fs a.rows.now a.dirs.now a.text.now) emptied-keeps (lent l.set l.rows l.dirs l.text) l.i l.k l.invariant c.loop-i-test.true (lent step.result step.new.rows step.new.dirs step.new.text) verdict step.ensures mark step.auto.1.0 step.auto.1.1.0 step.auto.1.1.1.0
+    going-turn emptied_at a.marks.now a.n (lent a.fs a.rows.now a.dirs.now a.text.now) emptied-keeps (lent l.set l.rows l.dirs l.text) l.i l.k l.invariant c.loop-i-test.true (lent step.result step.new.rows step.new.dirs step.new.text) verdict step.ensures mark step.auto.rows step.auto.dirs step.auto.text
 
 pub returns : goal.returns
 returns c =

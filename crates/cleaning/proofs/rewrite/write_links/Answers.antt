@@ -1,6 +1,6 @@
 -- `cleaning::rewrite::write_links` meets its contract. The loop's invariant: the pass is going on at file i, and the scratch space is as
 -- long as it was.
-use Prim.Native.Nat.{ℕ, ◌-◌}
+use Prim.Native.Nat.{ℕ}
 use mathlib.Core.Path.{refl, ap, ◌∙◌}
 use native.Mathlib.Omega.{arith}
 use lib.ListN.{length}
@@ -32,7 +32,7 @@ loop-i-preserved c =
     let mark = c.mark_after-k.ensures ∙ ap (λ (x : ℕ). mark_after x l.k) flags in
     let step = c.write_link-set in
     let put = step.ensures ∙ ap (λ (x : ℕ). rewritten_at x c.verdict_of-verdict.result s l.i) l.invariant.0 in
-    (step.auto.1.1.1.1.0 ∙ l.invariant.0, going-turn (rewritten_at n) a.marks.now a.n (lent a.fs a.rows.now a.dirs.now a.text.now) (rewritten-keeps n) s l.i l.k l.invariant.1 c.loop-i-test.true (lent step.result step.new.rows step.new.dirs step.new.text) verdict put mark step.auto.1.0 step.auto.1.1.0 step.auto.1.1.1.0)
+    (step.auto.scratch ∙ l.invariant.0, going-turn (rewritten_at n) a.marks.now a.n (lent a.fs a.rows.now a.dirs.now a.text.now) (rewritten-keeps n) s l.i l.k l.invariant.1 c.loop-i-test.true (lent step.result step.new.rows step.new.dirs step.new.text) verdict put mark step.auto.rows step.auto.dirs step.auto.text)
 
 pub returns : goal.returns
 returns c =

@@ -12,15 +12,6 @@ use Rattle.cleaning.proofs.room.lacks_bytes.Goals as goal
 use Rattle.cleaning.proofs.room.lacks_bytes.Goals.{After-new_length-more}
 use Rattle.cleaning.proofs.room.lacks_bytes.Invariants.{lengths}
 
--- what file i adds
-more-is : (c : After-new_length-more) → c.new_length-more.result ≡ lengths c.args.rows.now c.args.dirs.now c.args.text.now (verdict_by (flags_in c.args.rows.now c.loop-i.i) c.args.marks.now c.loop-i.k) c.loop-i.i
-more-is c =
-    let a = c.args in
-    let l = c.loop-i in
-    let row = c.row_at-row.ensures in
-    let verdict = c.verdict_of-verdict.ensures ∙ ap (λ (r : Row). verdict_by r.flags a.marks.now l.k) row in
-    c.new_length-more.ensures ∙ ap (λ (r : Row). new_length a.dirs.now a.text.now c.verdict_of-verdict.result r) row ∙ ap (λ (v : LinkVerdict). new_length a.dirs.now a.text.now v (row_at a.rows.now l.i)) verdict
-
 pub loop-i-init : goal.loop-i-init
 loop-i-init c =
     let a = c.args in
@@ -28,16 +19,26 @@ loop-i-init c =
 
 pub returns-then-left-more : goal.returns-then-left-more
 returns-then-left-more c =
+    let more-is : c.new_length-more.result ≡ lengths c.args.rows.now c.args.dirs.now c.args.text.now (verdict_by (flags_in c.args.rows.now c.loop-i.i) c.args.marks.now c.loop-i.k) c.loop-i.i = let a = c.args in
+    let l = c.loop-i in
+    let row = c.row_at-row.ensures in
+    let verdict = c.verdict_of-verdict.ensures ∙ ap (λ (r : Row). verdict_by r.flags a.marks.now l.k) row in
+    c.new_length-more.ensures ∙ ap (λ (r : Row). new_length a.dirs.now a.text.now c.verdict_of-verdict.result r) row ∙ ap (λ (v : LinkVerdict). new_length a.dirs.now a.text.now v (row_at a.rows.now l.i)) verdict in
     let a = c.args in
     let l = c.loop-i in
-    taking-stop (lengths a.rows.now a.dirs.now a.text.now) (flags_in a.rows.now) a.marks.now a.n a.room l.left l.i l.k l.invariant c.loop-i-test.true (omega (arith, more-is c.before, c.if-left-more.true))
+    taking-stop (lengths a.rows.now a.dirs.now a.text.now) (flags_in a.rows.now) a.marks.now a.n a.room l.left l.i l.k l.invariant c.loop-i-test.true (omega (arith, more-is, c.if-left-more.true))
 
 pub loop-i-preserved : goal.loop-i-preserved
 loop-i-preserved c =
+    let more-is : c.new_length-more.result ≡ lengths c.args.rows.now c.args.dirs.now c.args.text.now (verdict_by (flags_in c.args.rows.now c.loop-i.i) c.args.marks.now c.loop-i.k) c.loop-i.i = let a = c.args in
+    let l = c.loop-i in
+    let row = c.row_at-row.ensures in
+    let verdict = c.verdict_of-verdict.ensures ∙ ap (λ (r : Row). verdict_by r.flags a.marks.now l.k) row in
+    c.new_length-more.ensures ∙ ap (λ (r : Row). new_length a.dirs.now a.text.now c.verdict_of-verdict.result r) row ∙ ap (λ (v : LinkVerdict). new_length a.dirs.now a.text.now v (row_at a.rows.now l.i)) verdict in
     let a = c.args in
     let l = c.loop-i in
     let mark = c.mark_after-k.ensures ∙ ap (λ (r : Row). mark_after r.flags l.k) c.row_at-row.ensures in
-    taking-turn (lengths a.rows.now a.dirs.now a.text.now) (flags_in a.rows.now) a.marks.now a.n a.room l.left l.i l.k l.invariant c.loop-i-test.true (omega (arith, more-is c.before.before, c.if-left-more.false)) (ap (λ (x : ℕ). l.left - x) (more-is c.before.before)) mark
+    taking-turn (lengths a.rows.now a.dirs.now a.text.now) (flags_in a.rows.now) a.marks.now a.n a.room l.left l.i l.k l.invariant c.loop-i-test.true (omega (arith, more-is, c.if-left-more.false)) (ap (λ (x : ℕ). l.left - x) more-is) mark
 
 pub returns : goal.returns
 returns c =

@@ -18,7 +18,6 @@ use Rattle.renamed.specs.Questions.{path_by, renamed_path}
 use Rattle.renamed.proofs.Questions.{listed-renamed, listed-own}
 use Rattle.renamed.proofs.Paths.{path-refused, path-asked, path-text, path-own}
 use Rattle.renamed.proofs.compose.file_path.Goals as goal
-use Rattle.renamed.proofs.compose.file_path.Goals.{In-Own, In-Renamed-2, Start}
 
 pub returns-in-Renamed : goal.returns-in-Renamed
 returns-in-Renamed c =

@@ -16,7 +16,6 @@ use Rattle.renamed.specs.Questions.{renamed_absolute}
 use Rattle.renamed.proofs.Deciding.{asked-refused, asked-disorder, asked-value}
 use Rattle.renamed.proofs.Questions.{found-renamed, found-own, found-refused, listed-renamed, listed-own}
 use Rattle.renamed.proofs.question.file_absolute_path.Goals as goal
-use Rattle.renamed.proofs.question.file_absolute_path.Goals.{After-find_rename-found, In-Ok-2, Start}
 
 pub returns-in-Renamed : goal.returns-in-Renamed
 returns-in-Renamed c =

@@ -17,7 +17,6 @@ use Rattle.renamed.specs.Questions.{NameSpan, in_set, in_renames, name_span}
 use Rattle.renamed.proofs.Deciding.{asked-refused, asked-disorder, asked-value}
 use Rattle.renamed.proofs.Questions.{found-renamed, found-own, found-refused}
 use Rattle.renamed.proofs.question.file_name.Goals as goal
-use Rattle.renamed.proofs.question.file_name.Goals.{After-find_rename-found, In-Ok-2, Start}
 
 pub returns-in-Renamed : goal.returns-in-Renamed
 returns-in-Renamed c =
