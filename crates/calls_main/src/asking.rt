@@ -3,9 +3,12 @@
 use crate::places::{Dirs, Firsts, Roots, Rows, Texts};
 use crate::sets::Sets;
 use crate::{compat, places, sets};
+use std::io;
+use std::io::Stdout;
 
 // Answers a question; a line that is none is no call.
 pub(crate) fn answer(
+    out: Stdout,
     line: &[u8],
     all: Sets,
     rows: &Rows,
@@ -13,17 +16,18 @@ pub(crate) fn answer(
     firsts: &Firsts,
     dirs: &Dirs,
     text: &Texts,
-) {
-    if compat::answer(line, all, rows, dirs, text) {
-        return;
+) -> io::Result<()> {
+    if compat::answer(out, line, all, rows, dirs, text)? {
+        return Ok(());
     }
     let set = sets::current(all);
     if !set.is_open {
-        return questions::on_no_set(line);
+        return questions::on_no_set(out, line);
     }
     let p = set.parts;
     let lent = set.lent;
     questions::on_set(
+        out,
         line,
         set.fs,
         places::words_at(rows, p.rows),

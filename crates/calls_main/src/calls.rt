@@ -5,10 +5,13 @@ use crate::input::Buffer;
 use crate::places::{Dirs, Firsts, Roots, Rows, Texts};
 use crate::sets::{Made, Sets};
 use crate::{asking, changes, opening, sets, words};
+use std::io;
+use std::io::Stdout;
 
 // Answers the line of a length, of which as many bytes stand in its buffer as that has places; a change of the sets
 // is left to `noted`.
 pub(crate) fn answer(
+    out: Stdout,
     line: &Buffer,
     length: usize,
     all: Sets,
@@ -17,56 +20,60 @@ pub(crate) fn answer(
     firsts: &mut Firsts,
     dirs: &mut Dirs,
     text: &mut Texts,
-) -> Made {
-    let first = without_tables(line, length, all.at);
+) -> io::Result<Made> {
+    let first = without_tables(out, line, length, all.at)?;
     let Made::NoCall = first else {
-        return first;
+        return Ok(first);
     };
     let content = lists::part(line, 0, length);
     let made = changes::make(content, sets::current(all), rows, roots, firsts, dirs, text);
     let Made::NoCall = made else {
-        return made;
+        return Ok(made);
     };
-    asking::answer(content, all, rows, roots, firsts, dirs, text);
-    Made::Answered
+    asking::answer(out, content, all, rows, roots, firsts, dirs, text)?;
+    Ok(Made::Answered)
 }
 
 // Says what a line changes of the sets, where `at` is the place of the one that is spoken of. A comment and a line of
 // blanks have no answer, and a line that is too long is no call.
-fn without_tables(line: &[u8], length: usize, at: usize) -> Made {
+fn without_tables(out: Stdout, line: &[u8], length: usize, at: usize) -> io::Result<Made> {
     let content = lists::part(line, 0, length);
     if lists::byte(content, 0) == b'#' {
-        return Made::Answered;
+        return Ok(Made::Answered);
     }
     if line.len() < length {
-        replies::bad_call();
-        return Made::Answered;
+        replies::bad_call(out)?;
+        return Ok(Made::Answered);
     }
     if !words::has(content, 0) {
-        return Made::Answered;
+        return Ok(Made::Answered);
     }
-    opening::make(content, at)
+    Ok(opening::make(content, at))
 }
 
 // Answers a change of the sets, and gives the sets after it.
-pub(crate) fn noted(made: Made, before: Sets) -> Sets {
+pub(crate) fn noted(out: Stdout, made: Made, before: Sets) -> io::Result<Sets> {
     match made {
         Made::Refused(refusal) => {
-            replies::refused(refusal);
-            before
+            replies::refused(out, refusal)?;
+            Ok(before)
+        }
+        Made::Spoilt => {
+            replies::string(out, b"spoilt")?;
+            Ok(before)
         }
         Made::Changed(set) => {
-            replies::done();
-            sets::with(before, set)
+            replies::done(out)?;
+            Ok(sets::with(before, set))
         }
         Made::Use(place) => {
-            replies::done();
-            sets::turned_to(before, place)
+            replies::done(out)?;
+            Ok(sets::turned_to(before, place))
         }
         Made::Reset => {
-            replies::done();
-            sets::none()
+            replies::done(out)?;
+            Ok(sets::none())
         }
-        _ => before,
+        _ => Ok(before),
     }
 }

@@ -50,7 +50,7 @@ fn add(
     dirs: &mut Dirs,
     text: &mut Texts,
 ) -> Made {
-    let mut texts = io::large_buffer();
+    let mut texts = questions::large_buffer();
     let words = addition::read(line, &mut texts);
     if !words.is_formed {
         return Made::NoCall;

@@ -69,21 +69,15 @@ fn outcome(set: Set, res: StorageResult, marks: &[u8], stage: &[u8], path: &[u8]
     let byte = byte_after(res);
     let work = set.work;
     if !all_are(lists::part(marks, 0, work.marks), byte) {
-        return spoilt();
+        return Made::Spoilt;
     }
     if !all_are(lists::part(stage, 0, work.sum), byte) {
-        return spoilt();
+        return Made::Spoilt;
     }
     if !all_are(lists::part(path, 0, twice(work.sum)), byte) {
-        return spoilt();
+        return Made::Spoilt;
     }
     changes::outcome(set, res)
-}
-
-// Answers that the work space was spoilt.
-fn spoilt() -> Made {
-    replies::string(b"spoilt");
-    Made::Answered
 }
 
 // The byte that the work space must then hold.

@@ -3,14 +3,30 @@
 use crate::sets::{Set, Sets};
 use crate::{places, sets, words};
 use script::U64Word;
+use std::io;
+use std::io::Stdout;
 
 // Answers whether the sets that a line names are compatible, and says whether it asks that.
-pub(crate) fn answer(line: &[u8], all: Sets, rows: &[u64], dirs: &[u64], text: &[u8]) -> bool {
+pub(crate) fn answer(
+    out: Stdout,
+    line: &[u8],
+    all: Sets,
+    rows: &[u64],
+    dirs: &[u64],
+    text: &[u8],
+) -> io::Result<bool> {
     match words::form_of(b"compat A B", line) {
-        0 => of_sets(set_in(line, 1, all), set_in(line, 2, all), rows, dirs, text),
-        _ => return false,
+        0 => of_sets(
+            out,
+            set_in(line, 1, all),
+            set_in(line, 2, all),
+            rows,
+            dirs,
+            text,
+        )?,
+        _ => return Ok(false),
     }
-    true
+    Ok(true)
 }
 
 // The set that a word of the line names, or one that was never opened.
@@ -25,23 +41,26 @@ fn set_in(line: &[u8], number: usize, all: Sets) -> Set {
 }
 
 // Answers whether two sets are compatible; a set that was never opened is none.
-fn of_sets(a: Set, b: Set, rows: &[u64], dirs: &[u64], text: &[u8]) {
+fn of_sets(out: Stdout, a: Set, b: Set, rows: &[u64], dirs: &[u64], text: &[u8]) -> io::Result<()> {
     if !a.is_open {
-        return replies::bad_call();
+        return replies::bad_call(out);
     }
     if !b.is_open {
-        return replies::bad_call();
+        return replies::bad_call(out);
     }
     let p = a.parts;
     let q = b.parts;
-    replies::boolean(compatible::files_compatible(
-        a.fs,
-        places::words_at(rows, p.rows),
-        places::words_at(dirs, p.dirs),
-        places::bytes_at(text, p.text),
-        b.fs,
-        places::words_at(rows, q.rows),
-        places::words_at(dirs, q.dirs),
-        places::bytes_at(text, q.text),
-    ))
+    replies::boolean(
+        out,
+        compatible::files_compatible(
+            a.fs,
+            places::words_at(rows, p.rows),
+            places::words_at(dirs, p.dirs),
+            places::bytes_at(text, p.text),
+            b.fs,
+            places::words_at(rows, q.rows),
+            places::words_at(dirs, q.dirs),
+            places::bytes_at(text, q.text),
+        ),
+    )
 }

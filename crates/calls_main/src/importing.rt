@@ -24,7 +24,7 @@ enum Pairs {
 pub(crate) fn import(line: &[u8], set: Set, rows: &mut Rows, text: &mut Texts) -> Made {
     let mut files = file_column();
     let mut lengths = length_column();
-    let mut names = io::large_buffer();
+    let mut names = questions::large_buffer();
     let Pairs::Count(n) = read_pairs(line, &mut files, &mut lengths, &mut names) else {
         return Made::NoCall;
     };

@@ -1,6 +1,7 @@
 // Standard input, line by line: blocks are read into a buffer, and each line is copied out of them into
-// another. Relies on `io`, on `script` for a line's end, and on the accessors of `lists`.
-use libc::STDIN_FILENO;
+// another. Relies on std's standard input, on `script` for a line's end, and on the accessors of `lists`.
+use std::io;
+use std::io::{Read, Stdin};
 
 // A buffer of input, of a line, or of what its words stand for.
 pub(crate) type Buffer = [u8; 65536];
@@ -34,8 +35,12 @@ pub(crate) fn start() -> Cursor {
 }
 
 // Reads the next line without its line feed, or says by `is_line` that there is none.
-pub(crate) fn next_line(block: &mut Buffer, line: &mut Buffer, before: Cursor) -> Cursor {
-    let mut turns = u64::MAX;
+pub(crate) fn next_line(
+    from: Stdin,
+    block: &mut Buffer,
+    line: &mut Buffer,
+    before: Cursor,
+) -> io::Result<Cursor> {
     let mut cursor = Cursor {
         at: before.at,
         end: before.end,
@@ -43,34 +48,33 @@ pub(crate) fn next_line(block: &mut Buffer, line: &mut Buffer, before: Cursor) -
         is_open: true,
         is_line: false,
     };
-    while turns > 0 {
-        cursor = step(block, line, cursor);
+    for _ in 0..u64::MAX {
+        cursor = step(from, block, line, cursor)?;
         if !cursor.is_open {
             break;
         }
-        turns -= 1;
     }
-    cursor
+    Ok(cursor)
 }
 
 // Takes what the block has of the line, after reading a block where all is taken. The last line may
 // lack its line feed.
-fn step(block: &mut Buffer, line: &mut Buffer, cursor: Cursor) -> Cursor {
+fn step(from: Stdin, block: &mut Buffer, line: &mut Buffer, cursor: Cursor) -> io::Result<Cursor> {
     if cursor.at < cursor.end {
-        return take(block, line, cursor);
+        return Ok(take(block, line, cursor));
     }
-    let got = libc::read(STDIN_FILENO, block);
-    let n = io::count(got, block);
+    let mut input = from;
+    let n = input.read(block)?;
     if n == 0 {
-        return Cursor {
+        return Ok(Cursor {
             at: 0,
             end: 0,
             length: cursor.length,
             is_open: false,
             is_line: 0 < cursor.length,
-        };
+        });
     }
-    take(
+    Ok(take(
         block,
         line,
         Cursor {
@@ -80,7 +84,7 @@ fn step(block: &mut Buffer, line: &mut Buffer, cursor: Cursor) -> Cursor {
             is_open: true,
             is_line: false,
         },
-    )
+    ))
 }
 
 // Copies what the block has of the line up to its line feed, or to the block's end.

@@ -1,6 +1,8 @@
 // Answers a script of calls on standard input over the port's libraries, a line of output for each
 // call, in the form that the driver over the Rust speaks too. What it answers is the libraries' to
 // promise; proved here is that the program is safe and ends.
+#![tactic(auto)]
+
 mod addition;
 mod asking;
 mod calls;
@@ -15,11 +17,15 @@ mod renaming;
 mod sets;
 mod words;
 
+use std::io;
+
 // Answers line by line. The tables have four parts each, one for each set. A proved loop has to end, and nothing
-// says that the input does, so the loop counts its turns down from a number that no run uses up.
-fn main() {
-    let mut block = io::large_buffer();
-    let mut line = io::large_buffer();
+// says that the input does, so the loop takes as many turns at most as no run uses up. A read or a write that fails
+// ends the program with its error.
+fn main(rt: HostRuntime) -> io::Result<()> {
+    let out = rt.stdout();
+    let mut block = questions::large_buffer();
+    let mut line = questions::large_buffer();
     let mut rows = [0u64; 11264];
     let mut roots = [0u8; 32768];
     let mut firsts = [0u16; 4096];
@@ -27,14 +33,14 @@ fn main() {
     let mut text = texts();
     let mut all = sets::none();
     let mut cursor = input::start();
-    let mut turns = u64::MAX;
-    while turns > 0 {
-        cursor = input::next_line(&mut block, &mut line, cursor);
+    for _ in 0..u64::MAX {
+        cursor = input::next_line(rt.stdin(), &mut block, &mut line, cursor)?;
         if !cursor.is_line {
             break;
         }
         let length = cursor.length;
         let made = calls::answer(
+            out,
             &line,
             length,
             all,
@@ -43,10 +49,10 @@ fn main() {
             &mut firsts,
             &mut dirs,
             &mut text,
-        );
-        all = calls::noted(made, all);
-        turns -= 1;
+        )?;
+        all = calls::noted(out, made, all)?;
     }
+    Ok(())
 }
 
 // The texts of the four sets and of their renames.

@@ -14,7 +14,7 @@ pub(crate) fn rename(line: &[u8], set: Set, rows: &mut Rows, text: &mut Texts) -
     let I32Word::Is(index) = words::i32_at(line, 1) else {
         return Made::NoCall;
     };
-    let mut name = io::large_buffer();
+    let mut name = questions::large_buffer();
     let Decoded::Bytes(length) = words::decode(line, 2, &mut name, 0) else {
         return Made::NoCall;
     };

@@ -33,13 +33,15 @@ pub(crate) struct Sets {
     sets: [Set; 4],
 }
 
-// What came of a line: it is no such call; nothing is left to do; the call is refused; the set that is spoken of
-// is now this one; the set at a place is spoken of; or all sets are forgotten.
+// What came of a line: it is no such call; nothing is left to do; the call is refused; a cleaning left its work space
+// otherwise than it must; the set that is spoken of is now this one; the set at a place is spoken of; or all sets are
+// forgotten.
 #[derive(Drop)]
 pub(crate) enum Made {
     NoCall,
     Answered,
     Refused(Refusal),
+    Spoilt,
     Changed(Set),
     Use(usize),
     Reset,

@@ -3,11 +3,14 @@
 use crate::no_set::on_no_set;
 use crate::{Lent, file_paths, file_rows, layouts, renamed_files, whole_set};
 use renames::RenamedFiles;
+use std::io;
+use std::io::Stdout;
 use tables::FileStorage;
 
 // Answers a question on a set, or on none; `entries` and `area` are the tables of the set's renames, and an answer is
 // lent as many places as `lent` says.
 pub fn on_set(
+    out: Stdout,
     line: &[u8],
     fs: FileStorage,
     rows: &[u64],
@@ -19,21 +22,32 @@ pub fn on_set(
     entries: &[u64],
     area: &[u8],
     lent: Lent,
-) {
-    if whole_set::answer(line, fs, firsts, dirs, text) {
-        return;
+) -> io::Result<()> {
+    if whole_set::answer(out, line, fs, firsts, dirs, text)? {
+        return Ok(());
     }
-    if file_rows::answer(line, fs, rows, roots, dirs, text, lent.output) {
-        return;
+    if file_rows::answer(out, line, fs, rows, roots, dirs, text, lent.output)? {
+        return Ok(());
     }
-    if layouts::answer(line, fs, rows, roots, firsts, lent.slices) {
-        return;
+    if layouts::answer(out, line, fs, rows, roots, firsts, lent.slices)? {
+        return Ok(());
     }
-    if file_paths::answer(line, fs, rows, dirs, text, lent) {
-        return;
+    if file_paths::answer(out, line, fs, rows, dirs, text, lent)? {
+        return Ok(());
     }
-    if renamed_files::answer(line, fs, rows, dirs, text, held, entries, area, lent.output) {
-        return;
+    if renamed_files::answer(
+        out,
+        line,
+        fs,
+        rows,
+        dirs,
+        text,
+        held,
+        entries,
+        area,
+        lent.output,
+    )? {
+        return Ok(());
     }
-    on_no_set(line)
+    on_no_set(out, line)
 }

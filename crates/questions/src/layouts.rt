@@ -2,6 +2,8 @@
 // `layout`, `files` and `blocks`, on `script` and on `replies`.
 use layout::Window;
 use script::{I32Word, I64Word};
+use std::io;
+use std::io::Stdout;
 use tables::{FileStorage, Sha256Hash};
 use types::{FileIndex, PieceIndex};
 
@@ -10,137 +12,189 @@ type Column = [u64; 1024];
 
 // Answers a line that has one of this module's forms, and says whether it has.
 pub(crate) fn answer(
+    out: Stdout,
     line: &[u8],
     fs: FileStorage,
     rows: &[u64],
     hashes: &[u8],
     firsts: &[u16],
     slices: usize,
-) -> bool {
-    if on_number(line, fs, rows, firsts) {
-        return true;
+) -> io::Result<bool> {
+    if on_number(out, line, fs, rows, firsts)? {
+        return Ok(true);
     }
     let forms = b"file_index_at_offset O, file_index_for_root ROOT, map_file I OFFSET SIZE, \
         map_block PIECE OFFSET SIZE";
     match script::form_of(forms, line) {
-        0 => at_offset(line, fs, rows, firsts),
-        1 => for_root(line, fs, rows, hashes),
-        2 => map_file(line, fs, rows),
-        3 => map_block(line, fs, rows, firsts, slices),
-        _ => return false,
+        0 => at_offset(out, line, fs, rows, firsts)?,
+        1 => for_root(out, line, fs, rows, hashes)?,
+        2 => map_file(out, line, fs, rows)?,
+        3 => map_block(out, line, fs, rows, firsts, slices)?,
+        _ => return Ok(false),
     }
-    true
+    Ok(true)
 }
 
 // Answers a question on a file or a piece by its number.
-fn on_number(line: &[u8], fs: FileStorage, rows: &[u64], firsts: &[u16]) -> bool {
+fn on_number(
+    out: Stdout,
+    line: &[u8],
+    fs: FileStorage,
+    rows: &[u64],
+    firsts: &[u16],
+) -> io::Result<bool> {
     let I32Word::Is(n) = script::to_i32(script::word(line, 1)) else {
-        return false;
+        return Ok(false);
     };
-    if range_of(line, FileIndex(n), fs, rows) {
-        return true;
+    if range_of(out, line, FileIndex(n), fs, rows)? {
+        return Ok(true);
     }
-    if tree_of(line, FileIndex(n), fs, rows) {
-        return true;
+    if tree_of(out, line, FileIndex(n), fs, rows)? {
+        return Ok(true);
     }
     let window = layout::window_for(fs, firsts, PieceIndex(n), 0);
-    piece_of(line, PieceIndex(n), fs, rows, window)
+    piece_of(out, line, PieceIndex(n), fs, rows, window)
 }
 
 // Answers a question on the pieces of a file; an arm stands for each form, in their order.
-fn range_of(line: &[u8], index: FileIndex, fs: FileStorage, rows: &[u64]) -> bool {
+fn range_of(
+    out: Stdout,
+    line: &[u8],
+    index: FileIndex,
+    fs: FileStorage,
+    rows: &[u64],
+) -> io::Result<bool> {
     let forms =
         b"exclusive I, inclusive I, file_piece_range I, piece_index_at_file I, last_piece_index_at_file I";
     match script::form_of(forms, line) {
-        0 => replies::pieces(files::file_piece_range_exclusive(fs, rows, index)),
-        1 => replies::pieces(files::file_piece_range_inclusive(fs, rows, index)),
-        2 => replies::range(files::file_piece_range(fs, rows, index)),
-        3 => replies::piece(files::piece_index_at_file(fs, rows, index)),
-        4 => replies::piece(files::last_piece_index_at_file(fs, rows, index)),
-        _ => return false,
+        0 => replies::pieces(out, files::file_piece_range_exclusive(fs, rows, index))?,
+        1 => replies::pieces(out, files::file_piece_range_inclusive(fs, rows, index))?,
+        2 => replies::range(out, files::file_piece_range(fs, rows, index))?,
+        3 => replies::piece(out, files::piece_index_at_file(fs, rows, index))?,
+        4 => replies::piece(out, files::last_piece_index_at_file(fs, rows, index))?,
+        _ => return Ok(false),
     }
-    true
+    Ok(true)
 }
 
 // Answers a question on the tree of a file; an arm stands for each form, in their order.
-fn tree_of(line: &[u8], index: FileIndex, fs: FileStorage, rows: &[u64]) -> bool {
+fn tree_of(
+    out: Stdout,
+    line: &[u8],
+    index: FileIndex,
+    fs: FileStorage,
+    rows: &[u64],
+) -> io::Result<bool> {
     let forms =
         b"file_num_pieces I, file_num_blocks I, file_first_piece_node I, file_first_block_node I";
     match script::form_of(forms, line) {
-        0 => replies::short(files::file_num_pieces(fs, rows, index)),
-        1 => replies::long(files::file_num_blocks(fs, rows, index)),
-        2 => replies::count(files::file_first_piece_node(fs, rows, index)),
-        3 => replies::count(files::file_first_block_node(fs, rows, index)),
-        _ => return false,
+        0 => replies::short(out, files::file_num_pieces(fs, rows, index))?,
+        1 => replies::long(out, files::file_num_blocks(fs, rows, index))?,
+        2 => replies::count(out, files::file_first_piece_node(fs, rows, index))?,
+        3 => replies::count(out, files::file_first_block_node(fs, rows, index))?,
+        _ => return Ok(false),
     }
-    true
+    Ok(true)
 }
 
 // Answers a question on a piece; an arm stands for each form, in their order.
-fn piece_of(line: &[u8], piece: PieceIndex, fs: FileStorage, rows: &[u64], window: Window) -> bool {
+fn piece_of(
+    out: Stdout,
+    line: &[u8],
+    piece: PieceIndex,
+    fs: FileStorage,
+    rows: &[u64],
+    window: Window,
+) -> io::Result<bool> {
     let forms =
         b"piece_size P, piece_size2 P, blocks_in_piece2 P, file_index_at_piece P, last_file_index_at_piece P";
     match script::form_of(forms, line) {
-        0 => replies::short(layout::piece_size(fs, piece)),
-        1 => replies::short(layout::piece_size2(fs, rows, window, piece)),
-        2 => replies::short(layout::blocks_in_piece2(fs, rows, window, piece)),
-        3 => replies::file(layout::file_index_at_piece(fs, rows, window, piece)),
-        4 => replies::file(layout::last_file_index_at_piece(fs, rows, window, piece)),
-        _ => return false,
+        0 => replies::short(out, layout::piece_size(fs, piece))?,
+        1 => replies::short(out, layout::piece_size2(fs, rows, window, piece))?,
+        2 => replies::short(out, layout::blocks_in_piece2(fs, rows, window, piece))?,
+        3 => replies::file(out, layout::file_index_at_piece(fs, rows, window, piece))?,
+        4 => replies::file(
+            out,
+            layout::last_file_index_at_piece(fs, rows, window, piece),
+        )?,
+        _ => return Ok(false),
     }
-    true
+    Ok(true)
 }
 
 // `file_index_at_offset O`.
-fn at_offset(line: &[u8], fs: FileStorage, rows: &[u64], firsts: &[u16]) {
+fn at_offset(
+    out: Stdout,
+    line: &[u8],
+    fs: FileStorage,
+    rows: &[u64],
+    firsts: &[u16],
+) -> io::Result<()> {
     let I64Word::Is(offset) = script::to_i64(script::word(line, 1)) else {
-        return replies::bad_call();
+        return replies::bad_call(out);
     };
     let window = layout::window_for(fs, firsts, PieceIndex(0), offset);
-    replies::file(layout::file_index_at_offset(fs, rows, window, offset))
+    replies::file(out, layout::file_index_at_offset(fs, rows, window, offset))
 }
 
 // `file_index_for_root ROOT`.
-fn for_root(line: &[u8], fs: FileStorage, rows: &[u64], hashes: &[u8]) {
+fn for_root(
+    out: Stdout,
+    line: &[u8],
+    fs: FileStorage,
+    rows: &[u64],
+    hashes: &[u8],
+) -> io::Result<()> {
     let word = script::to_root(script::word(line, 1));
     if !word.is_formed {
-        return replies::bad_call();
+        return replies::bad_call(out);
     }
     let bytes = word.root;
-    replies::file(files::file_index_for_root(fs, rows, hashes, Sha256Hash { bytes }))
+    replies::file(
+        out,
+        files::file_index_for_root(fs, rows, hashes, Sha256Hash { bytes }),
+    )
 }
 
 // `map_file I OFFSET SIZE`.
-fn map_file(line: &[u8], fs: FileStorage, rows: &[u64]) {
+fn map_file(out: Stdout, line: &[u8], fs: FileStorage, rows: &[u64]) -> io::Result<()> {
     let I32Word::Is(n) = script::to_i32(script::word(line, 1)) else {
-        return replies::bad_call();
+        return replies::bad_call(out);
     };
     let I64Word::Is(offset) = script::to_i64(script::word(line, 2)) else {
-        return replies::bad_call();
+        return replies::bad_call(out);
     };
     let I32Word::Is(size) = script::to_i32(script::word(line, 3)) else {
-        return replies::bad_call();
+        return replies::bad_call(out);
     };
-    replies::request(files::map_file(fs, rows, FileIndex(n), offset, size))
+    replies::request(out, files::map_file(fs, rows, FileIndex(n), offset, size))
 }
 
 // `map_block PIECE OFFSET SIZE`.
-fn map_block(line: &[u8], fs: FileStorage, rows: &[u64], firsts: &[u16], slices: usize) {
+fn map_block(
+    out: Stdout,
+    line: &[u8],
+    fs: FileStorage,
+    rows: &[u64],
+    firsts: &[u16],
+    slices: usize,
+) -> io::Result<()> {
     let I32Word::Is(n) = script::to_i32(script::word(line, 1)) else {
-        return replies::bad_call();
+        return replies::bad_call(out);
     };
     let I64Word::Is(offset) = script::to_i64(script::word(line, 2)) else {
-        return replies::bad_call();
+        return replies::bad_call(out);
     };
     let I64Word::Is(size) = script::to_i64(script::word(line, 3)) else {
-        return replies::bad_call();
+        return replies::bad_call(out);
     };
     let window = layout::window_for(fs, firsts, PieceIndex(n), offset);
-    map(PieceIndex(n), offset, size, fs, rows, window, slices)
+    map(out, PieceIndex(n), offset, size, fs, rows, window, slices)
 }
 
 // Maps a block, and writes the slices.
 fn map(
+    out: Stdout,
     piece: PieceIndex,
     offset: i64,
     size: i64,
@@ -148,7 +202,7 @@ fn map(
     rows: &[u64],
     window: Window,
     slices: usize,
-) {
+) -> io::Result<()> {
     let mut files = column();
     let mut offsets = column();
     let mut sizes = column();
@@ -163,7 +217,7 @@ fn map(
         first_words(&mut offsets, slices),
         first_words(&mut sizes, slices),
     );
-    replies::slices(result, &files, &offsets, &sizes)
+    replies::slices(out, result, &files, &offsets, &sizes)
 }
 
 // The first n words of a table, or as many as there are.

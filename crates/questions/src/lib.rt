@@ -1,7 +1,11 @@
 // Questions of a script of calls: what only reads, on one set and its renames or on no set. Each is answered by a line
-// of standard output, and what is no question by `badcall`. So nothing is returned and nothing lent is changed: there
-// is nothing to promise but that the functions are safe and end. Relies on the libraries' answers, on `script` and on
-// `replies`.
+// of standard output, and what is no question by `badcall`. So only whether the line was written is returned, and
+// nothing lent is changed: there is nothing to promise but that the functions are safe and end. Relies on the libraries'
+// answers, on `script` and on `replies`.
+#![tactic(auto)]
+
+ghost use Rattle.std.specs.Prelude.{◌≡◌, length};
+
 mod answer;
 mod file_paths;
 mod file_rows;
@@ -20,6 +24,13 @@ pub struct Lent {
     pub output: usize,
     pub slices: usize,
     pub hashes: usize,
+}
+
+// Room for a line, for a block of input, or for what the words of a line stand for.
+pub fn large_buffer() -> [u8; 65536]
+    ensures { length result ≡ 65536 }
+{
+    [0u8; 65536]
 }
 
 // Room to compose a text in.

@@ -1,6 +1,9 @@
 // Answers to a script of calls, as lines of standard output: `ok` and the values after it, a refusal, or `badcall`.
-// No contract can say what is written, so the public functions return nothing and are lent nothing to change: there
-// is nothing to promise but that they are safe and end. Relies on `io`, and on the libraries' result types.
+// No contract can say what reaches standard output, so the public functions return only whether the line was written,
+// and are lent nothing to change: there is nothing to promise but that they are safe and end. Relies on std's standard
+// output, and on the libraries' result types.
+#![tactic(auto)]
+
 mod output;
 mod rows;
 mod values;

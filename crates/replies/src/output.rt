@@ -1,21 +1,34 @@
 // A line of standard output, put together in a `Reply`, which is handed on by value and written out when it is full
-// and at the line's end. Relies on `io`, on the accessors of `lists`, and on `script` for the form of a string.
-use libc::STDOUT_FILENO;
+// and at the line's end. Relies on std's standard output, on the accessors of `lists`, and on `script` for the form of a
+// string.
+use std::io;
+use std::io::Stdout;
 use types::{Refusal, Unsigned};
 
-// What of an answer is not yet written: the first `used` bytes.
+// Where an answer goes, and what of it is not yet written: the first `used` bytes. Once a write has failed, nothing more
+// is written, and the failure is kept.
 #[derive(Drop)]
 pub(crate) struct Reply {
+    out: Stdout,
+    written: io::Result<()>,
     used: usize,
     bytes: [u8; 256],
 }
 
 // A reply of no bytes.
-fn empty() -> Reply {
+fn empty(out: Stdout) -> Reply {
     Reply {
+        out,
+        written: Ok(()),
         used: 0,
         bytes: [0u8; 256],
     }
+}
+
+// Writes bytes out, unless a write failed before.
+fn written_after(before: io::Result<()>, out: Stdout, bytes: &[u8]) -> io::Result<()> {
+    before?;
+    out.write_all(bytes)
 }
 
 // Puts one byte.
@@ -28,7 +41,7 @@ fn put(before: Reply, byte: u8) -> Reply {
         return reply;
     }
     let full = reply.bytes;
-    io::write_all(STDOUT_FILENO, &full);
+    reply.written = written_after(reply.written, reply.out, &full);
     reply.bytes[0] = byte;
     reply.used = 1;
     reply
@@ -45,31 +58,31 @@ fn text(before: Reply, bytes: &[u8]) -> Reply {
     reply
 }
 
-// Ends an answer.
-pub(crate) fn end(reply: Reply) {
+// Ends an answer, and says whether all of it was written.
+pub(crate) fn end(reply: Reply) -> io::Result<()> {
     let line = put(reply, b'\n');
     let bytes = line.bytes;
-    io::write_all(STDOUT_FILENO, lists::part(&bytes, 0, line.used));
+    written_after(line.written, line.out, lists::part(&bytes, 0, line.used))
 }
 
 // Answers a line that is no call.
-pub fn bad_call() {
-    end(text(empty(), b"badcall"))
+pub fn bad_call(out: Stdout) -> io::Result<()> {
+    end(text(empty(out), b"badcall"))
 }
 
 // Answers a call that is refused.
-pub fn refused(refusal: Refusal) {
-    end(digits(text(empty(), b"refused "), types::number(refusal) as u64))
+pub fn refused(out: Stdout, refusal: Refusal) -> io::Result<()> {
+    end(digits(text(empty(out), b"refused "), types::number(refusal) as u64))
 }
 
 // Answers a change that was made.
-pub fn done() {
-    end(ok())
+pub fn done(out: Stdout) -> io::Result<()> {
+    end(ok(out))
 }
 
 // The start of an answer that has values after it.
-pub(crate) fn ok() -> Reply {
-    text(empty(), b"ok")
+pub(crate) fn ok(out: Stdout) -> Reply {
+    text(empty(out), b"ok")
 }
 
 // Puts a value that is a number.

@@ -5,17 +5,25 @@ use crate::output;
 use crate::output::Reply;
 use renames::{Rename, RenameResult, RenamedFiles};
 use rules::{I32Result, SpanResult};
+use std::io;
+use std::io::Stdout;
 use tables::FileStorage;
 use types::UsizeResult;
 
 // The number of slices of a block, and the slices, which stand at the start of three columns.
-pub fn slices(res: UsizeResult, files: &[u64], offsets: &[u64], sizes: &[u64]) {
+pub fn slices(
+    out: Stdout,
+    res: UsizeResult,
+    files: &[u64],
+    offsets: &[u64],
+    sizes: &[u64],
+) -> io::Result<()> {
     match res {
         UsizeResult::Ok(n) => {
-            let count = output::number(output::ok(), n as u64);
+            let count = output::number(output::ok(out), n as u64);
             output::end(each_slice(count, n, files, offsets, sizes))
         }
-        UsizeResult::Err(refusal) => output::refused(refusal),
+        UsizeResult::Err(refusal) => output::refused(out, refusal),
     }
 }
 
@@ -36,12 +44,12 @@ fn each_slice(before: Reply, n: usize, files: &[u64], offsets: &[u64], sizes: &[
 }
 
 // The file in which each piece begins, of a set that keeps a table of them; else that there is none.
-pub fn first_files(fs: FileStorage, firsts: &[u16]) {
+pub fn first_files(out: Stdout, fs: FileStorage, firsts: &[u16]) -> io::Result<()> {
     if !fs.indexed {
-        return output::end(output::none(output::ok()));
+        return output::end(output::none(output::ok(out)));
     }
     let n = lists::min(rules::count_pieces(fs), firsts.len() as u64);
-    output::end(each_first(output::ok(), firsts, n as usize))
+    output::end(each_first(output::ok(out), firsts, n as usize))
 }
 
 // Puts the first n files of a table.
@@ -69,10 +77,10 @@ fn widened(file: u16) -> u64 {
 }
 
 // The hashes at the start of a table.
-pub fn hashes(res: UsizeResult, table: &[u32]) {
+pub fn hashes(out: Stdout, res: UsizeResult, table: &[u32]) -> io::Result<()> {
     match res {
-        UsizeResult::Ok(n) => output::end(each_hash(output::ok(), table, n)),
-        UsizeResult::Err(refusal) => output::refused(refusal),
+        UsizeResult::Ok(n) => output::end(each_hash(output::ok(out), table, n)),
+        UsizeResult::Err(refusal) => output::refused(out, refusal),
     }
 }
 
@@ -101,10 +109,10 @@ fn wide(hash: u32) -> u64 {
 }
 
 // The texts of all directories of a set.
-pub fn directories(fs: FileStorage, dirs: &[u64], text: &[u8]) {
+pub fn directories(out: Stdout, fs: FileStorage, dirs: &[u64], text: &[u8]) -> io::Result<()> {
     match answers::num_paths(fs) {
-        I32Result::Ok(n) => output::end(each_directory(output::ok(), fs, dirs, text, n)),
-        I32Result::Err(refusal) => output::refused(refusal),
+        I32Result::Ok(n) => output::end(each_directory(output::ok(out), fs, dirs, text, n)),
+        I32Result::Err(refusal) => output::refused(out, refusal),
     }
 }
 
@@ -129,8 +137,8 @@ fn directory(reply: Reply, res: SpanResult, text: &[u8]) -> Reply {
 }
 
 // All renames of a set, as pairs of number and name.
-pub fn export(held: RenamedFiles, entries: &[u64], area: &[u8]) {
-    output::end(each_rename(output::ok(), held, entries, area))
+pub fn export(out: Stdout, held: RenamedFiles, entries: &[u64], area: &[u8]) -> io::Result<()> {
+    output::end(each_rename(output::ok(out), held, entries, area))
 }
 
 // Puts all renames.
