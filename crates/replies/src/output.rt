@@ -50,10 +50,8 @@ fn put(before: Reply, byte: u8) -> Reply {
 // Puts bytes as they are.
 fn text(before: Reply, bytes: &[u8]) -> Reply {
     let mut reply = before;
-    let mut i = 0;
-    while i < bytes.len() {
-        reply = put(reply, bytes[i]);
-        i += 1;
+    for byte in bytes {
+        reply = put(reply, *byte);
     }
     reply
 }
@@ -142,10 +140,8 @@ fn above(n: Unsigned) -> u64 {
 // Puts a value that is a root, in lower-case hex.
 pub(crate) fn hex(before: Reply, bytes: &[u8]) -> Reply {
     let mut reply = put(before, b' ');
-    let mut i = 0;
-    while i < bytes.len() {
-        reply = coded(reply, bytes[i], true);
-        i += 1;
+    for byte in bytes {
+        reply = coded(reply, *byte, true);
     }
     reply
 }
@@ -153,10 +149,8 @@ pub(crate) fn hex(before: Reply, bytes: &[u8]) -> Reply {
 // Puts a value that is a byte string.
 pub(crate) fn string(before: Reply, bytes: &[u8]) -> Reply {
     let mut reply = text(before, b" :");
-    let mut i = 0;
-    while i < bytes.len() {
-        reply = character(reply, bytes[i]);
-        i += 1;
+    for byte in bytes {
+        reply = character(reply, *byte);
     }
     reply
 }

@@ -30,15 +30,13 @@ pub fn slices(
 // Puts the first n slices.
 fn each_slice(before: Reply, n: usize, files: &[u64], offsets: &[u64], sizes: &[u64]) -> Reply {
     let mut reply = before;
-    let mut i = 0;
-    while i < n {
+    for i in 0..n {
         reply = output::slice(
             reply,
             lists::word(files, i),
             lists::word(offsets, i),
             lists::word(sizes, i),
         );
-        i += 1;
     }
     reply
 }
@@ -55,10 +53,8 @@ pub fn first_files(out: Stdout, fs: FileStorage, firsts: &[u16]) -> io::Result<(
 // Puts the first n files of a table.
 fn each_first(before: Reply, firsts: &[u16], n: usize) -> Reply {
     let mut reply = before;
-    let mut i = 0;
-    while i < n {
+    for i in 0..n {
         reply = output::number(reply, first_at(firsts, i));
-        i += 1;
     }
     reply
 }
@@ -87,10 +83,8 @@ pub fn hashes(out: Stdout, res: UsizeResult, table: &[u32]) -> io::Result<()> {
 // Puts the first n hashes.
 fn each_hash(before: Reply, table: &[u32], n: usize) -> Reply {
     let mut reply = before;
-    let mut i = 0;
-    while i < n {
+    for i in 0..n {
         reply = output::number(reply, hash_at(table, i));
-        i += 1;
     }
     reply
 }
@@ -120,10 +114,8 @@ pub fn directories(out: Stdout, fs: FileStorage, dirs: &[u64], text: &[u8]) -> i
 fn each_directory(before: Reply, fs: FileStorage, dirs: &[u64], text: &[u8], n: i32) -> Reply {
     let count = types::FileIndex(n).get();
     let mut reply = before;
-    let mut i = 0;
-    while i < count {
+    for i in 0..count {
         reply = directory(reply, answers::path_at(fs, dirs, text, i), text);
-        i += 1;
     }
     reply
 }
@@ -145,14 +137,12 @@ pub fn export(out: Stdout, held: RenamedFiles, entries: &[u64], area: &[u8]) -> 
 fn each_rename(before: Reply, held: RenamedFiles, entries: &[u64], area: &[u8]) -> Reply {
     let count = held.num_renames;
     let mut reply = before;
-    let mut i = 0;
-    while i < count {
+    for i in 0..count {
         reply = exported(
             reply,
             renames::export_filename(held, entries, area, i),
             area,
         );
-        i += 1;
     }
     reply
 }
