@@ -90,12 +90,10 @@ fn byte_after(res: StorageResult) -> u8 {
 
 // Whether all bytes are this one.
 fn all_are(bytes: &[u8], byte: u8) -> bool {
-    let mut i = 0;
-    while i < bytes.len() {
-        if bytes[i] != byte {
+    for held in bytes {
+        if *held != byte {
             return false;
         }
-        i += 1;
     }
     true
 }

@@ -134,12 +134,10 @@ fn rooms_in(line: &[u8], at: usize) -> Rooms {
 
 // A kind of room by its name, with `=` after it. Eleven words may name room; of one kind the first counts.
 fn room_of(line: &[u8], name: &[u8], most: usize) -> Named {
-    let mut number = 2;
-    while number < 13 {
+    for number in 2..13 {
         if names(line, number, name) {
             return counted(line, number, name, most);
         }
-        number += 1;
     }
     Named {
         is_named: false,
