@@ -8,8 +8,7 @@ ghost use Rattle.exports.specs.Cleanings.{CleaningReturned, cleaning_returned};
 use crate::{State, put_answer, storage_at};
 
 // `cleaning::sanitize_symlinks`.
-#[unsafe(no_mangle)]
-pub extern "C" fn niflathen_sanitize_symlinks(
+pub fn niflathen_sanitize_symlinks(
     state: &mut State,
     rows: &mut [u64],
     dirs: &mut [u64],

@@ -1,7 +1,10 @@
-// The C interface, for benchmarks and other languages: a set's record is twelve lent words and a root 32 lent bytes,
-// arrays with their sizes in their types. A change returns 0 or document 01's number; questions.rt and slices.rt say
-// what a question returns. An addition has 15 parameters and can't have fewer in C: each table and each text is a slice
-// of its own. Relies on `storage`, `trim`, `tables`, `layout`, `files`, `blocks` and `mapping`.
+// What the C interface does, for benchmarks and other languages; the static library `exports_c` has its functions under
+// the same names. A set's record is twelve lent words and a root 32 lent bytes, arrays with their sizes in their types.
+// A change returns 0 or document 01's number; questions.rt and slices.rt say what a question returns. An addition has 15
+// parameters and can't have fewer in C: each table and each text is a slice of its own. Relies on `storage`, `trim`,
+// `tables`, `layout`, `files`, `blocks` and `mapping`.
+#![tactic(auto)]
+
 ghost use Rattle.std.specs.Prelude.{◌≡◌, List, ℕ};
 ghost use Rattle.change.specs.Changes.{storage_says};
 ghost use Rattle.additions.specs.Addition.{optional_of};
@@ -16,6 +19,12 @@ mod slices;
 
 use additions::FileInfo;
 use change::StorageResult;
+pub use cleanings::niflathen_sanitize_symlinks;
+pub use questions::{
+    FileRequest, niflathen_file_index_at_offset, niflathen_map_block, niflathen_map_file,
+    niflathen_map_files,
+};
+pub use slices::niflathen_map_block_slices;
 use tables::{FileStorage, Presence, Sha256Hash, Span};
 
 // A set's record, as words.
@@ -98,8 +107,7 @@ pub(crate) fn put_answer(state: &mut State, answer: StorageResult) -> u32
 }
 
 // `storage::add_file`; `given` and `rooted` are 0 for none.
-#[unsafe(no_mangle)]
-pub extern "C" fn niflathen_add_file(
+pub fn niflathen_add_file(
     state: &mut State,
     rows: &mut [u64],
     roots: &mut [u8],
@@ -165,8 +173,7 @@ pub extern "C" fn niflathen_add_file(
 }
 
 // `trim::remove_tail_padding`, which is lent no table of first files and leaves it.
-#[unsafe(no_mangle)]
-pub extern "C" fn niflathen_remove_tail_padding(
+pub fn niflathen_remove_tail_padding(
     state: &mut State,
     rows: &mut [u64],
     roots: &mut [u8],

@@ -82,8 +82,7 @@ fn request_returned(answer: RequestResult) -> FileRequest
 }
 
 // `blocks::map_block_core`: the number of slices, or minus the number of the refusal.
-#[unsafe(no_mangle)]
-pub extern "C" fn niflathen_map_block(
+pub fn niflathen_map_block(
     state: &State,
     rows: &[u64],
     firsts: &[u16],
@@ -121,8 +120,7 @@ pub extern "C" fn niflathen_map_block(
 }
 
 // `layout::file_index_at_offset`: the file's number, or minus the number of the refusal.
-#[unsafe(no_mangle)]
-pub extern "C" fn niflathen_file_index_at_offset(
+pub fn niflathen_file_index_at_offset(
     state: &State,
     rows: &[u64],
     firsts: &[u16],
@@ -143,8 +141,7 @@ pub extern "C" fn niflathen_file_index_at_offset(
 }
 
 // `files::map_file`: the request, or the number of the refusal. Arguments and answer go in registers.
-#[unsafe(no_mangle)]
-pub extern "C" fn niflathen_map_file(
+pub fn niflathen_map_file(
     state: &State,
     rows: &[u64],
     index: i32,
@@ -158,8 +155,7 @@ pub extern "C" fn niflathen_map_file(
 }
 
 // `files::map_files`: the number of questions, or minus the number of the refusal.
-#[unsafe(no_mangle)]
-pub extern "C" fn niflathen_map_files(
+pub fn niflathen_map_files(
     state: &State,
     rows: &[u64],
     files: &[i32],

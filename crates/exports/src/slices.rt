@@ -11,8 +11,7 @@ use crate::{State, storage_at};
 use types::{FileSlice, PieceIndex};
 
 // `mapping::map_block`: the number of slices, or minus the number of the refusal.
-#[unsafe(no_mangle)]
-pub extern "C" fn niflathen_map_block_slices(
+pub fn niflathen_map_block_slices(
     state: &State,
     rows: &[u64],
     firsts: &[u16],
