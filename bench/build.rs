@@ -1,4 +1,4 @@
-//! Links the port, which `rt staticlib exports` writes to the repository's `target/staticlib`.
+//! Links the port, which tools/archive writes to the repository's `target/staticlib`.
 
 use std::env;
 use std::path::Path;
