@@ -1,0 +1,45 @@
+-- The addition's own promise, at the record and the presences that were read.
+use Rattle.std.proofs.Common.{◌∙◌, ap, ℤ, w64, to_z, of_z, to_z-of_z}
+use Rattle.tables.specs.declared.rows.Presence.{Presence}
+use Rattle.tables.specs.declared.storage.FileStorage.{FileStorage}
+use Rattle.tables.specs.Model.{store_of}
+use Rattle.change.specs.Changes.{Changed, changed_of, storage_says}
+use Rattle.additions.specs.Addition.{optional_of}
+use Rattle.plan.specs.Outcomes.{add_stored}
+use Rattle.exports.specs.State.{storage_of, presence_of}
+use Rattle.exports.proofs.Exported.{answered}
+use Rattle.exports.proofs.niflathen_add_file.Goals as goal
+
+pub returns : goal.returns
+returns c =
+    let added : FileStorage → Presence → Presence → ℤ → ℤ → Changed =
+        λ fs given rooted size time. add_stored
+        (store_of fs c.args.rows.now c.args.roots.now c.args.firsts.now c.args.dirs.now c.args.text.now)
+        (record {
+          given = optional_of given c.args.filename.now;
+          path = c.args.path.now;
+          size = size;
+          flags = c.args.file_flags;
+          time = time;
+          link = c.args.symlink_path.now;
+          root = optional_of rooted c.args.root.now;
+        }) in
+    let fs = storage_of c.args.state.now in
+    let given = presence_of c.args.given in
+    let rooted = presence_of c.args.rooted in
+    let size = to_z w64 (of_z w64 c.args.file_size) in
+    let time = to_z w64 (of_z w64 c.args.mtime) in
+    answered
+    c.args.state.now
+    c.put_answer.new.state
+    c.put_answer.result
+    (changed_of (storage_says c.add_file-answer.result) c.add_file-answer.new.rows c.add_file-answer.new.roots c.add_file-answer.new.firsts c.add_file-answer.new.dirs c.add_file-answer.new.text)
+    (added fs given rooted c.args.file_size c.args.mtime)
+    (c.add_file-answer.ensures
+    ∙ ap (λ (x : FileStorage). added x c.presence_of.result c.presence_of-2.result size time) c.storage_at.ensures
+    ∙ ap (λ (x : Presence). added fs x c.presence_of-2.result size time) c.presence_of.ensures
+    ∙ ap (λ (x : Presence). added fs given x size time) c.presence_of-2.ensures
+    ∙ ap (λ (x : ℤ). added fs given rooted x time) (to_z-of_z c.ranges.file_size)
+    ∙ ap (λ (x : ℤ). added fs given rooted c.args.file_size x) (to_z-of_z c.ranges.mtime))
+    c.put_answer.ensures.value
+    c.put_answer.ensures.state_after
