@@ -5,7 +5,7 @@
 --     refusals-tabled               every call of a list
 use Prim.Native.Nat.{ℕ, zero, suc, ◌+◌, ◌<◌}
 use mathlib.Core.Path.{◌≡◌, refl, sym, ap, ap₂, subst, ◌∙◌}
-use mathlib.Core.Logic.{◌⊎◌, inl, inr}
+use mathlib.Core.Logic.{inl, inr}
 use mathlib.Core.Bool.{Bool, true, false, cond, not, ◌&&◌, ◌||◌}
 use mathlib.Core.List.{List, [], ◌∷◌, ◌++◌}
 use native.Mathlib.Omega.{arith}
@@ -31,14 +31,14 @@ use Rattle.cleaning.specs.Cleaning.{Cleaned}
 use Rattle.renames.specs.Renames as renames
 use Rattle.imports.specs.Imports.{Naming, imported}
 use Rattle.sound.specs.Documents.{sizes}
-use Rattle.book.specs.Book.{Came, done, refused, Made, Book, book, add, is_plain, is_left_open, has_given_root}
-use Rattle.book.specs.Refusals.{is_negative, bytes_with, bytes_padded, name_tested, bad_name, must_agree, adding_table, has_row, renaming_table, importing_table, table_for, Says, AsTabled}
+use Rattle.book.specs.Book.{Came, Made, Book, book, is_plain, is_left_open, has_given_root}
+use Rattle.book.specs.Refusals.{is_negative, bytes_padded, name_tested, bad_name, adding_table, has_row, renaming_table, importing_table, Says, AsTabled}
 use Rattle.book.specs.Calls.{came_of, Renames, Leads}
 use Rattle.book.specs.Calls as calls
-use Rattle.book.proofs.Entries.{book_of, rows_of, length-rows, held_link, natural-is, given_is, plain-is, bytes-is, bytes-with, open_is, pad-is}
+use Rattle.book.proofs.Entries.{book_of, length-rows, held_link, natural-is, given_is, plain-is, bytes-with, open_is, pad-is}
 use Rattle.book.proofs.Agree.{agrees, total-is}
-use Rattle.book.proofs.Runs.{adding, trimming, cleaning, renaming, importing, answer_of, came_by, add_refusals, clean_refusals, add-answer, trim-done, clean-answer}
-use Rattle.book.proofs.Named.{rename_refusals, import_refusals, rename-answer, import-answer}
+use Rattle.book.proofs.Runs.{adding, trimming, cleaning, renaming, importing, answer_of, came_by, add-answer, trim-done, clean-answer}
+use Rattle.book.proofs.Named.{rename-answer, import-answer}
 
 -- ---- the port's words and the book's
 

@@ -2,4 +2,3 @@
 // every cut into blocks. Definitions and theorems, no code. It relies on the definitions that the contracts of
 // `storage`, `trim`, `cleaning`, `renames`, `files` and `mapping` cite, and on the laws of `sound` and `reached`.
 #![tactic(auto)]
-

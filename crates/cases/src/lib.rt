@@ -2,4 +2,3 @@
 // test, no code. It relies on the definitions that the contracts of `storage`, `cleaning`, `layout`, `files` and
 // `mapping` cite.
 #![tactic(auto)]
-

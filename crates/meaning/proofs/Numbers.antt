@@ -4,7 +4,7 @@
 --     piece_of, quotient-low       the piece of a byte, which is not past the last
 --     round_up, size_of            the first piece from a byte on, and the size of a piece
 use Prim.Native.Nat.{ℕ, zero, suc, ◌+◌, ◌-◌, ◌*◌, ◌/◌, ◌%◌, ◌≤◌, ◌<◌, min}
-use mathlib.Core.Path.{◌≡◌, refl, sym, ◌∙◌}
+use mathlib.Core.Path.{◌≡◌, refl, sym}
 use mathlib.Core.Logic.{◌⊎◌, inl, inr}
 use mathlib.Core.Bool.{Bool, true, false, cond}
 use mathlib.Core.List.{List, [], ◌∷◌}
@@ -13,7 +13,7 @@ use native.Mathlib.Numerals.{add-one}
 use native.Mathlib.Omega.{arith}
 use borrow.Author.Tests.{eqb-true, eqb-false}
 use lib.Dec.{eqb}
-use lib.ListN.{length, get_or, take}
+use lib.ListN.{length, get_or}
 use Rattle.lists.specs.Lists.{sum, ceiling}
 use Rattle.lists.proofs.Orders.{le-or-lt}
 use Rattle.lists.proofs.Sums.{sum-take-more, sum-take-mono, sum-take-le}

@@ -10,25 +10,25 @@
 --     file-exclusive, file-inclusive    the pieces of a file
 --     last-piece-plain, inclusive-plain, tree-pieces, tree-range    numbers that no rest by 2 ^ 31 changes
 use Prim.Native.Nat.{ℕ, zero, suc, ◌+◌, ◌-◌, ◌*◌, ◌/◌, ◌%◌, ◌^◌, ◌≤◌, ◌<◌, min, max}
-use mathlib.Core.Path.{◌≡◌, refl, sym, ap, ap₂, subst, ◌∙◌}
+use mathlib.Core.Path.{◌≡◌, refl, sym, ap, ap₂, ◌∙◌}
 use mathlib.Core.Logic.{◌⊎◌, inl, inr}
 use mathlib.Core.Bool.{Bool, true, false, cond, not, ◌&&◌, ◌||◌}
 use mathlib.Core.List.{List, [], ◌∷◌}
-use native.Mathlib.Nat.{le-div_iff_mul-le, div-lt_iff_lt-mul, div-add-mod', mul-div_cancel, mod-eq_of_lt, add-zero}
+use native.Mathlib.Nat.{le-div_iff_mul-le, div-lt_iff_lt-mul, div-add-mod', mul-div_cancel, add-zero}
 use native.Mathlib.Omega.{arith}
-use borrow.Author.Tests.{eqb-true, eqb-false, ne_eqb, ltb-true, ltb-false, lt-ltb, le-ltb, le-leb, lt-leb}
+use borrow.Author.Tests.{eqb-false, ne_eqb, ltb-true, ltb-false, lt-ltb, le-ltb, le-leb, lt-leb}
 use lib.Dec.{eqb, ltb, leb}
 use lib.IntN.{ℤ, pos, negsuc}
-use lib.ListN.{length, get_or, take}
+use lib.ListN.{length, get_or}
 use lib.Seq.{take_all}
 use Rattle.lists.specs.Lists.{sum, ceiling}
 use Rattle.lists.proofs.Orders.{le-or-lt}
 use Rattle.lists.proofs.Sums.{sum-take-le}
-use Rattle.lists.proofs.Quotients.{ceiling-above, ceiling-below, ceiling-covers, ceiling-is, ceiling-le, ceiling-mono}
+use Rattle.lists.proofs.Quotients.{ceiling-below, ceiling-covers, ceiling-is, ceiling-le, ceiling-mono}
 use Rattle.types.specs.Refusals.{Outcome, value, refused}
 use Rattle.tables.specs.declared.storage.FileStorage.{FileStorage}
 use Rattle.tables.specs.Rows.{row_at, has, pad_bit}
-use Rattle.rules.specs.Rules.{Rule, when, first_of}
+use Rattle.rules.specs.Rules.{Rule, when}
 use Rattle.rules.specs.Bounds.{limit}
 use Rattle.rules.specs.Results.{Range, SignedRequest}
 use Rattle.rules.specs.Questions.{answered, num_pieces, rows_are_held, bad_piece_length, many_pieces, no_piece, no_file, bad_range, bad_offset, no_tree, short, few_entries}
@@ -45,7 +45,7 @@ use Rattle.files.specs.Files as files
 use Rattle.files.specs.Given.{piece_at_file_given, last_piece_at_file_given, exclusive_given, inclusive_given, file_num_pieces_given, file_piece_range_given, file_mapped}
 use Rattle.book.proofs.Tables.{Holds, laid}
 use Rattle.book.proofs.Demand.{first-none, is_open, all_held, file-there, not-many, piece-there}
-use Rattle.meaning.specs.Layout.{begin_of, end_of, InFile, InPiece, pieces_of, bytes_of_piece, last_of, FileAt, last_byte, PieceAt, last_piece, PieceSize2, range, Shares, Inclusive}
+use Rattle.meaning.specs.Layout.{begin_of, end_of, InFile, pieces_of, bytes_of_piece, last_of, FileAt, last_byte, PieceAt, last_piece, PieceSize2, range, Shares, Inclusive}
 use Rattle.meaning.specs.Layout.{mapped_start, inclusive_begin, piece_after, inclusive_end, exclusive_begin, end_or_begin, exclusive_end, request_at, is_tree, tree_answer, tree_pieces}
 use Rattle.meaning.proofs.Numbers.{end_is, end_low, some-file, next, piece_of, quotient-low, round_up, size_of}
 

@@ -11,14 +11,14 @@ use lib.IntN.{ℤ, pos}
 use lib.ListN.{length, get_or, length-map}
 use borrow.Author.Tests.{le-ltb}
 use Rattle.types.specs.Refusals.{value, refused}
-use Rattle.tables.specs.Model.{File, Store, file_of, view_of}
+use Rattle.tables.specs.Model.{File, Store, file_of}
 use Rattle.tables.proofs.Tabled.{get_or-tabled}
 use Rattle.sound.proofs.Files.{map-tabled}
 use Rattle.rules.specs.Questions.{rows_are_held, bad_piece_length, no_file, short, few_entries}
 use Rattle.answers.specs.Answers.{time_of}
 use Rattle.answers.specs.Given.{mtime_given}
 use Rattle.book.specs.Book.{Made, Row, sizes_of, book}
-use Rattle.book.specs.Times.{Timed, rows_in, times_in, timed_rows}
+use Rattle.book.specs.Times.{Timed, times_in, timed_rows}
 use Rattle.book.specs.Calls.{Renames, Leads}
 use Rattle.book.proofs.Timed.{rows-timed}
 use Rattle.book.proofs.Agree.{times-given}

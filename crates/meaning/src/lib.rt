@@ -2,4 +2,3 @@
 // given: definitions and theorems, no code. It relies on the definitions that the contracts of `layout`, `files` and
 // `answers` cite, and on the book.
 #![tactic(auto)]
-

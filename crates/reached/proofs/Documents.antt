@@ -17,7 +17,7 @@ use Rattle.tables.specs.Model.{Optional, absent, present, present_if, File, is_p
 use Rattle.additions.specs.Addition.{Addition, added, file_added, pad_added, pad_of, size_added, flags_kept, keeps, is_present, files_of, is_v2, is_left_open, decides, pad_to, pad_after}
 use Rattle.trim.specs.Trim.{tail_pad, size_at, beginning_at, without_file, trimmed_if}
 use Rattle.links.specs.Clean.{cleaned_of}
-use Rattle.sound.specs.Documents.{sizes, EndToEnd, disk_size_of, OnDisk, Marked, PadMade, MadePad, OnPiece, Each, none, more, LinkEmpty}
+use Rattle.sound.specs.Documents.{sizes, EndToEnd, disk_size_of, OnDisk, Marked, MadePad, OnPiece, Each, none, more, LinkEmpty}
 use Rattle.reached.specs.Reached.{Reached, opened, addition, trim, cleaning}
 use Rattle.rules.proofs.Rules.{both_true}
 use Rattle.sound.proofs.Trimmed.Tail.{flags_at, Last, TailPad, tail-pad}

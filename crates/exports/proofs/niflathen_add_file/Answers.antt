@@ -13,19 +13,6 @@ use Rattle.exports.proofs.niflathen_add_file.Goals as goal
 pub returns : goal.returns
 returns c =
     let added : FileStorage → Presence → Presence → ℤ → ℤ → Changed =
-<<<<<<< HEAD
-        λ fs given rooted size time. add_stored
-        (store_of fs c.args.rows.now c.args.roots.now c.args.firsts.now c.args.dirs.now c.args.text.now)
-        (record {
-          given = optional_of given c.args.filename.now;
-          path = c.args.path.now;
-          size = size;
-          flags = c.args.file_flags;
-          time = time;
-          link = c.args.symlink_path.now;
-          root = optional_of rooted c.args.root.now;
-        }) in
-=======
     λ fs given rooted size time. add_stored
     (store_of fs c.args.rows.now c.args.roots.now c.args.firsts.now c.args.dirs.now c.args.text.now)
     (record {
@@ -37,7 +24,6 @@ returns c =
       link = c.args.symlink_path.now;
       root = optional_of rooted c.args.root.now;
     }) in
->>>>>>> b5f47ad8311b73776e47d4381f49e464faebf2e9
     let fs = storage_of c.args.state.now in
     let given = presence_of c.args.given in
     let rooted = presence_of c.args.rooted in

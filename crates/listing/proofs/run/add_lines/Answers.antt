@@ -1,6 +1,6 @@
 -- `listing::run::add_lines` meets its contract. The loop's invariant: the run is going on at place `at`, after `line`
 -- lines.
-use Prim.Native.Nat.{ℕ, ◌+◌, ◌-◌}
+use Prim.Native.Nat.{ℕ, ◌+◌}
 use mathlib.Core.Path.{◌≡◌, refl, ap, ◌∙◌}
 use mathlib.Core.List.{List, []}
 use native.Mathlib.Omega.{arith}

@@ -45,10 +45,10 @@ add_lines-requires c =
     (sym said ∙ ap storage_says c.in-Ok.is) in
     let a = c.args in
     let b = begun in record {
-        placed = c.requires;
-        sound = subst (λ (f : FileStorage). Sound (store_of f a.rows.now a.roots.now [] a.dirs.now a.text.now)) (sym b.1) (sound-opened b.0 false a.rows.now a.roots.now [] a.dirs.now a.text.now);
-        indexed_value = ap (λ (f : FileStorage). f.indexed) b.1;
-        le_from = (omega arith, omega (arith, c.line_length-n.ensures, line-few a.input.now 0));
+      placed = c.requires;
+      sound = subst (λ (f : FileStorage). Sound (store_of f a.rows.now a.roots.now [] a.dirs.now a.text.now)) (sym b.1) (sound-opened b.0 false a.rows.now a.roots.now [] a.dirs.now a.text.now);
+      indexed_value = ap (λ (f : FileStorage). f.indexed) b.1;
+      le_from = (omega arith, omega (arith, c.line_length-n.ensures, line-few a.input.now 0));
     }
 
 pub returns : goal.returns
