@@ -209,7 +209,7 @@ module _ (κs : Lifetimes.Lfts 1) (a : World.ArgsD map_file.signature κs) (r : 
   pub map-file-says : map-reads.Learnt κs a r s → request_says r ≡ file_mapped a.0 a.1.0.now a.1.1.0.0 a.1.1.1.0 a.1.1.1.1.0
   map-file-says p = p
 
--- ---- `map_block`, which is proved by hand: what its clauses ensure is the fact
+-- ---- `map_block`: what its clauses ensure is the fact
 
 module _ {M : Type 1} {𝓤 : Ura M} (𝓛 : Logic 𝓤) (mem : Memory → SProp 𝓤) (run : Routine → Fun 𝓤) (κs : Lifetimes.Lfts 2)
     (a : Args map_block.signature κs) (r : Res map_block.signature κs) (e : Clauses.AtExit map_block.ended κs) where
