@@ -4,7 +4,7 @@
 // answers, on `script` and on `replies`.
 #![tactic(auto)]
 
-ghost use Rattle.std.specs.Prelude.{◌≡◌, length};
+ghost use Rattle.std.specs.Prelude.{◌≡◌, replicate};
 
 mod answer;
 mod file_paths;
@@ -26,9 +26,9 @@ pub struct Lent {
     pub hashes: usize,
 }
 
-// Room for a line, for a block of input, or for what the words of a line stand for.
+// Room for a line, for a block of input, or for what the words of a line stand for: zeros.
 pub fn large_buffer() -> [u8; 65536]
-    ensures { length result ≡ 65536 }
+    ensures { result ≡ replicate 65536 0 }
 {
     [0u8; 65536]
 }

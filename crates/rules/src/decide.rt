@@ -68,7 +68,8 @@ pub fn first_refusal(
 
 // Decides a question about the set as a whole, or about an offset in it.
 pub fn ask_set(fs: FileStorage, bad_range: bool, held: bool) -> Check
-    ensures { check_number result ≡ first_of (bad_piece_length fs ∷ when bad_range 14 ∷ short (held && few_entries fs) ∷ []) }
+    ensures { check_number result
+        ≡ first_of (bad_piece_length fs ∷ when bad_range 14 ∷ short (held && few_entries fs) ∷ []) }
 {
     first_refusal(
         is_bad_length(fs.piece_length),
@@ -83,7 +84,8 @@ pub fn ask_set(fs: FileStorage, bad_range: bool, held: bool) -> Check
 
 // Decides a question about directory i.
 pub fn ask_directory(fs: FileStorage, i: usize, held: bool) -> Check
-    ensures { check_number result ≡ first_of (bad_piece_length fs ∷ no_directory fs i ∷ short (held && few_entries fs) ∷ []) }
+    ensures { check_number result
+        ≡ first_of (bad_piece_length fs ∷ no_directory fs i ∷ short (held && few_entries fs) ∷ []) }
 {
     first_refusal(
         is_bad_length(fs.piece_length),
