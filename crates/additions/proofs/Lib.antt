@@ -1,4 +1,3 @@
 -- Laws of an addition's tests and of the parts of its path.
-pub mod Signs
 pub mod Texts
 pub mod Rules

@@ -1,15 +1,16 @@
--- Laws of the texts of an addition: what each span of the path reads, and what the given name and the link text are by the
--- tests that led to them.
+-- Laws of the texts of an addition: what each span of the path reads, what the tests on names look at, and that the parts
+-- lie within the path. Relies on the laws of splits of `path`.
+use Rattle.std.specs.Prelude.{Option, Some, None}
 use Prim.Native.Nat.{ℕ, suc, ◌+◌, ◌-◌, ◌≤◌, ◌<◌}
 use mathlib.Core.Path.{◌≡◌, refl, sym, ap, ◌∙◌}
-use mathlib.Core.Bool.{Bool, true, false, cond, not, false≢true, true≢false, ◌&&◌}
+use mathlib.Core.Bool.{Bool, true, false, cond, true≢false}
 use mathlib.Core.List.{List, [], ◌∷◌, ◌++◌, append_assoc}
 use native.Mathlib.Omega.{arith}
-use native.Mathlib.Numerals.{add-one}
-use lib.Dec.{ltb, eqb}
-use lib.ListN.{length, get_or, take, drop, length-append, drop_of_length-le, take-append-drop}
-use lib.Seq.{length-take-le, take-length, drop-cons, take-append_seam, take-append-le, drop-append_seam}
-use borrow.Author.Tests.{lt-ltb, eq-eqb, ne_eqb, not-true}
+use lib.Dec.{eqb}
+use lib.ListN.{length, take, drop, length-append, length-drop, drop_of_length-le, take-append-drop}
+use lib.Seq.{take-length, take-append_seam, take-append-le, drop-append_seam}
+use Rattle.std.specs.List.{prefix_len}
+use Rattle.std.proofs.lemmas.List.Sums.{prefix_len-le-length}
 use Rattle.lists.specs.Lists.{any, equal, part_of}
 use Rattle.path.specs.Split.{is_separator, is_either, trimmed_from, trimmed, has_parent_path, before_last, after_last, before_first, after_first, skipped, is_complete, rsplit_branch, rsplit_leaf, lsplit_first, lsplit_rest}
 use Rattle.path.specs.Join.{is_empty}
@@ -19,24 +20,14 @@ use Rattle.tables.specs.declared.span.Span.{Span}
 use Rattle.tables.specs.declared.rows.Presence.{Presence}
 use Rattle.tables.specs.declared.rows.Presence.TheVariants.{Absent, Present}
 use Rattle.tables.specs.Span.{text_at}
-use Rattle.tables.specs.Model.{Optional, absent, present}
 use Rattle.additions.specs.declared.parts.PathKind.{PathKind}
 use Rattle.additions.specs.declared.parts.PathKind.TheVariants.{Single, Absolute, Inside, Outside}
 use Rattle.additions.specs.declared.parts.Place.{Place}
 use Rattle.additions.specs.declared.parts.PathParts.{PathParts}
 use Rattle.additions.specs.Addition.{set_name_of, name_after, without_leading, path_name, stored_name, limited_name, bad_name, optional_of}
-use Rattle.additions.specs.private.Texts.{is_here, name_from, set_text_of, text_under, absolute_kind, PartsWithin, place_for}
+use Rattle.additions.specs.private.Texts.{name_from, set_text_of, text_under, absolute_kind, PartsWithin, place_for}
 use Rattle.additions.specs.Parts.{kind_for, no_span, whole_span, leaf_span, first_span, set_name_span, name_span, directory_span, parts_of}
 use Rattle.additions.specs.private.Checks.{limited_length, bad_beside}
-
--- a text of no bytes, and any other
-pub empty-is : (l : List ℕ) → length l ≡ 0 → is_empty l ≡ true
-empty-is [] e = refl
-empty-is (c ∷ t) e = absurd (omega arith)
-
-pub filled_is : (l : List ℕ) → (length l ≡ 0 → ⊥) → is_empty l ≡ false
-filled_is [] e = absurd (e refl)
-filled_is (c ∷ t) e = refl
 
 -- a path's branch lies before its leaf and the separator between them, one at the end dropped
 branch-at : (q : List ℕ) → take (length q - (length (after_last q) + 1)) q ≡ before_last q
@@ -77,12 +68,6 @@ leaf-ends q = at (any is_separator q) refl
     at : (t : Bool) → any is_separator q ≡ t → Ends (after_last q) q
     at true e = (before_last q ++ (47 ∷ []), last-parts q e ∙ sym (append_assoc (before_last q) (47 ∷ []) (after_last q)))
     at false e = ([], sym (leaf-all q e))
-
-pub leaf-is : (p leaf : List ℕ) (k m : ℕ) → leaf ≡ rsplit_leaf p → (k ≤ length p) × (take k p ≡ trimmed is_separator p) → m ≡ k - length leaf
-    → ◌≡◌ {A = Span} (record { at = m; len = length leaf }) (leaf_span p)
-leaf-is p leaf k m h t d =
-    let q : k ≡ length (trimmed is_separator p) = sym (length-take-le k p t.0) ∙ ap length t.1 in
-    rw (d, q, h)
 
 pub branch-is : (p : List ℕ) (s : Span) → s ≡ leaf_span p → take (s.at - 1) p ≡ rsplit_branch p
 branch-is p s e =
@@ -181,20 +166,20 @@ directory-read Outside path =
     ap (take (length (rsplit_branch path))) b.1 ∙ take-append_seam (rsplit_branch path) b.0
 
 -- all parts of a path, each by the one before it
-module _ (files : ℕ) (old path called : List ℕ) where
-  pub parts_are : {leaf name set : Span} {place : Place} {parent : Bool}
+module _ (files : ℕ) (old path : List ℕ) where
+  pub parts_are : {leaf name set : Span} {called : List ℕ} {place : Place} {parent : Bool}
       → leaf ≡ leaf_span path
       → name ≡ cond (is_complete path) (whole_span path) leaf
       → parent ≡ has_parent_path path
       → set ≡ set_name_span files parent path
-      → called ≡ text_at path set
-      → place ≡ place_for (cond (eqb files 0) called old) path
+      → called ≡ cond (eqb files 0) (text_at path set) old
+      → place ≡ place_for called path
       → ◌≡◌ {A = PathParts} (record { leaf = leaf; name = name; set_name = set; directory = place.directory; kind = place.kind; has_parent = parent })
       (parts_of files old path)
-  parts_are {leaf} {name} {set} {place} {parent} el en ep es ec ek =
+  parts_are {leaf} {name} {set} {called} {place} {parent} el en ep es ec ek =
       let s : set ≡ set_name_span files (has_parent_path path) path = es ∙ ap (λ (b : Bool). set_name_span files b path) ep in
       let l : place ≡ place_for (name_after files old path) path =
-      ek ∙ ap (λ (x : List ℕ). place_for x path) (named-after files path called old (ec ∙ ap (text_at path) s ∙ set-read files path)) in
+      ek ∙ ap (λ (x : List ℕ). place_for x path) (ec ∙ named-after files path (text_at path set) old (ap (text_at path) s ∙ set-read files path)) in
       let k : place.kind ≡ kind_for (name_after files old path) path = ap (λ (x : Place). x.kind) l in
       let d : place.directory ≡ directory_span (kind_for (name_after files old path) path) (rsplit_branch path) = ap (λ (x : Place). x.directory) l in
       let n : name ≡ name_span path = en ∙ ap (cond (is_complete path) (whole_span path)) el in
@@ -204,17 +189,6 @@ module _ (files : ℕ) (old path called : List ℕ) where
           → ◌≡◌ {A = PathParts} (record { leaf = a; name = b; set_name = c; directory = d; kind = k; has_parent = p })
           (record { leaf = a'; name = b'; set_name = c'; directory = d'; kind = k'; has_parent = p' })
       same e f g h i j = cc
-
--- one place of the scan for a text's first separator: no separator, or one
-module _ (l : List ℕ) (i : ℕ) (h : i < length l) where
-  pub before-turn : (get_or l i 0 ≡ 47 → ⊥) → length (before_first (drop i l)) ≡ suc (length (before_first (drop (i + 1) l)))
-  before-turn e = rw (add-one i, drop-cons l i 0 h, ne_eqb (get_or l i 0) 47 e)
-
-  pub before-stop : get_or l i 0 ≡ 47 → length (before_first (drop i l)) ≡ 0
-  before-stop e = rw (drop-cons l i 0 h, eq-eqb (get_or l i 0) 47 e)
-
-pub before-end : (l : List ℕ) (i : ℕ) → length l ≤ i → length (before_first (drop i l)) ≡ 0
-before-end l i h = rw (drop_of_length-le l {i = i} h)
 
 -- what stands from the separators after a text's first part on is the rest without separators at its start
 unled-rest : (q : List ℕ) → without_leading (drop (length (before_first q)) q) ≡ without_leading (after_first q)
@@ -226,26 +200,50 @@ unled-rest q = at (any is_separator q) refl
     at false e =
         ap without_leading (drop_of_length-le q {i = length (before_first q)} (omega (arith, ap length (first-all q e))) ∙ sym (rest-none q e))
 
+-- what stands before a text's first separator is no longer than the text
+before-le : (q : List ℕ) → length (before_first q) ≤ length q
+before-le [] = omega arith
+before-le (c ∷ t) = at (is_separator c) (before-le t)
+  where
+    at : (b : Bool) → length (before_first t) ≤ length t → length (cond b [] (c ∷ before_first t)) ≤ suc (length t)
+    at true h = omega arith
+    at false h = omega (arith, h)
+
 skipped-plain : (b : List ℕ) → is_complete b ≡ false → skipped b ≡ b
 skipped-plain b h = rw h
 
--- a directory's text under the set's name
-pub inside_is : (b : List ℕ) (first at len : ℕ) → is_complete b ≡ false → first ≡ length (before_first b)
-    → at ≡ length b - length (without_leading (drop first b)) → len ≡ length b - at
-    → ◌≡◌ {A = Span} (record { at = at; len = len }) (directory_span Inside b)
-inside_is b first at len h e d n =
-    let w : without_leading (drop first b) ≡ without_leading (lsplit_rest b) =
-    ap (λ (k : ℕ). without_leading (drop k b)) e ∙ unled-rest b ∙ ap (λ (l : List ℕ). without_leading (after_first l)) (sym (skipped-plain b h)) in
-    let p : at ≡ length b - length (without_leading (lsplit_rest b)) = d ∙ ap (λ (l : List ℕ). length b - length l) w in
-    let k : length (without_leading (lsplit_rest b)) ≤ length b = ends-le (without_leading (lsplit_rest b)) b (directory-ends b) in
-    same p (omega (arith, n, p, k))
+-- a text without the separators at its start is what stands after them
+unled-is : (l : List ℕ) → without_leading l ≡ drop (prefix_len is_separator l) l
+unled-is [] = refl
+unled-is (c ∷ t) = at (is_separator c) (unled-is t)
   where
-    same : {a a' m m' : ℕ} → a ≡ a' → m ≡ m' → ◌≡◌ {A = Span} (record { at = a; len = m }) (record { at = a'; len = m' })
-    same f g = cc
+    at : (b : Bool) → without_leading t ≡ drop (prefix_len is_separator t) t
+        → cond b (without_leading t) (c ∷ t) ≡ drop (cond b (1 + prefix_len is_separator t) 0) (c ∷ t)
+    at true e = let z : 1 + prefix_len is_separator t ≡ suc (prefix_len is_separator t) = omega arith in rw z e
+    at false e = refl
 
 -- the first part of a branch that doesn't begin with a separator
-pub first-is : (b : List ℕ) (n : ℕ) → is_complete b ≡ false → n ≡ length (before_first b) → take n b ≡ lsplit_first b
-first-is b n h e = ap (λ (k : ℕ). take k b) e ∙ first-at b ∙ ap before_first (sym (skipped-plain b h))
+module _ (b : List ℕ) (h : is_complete b ≡ false) where
+  first-value : length (lsplit_first b) ≡ length (before_first b)
+  first-value = ap (λ (l : List ℕ). length (before_first l)) (skipped-plain b h)
+
+  pub first_le : length (lsplit_first b) ≤ length b
+  first_le = omega (arith, first-value, before-le b)
+
+  -- a directory's text under the set's name
+  pub inside_is : (first n : ℕ) → first ≡ length (lsplit_first b) → n ≡ prefix_len is_separator (drop first b)
+      → ◌≡◌ {A = Span} (record { at = first + n; len = length (drop first b) - n }) (directory_span Inside b)
+  inside_is first n e d =
+      let w : without_leading (drop first b) ≡ without_leading (lsplit_rest b) =
+      ap (λ (k : ℕ). without_leading (drop k b)) (e ∙ first-value) ∙ unled-rest b ∙ ap (λ (l : List ℕ). without_leading (after_first l)) (sym (skipped-plain b h)) in
+      let m : length (without_leading (lsplit_rest b)) ≡ length b - first - n =
+      ap length (sym w ∙ unled-is (drop first b) ∙ ap (λ (k : ℕ). drop k (drop first b)) (sym d)) ∙ rw (length-drop, length-drop) in
+      let k : n ≤ length (drop first b) = omega (arith, d, prefix_len-le-length is_separator (drop first b)) in
+      let l : first ≤ length b = omega (arith, e, first_le) in
+      same (omega (arith, m, k, l, length-drop first b)) (omega (arith, m, length-drop first b))
+    where
+      same : {a a' m m' : ℕ} → a ≡ a' → m ≡ m' → ◌≡◌ {A = Span} (record { at = a; len = m }) (record { at = a'; len = m' })
+      same f g = cc
 
 -- the branch of a path that is not absolute
 pub branch-plain : (path : List ℕ) → is_complete path ≡ false → is_complete (rsplit_branch path) ≡ false
@@ -290,31 +288,16 @@ parent_above p leaf e h = at (has_parent_path p) refl
     at true q = refl
     at false q = absurd (omega (arith, trimmed-length p, ap length e ∙ ap length (leaf-all (trimmed is_separator p) (trimmed-clear p q))))
 
--- one place of the scan for separators at a path's start
-pub unled-turn : (l : List ℕ) (i : ℕ) → i < length l → get_or l i 0 ≡ 47 → without_leading (drop i l) ≡ without_leading (drop (i + 1) l)
-unled-turn l i h e = rw (add-one i, drop-cons l i 0 h, e)
-
-pub unled-stop : (l : List ℕ) (i : ℕ) → i < length l → (get_or l i 0 ≡ 47 → ⊥) → without_leading (drop i l) ≡ drop i l
-unled-stop l i h e = rw (drop-cons l i 0 h, ne_eqb (get_or l i 0) 47 e)
-
--- a given name that has bytes, or none that has
-pub given_is : (l : List ℕ) → ltb 0 (length l) ≡ not (is_empty l)
-given_is [] = refl
-given_is (c ∷ t) = lt-ltb 0 (length (c ∷ t)) (omega arith)
-
+-- the name that is stored
 pub name-is : (p : Presence) (given path own : List ℕ) → own ≡ path_name path → name_from p given own ≡ stored_name (optional_of p given) path
 name-is Absent given path own f = f
 name-is Present [] path own f = f
 name-is Present (c ∷ l) path own f = refl
 
-pub none_is : (l : List ℕ) → eqb (length l) 0 ≡ is_empty l
-none_is [] = refl
-none_is (c ∷ t) = ne_eqb (length (c ∷ t)) 0 (λ e. omega arith)
-
 -- the name that refusal 5 looks at, and refusal 6
-pub limited-is : (given : Optional (List ℕ)) (path : List ℕ) → limited_length given (length (rsplit_leaf path)) ≡ length (limited_name given path)
-limited-is absent path = refl
-limited-is (present given) path = refl
+pub limited-is : (given : Option (List ℕ)) (path : List ℕ) → limited_length given (length (rsplit_leaf path)) ≡ length (limited_name given path)
+limited-is None path = refl
+limited-is (Some given) path = refl
 
 absolute-is : (a b c : Bool) → absolute_kind (cond a Absolute (cond b Single (cond c Inside Outside))) ≡ a
 absolute-is true b c = refl
@@ -322,24 +305,10 @@ absolute-is false true c = refl
 absolute-is false false true = refl
 absolute-is false false false = refl
 
-pub bad-is : (given : Optional (List ℕ)) (name path : List ℕ) → bad_beside given (absolute_kind (kind_for name path)) ≡ bad_name given path
-bad-is absent name path = refl
-bad-is (present given) name path =
-    ap (λ (t : Bool). bad_beside (present given) t) (absolute-is (is_complete path) (is_empty (rsplit_branch path)) (equal (lsplit_first (rsplit_branch path)) name))
-
-module _ (absolute : Bool) where
-  pub bad-given : (p : Presence) (given : List ℕ) → (is_here p && not (is_empty given)) ≡ true → is_complete given ≡ true → true ≡ bad_beside (optional_of p given) absolute
-  bad-given Absent given e h = absurd (false≢true e)
-  bad-given Present given e h = rw h
-
-  pub bad-beside : (p : Presence) (given : List ℕ) → (is_here p && not (is_empty given)) ≡ true → is_complete given ≡ false → absolute ≡ bad_beside (optional_of p given) absolute
-  bad-beside Absent given e h = absurd (false≢true e)
-  bad-beside Present given e h = rw (h, not-true (is_empty given) e)
-
-  pub bad-none : (p : Presence) (given : List ℕ) → (is_here p && not (is_empty given)) ≡ false → false ≡ bad_beside (optional_of p given) absolute
-  bad-none Absent given e = refl
-  bad-none Present [] e = refl
-  bad-none Present (c ∷ t) e = absurd (true≢false e)
+pub bad-is : (given : Option (List ℕ)) (name path : List ℕ) → bad_beside given (absolute_kind (kind_for name path)) ≡ bad_name given path
+bad-is None name path = refl
+bad-is (Some given) name path =
+    ap (λ (t : Bool). bad_beside (Some given) t) (absolute-is (is_complete path) (is_empty (rsplit_branch path)) (equal (lsplit_first (rsplit_branch path)) name))
 
 -- ---- the parts lie within the path
 
@@ -363,14 +332,6 @@ name-within path = at (is_complete path)
     at true = omega arith
     at false =
         end-within (rsplit_leaf path) (trimmed is_separator path) (length path) (leaf-ends (trimmed is_separator path)) (trimmed-le path)
-
-pub before-le : (q : List ℕ) → length (before_first q) ≤ length q
-before-le [] = omega arith
-before-le (c ∷ t) = at (is_separator c) (before-le t)
-  where
-    at : (b : Bool) → length (before_first t) ≤ length t → length (cond b [] (c ∷ before_first t)) ≤ suc (length t)
-    at true h = omega arith
-    at false h = omega (arith, h)
 
 first-within : (path : List ℕ) → (first_span path).at + (first_span path).len ≤ length path
 first-within [] = omega arith

@@ -8,7 +8,7 @@
 -- once one at its start is dropped; `has_parent_path`, that it has more than one part; `is_complete`, that it is absolute.
 -- `when t n` is refusal n where t holds; `first_of` is the number of the first refusal of a list whose test holds, 0
 -- where none does; `outcome_of k a` is refusal k, or a where k is 0.
-use Rattle.std.specs.Prelude.{ℕ, ◌+◌, ◌-◌, ◌*◌, ◌/◌, ◌%◌, Bool, true, false, cond, not, ◌&&◌, ◌||◌, List, [], ◌∷◌, ◌++◌, map, eqb, ltb, leb, ℤ, pos, length}
+use Rattle.std.specs.Prelude.{ℕ, ◌+◌, ◌-◌, ◌*◌, ◌/◌, ◌%◌, Bool, true, false, cond, not, ◌&&◌, ◌||◌, List, [], ◌∷◌, ◌++◌, map, eqb, ltb, leb, ℤ, pos, length, Option, Some, None}
 use Rattle.lists.specs.Lists.{equal, any, sum}
 use Rattle.lists.specs.Decimal.{decimal}
 use Rattle.path.specs.Split.{is_separator, rsplit_branch, rsplit_leaf, is_complete, lsplit_first, lsplit_rest, has_parent_path}
@@ -16,7 +16,7 @@ use Rattle.path.specs.Join.{is_empty}
 use Rattle.tables.specs.declared.rows.Presence.{Presence}
 use Rattle.tables.specs.declared.rows.Presence.TheVariants.{Absent, Present}
 use Rattle.tables.specs.Rows.{pad_bit, symlink_bit}
-use Rattle.tables.specs.Model.{Optional, absent, present, Directory, single, absolute, stored, present_if}
+use Rattle.tables.specs.Model.{Directory, single, absolute, stored, present_if}
 use Rattle.tables.specs.Model.{File, is_pad, Model}
 use Rattle.types.specs.Refusals.{Outcome}
 use Rattle.rules.specs.Rules.{Rule, when, first_of, outcome_of}
@@ -27,18 +27,18 @@ use Rattle.additions.specs.declared.info.FileInfo.{FileInfo}
 
 -- what an addition is given
 pub record Addition : Type 0 where
-  pub given : Optional (List ℕ)
+  pub given : Option (List ℕ)
   pub path : List ℕ
   pub size : ℤ
   pub flags : ℕ
   pub time : ℤ
   pub link : List ℕ
-  pub root : Optional (List ℕ)
+  pub root : Option (List ℕ)
 
 -- something that may be missing, as a call brings it
-abbrev pub optional_of : Presence → List ℕ → Optional (List ℕ)
-optional_of Absent xs = absent
-optional_of Present xs = present xs
+abbrev pub optional_of : Presence → List ℕ → Option (List ℕ)
+optional_of Absent xs = None
+optional_of Present xs = Some xs
 
 -- the addition of a file, with its given name, its path and its link text
 abbrev pub addition_of : FileInfo → List ℕ → List ℕ → List ℕ → Addition
@@ -53,9 +53,9 @@ addition_of file filename path link =
       root = optional_of file.rooted file.root.bytes;
     }
 
-abbrev pub is_present : {A : Type 0} → Optional A → Bool
-is_present absent = false
-is_present (present a) = true
+abbrev pub is_present : {A : Type 0} → Option A → Bool
+is_present None = false
+is_present (Some a) = true
 
 -- 'A path with no parent names the set; else the first element of the first path does'
 abbrev pub set_name_of : List ℕ → List ℕ
@@ -86,19 +86,19 @@ abbrev pub path_name : List ℕ → List ℕ
 path_name path = cond (is_complete path) path (rsplit_leaf path)
 
 -- the name that is stored: 'A given name of no bytes counts as none'
-abbrev pub stored_name : Optional (List ℕ) → List ℕ → List ℕ
-stored_name absent path = path_name path
-stored_name (present given) path = cond (is_empty given) (path_name path) given
+abbrev pub stored_name : Option (List ℕ) → List ℕ → List ℕ
+stored_name None path = path_name path
+stored_name (Some given) path = cond (is_empty given) (path_name path) given
 
 -- refusal 5 looks at the given name, 'or with none the path's `filename`'; an empty given name is not none here
-abbrev pub limited_name : Optional (List ℕ) → List ℕ → List ℕ
-limited_name absent path = rsplit_leaf path
-limited_name (present given) path = given
+abbrev pub limited_name : Option (List ℕ) → List ℕ → List ℕ
+limited_name None path = rsplit_leaf path
+limited_name (Some given) path = given
 
 -- refusal 6: 'given name starts with a separator, or is nonempty with an absolute path'
-abbrev pub bad_name : Optional (List ℕ) → List ℕ → Bool
-bad_name absent path = false
-bad_name (present given) path = is_complete given || (not (is_empty given) && is_complete path)
+abbrev pub bad_name : Option (List ℕ) → List ℕ → Bool
+bad_name None path = false
+bad_name (Some given) path = is_complete given || (not (is_empty given) && is_complete path)
 
 -- 'A file of size above 0 without link text' fixes v1 or v2, or must agree
 abbrev pub decides : ℕ → List ℕ → Bool
@@ -206,8 +206,8 @@ pad_added offset size =
       directory = stored pad_directory_name false;
       flags = pad_bit;
       time = pos 0;
-      link = absent;
-      root = absent;
+      link = None;
+      root = None;
       made = true;
     } ∷ [])
 
@@ -235,9 +235,9 @@ added m a =
 -- ---- room
 
 -- 'Text needed is the sum of the set's name and all names, directories and link texts held'
-abbrev pub link_length : Optional (List ℕ) → ℕ
-link_length absent = 0
-link_length (present link) = length link
+abbrev pub link_length : Option (List ℕ) → ℕ
+link_length None = 0
+link_length (Some link) = length link
 
 abbrev pub file_text : File → ℕ
 file_text f = length f.name + link_length f.link

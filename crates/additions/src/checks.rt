@@ -1,19 +1,19 @@
 // The tests of an addition on numbers and on the parts of its path, in document 01's order. Relies on the laws of
 // proofs/Rules.antt.
 ghost use Rattle.std.specs.Prelude.{◌≡◌, ◌≤◌};
+ghost use Rattle.types.specs.Refusals.{outcome};
 ghost use Rattle.rules.specs.Rules.{first_of, outcome_of};
 ghost use Rattle.rules.specs.Results.{check_number};
 ghost use Rattle.additions.specs.Addition.{optional_of, decides, is_left_open};
 ghost use Rattle.additions.specs.Addition.{version_by, pad_after, size_rules, version_rules};
 ghost use Rattle.additions.specs.private.Texts.{is_here};
-ghost use Rattle.additions.specs.private.Checks.{limited_length, bad_beside, sizes_says};
+ghost use Rattle.additions.specs.private.Checks.{limited_length, bad_beside};
 ghost use Rattle.additions.specs.private.Checks.{names_of, sizes_for, number_rules};
 
 use crate::info::{FileInfo, is_given, is_here};
 use crate::parts::{PathParts, is_absolute};
-use rules::Check;
 use tables::{FileStorage, Presence};
-use types::{Refusal, clamped64, is_negative64};
+use types::{Refusal, clamped, is_negative};
 
 // The largest size, offset and total.
 const LIMIT: u64 = 281474976710655;
@@ -22,6 +22,7 @@ const LIMIT: u64 = 281474976710655;
 const NAME_LIMIT: usize = 4096;
 
 // The size of an addition, whether the set is v2 after it, and the size of the pad after it, 0 for none.
+// Stays: no field is there or not by `v2`, so an `Option` would hold nothing.
 #[derive(Clone, Copy)]
 pub struct Sizes {
     pub size: u64,
@@ -29,30 +30,23 @@ pub struct Sizes {
     pub pad: u64,
 }
 
-// Sizes, or why there are none.
-#[derive(Drop)]
-pub enum SizesResult {
-    Ok(Sizes),
-    Err(Refusal),
-}
-
 // Refusals 1, 2, 3, 4.
-fn check_size(piece_length: u64, total: u64, negative: bool, size: u64) -> Check
+fn check_size(piece_length: u64, total: u64, negative: bool, size: u64) -> Result<(), Refusal>
     ensures { check_number result ≡ first_of (size_rules piece_length total negative size) }
 {
     if rules::is_bad_length(piece_length) {
-        return Check::Stop(Refusal::InvalidPieceLength);
+        return Err(Refusal::InvalidPieceLength);
     }
     if negative {
-        return Check::Stop(Refusal::NegativeSize);
+        return Err(Refusal::NegativeSize);
     }
     if LIMIT < size {
-        return Check::Stop(Refusal::FileTooLarge);
+        return Err(Refusal::FileTooLarge);
     }
     if LIMIT - size < total {
-        return Check::Stop(Refusal::TorrentInvalidLength);
+        return Err(Refusal::TorrentInvalidLength);
     }
-    Check::Go
+    Ok(())
 }
 
 // The length of the name that refusal 5 looks at; `leaf` is that of the path's last part.
@@ -69,88 +63,62 @@ fn limited_length(given: Presence, filename: &[u8], leaf: usize) -> usize
 fn is_bad_name(given: Presence, filename: &[u8], absolute: bool) -> bool
     ensures { result ≡ bad_beside (optional_of given filename.now) absolute }
 {
-    if is_given(given, filename) {
-        if path::is_complete(filename) {
-            return true;
-        }
-        return absolute;
-    }
-    false
+    is_given(given, filename) && (path::is_complete(filename) || absolute)
 }
 
 // Refusals 5, 6, 7.
-fn check_names(files: usize, given: Presence, filename: &[u8], parts: PathParts) -> Check
+fn check_names(
+    files: usize,
+    given: Presence,
+    filename: &[u8],
+    parts: PathParts,
+) -> Result<(), Refusal>
     ensures { check_number result ≡ first_of (names_of files (optional_of given filename.now) parts) }
 {
     if NAME_LIMIT <= limited_length(given, filename, parts.leaf.len) {
-        return Check::Stop(Refusal::FilenameTooLong);
+        return Err(Refusal::FilenameTooLong);
     }
-    let kind = parts.kind;
-    if is_bad_name(given, filename, is_absolute(kind)) {
-        return Check::Stop(Refusal::InvalidName);
+    if is_bad_name(given, filename, is_absolute(parts.kind)) {
+        return Err(Refusal::InvalidName);
     }
-    if parts.has_parent {
-        return Check::Go;
+    if !parts.has_parent && 0 < files {
+        return Err(Refusal::MissingParentPath);
     }
-    if 0 < files {
-        return Check::Stop(Refusal::MissingParentPath);
-    }
-    Check::Go
+    Ok(())
 }
 
 // Whether a file fixes v1 or v2, or must agree: it has bytes and no link text.
 fn is_plain(size: u64, link: &[u8]) -> bool
     ensures { result ≡ decides size link.now }
 {
-    if 0 < size {
-        return link.len() == 0;
-    }
-    false
+    0 < size && link.is_empty()
 }
 
 // Whether a set may still become v1 or v2.
 fn is_open(total: u64, links: usize, files: usize) -> bool
     ensures { result ≡ is_left_open total links files }
 {
-    if total == 0 {
-        return true;
-    }
-    links == files
+    total == 0 || links == files
 }
 
 // Refusals 8, 9.
-fn check_version(v2: bool, plain: bool, free: bool, root: bool) -> Check
+fn check_version(v2: bool, plain: bool, free: bool, root: bool) -> Result<(), Refusal>
     ensures { check_number result ≡ first_of (version_rules v2 plain free root) }
 {
-    if !plain {
-        return Check::Go;
-    }
-    if free {
-        return Check::Go;
+    if !plain || free || v2 == root {
+        return Ok(());
     }
     if v2 {
-        if root {
-            return Check::Go;
-        }
-        return Check::Stop(Refusal::TorrentMissingPiecesRoot);
+        return Err(Refusal::TorrentMissingPiecesRoot);
     }
-    if root {
-        return Check::Stop(Refusal::TorrentInconsistentFiles);
-    }
-    Check::Go
+    Err(Refusal::TorrentInconsistentFiles)
 }
 
 // Whether the set is v2 after an addition.
 fn version_by(v2: bool, plain: bool, free: bool, root: bool) -> bool
     ensures { result ≡ version_by v2 plain free root }
 {
-    if plain {
-        if free {
-            return root;
-        }
-        return v2;
-    }
-    v2
+    if plain && free { root } else { v2 }
 }
 
 // What is missing to the next multiple of the piece length in a v2 set; 0 in a v1 set.
@@ -175,39 +143,26 @@ pub fn decide_sizes(
     filename: &[u8],
     parts: PathParts,
     link: &[u8],
-) -> SizesResult
-    ensures { sizes_says result
+) -> Result<Sizes, Refusal>
+    ensures { outcome result
         ≡ outcome_of
         (first_of
         (number_rules fs (optional_of file.given filename.now) parts file.size link.now
         (is_here file.rooted)))
         (sizes_for fs file.size link.now (is_here file.rooted)) }
 {
-    let size = clamped64(file.size);
-    if let Check::Stop(e) = check_size(
-        fs.piece_length,
-        fs.total_size,
-        is_negative64(file.size),
-        size,
-    ) {
-        return SizesResult::Err(e);
-    }
-    let given = file.given;
-    if let Check::Stop(e) = check_names(fs.num_files, given, filename, parts) {
-        return SizesResult::Err(e);
-    }
+    let size = clamped(file.size);
+    check_size(fs.piece_length, fs.total_size, is_negative(file.size), size)?;
+    check_names(fs.num_files, file.given, filename, parts)?;
     let plain = is_plain(size, link);
     let free = is_open(fs.total_size, fs.num_symlinks, fs.num_files);
-    let rooted = file.rooted;
-    let root = is_here(rooted);
-    if let Check::Stop(e) = check_version(fs.v2, plain, free, root) {
-        return SizesResult::Err(e);
-    }
+    let root = is_here(file.rooted);
+    check_version(fs.v2, plain, free, root)?;
     let v2 = version_by(fs.v2, plain, free, root);
     let total = fs.total_size + size;
     let pad = pad_after(v2, fs.piece_length, total);
     if LIMIT - total < pad {
-        return SizesResult::Err(Refusal::TorrentInvalidLength);
+        return Err(Refusal::TorrentInvalidLength);
     }
-    SizesResult::Ok(Sizes { size, v2, pad })
+    Ok(Sizes { size, v2, pad })
 }

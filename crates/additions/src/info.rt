@@ -1,5 +1,5 @@
-// A file to add, and what is kept of it: its name and its link text. Relies on the laws of proofs/Texts.antt.
-ghost use Rattle.std.specs.Prelude.{◌≡◌, not, ◌&&◌, length};
+// A file to add, and what is kept of it: its name and its link text. Relies on the presence of `tables`.
+ghost use Rattle.std.specs.Prelude.{◌≡◌, not, ◌&&◌};
 ghost use Rattle.path.specs.Join.{is_empty};
 ghost use Rattle.additions.specs.Addition.{link_is_kept};
 ghost use Rattle.additions.specs.private.Texts.{is_here, name_from, link_text_of};
@@ -11,6 +11,7 @@ const MAX_LINKS: usize = 32766;
 
 // A file to add, besides its texts: whether a name is given, its size, flags and modified time, and its root, if it is
 // there.
+// Stays: document 01 prescribes an enum of presence, with the root's bytes beside it.
 #[derive(Clone, Copy)]
 pub struct FileInfo {
     pub given: Presence,
@@ -25,40 +26,31 @@ pub struct FileInfo {
 pub fn is_here(presence: Presence) -> bool
     ensures { result ≡ is_here presence }
 {
-    match presence {
-        Presence::Present => true,
-        Presence::Absent => false,
-    }
+    matches!(presence, Presence::Present)
 }
 
 // Whether a name is given that has bytes.
-pub fn is_given(given: Presence, filename: &[u8]) -> bool
+pub(crate) fn is_given(given: Presence, filename: &[u8]) -> bool
     ensures { result ≡ (is_here given && not (is_empty filename.now)) }
 {
-    if is_here(given) {
-        return 0 < filename.len();
-    }
-    false
+    is_here(given) && !filename.is_empty()
 }
 
-// The length of the name that is stored: the given one where it has bytes, else `own`, that of the path.
-pub fn name_length(given: Presence, filename: &[u8], own: &[u8]) -> usize
-    ensures { result ≡ length (name_from given filename.now own.now) }
+// The name that is stored: the given one where it has bytes, else `own`, that of the path.
+pub fn stored_name<'a>(given: Presence, filename: &'a [u8], own: &'a [u8]) -> &'a [u8]
+    ensures { result.now ≡ name_from given filename.now own.now }
 {
     if is_given(given, filename) {
-        return filename.len();
+        return filename;
     }
-    own.len()
+    own
 }
 
 // Whether an addition keeps its link text: it has one, and a set of `links` link texts may hold one more.
 pub fn keeps_link(links: usize, link: &[u8]) -> bool
     ensures { result ≡ link_is_kept links link.now }
 {
-    if link.len() == 0 {
-        return false;
-    }
-    links < MAX_LINKS
+    !link.is_empty() && links < MAX_LINKS
 }
 
 // The link text where it is kept, no bytes where not.
@@ -68,5 +60,5 @@ pub fn link_text(links: usize, link: &[u8]) -> &[u8]
     if keeps_link(links, link) {
         return link;
     }
-    lists::part(link, 0, 0)
+    &link[..0]
 }

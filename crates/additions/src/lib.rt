@@ -7,6 +7,6 @@ mod checks;
 mod info;
 mod parts;
 
-pub use checks::{Sizes, SizesResult, decide_sizes};
-pub use info::{FileInfo, is_given, is_here, keeps_link, link_text, name_length};
+pub use checks::{Sizes, decide_sizes};
+pub use info::{FileInfo, is_here, keeps_link, link_text, stored_name};
 pub use parts::{PathKind, PathParts, is_outside, parts_of};

@@ -1,13 +1,11 @@
 // The parts of a path, as spans in it. Relies on the splits of `path` and on the laws of proofs/Texts.antt.
-ghost use Rattle.std.specs.Prelude.{◌≡◌, false, cond, ◌-◌, ◌≤◌, eqb, length, drop};
-ghost use Rattle.lists.specs.Lists.{equal};
-ghost use Rattle.path.specs.Split.{rsplit_branch, rsplit_leaf, before_first, is_complete, has_parent_path};
+ghost use Rattle.std.specs.Prelude.{◌≡◌, false, cond, ◌+◌, ◌≤◌, length};
+ghost use Rattle.path.specs.Split.{rsplit_branch, rsplit_leaf, lsplit_first, is_complete, has_parent_path};
 ghost use Rattle.tables.specs.Span.{text_at};
 ghost use Rattle.additions.specs.declared.parts.PathKind.TheVariants.{Inside};
-ghost use Rattle.additions.specs.Addition.{without_leading};
 ghost use Rattle.additions.specs.Parts.{whole_span, leaf_span, first_span};
 ghost use Rattle.additions.specs.Parts.{set_name_span, directory_span, parts_of};
-ghost use Rattle.additions.specs.private.Texts.{outside_kind, absolute_kind, place_in, place_for};
+ghost use Rattle.additions.specs.private.Texts.{outside_kind, absolute_kind, place_for};
 
 use tables::{FileStorage, Span};
 
@@ -29,6 +27,7 @@ pub(crate) struct Place {
 }
 
 // The parts of a path, as spans in it.
+// Stays: a path without a parent has each of these spans too, so `has_parent` guards no field.
 #[derive(Clone, Copy)]
 pub struct PathParts {
     // Its last part.
@@ -51,7 +50,7 @@ fn leaf_span(path: &[u8]) -> Span
     let end = path::trimmed_length(path);
     let leaf = path::rsplit_path_leaf(path);
     Span {
-        at: lists::saturating_sub_usize(end, leaf.len()),
+        at: end.saturating_sub(leaf.len()),
         len: leaf.len(),
     }
 }
@@ -61,7 +60,7 @@ fn branch_before(path: &[u8], leaf: Span) -> &[u8]
     requires { leaf ≡ leaf_span path.now }
     ensures { result.now ≡ rsplit_branch path.now }
 {
-    lists::part(path, 0, lists::saturating_sub_usize(leaf.at, 1))
+    lists::part(path, 0, leaf.at.saturating_sub(1))
 }
 
 // Whether a path has a part above its leaf, whose length is known. A path longer than its leaf and one separator has
@@ -70,10 +69,7 @@ fn is_below(path: &[u8], leaf: usize) -> bool
     requires { leaf ≡ length (rsplit_leaf path.now) }
     ensures { result ≡ has_parent_path path.now }
 {
-    if leaf < lists::saturating_sub_usize(path.len(), 1) {
-        return true;
-    }
-    path::has_parent_path(path)
+    leaf < path.len().saturating_sub(1) || path::has_parent_path(path)
 }
 
 // The span of a path's first part.
@@ -122,69 +118,42 @@ fn name_span(path: &[u8], leaf: Span) -> Span
     leaf
 }
 
-// Whether a part of a path is the set's name: `set_name` where the set has no files, else what it is called.
-fn is_named(part: &[u8], files: usize, set_name: &[u8], text: &[u8], name: Span) -> bool
-    ensures { result ≡ equal part.now (cond (eqb files 0) set_name.now (text_at text.now name)) }
-{
-    if files == 0 {
-        return lists::same(part, set_name);
-    }
-    lists::same(part, tables::text_at(text, name))
-}
-
-// How many bytes of a text stand before its first separator.
-fn first_length(text: &[u8]) -> usize
-    ensures { result ≡ length (before_first text.now) }
-{
-    let mut i = 0;
-    while i < text.len() {
-        if text[i] == b'/' {
-            return i;
-        }
-        i += 1;
-    }
-    i
-}
-
-// Where the separators of a text end that stand from `from` on.
-fn separators_end(text: &[u8], from: usize) -> usize
-    requires { from ≤ length text.now }
-    ensures { result ≡ length text.now - length (without_leading (drop from text.now)) }
-{
-    let mut i = from;
-    while i < text.len() {
-        if text[i] != b'/' {
-            return i;
-        }
-        i += 1;
-    }
-    i
-}
-
 // The directory's text under the set's name, as a span in the path's branch, whose first part has `first` bytes.
 fn inside_span(branch: &[u8], first: usize) -> Span
     requires branch_value { is_complete branch.now ≡ false }
-    requires first_value { first ≡ length (before_first branch.now) }
+    requires first_value { first ≡ length (lsplit_first branch.now) }
     ensures { result ≡ directory_span Inside branch.now }
 {
-    let at = separators_end(branch, first);
+    let rest = &branch[first..];
+    let separators = rest.iter().take_while(|c| **c == b'/').count();
     Span {
-        at,
-        len: branch.len() - at,
+        at: first + separators,
+        len: rest.len() - separators,
     }
 }
 
-// Where a file of that branch lies, whose path is not absolute.
-fn place_in(branch: &[u8], files: usize, set_name: &[u8], text: &[u8], name: Span) -> Place
-    requires { is_complete branch.now ≡ false }
-    ensures { result
-        ≡ place_in (cond (eqb files 0) set_name.now (text_at text.now name)) branch.now }
+// Where a file lies, in a set that is called `set_name`.
+fn place_of(path: &[u8], branch: &[u8], set_name: &[u8]) -> Place
+    requires { branch.now ≡ rsplit_branch path.now }
+    ensures { result ≡ place_for set_name.now path.now }
 {
-    let n = first_length(branch);
-    if is_named(&branch[..n], files, set_name, text, name) {
+    if path::is_complete(path) {
+        return Place {
+            kind: PathKind::Absolute,
+            directory: Span { at: 0, len: 0 },
+        };
+    }
+    if branch.is_empty() {
+        return Place {
+            kind: PathKind::Single,
+            directory: Span { at: 0, len: 0 },
+        };
+    }
+    let first = path::lsplit_path_first(branch);
+    if lists::same(first, set_name) {
         return Place {
             kind: PathKind::Inside,
-            directory: inside_span(branch, n),
+            directory: inside_span(branch, first.len()),
         };
     }
     Place {
@@ -196,34 +165,6 @@ fn place_in(branch: &[u8], files: usize, set_name: &[u8], text: &[u8], name: Spa
     }
 }
 
-// Where a file lies.
-fn place_of(
-    path: &[u8],
-    branch: &[u8],
-    files: usize,
-    set_name: &[u8],
-    text: &[u8],
-    name: Span,
-) -> Place
-    requires { branch.now ≡ rsplit_branch path.now }
-    ensures { result
-        ≡ place_for (cond (eqb files 0) set_name.now (text_at text.now name)) path.now }
-{
-    if path::is_complete(path) {
-        return Place {
-            kind: PathKind::Absolute,
-            directory: Span { at: 0, len: 0 },
-        };
-    }
-    if branch.len() == 0 {
-        return Place {
-            kind: PathKind::Single,
-            directory: Span { at: 0, len: 0 },
-        };
-    }
-    place_in(branch, files, set_name, text, name)
-}
-
 // The parts of the path of a file that is added to a set, whose texts stand in `text`.
 pub fn parts_of(fs: FileStorage, text: &[u8], path: &[u8]) -> PathParts
     ensures { result ≡ parts_of fs.num_files (text_at text.now fs.name) path.now }
@@ -232,18 +173,18 @@ pub fn parts_of(fs: FileStorage, text: &[u8], path: &[u8]) -> PathParts
     let branch = branch_before(path, leaf);
     let has_parent = is_below(path, leaf.len);
     let set_name = set_name_span(fs.num_files, has_parent, path);
-    let called = tables::text_at(path, set_name);
-    let old = fs.name;
-    let place = place_of(path, branch, fs.num_files, called, text, old);
-    let kind = place.kind;
-    let directory = place.directory;
-    let name = name_span(path, leaf);
+    let called = if fs.num_files == 0 {
+        tables::text_at(path, set_name)
+    } else {
+        tables::text_at(text, fs.name)
+    };
+    let place = place_of(path, branch, called);
     PathParts {
         leaf,
-        name,
+        name: name_span(path, leaf),
         set_name,
-        directory,
-        kind,
+        directory: place.directory,
+        kind: place.kind,
         has_parent,
     }
 }
@@ -252,22 +193,12 @@ pub fn parts_of(fs: FileStorage, text: &[u8], path: &[u8]) -> PathParts
 pub fn is_outside(kind: PathKind) -> bool
     ensures { result ≡ outside_kind kind }
 {
-    match kind {
-        PathKind::Outside => true,
-        PathKind::Inside => false,
-        PathKind::Single => false,
-        PathKind::Absolute => false,
-    }
+    matches!(kind, PathKind::Outside)
 }
 
 // Whether a path is absolute.
 pub(crate) fn is_absolute(kind: PathKind) -> bool
     ensures { result ≡ absolute_kind kind }
 {
-    match kind {
-        PathKind::Absolute => true,
-        PathKind::Inside => false,
-        PathKind::Outside => false,
-        PathKind::Single => false,
-    }
+    matches!(kind, PathKind::Absolute)
 }

@@ -1,3 +1,2 @@
--- The laws of `answers`: deciding before an answer, and what an answer means of the set.
-pub mod Numbers
+-- The laws of `answers`: what an answer means of the set.
 pub mod Meanings

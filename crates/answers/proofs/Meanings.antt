@@ -1,6 +1,7 @@
 -- What the answers mean: the set that the tables mean (specs/Model.antt of `tables`) has as many files and directories as the
 -- answers say, and its file k has the size, offset, name, flags, time, link text, root and paths that they say. Where an
 -- answer is a place, the set's text stands there. These laws rely on those of `tables` about places.
+use Rattle.std.specs.Prelude.{Option, Some, None}
 use Prim.Native.Nat.{ℕ, ◌%◌, ◌/◌, ◌<◌}
 use mathlib.Core.Path.{◌≡◌, refl, ap}
 use mathlib.Core.Bool.{Bool, true, false, cond, ◌&&◌}
@@ -16,7 +17,7 @@ use Rattle.tables.specs.declared.storage.FileStorage.{FileStorage}
 use Rattle.tables.specs.declared.span.Span.{Span}
 use Rattle.tables.specs.Span.{text_at}
 use Rattle.tables.specs.Rows.{row_at, dir_at, no_path, root_at, has}
-use Rattle.tables.specs.Model.{Optional, absent, present, present_if, Directory, single, absolute, stored, path_in, File, Store, directory_text, file_of, view_of}
+use Rattle.tables.specs.Model.{present_if, Directory, single, absolute, stored, path_in, File, Store, directory_text, file_of, view_of}
 use Rattle.tables.proofs.Tabled.{length-tabled, get_or-tabled}
 use Rattle.rules.specs.Rules.{first_of, outcome_of}
 use Rattle.rules.specs.Bounds.{clamped_of}
@@ -25,9 +26,9 @@ use Rattle.answers.specs.Answers.{time_of, root_of, is_absolute, internal_path, 
 use Rattle.rules.proofs.Deciding.{file_number, link_number}
 
 -- something that may be missing, or what stands for it
-abbrev pub or_else : {A : Type 0} → Optional A → A → A
-or_else absent d = d
-or_else (present x) d = x
+abbrev pub or_else : {A : Type 0} → Option A → A → A
+or_else None d = d
+or_else (Some x) d = x
 
 abbrev pub is_absolute_in : Directory → Bool
 is_absolute_in single = false
@@ -35,9 +36,9 @@ is_absolute_in absolute = true
 is_absolute_in (stored d b) = false
 
 -- the path that a link leads to, with the set's name
-abbrev pub link_in : List ℕ → Optional (List ℕ) → List ℕ
-link_in name absent = []
-link_in name (present t) = appended name t
+abbrev pub link_in : List ℕ → Option (List ℕ) → List ℕ
+link_in name None = []
+link_in name (Some t) = appended name t
 
 -- an answer that is a place, as the text that stands there
 abbrev pub text_said : List ℕ → Outcome Span → Outcome (List ℕ)

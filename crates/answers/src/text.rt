@@ -1,65 +1,53 @@
 // Answers about one file that are texts: a span of the text area, or a path composed into a lent buffer.
 // They rely on the refusals of `rules`, on the total accessors of `tables` and on the joins of `path`.
 ghost use Rattle.std.specs.Prelude.{◌&&◌, ◌≡◌, ◌/◌, leb};
-ghost use Rattle.types.specs.Refusals.{usize_says};
+ghost use Rattle.types.specs.Refusals.{outcome};
 ghost use Rattle.tables.specs.Rows.{row_at, has, link_held_bit};
-ghost use Rattle.rules.specs.Results.{span_says};
 ghost use Rattle.rules.specs.Questions.{link_answer, no_link, row_there};
 ghost use Rattle.rules.specs.Composed.{composed_says, composed_if};
 ghost use Rattle.answers.specs.Answers.{internal_path, symlink_path};
 ghost use Rattle.answers.specs.Given.{file_name_given, internal_symlink_given, symlink_given, internal_file_path_given};
 
-use rules::{SpanResult, are_both, file_in, is_held};
-use tables::{FileStorage, Row};
-use types::{FileIndex, Refusal, UsizeResult};
+use rules::file_in;
+use tables::{FileStorage, Row, Span};
+use types::{FileIndex, Refusal};
 
 // Whether a table of rows with `words` words and a text area of `bytes` bytes are long enough for the set.
 fn are_held(fs: FileStorage, words: usize, bytes: usize) -> bool
     ensures { result ≡ (leb fs.num_files (words / 8) && leb fs.text_len bytes) }
 {
-    are_both(
-        is_held(fs.num_files, words / 8),
-        is_held(fs.text_len, bytes),
-    )
+    fs.num_files <= words / 8 && fs.text_len <= bytes
 }
 
 // Whether the row of file k is there and holds no link text.
 fn is_unlinked(rows: &[u64], k: usize) -> bool
     ensures { result ≡ (no_link (row_there rows.now k) (has (row_at rows.now k).flags link_held_bit)).test }
 {
-    if rules::is_there(rows, k) {
-        return !tables::holds_link(tables::flags_at(rows, k));
-    }
-    false
+    rules::is_there(rows, k) && !tables::holds_link(tables::flags_at(rows, k))
 }
 
 // The number of the file whose link text a question is about, or its refusal; `held` says whether the lent tables are
 // long enough.
-fn link_in(fs: FileStorage, rows: &[u64], index: FileIndex, held: bool) -> UsizeResult
-    ensures { usize_says result
+fn link_in(fs: FileStorage, rows: &[u64], index: FileIndex, held: bool) -> Result<usize, Refusal>
+    ensures { outcome result
         ≡ link_answer fs index.0
         (row_there rows.now) (λ k. has (row_at rows.now k).flags link_held_bit) held (λ k. k) }
 {
     if rules::is_bad_length(fs.piece_length) {
-        return UsizeResult::Err(Refusal::InvalidPieceLength);
+        return Err(Refusal::InvalidPieceLength);
     }
-    match index.within(fs.num_files) {
-        UsizeResult::Ok(k) => {
-            if is_unlinked(rows, k) {
-                return UsizeResult::Err(Refusal::NotASymlink);
-            }
-            if rules::are_held(fs, held) {
-                UsizeResult::Ok(k)
-            } else {
-                UsizeResult::Err(Refusal::NoRoom)
-            }
-        }
-        UsizeResult::Err(e) => UsizeResult::Err(e),
+    let k = index.within(fs.num_files)?;
+    if is_unlinked(rows, k) {
+        return Err(Refusal::NotASymlink);
     }
+    if rules::are_held(fs, held) {
+        return Ok(k);
+    }
+    Err(Refusal::NoRoom)
 }
 
 // Writes the path within the set of the file in `row`.
-fn put_internal(dirs: &[u64], text: &[u8], row: Row, buf: &mut [u8]) -> UsizeResult
+fn put_internal(dirs: &[u64], text: &[u8], row: Row, buf: &mut [u8]) -> Result<usize, Refusal>
     ensures { composed_says result buf.new
         ≡ composed_if 0 (internal_path dirs.now text.now row) buf.old }
 {
@@ -69,12 +57,12 @@ fn put_internal(dirs: &[u64], text: &[u8], row: Row, buf: &mut [u8]) -> UsizeRes
 }
 
 // Writes the path that the link of the file in `row` leads to; nothing where it holds no link text.
-fn put_link(fs: FileStorage, text: &[u8], row: Row, buf: &mut [u8]) -> UsizeResult
+fn put_link(fs: FileStorage, text: &[u8], row: Row, buf: &mut [u8]) -> Result<usize, Refusal>
     ensures { composed_says result buf.new
         ≡ composed_if 0 (symlink_path fs text.now row) buf.old }
 {
     if !tables::holds_link(row.flags) {
-        return UsizeResult::Ok(0);
+        return Ok(0);
     }
     let branch = tables::text_at(text, fs.name);
     let leaf = tables::text_at(text, row.link);
@@ -82,33 +70,31 @@ fn put_link(fs: FileStorage, text: &[u8], row: Row, buf: &mut [u8]) -> UsizeResu
 }
 
 // Where a file's name stands in the text area.
-pub fn file_name(fs: FileStorage, rows: &[u64], text: &[u8], index: FileIndex) -> SpanResult
-    ensures { span_says result ≡ file_name_given fs rows.now text.now index.0 }
+pub fn file_name(
+    fs: FileStorage,
+    rows: &[u64],
+    text: &[u8],
+    index: FileIndex,
+) -> Result<Span, Refusal>
+    ensures { outcome result ≡ file_name_given fs rows.now text.now index.0 }
 {
     let held = are_held(fs, rows.len(), text.len());
-    match file_in(fs, index, held) {
-        UsizeResult::Ok(k) => {
-            let file = tables::row_at(rows, k);
-            let place = file.name;
-            SpanResult::Ok(place)
-        }
-        UsizeResult::Err(e) => SpanResult::Err(e),
-    }
+    let k = file_in(fs, index, held)?;
+    Ok(tables::row_at(rows, k).name)
 }
 
 // Where a file's link text stands in the text area.
-pub fn internal_symlink(fs: FileStorage, rows: &[u64], text: &[u8], index: FileIndex) -> SpanResult
-    ensures { span_says result ≡ internal_symlink_given fs rows.now text.now index.0 }
+pub fn internal_symlink(
+    fs: FileStorage,
+    rows: &[u64],
+    text: &[u8],
+    index: FileIndex,
+) -> Result<Span, Refusal>
+    ensures { outcome result ≡ internal_symlink_given fs rows.now text.now index.0 }
 {
     let held = are_held(fs, rows.len(), text.len());
-    match link_in(fs, rows, index, held) {
-        UsizeResult::Ok(k) => {
-            let link = tables::row_at(rows, k);
-            let place = link.link;
-            SpanResult::Ok(place)
-        }
-        UsizeResult::Err(e) => SpanResult::Err(e),
-    }
+    let k = link_in(fs, rows, index, held)?;
+    Ok(tables::row_at(rows, k).link)
 }
 
 // Writes the path that a link leads to, with the set's name, into `buf`; nothing where the file holds no link text.
@@ -118,15 +104,13 @@ pub fn symlink(
     text: &[u8],
     index: FileIndex,
     buf: &mut [u8],
-) -> UsizeResult
+) -> Result<usize, Refusal>
     ensures { composed_says result buf.new
         ≡ symlink_given fs rows.now text.now index.0 buf.old }
 {
     let held = are_held(fs, rows.len(), text.len());
-    match file_in(fs, index, held) {
-        UsizeResult::Ok(k) => put_link(fs, text, tables::row_at(rows, k), buf),
-        UsizeResult::Err(e) => UsizeResult::Err(e),
-    }
+    let k = file_in(fs, index, held)?;
+    put_link(fs, text, tables::row_at(rows, k), buf)
 }
 
 // Writes the path of a file within the set into `buf`.
@@ -137,18 +121,12 @@ pub fn internal_file_path(
     text: &[u8],
     index: FileIndex,
     buf: &mut [u8],
-) -> UsizeResult
+) -> Result<usize, Refusal>
     ensures { composed_says result buf.new
         ≡ internal_file_path_given fs rows.now dirs.now text.now index.0
         buf.old }
 {
-    let places = are_both(
-        is_held(fs.num_paths, dirs.len() / 2),
-        is_held(fs.text_len, text.len()),
-    );
-    let held = are_both(is_held(fs.num_files, rows.len() / 8), places);
-    match file_in(fs, index, held) {
-        UsizeResult::Ok(k) => put_internal(dirs, text, tables::row_at(rows, k), buf),
-        UsizeResult::Err(e) => UsizeResult::Err(e),
-    }
+    let held = are_held(fs, rows.len(), text.len()) && fs.num_paths <= dirs.len() / 2;
+    let k = file_in(fs, index, held)?;
+    put_internal(dirs, text, tables::row_at(rows, k), buf)
 }

@@ -5,18 +5,17 @@
 
 ghost use Rattle.std.specs.Prelude.{◌≡◌, [], length};
 ghost use Rattle.std.proofs.lemmas.List.Edits.{sets};
-ghost use Rattle.types.specs.Refusals.{usize_says};
+ghost use Rattle.types.specs.Refusals.{outcome};
 ghost use Rattle.layout.specs.Mapping.{before, files_of, offsets_of, sizes_of};
 ghost use Rattle.layout.specs.Start.{slices_from};
 ghost use Rattle.blocks.specs.Block.{Mapped, map_block};
 
 use layout::{Cursor, Window, slice_count};
-use lists::{min, saturating_sub};
-use rules::Check;
 use tables::FileStorage;
-use types::{PieceIndex, Refusal, UsizeResult};
+use types::{PieceIndex, Refusal};
 
 // Puts a slice that has bytes at place n of the columns.
+// Stays: three columns are what the C interface lends.
 fn put_slice(
     out_file: &mut [u64],
     out_offset: &mut [u64],
@@ -39,9 +38,9 @@ fn put_slice(
     if size == 0 {
         return;
     }
-    lists::put_word(out_file, n, file as u64);
-    lists::put_word(out_offset, n, offset);
-    lists::put_word(out_size, n, size);
+    lists::put(out_file, n, file as u64);
+    lists::put(out_offset, n, offset);
+    lists::put(out_size, n, size);
 }
 
 // Puts the slices from a cursor on into the columns' first places, and gives their number.
@@ -60,23 +59,20 @@ fn write_slices(
     ensures out_size_after { out_size.new
         ≡ sets out_size.old 0 (sizes_of (slices_from rows.now at)) }
 {
-    let files = at.files;
     let mut n = 0;
-    let mut k = at.file;
     let mut s = at.skip;
     let mut left = at.left;
-    while k < files {
+    for k in at.file..at.files {
         if left == 0 {
             return n;
         }
         let size = tables::size_at(rows, k);
-        let here = saturating_sub(size, s);
-        let part = min(here, left);
+        let here = size.saturating_sub(s);
+        let part = here.min(left);
         put_slice(out_file, out_offset, out_size, n, k, s, part);
         n += slice_count(part);
-        left = saturating_sub(left, here);
-        s = saturating_sub(s, size);
-        k += 1;
+        left = left.saturating_sub(here);
+        s = s.saturating_sub(size);
     }
     n
 }
@@ -93,10 +89,10 @@ pub fn map_block_core(
     out_file: &mut [u64],
     out_offset: &mut [u64],
     out_size: &mut [u64],
-) -> UsizeResult
+) -> Result<usize, Refusal>
     ensures { ◌≡◌ {A = Mapped}
         (record {
-          says = usize_says result;
+          says = outcome result;
           file = out_file.new;
           offset = out_offset.new;
           size = out_size.new;
@@ -104,18 +100,10 @@ pub fn map_block_core(
         (map_block fs rows.now window piece.0 offset size
         out_file.old out_offset.old out_size.old) }
 {
-    let start = layout::start_block(fs, rows, window, piece, offset, size);
-    let check = start.check;
-    if let Check::Stop(e) = check {
-        return UsizeResult::Err(e);
-    }
-    let from = start.from;
-    let room = lists::min_usize(
-        out_file.len(),
-        lists::min_usize(out_offset.len(), out_size.len()),
-    );
+    let from = layout::start_block(fs, rows, window, piece, offset, size)?;
+    let room = out_file.len().min(out_offset.len().min(out_size.len()));
     if layout::has_room(rows, from, room) {
-        return UsizeResult::Ok(write_slices(rows, from, out_file, out_offset, out_size));
+        return Ok(write_slices(rows, from, out_file, out_offset, out_size));
     }
-    UsizeResult::Err(Refusal::NoRoom)
+    Err(Refusal::NoRoom)
 }

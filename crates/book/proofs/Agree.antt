@@ -1,6 +1,7 @@
 -- The book agrees with the set over every list of calls, refused ones included, and every set that the calls lead to is one
 -- of those of which BEP 3, 47 and 52 are proved. Relies on Entries.antt, Rooted.antt and Lent.antt, and on the theorems of
 -- `reached`.
+use Rattle.std.specs.Prelude.{Option, Some, None}
 use mathlib.Core.Path.{◌≡◌, refl, sym, ap, ap₂, subst, ◌∙◌}
 use mathlib.Core.Bool.{Bool, true, false, cond, not, false≢true}
 use mathlib.Core.List.{List, [], ◌∷◌, map, map-map}
@@ -13,7 +14,7 @@ use borrow.Author.Tests.{eqb-true, eqb-false}
 use Rattle.lists.specs.Lists.{sum, cleared}
 use Rattle.types.specs.Refusals.{value, refused}
 use Rattle.tables.specs.declared.storage.FileStorage.{FileStorage}
-use Rattle.tables.specs.Model.{Optional, absent, present, File, Model, Store, store_of, file_of, view_of}
+use Rattle.tables.specs.Model.{File, Model, Store, store_of, file_of, view_of}
 use Rattle.rules.specs.Rules.{outcome_of, first_of, when}
 use Rattle.rules.specs.Bounds.{bad_length}
 use Rattle.additions.specs.Addition.{Addition, added}
@@ -182,9 +183,9 @@ agrees-trimmed s g =
           ∙ ap trimmed_timed g.timed;
     }
   where
-    same_length : (o : Optional ℕ) → (trimmed_by o s).fs.piece_length ≡ s.fs.piece_length
-    same_length absent = refl
-    same_length (present f) = refl
+    same_length : (o : Option ℕ) → (trimmed_by o s).fs.piece_length ≡ s.fs.piece_length
+    same_length None = refl
+    same_length (Some f) = refl
 
 agrees-cleaned : {n : ℕ} {made : List Made} (m : ℕ) (s : Store) → Agrees n made s → text_needed s ≤ length s.text → space (entries_of s) ≤ m → Agrees n (record { call = clean; came = books.done } ∷ made) (cleaned_store m s)
 agrees-cleaned m s g room work =

@@ -1,6 +1,7 @@
 -- What the book keeps of a set is, after an addition and after a trim, what the book enters for it, and after a cleaning what
 -- it was; the same of its rows with their times. All on the model; it relies on what the search for a tail pad finds, and on
 -- what a cleaning keeps of each file.
+use Rattle.std.specs.Prelude.{Option, Some, None}
 use mathlib.Core.Path.{◌≡◌, refl, sym, ap, ap₂, ◌∙◌}
 use mathlib.Core.Bool.{Bool, true, false, cond, not, ◌&&◌, ◌||◌}
 use mathlib.Core.List.{List, [], ◌∷◌, ◌++◌, map, map-append, map-map}
@@ -15,7 +16,7 @@ use native.Mathlib.Numerals.{add-one}
 use Rattle.lists.specs.Lists.{sum}
 use Rattle.rules.specs.Bounds.{clamped_of}
 use Rattle.path.specs.Join.{is_empty}
-use Rattle.tables.specs.Model.{Optional, absent, present, File, Model}
+use Rattle.tables.specs.Model.{File, Model}
 use Rattle.additions.specs.Addition.{Addition, added, file_added, pad_added, pad_to, pad_after, pad_of, size_added, flags_kept, keeps, is_present, is_v2, decides, files_of}
 use Rattle.additions.specs.Addition as additions
 use Rattle.trim.specs.Trim.{tail_pad, size_at, beginning_at, trimmed_if, trimmed_of}
@@ -82,9 +83,9 @@ pub natural-is : (z : ℤ) → clamped_of z ≡ natural z
 natural-is (pos n) = refl
 natural-is (negsuc n) = refl
 
-pub given_is : (o : Optional (List ℕ)) → is_present o ≡ is_given o
-given_is absent = refl
-given_is (present xs) = refl
+pub given_is : (o : Option (List ℕ)) → is_present o ≡ is_given o
+given_is None = refl
+given_is (Some xs) = refl
 
 pub plain-is : (a : Addition) → decides (size_added a) a.link ≡ is_plain a
 plain-is a = ap₂ (λ (n : ℕ) (b : Bool). (ltb 0 n && b)) (natural-is a.size) (empty-link a.link)
@@ -223,9 +224,9 @@ timed-trimmed m = at (tail_pad m.files) refl
         ∙ ap (λ (l : List Timed). timed_files (take f m.files) ++ l) (map-map timed_of (beginning_at o) (drop (suc f) m.files))
         ∙ sym (map-append timed_of (take f m.files) (drop (suc f) m.files)))
 
-    at : (o : Optional ℕ) → tail_pad m.files ≡ o → timed_files (trimmed_if o m).files ≡ trimmed_timed (timed_files m.files)
-    at absent e = none (no-tail-pad m.files e)
-    at (present f) e =
+    at : (o : Option ℕ) → tail_pad m.files ≡ o → timed_files (trimmed_if o m).files ≡ trimmed_timed (timed_files m.files)
+    at None e = none (no-tail-pad m.files e)
+    at (Some f) e =
         let p = tail-pad m.files f e in
         gone (m.total - size_at f m.files) f
         ∙ sym
@@ -242,9 +243,9 @@ book-trimmed m = at (tail_pad m.files) rows
         ∙ rows-trimmed (timed_files m.files)
         ∙ ap trimmed_rows (timed-rows m.files)
 
-    at : (o : Optional ℕ) → rows_of (trimmed_if o m).files ≡ trimmed_rows (rows_of m.files) → book_of (trimmed_if o m) ≡ after_trim (book_of m)
-    at absent e = same-book refl e refl
-    at (present f) e = same-book refl e refl
+    at : (o : Option ℕ) → rows_of (trimmed_if o m).files ≡ trimmed_rows (rows_of m.files) → book_of (trimmed_if o m) ≡ after_trim (book_of m)
+    at None e = same-book refl e refl
+    at (Some f) e = same-book refl e refl
 
 -- ---- calls that the book does not enter
 

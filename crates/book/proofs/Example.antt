@@ -2,6 +2,7 @@
 -- first file of each piece: a file of v2 finds no place in that table, then in a longer one it leaves a pad, a link is
 -- cleaned and the trim takes the pad. What comes of each call is computed, and so are the book's rows and their times
 -- before and after the trim. It relies on Runs.antt.
+use Rattle.std.specs.Prelude.{Some, None}
 use mathlib.Core.Path.{◌≡◌, refl}
 use mathlib.Core.Bool.{Bool, true, false}
 use mathlib.Core.List.{List, [], ◌∷◌, ◌++◌}
@@ -12,7 +13,7 @@ use lib.ListN.{replicate}
 use Rattle.lists.specs.Decimal.{digits_within}
 use Rattle.tables.specs.declared.storage.FileStorage.{FileStorage}
 use Rattle.tables.specs.Rows.{packed, filled}
-use Rattle.tables.specs.Model.{absent, present, Store, store_of, tabled}
+use Rattle.tables.specs.Model.{Store, store_of, tabled}
 use Rattle.additions.specs.Addition.{Addition}
 use Rattle.storage.specs.Opening.{new_storage}
 use Rattle.plan.specs.Write.{directory_index_from}
@@ -105,25 +106,25 @@ four =
 abbrev file : ℤ → Addition
 file size =
     record {
-      given = absent;
+      given = None;
       path = 115 ∷ 47 ∷ 102 ∷ [];
       size = size;
       flags = 0;
       time = pos 5;
       link = [];
-      root = present root;
+      root = Some root;
     }
 
 abbrev link : Addition
 link =
     record {
-      given = absent;
+      given = None;
       path = 115 ∷ 47 ∷ 110 ∷ [];
       size = pos 0;
       flags = 8;
       time = negsuc 2;
       link = 47 ∷ 101 ∷ 116 ∷ 99 ∷ [];
-      root = absent;
+      root = None;
     }
 
 -- no renames, in tables with a place for one of 2 bytes, and one: the name u for file 0, by a rename or an import

@@ -8,6 +8,7 @@
 --     room-kept, places-kept      it has a place for each piece, and so all that the set uses of it
 --     places-are                  which is as many places as the book has pieces
 --     add-mark, trim-mark, clean-mark, mark-opened     a set keeps the table where it was opened so
+use Rattle.std.specs.Prelude.{Option, Some, None}
 use mathlib.Core.Path.{◌≡◌, refl, sym, ap, ap₂, subst, ◌∙◌}
 use mathlib.Core.Logic.{◌⊎◌, inl, inr}
 use mathlib.Core.Bool.{Bool, true, false, cond, not, ◌&&◌, false≢true}
@@ -26,7 +27,7 @@ use Rattle.lists.proofs.Runs.{get_or-sets, get_or-sets-below}
 use Rattle.lists.proofs.Sums.{sum-append, sum-take-more}
 use Rattle.tables.specs.declared.storage.FileStorage.{FileStorage}
 use Rattle.tables.specs.Rows.{row_at}
-use Rattle.tables.specs.Model.{Optional, absent, present, Store, view_of}
+use Rattle.tables.specs.Model.{Store, view_of}
 use Rattle.rules.specs.Questions.{num_pieces}
 use Rattle.change.specs.Changes.{Changed}
 use Rattle.additions.specs.Addition.{Addition}
@@ -244,16 +245,16 @@ firsts-added {n} {made} s a g z e k =
 
 -- a trim that is done
 firsts-trimmed : {n : ℕ} {made : List Made} (s : Store) → Agrees n made s → (s.fs.indexed ≡ true → Firsts n (sizes_of (book n made).rows) s.firsts)
-    → (o : Optional ℕ) → (trimmed_by o s).fs.indexed ≡ true → Firsts n (sizes_of (trimmed_rows (book n made).rows)) (trimmed_by o s).firsts
+    → (o : Option ℕ) → (trimmed_by o s).fs.indexed ≡ true → Firsts n (sizes_of (trimmed_rows (book n made).rows)) (trimmed_by o s).firsts
 firsts-trimmed {n} {made} s g k = at
   where
     less : s.fs.indexed ≡ true → Firsts n (sizes_of (trimmed_rows (book n made).rows)) s.firsts
     less i =
         firsts-less n g.some (sizes_of (book n made).rows) (sizes_of (trimmed_rows (book n made).rows)) s.firsts (trimmed-less (book n made).rows) (trimmed-left (book n made).rows) (k i)
 
-    at : (o : Optional ℕ) → (trimmed_by o s).fs.indexed ≡ true → Firsts n (sizes_of (trimmed_rows (book n made).rows)) (trimmed_by o s).firsts
-    at absent = less
-    at (present f) = less
+    at : (o : Option ℕ) → (trimmed_by o s).fs.indexed ≡ true → Firsts n (sizes_of (trimmed_rows (book n made).rows)) (trimmed_by o s).firsts
+    at None = less
+    at (Some f) = less
 
 -- ---- every list of calls
 
@@ -352,9 +353,9 @@ module _ (s : Store) where
   trim-mark =
       after_call Marks trim (trim_number s) s (trimmed_by (tail_pad (view_of s).files) s) (λ z. by (tail_pad (view_of s).files)) refl
     where
-      by : (o : Optional ℕ) → (trimmed_by o s).fs.indexed ≡ s.fs.indexed
-      by absent = refl
-      by (present f) = refl
+      by : (o : Option ℕ) → (trimmed_by o s).fs.indexed ≡ s.fs.indexed
+      by None = refl
+      by (Some f) = refl
 
   pub clean-mark : (marks stage path : List ℕ) (c : Cleaned) → c ≡ clean_stored (lent s.fs s.rows s.dirs s.text) marks stage path
       → (store_after s.fs (cleaned_by s c)).fs.indexed ≡ s.fs.indexed

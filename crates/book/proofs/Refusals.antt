@@ -3,6 +3,7 @@
 --     places-by-book                an addition for which the table of first files lacks a place
 --     add-by-book, add-refusals     an addition
 --     refusals-tabled               every call of a list
+use Rattle.std.specs.Prelude.{Option, Some, None}
 use Prim.Native.Nat.{ℕ, zero, suc, ◌+◌, ◌<◌}
 use mathlib.Core.Path.{◌≡◌, refl, sym, ap, ap₂, subst, ◌∙◌}
 use mathlib.Core.Logic.{inl, inr}
@@ -15,7 +16,7 @@ use lib.IntN.{ℤ, pos, negsuc}
 use lib.ListN.{length, drop}
 use Rattle.lists.specs.Lists.{sum, any, ceiling}
 use Rattle.path.specs.Split.{is_complete, has_parent_path}
-use Rattle.tables.specs.Model.{Optional, absent, present, Model, Store, view_of}
+use Rattle.tables.specs.Model.{Model, Store, view_of}
 use Rattle.rules.specs.Rules.{Rule, when, first_of}
 use Rattle.rules.specs.Bounds as bounds
 use Rattle.rules.proofs.Rules.{Numbered, or_else, first-append}
@@ -50,13 +51,13 @@ row_is : (b : Book) (z : ℤ) → bounds.is_below (length b.rows) z ≡ has_row 
 row_is b (pos n) = refl
 row_is b (negsuc n) = refl
 
-tested-is : (o : Optional (List ℕ)) (path : List ℕ) → additions.limited_name o path ≡ name_tested o path
-tested-is absent path = refl
-tested-is (present name) path = refl
+tested-is : (o : Option (List ℕ)) (path : List ℕ) → additions.limited_name o path ≡ name_tested o path
+tested-is None path = refl
+tested-is (Some name) path = refl
 
-bad-is : (o : Optional (List ℕ)) (path : List ℕ) → additions.bad_name o path ≡ bad_name o path
-bad-is absent path = refl
-bad-is (present name) path = ap (λ (b : Bool). (is_complete name || (b && is_complete path))) (held_link name)
+bad-is : (o : Option (List ℕ)) (path : List ℕ) → additions.bad_name o path ≡ bad_name o path
+bad-is None path = refl
+bad-is (Some name) path = ap (λ (b : Bool). (is_complete name || (b && is_complete path))) (held_link name)
 
 any_same : (f g : Naming → Bool) → ((x : Naming) → f x ≡ g x) → (xs : List Naming) → any f xs ≡ any g xs
 any_same f g e [] = refl

@@ -1,6 +1,7 @@
 -- An addition may be given a root of any length, where tables hold 32 bytes a root: the set after it is the one that the
 -- same addition with the 32 bytes then held leads to, and the book does not see the difference. Relies on the laws of
 -- additions in `sound`.
+use Rattle.std.specs.Prelude.{Option, Some, None}
 use mathlib.Core.Path.{◌≡◌, refl, sym, ap, ◌∙◌}
 use mathlib.Core.Logic.{◌⊎◌, inl, inr}
 use mathlib.Core.Bool.{Bool, true, false, cond, not, ◌||◌}
@@ -13,7 +14,7 @@ use Rattle.lists.proofs.Orders.{le-or-lt}
 use Rattle.lists.proofs.Runs.{get_or-sets-below}
 use Rattle.tables.specs.declared.rows.Row.{Row}
 use Rattle.tables.specs.Rows.{row_at, root_at, put_root, put_row, has}
-use Rattle.tables.specs.Model.{Optional, absent, present, present_if, Model, Store, store_of, file_of, view_of}
+use Rattle.tables.specs.Model.{present_if, Model, Store, store_of, file_of, view_of}
 use Rattle.tables.proofs.Tabled.{tabled-same, length-tabled}
 use Rattle.tables.proofs.Words.{row_back, length-root, root-ext, root-back, length-put-root, length-put-row}
 use Rattle.rules.specs.Rules.{first_of}
@@ -61,7 +62,7 @@ sound-roots s roots e ok =
     span_same (link_text k) = refl
 
 -- the root of a row, where it has one
-abbrev root_in : Store → List ℕ → ℕ → Optional (List ℕ)
+abbrev root_in : Store → List ℕ → ℕ → Option (List ℕ)
 root_in s roots k = present_if (has (row_at s.rows k).flags 128) (root_at roots k)
 
 view-roots : (s : Store) (roots : List ℕ) → ((k : ℕ) → k < s.fs.num_files → root_in s roots k ≡ root_in s s.roots k) → view_of (with_roots s roots) ≡ view_of s
@@ -75,7 +76,7 @@ root_below roots n root k h =
 
 -- ---- an addition with another root
 
-abbrev with_root : Addition → Optional (List ℕ) → Addition
+abbrev with_root : Addition → Option (List ℕ) → Addition
 with_root a root =
     record { given = a.given; path = a.path; size = a.size; flags = a.flags; time = a.time; link = a.link; root = root }
 
@@ -98,11 +99,11 @@ number_with s m a files =
     || (ltb (min 65535 (rooms_of s).files) files
     || (ltb (min 65535 (rooms_of s).directories) (length (added m a).directories) || ltb (rooms_of s).text (text_after s.fs m a))))))
 
-same_number_lem : (s : Store) (m : Model) (a : Addition) (r q : List ℕ) → adding_number s m (with_root a (present q)) ≡ adding_number s m (with_root a (present r))
+same_number_lem : (s : Store) (m : Model) (a : Addition) (r q : List ℕ) → adding_number s m (with_root a (Some q)) ≡ adding_number s m (with_root a (Some r))
 same_number_lem s m a r q =
-    ap (number_with s m (with_root a (present r))) (count-files m (with_root a (present q)) ∙ sym (count-files m (with_root a (present r))))
+    ap (number_with s m (with_root a (Some r))) (count-files m (with_root a (Some q)) ∙ sym (count-files m (with_root a (Some r))))
 
-module _ (s : Store) (a : Addition) (r : List ℕ) (ok : Sound s) (zero : adding_number s (view_of s) (with_root a (present r)) ≡ 0) where
+module _ (s : Store) (a : Addition) (r : List ℕ) (ok : Sound s) (zero : adding_number s (view_of s) (with_root a (Some r)) ≡ 0) where
   abbrev n : ℕ
   n = s.fs.num_files
 
@@ -111,7 +112,7 @@ module _ (s : Store) (a : Addition) (r : List ℕ) (ok : Sound s) (zero : adding
   held = root_at (put_root s.roots n r) n
 
   abbrev like : Addition
-  like = with_root a (present held)
+  like = with_root a (Some held)
 
   abbrev after : Store
   after = store_added s (view_of s) like
@@ -122,7 +123,7 @@ module _ (s : Store) (a : Addition) (r : List ℕ) (ok : Sound s) (zero : adding
   fit : Fits s (view_of s) like
   fit = fits s (view_of s) like passes
 
-  rooted : (q : List ℕ) → like.root ≡ present q → length q ≡ 32
+  rooted : (q : List ℕ) → like.root ≡ Some q → length q ≡ 32
   rooted q e =
       let h : held ≡ q = cc in
       ap length (sym h) ∙ length-root (put_root s.roots n r) n
@@ -163,7 +164,7 @@ module _ (s : Store) (a : Addition) (r : List ℕ) (ok : Sound s) (zero : adding
           let p = last (eqb pad 0) refl h i in
           rw (p.1, pad-bare p.0)
 
-  settled_root : Settled s (with_root a (present r))
+  settled_root : Settled s (with_root a (Some r))
   settled_root =
       record {
         like = like;
@@ -177,17 +178,17 @@ module _ (s : Store) (a : Addition) (r : List ℕ) (ok : Sound s) (zero : adding
 pub settled : (s : Store) (a : Addition) → Sound s → adding_number s (view_of s) a ≡ 0 → Settled s a
 settled s a ok zero = at a.root zero
   where
-    at : (o : Optional (List ℕ)) → adding_number s (view_of s) (with_root a o) ≡ 0 → Settled s (with_root a o)
-    at absent z =
+    at : (o : Option (List ℕ)) → adding_number s (view_of s) (with_root a o) ≡ 0 → Settled s (with_root a o)
+    at None z =
         record {
-          like = with_root a absent;
+          like = with_root a None;
           number = z;
-          view = view-added s (with_root a absent) ok z (λ q e. none q e);
-          sound = sound-added s (with_root a absent) ok z (λ q e. none q e);
+          view = view-added s (with_root a None) ok z (λ q e. none q e);
+          sound = sound-added s (with_root a None) ok z (λ q e. none q e);
           entered = λ b. refl;
           timed = λ b ts. refl;
         }
       where
-        none : (q : List ℕ) → ◌≡◌ {A = Optional (List ℕ)} absent (present q) → length q ≡ 32
+        none : (q : List ℕ) → ◌≡◌ {A = Option (List ℕ)} None (Some q) → length q ≡ 32
         none q e = let z : ◌≡◌ {A = ℕ} 0 1 = cc in absurd (omega arith)
-    at (present r) z = settled_root s a r ok z
+    at (Some r) z = settled_root s a r ok z

@@ -11,7 +11,7 @@ use lib.Dec.{eqb, ltb}
 use lib.IntN.{pos}
 use lib.ListN.{length, take, drop}
 use borrow.Author.Tests.{ne_eqb, le-ltb, le-leb}
-use Rattle.types.specs.Refusals.{value}
+use Rattle.types.specs.Refusals.{value, outcome}
 use Rattle.types.specs.Refusals as outcomes
 use Rattle.tables.specs.Model.{Store, view_of}
 use Rattle.rules.specs.Rules.{Rule, when, first_of}

@@ -17,19 +17,18 @@ use mathlib.Core.Bool.{true, false}
 use mathlib.Core.List.{List, [], ◌∷◌}
 use Prim.Native.Nat.{ℕ, ◌≤◌}
 use lib.IntN.{ℤ, pos}
-use Rattle.types.specs.Refusals.{value, usize_says}
+use Rattle.types.specs.Refusals.{value, outcome}
 use Rattle.tables.specs.declared.storage.FileStorage.{FileStorage}
 use Rattle.tables.specs.Model.{Store, store_of}
 use Rattle.additions.specs.Addition.{Addition, addition_of}
 use Rattle.storage.specs.Opening.{opened}
-use Rattle.change.specs.Changes.{Changed, changed_of, storage_says}
+use Rattle.change.specs.Changes.{Changed, changed_of}
 use Rattle.plan.specs.Outcomes.{add_stored}
 use Rattle.trim.specs.Removal.{trim_stored}
 use Rattle.lookup.specs.Lookup.{lent}
 use Rattle.cleaning.specs.Cleaning.{Cleaned, clean_stored}
 use Rattle.renames.specs.Renames.{rename_file_answer}
 use Rattle.renames.specs.Renames as renames
-use Rattle.renames.specs.Results.{renames_says}
 use Rattle.imports.specs.Imports.{Naming, namings, list_held, import_filenames_answer, import_lent}
 use Rattle.imports.proofs.Lent.{lent-held}
 use Rattle.rules.specs.Results.{request_says}
@@ -68,20 +67,20 @@ use Rattle.book.specs.Calls as calls
 -- ---- `open`, of a set that keeps no table of first files
 
 module _ (κs : Lifetimes.Lfts 0) (a : World.ArgsD open.signature κs) (r : World.ResD open.signature κs) (s : Clauses.AtExit (kinds.ended_of 0 open-kinds.ps open-kinds.r) κs) where
-  pub open-says : open-reads.Learnt κs a r s → storage_says r ≡ opened a.0 false
+  pub open-says : open-reads.Learnt κs a r s → outcome r ≡ opened a.0 false
   open-says p = p
 
   -- the record that it gives, beside any tables, is where calls begin
-  pub open-leads : {n : ℕ} (t : Store) (q : Renames) → n ≤ 2147483647 → a.0 ≡ pos n → storage_says r ≡ value t.fs → q.rf ≡ no_entries → open-reads.Learnt κs a r s → Leads n [] t q
+  pub open-leads : {n : ℕ} (t : Store) (q : Renames) → n ≤ 2147483647 → a.0 ≡ pos n → outcome r ≡ value t.fs → q.rf ≡ no_entries → open-reads.Learnt κs a r s → Leads n [] t q
   open-leads t q h e v z p = calls.opening false h (ap (λ (i : ℤ). opened i false) (sym e) ∙ sym (open-says p) ∙ v) z
 
 -- ---- `open_indexed`, of a set that keeps one
 
 module _ (κs : Lifetimes.Lfts 0) (a : World.ArgsD open_indexed.signature κs) (r : World.ResD open_indexed.signature κs) (s : Clauses.AtExit (kinds.ended_of 0 indexed-kinds.ps indexed-kinds.r) κs) where
-  pub open-indexed-says : indexed-reads.Learnt κs a r s → storage_says r ≡ opened a.0 true
+  pub open-indexed-says : indexed-reads.Learnt κs a r s → outcome r ≡ opened a.0 true
   open-indexed-says p = p
 
-  pub open-indexed-leads : {n : ℕ} (t : Store) (q : Renames) → n ≤ 2147483647 → a.0 ≡ pos n → storage_says r ≡ value t.fs → q.rf ≡ no_entries → indexed-reads.Learnt κs a r s → Leads n [] t q
+  pub open-indexed-leads : {n : ℕ} (t : Store) (q : Renames) → n ≤ 2147483647 → a.0 ≡ pos n → outcome r ≡ value t.fs → q.rf ≡ no_entries → indexed-reads.Learnt κs a r s → Leads n [] t q
   open-indexed-leads t q h e v z p = calls.opening true h (ap (λ (i : ℤ). opened i true) (sym e) ∙ sym (open-indexed-says p) ∙ v) z
 
 -- ---- `add_file`
@@ -103,7 +102,7 @@ module _ (κs : Lifetimes.Lfts 8) (a : World.ArgsD add_file.signature κs) (r : 
   -- the answer, and the tables as they were left
   abbrev pub added_by : Changed
   added_by =
-      changed_of (storage_says r) s.1.0.now s.1.1.0.now s.1.1.1.0.now s.1.1.1.1.0.now s.1.1.1.1.1.0.now
+      changed_of (outcome r) s.1.0.now s.1.1.0.now s.1.1.1.0.now s.1.1.1.1.0.now s.1.1.1.1.1.0.now
 
   pub add-file-says : add_reads.Learnt κs a r s → added_by ≡ add_stored added_to asked
   add-file-says p = p
@@ -120,7 +119,7 @@ module _ (κs : Lifetimes.Lfts 4) (a : World.ArgsD remove_tail_padding.signature
   trimmed_from firsts = store_of a.0 a.1.0.now a.1.1.0.now firsts a.1.1.1.0.now a.1.1.1.1.0.now
 
   abbrev pub trimmed_by : List ℕ → Changed
-  trimmed_by firsts = changed_of (storage_says r) s.1.0.now s.1.1.0.now firsts s.1.1.1.0.now s.1.1.1.1.0.now
+  trimmed_by firsts = changed_of (outcome r) s.1.0.now s.1.1.0.now firsts s.1.1.1.0.now s.1.1.1.1.0.now
 
   pub trim-says : trim-reads.Learnt κs a r s → (firsts : List ℕ) → trimmed_by firsts ≡ trim_stored (trimmed_from firsts)
   trim-says p = p
@@ -138,7 +137,7 @@ module _ (κs : Lifetimes.Lfts 6) (a : World.ArgsD sanitize_symlinks.signature �
   abbrev pub cleaned : Cleaned
   cleaned =
       record {
-        says = storage_says r;
+        says = outcome r;
         rows = s.1.0.now;
         dirs = s.1.1.0.now;
         text = s.1.1.1.0.now;
@@ -161,7 +160,7 @@ module _ (κs : Lifetimes.Lfts 3) (a : World.ArgsD rename_file.signature κs) (r
   named = record { file = a.1.1.1.1.0.0; name = a.1.1.1.1.1.0.now }
 
   abbrev pub renamed_by : renames.RenamesChanged
-  renamed_by = record { says = renames_says r; entries = s.1.1.0.now; text = s.1.1.1.0.now }
+  renamed_by = record { says = outcome r; entries = s.1.1.0.now; text = s.1.1.1.0.now }
 
   pub rename-says : rename-reads.Learnt κs a r s → renamed_by ≡ rename_file_answer a.0 a.1.0 a.1.1.0.now a.1.1.1.0.now named.file named.name
   rename-says p = p
@@ -171,7 +170,7 @@ module _ (κs : Lifetimes.Lfts 3) (a : World.ArgsD rename_file.signature κs) (r
   renamed_from = record { rf = a.1.0; entries = a.1.1.0.now; text = a.1.1.1.0.now }
 
   -- a call with the record of a set that calls led to, on the renames that they left, is one call more, and leaves the set
-  pub rename-leads : {n : ℕ} {made : List Made} {t : Store} → a.0 ≡ t.fs → Leads n made t renamed_from → rename-reads.Learnt κs a r s → Leads n (record { call = book.rename named; came = came_of (renames_says r) } ∷ made) t (renames_after renamed_from renamed_by)
+  pub rename-leads : {n : ℕ} {made : List Made} {t : Store} → a.0 ≡ t.fs → Leads n made t renamed_from → rename-reads.Learnt κs a r s → Leads n (record { call = book.rename named; came = came_of (outcome r) } ∷ made) t (renames_after renamed_from renamed_by)
   rename-leads e l p =
       calls.renaming named renamed_by l
       (rename-says p ∙ ap (λ (fs : FileStorage). rename_file_answer fs a.1.0 a.1.1.0.now a.1.1.1.0.now named.file named.name) e)
@@ -183,7 +182,7 @@ module _ (κs : Lifetimes.Lfts 5) (a : World.ArgsD import_filenames.signature κ
   all_named = namings a.1.1.1.1.0.now a.1.1.1.1.1.0.now a.1.1.1.1.1.1.0.now
 
   abbrev pub imported_by : renames.RenamesChanged
-  imported_by = record { says = renames_says r; entries = s.1.1.0.now; text = s.1.1.1.0.now }
+  imported_by = record { says = outcome r; entries = s.1.1.0.now; text = s.1.1.1.0.now }
 
   pub import-lent-says : import-reads.Learnt κs a r s → imported_by ≡ import_lent a.0 a.1.0 a.1.1.0.now a.1.1.1.0.now a.1.1.1.1.0.now a.1.1.1.1.1.0.now a.1.1.1.1.1.1.0.now
   import-lent-says p = p
@@ -198,7 +197,7 @@ module _ (κs : Lifetimes.Lfts 5) (a : World.ArgsD import_filenames.signature κ
     abbrev pub imported_from : Renames
     imported_from = record { rf = a.1.0; entries = a.1.1.0.now; text = a.1.1.1.0.now }
 
-    pub import-leads : {n : ℕ} {made : List Made} {t : Store} → a.0 ≡ t.fs → Leads n made t imported_from → import-reads.Learnt κs a r s → Leads n (record { call = book.«import» all_named; came = came_of (renames_says r) } ∷ made) t (renames_after imported_from imported_by)
+    pub import-leads : {n : ℕ} {made : List Made} {t : Store} → a.0 ≡ t.fs → Leads n made t imported_from → import-reads.Learnt κs a r s → Leads n (record { call = book.«import» all_named; came = came_of (outcome r) } ∷ made) t (renames_after imported_from imported_by)
     import-leads e l p =
         calls.importing all_named imported_by l
         (import-says p ∙ ap (λ (fs : FileStorage). import_filenames_answer fs a.1.0 a.1.1.0.now a.1.1.1.0.now all_named) e)
@@ -216,6 +215,6 @@ module _ {M : Type 1} {𝓤 : Ura M} (𝓛 : Logic 𝓤) (mem : Memory → SProp
   pub map-block-says :
       (map_block.clauses 𝓛 mem run κs a).ensures tt r e ≡
       fact 𝓤
-      (◌≡◌ {A = Filled} (record { says = usize_says r; table = e.1.1.1.1.1.1.0.now })
+      (◌≡◌ {A = Filled} (record { says = outcome r; table = e.1.1.1.1.1.1.0.now })
       (block_mapped a.0 a.1.0.now a.1.1.0 a.1.1.1.0.0 a.1.1.1.1.0 a.1.1.1.1.1.0 a.1.1.1.1.1.1.0.now))
   map-block-says = refl

@@ -5,9 +5,8 @@
 --
 -- Names from elsewhere: `cond t a b` is a where t is true, else b; `eqb` and `ltb` test = and <; `a - b` is 0 where b
 -- is larger. The integer n is `pos n`, and −(n + 1) is `negsuc n`.
-use Rattle.std.specs.Prelude.{ℕ, ◌+◌, ◌-◌, ◌%◌, ◌≡◌, Bool, true, false, cond, not, ◌&&◌, ◌||◌, List, [], ◌∷◌, ◌++◌, map, eqb, ltb, ℤ, pos, negsuc, length}
+use Rattle.std.specs.Prelude.{ℕ, ◌+◌, ◌-◌, ◌%◌, ◌≡◌, Bool, true, false, cond, not, ◌&&◌, ◌||◌, List, [], ◌∷◌, ◌++◌, map, eqb, ltb, ℤ, pos, negsuc, length, Option, Some, None}
 use Rattle.lists.specs.Lists.{sum}
-use Rattle.tables.specs.Model.{Optional, absent, present}
 use Rattle.additions.specs.Addition.{Addition}
 use Rattle.imports.specs.Imports.{Naming}
 
@@ -61,9 +60,9 @@ size_given a = natural a.size
 abbrev pub has_link : Addition → Bool
 has_link a = ltb 0 (length a.link)
 
-abbrev pub is_given : Optional (List ℕ) → Bool
-is_given absent = false
-is_given (present xs) = true
+abbrev pub is_given : Option (List ℕ) → Bool
+is_given None = false
+is_given (Some xs) = true
 
 abbrev pub has_given_root : Addition → Bool
 has_given_root a = is_given a.root

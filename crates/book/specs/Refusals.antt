@@ -6,10 +6,10 @@
 -- the first row that holds, 0 where none does. Of a path, `rsplit_leaf` is its `filename`, `has_parent_path` that it has a
 -- parent, and `is_complete` that it starts with a separator, as an absolute one does (path, specs/Split.antt). `any`
 -- tests that some element passes.
-use Rattle.std.specs.Prelude.{ℕ, zero, suc, ◌+◌, ◌≡◌, ◌⊎◌, Bool, true, false, not, ◌&&◌, ◌||◌, List, [], ◌∷◌, ltb, leb, ℤ, pos, negsuc, length}
+use Rattle.types.specs.Refusals.{outcome}
+use Rattle.std.specs.Prelude.{ℕ, zero, suc, ◌+◌, ◌≡◌, ◌⊎◌, Bool, true, false, not, ◌&&◌, ◌||◌, List, [], ◌∷◌, ltb, leb, ℤ, pos, negsuc, length, Option, Some, None}
 use Rattle.lists.specs.Lists.{any}
 use Rattle.path.specs.Split.{rsplit_leaf, is_complete, has_parent_path}
-use Rattle.tables.specs.Model.{Optional, absent, present}
 use Rattle.rules.specs.Rules.{Rule, when, first_of}
 use Rattle.additions.specs.Addition.{Addition}
 use Rattle.imports.specs.Imports.{Naming}
@@ -30,14 +30,14 @@ abbrev pub bytes_padded : Book → Addition → ℕ
 bytes_padded b a = bytes_with b a + bytes_of (filling b.piece_length (version_after b a) (bytes_with b a))
 
 -- 'given name, or with none the path's `filename`'
-abbrev pub name_tested : Optional (List ℕ) → List ℕ → List ℕ
-name_tested absent path = rsplit_leaf path
-name_tested (present name) path = name
+abbrev pub name_tested : Option (List ℕ) → List ℕ → List ℕ
+name_tested None path = rsplit_leaf path
+name_tested (Some name) path = name
 
 -- 'given name starts with a separator, or is nonempty with an absolute path'
-abbrev pub bad_name : Optional (List ℕ) → List ℕ → Bool
-bad_name absent path = false
-bad_name (present name) path = is_complete name || (ltb 0 (length name) && is_complete path)
+abbrev pub bad_name : Option (List ℕ) → List ℕ → Bool
+bad_name None path = false
+bad_name (Some name) path = is_complete name || (ltb 0 (length name) && is_complete path)
 
 -- 'A file of size above 0 without link text fixes v2 or v1 …; later ones must agree'
 abbrev pub must_agree : Book → Addition → Bool

@@ -2,7 +2,7 @@
 // another, then the changes of the set that is spoken of; what is none of these is asked of `questions`. A new call is
 // a form in one module, and an arm beside it. Relies on the modules of the calls.
 use crate::input::Buffer;
-use crate::places::{Dirs, Firsts, Roots, Rows, Texts};
+use crate::places::Tables;
 use crate::sets::{Made, Sets};
 use crate::{asking, changes, opening, sets, words};
 use std::io;
@@ -15,30 +15,10 @@ pub(crate) fn answer(
     line: &Buffer,
     length: usize,
     all: Sets,
-    rows: &mut Rows,
-    roots: &mut Roots,
-    firsts: &mut Firsts,
-    dirs: &mut Dirs,
-    text: &mut Texts,
+    tables: &mut Tables,
 ) -> io::Result<Made> {
-    let first = without_tables(out, line, length, all.at)?;
-    let Made::NoCall = first else {
-        return Ok(first);
-    };
     let content = lists::part(line, 0, length);
-    let made = changes::make(content, sets::current(all), rows, roots, firsts, dirs, text);
-    let Made::NoCall = made else {
-        return Ok(made);
-    };
-    asking::answer(out, content, all, rows, roots, firsts, dirs, text)?;
-    Ok(Made::Answered)
-}
-
-// Says what a line changes of the sets, where `at` is the place of the one that is spoken of. A comment and a line of
-// blanks have no answer, and a line that is too long is no call.
-fn without_tables(out: Stdout, line: &[u8], length: usize, at: usize) -> io::Result<Made> {
-    let content = lists::part(line, 0, length);
-    if lists::byte(content, 0) == b'#' {
+    if content.first() == Some(&b'#') {
         return Ok(Made::Answered);
     }
     if line.len() < length {
@@ -48,32 +28,34 @@ fn without_tables(out: Stdout, line: &[u8], length: usize, at: usize) -> io::Res
     if !words::has(content, 0) {
         return Ok(Made::Answered);
     }
-    Ok(opening::make(content, at))
+    if let Some(made) = opening::make(content, all.at) {
+        return Ok(made);
+    }
+    if let Some(set) = sets::current(all) {
+        if let Some(made) = changes::make(content, set, tables) {
+            return Ok(made);
+        }
+    }
+    asking::answer(out, content, all, tables)?;
+    Ok(Made::Answered)
 }
 
 // Answers a change of the sets, and gives the sets after it.
 pub(crate) fn noted(out: Stdout, made: Made, before: Sets) -> io::Result<Sets> {
-    match made {
+    let after = match made {
+        Made::Answered => return Ok(before),
         Made::Refused(refusal) => {
             replies::refused(out, refusal)?;
-            Ok(before)
+            return Ok(before);
         }
         Made::Spoilt => {
-            replies::string(out, b"spoilt")?;
-            Ok(before)
+            replies::value(out, replies::ByteString(b"spoilt"))?;
+            return Ok(before);
         }
-        Made::Changed(set) => {
-            replies::done(out)?;
-            Ok(sets::with(before, set))
-        }
-        Made::Use(place) => {
-            replies::done(out)?;
-            Ok(sets::turned_to(before, place))
-        }
-        Made::Reset => {
-            replies::done(out)?;
-            Ok(sets::none())
-        }
-        _ => Ok(before),
-    }
+        Made::Changed(set) => sets::with(before, set),
+        Made::Use(place) => sets::turned_to(before, place),
+        Made::Reset => sets::none(),
+    };
+    replies::done(out)?;
+    Ok(after)
 }

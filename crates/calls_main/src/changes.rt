@@ -1,131 +1,56 @@
 // The calls that change the set that is spoken of, and of these the additions and trims. The tables are handed on
 // whole, and the functions that call the library lend it the set's parts. Relies on `storage`, on
 // addition.rt for the words of an addition, and on cleanings.rt, renaming.rt and importing.rt.
-use crate::addition::Addition;
-use crate::input::{Buffer, between};
-use crate::places::{Dirs, Firsts, Places, Roots, Rows, Texts};
+use crate::input::between;
+use crate::places::{Tables, part_mut};
 use crate::sets::{Made, Set};
-use crate::{addition, cleanings, importing, places, renaming, words};
-use additions::FileInfo;
-use change::StorageResult;
-use tables::{FileStorage, Sha256Hash};
+use crate::{addition, cleanings, importing, renaming, words};
 
-// Makes the change of a set that a line says.
-pub(crate) fn make(
-    line: &[u8],
-    set: Set,
-    rows: &mut Rows,
-    roots: &mut Roots,
-    firsts: &mut Firsts,
-    dirs: &mut Dirs,
-    text: &mut Texts,
-) -> Made {
-    if !set.is_open {
-        return Made::NoCall;
-    }
-    match words::form_of(b"add NAME PATH SIZE FLAGS MTIME LINK ROOT, trim", line) {
-        0 => add(line, set, rows, roots, firsts, dirs, text),
-        1 => outcome(set, trim(set.fs, set.parts, rows, roots, dirs, text)),
-        _ => make_other(line, set, rows, dirs, text),
+// Makes the change of a set that a line says, if it says one.
+pub(crate) fn make(line: &[u8], set: Set, tables: &mut Tables) -> Option<Made> {
+    // Stays: the forms stand in one text, numbered by their order; an enum would need a second list in that order.
+    match words::form_of(
+        b"add NAME PATH SIZE FLAGS MTIME LINK ROOT, trim, clean, rename I :NEW, import I :N ..",
+        line,
+    ) {
+        Some(0) => add(line, set, tables),
+        Some(1) => Some(trim(set, tables)),
+        Some(2) => Some(cleanings::clean(set, tables)),
+        Some(3) => renaming::rename(line, set, tables),
+        Some(4) => importing::import(line, set, tables),
+        _ => None,
     }
 }
 
-// Makes a change that leaves the roots as they are.
-fn make_other(line: &[u8], set: Set, rows: &mut Rows, dirs: &mut Dirs, text: &mut Texts) -> Made {
-    match words::form_of(b"clean, rename I :NEW, import I :N ..", line) {
-        0 => cleanings::clean(set, rows, dirs, text),
-        1 => renaming::rename(line, set, rows, text),
-        2 => importing::import(line, set, rows, text),
-        _ => Made::NoCall,
-    }
-}
-
-// `add NAME PATH SIZE FLAGS MTIME LINK ROOT`.
-fn add(
-    line: &[u8],
-    set: Set,
-    rows: &mut Rows,
-    roots: &mut Roots,
-    firsts: &mut Firsts,
-    dirs: &mut Dirs,
-    text: &mut Texts,
-) -> Made {
+// `add NAME PATH SIZE FLAGS MTIME LINK ROOT`: the texts stand in a buffer, one after the other.
+fn add(line: &[u8], set: Set, tables: &mut Tables) -> Option<Made> {
     let mut texts = questions::large_buffer();
-    let words = addition::read(line, &mut texts);
-    if !words.is_formed {
-        return Made::NoCall;
-    }
-    outcome(
-        set,
-        add_read(
-            words, &texts, set.fs, set.parts, rows, roots, firsts, dirs, text,
-        ),
-    )
-}
-
-// Adds the file that the words stand for; its texts stand in a buffer, one after the other.
-fn add_read(
-    words: Addition,
-    texts: &Buffer,
-    fs: FileStorage,
-    parts: Places,
-    rows: &mut [u64],
-    roots: &mut [u8],
-    firsts: &mut [u16],
-    dirs: &mut [u64],
-    text: &mut [u8],
-) -> StorageResult {
-    let given = words.given;
-    let rooted = words.rooted;
-    let bytes = words.root;
-    let file = FileInfo {
-        given,
-        size: words.size,
-        flags: words.flags,
-        mtime: words.time,
-        rooted,
-        root: Sha256Hash { bytes },
-    };
-    storage::add_file(
-        fs,
-        places::words_of(rows, parts.rows),
-        places::bytes_of(roots, parts.roots),
-        places::numbers_of(firsts, parts.firsts),
-        places::words_of(dirs, parts.dirs),
-        places::bytes_of(text, parts.text),
-        file,
-        between(texts, 0, words.name),
-        between(texts, words.name, words.path),
-        between(texts, words.path, words.link),
-    )
+    let words = addition::read(line, &mut texts)?;
+    let parts = set.parts;
+    let res = storage::add_file(
+        set.fs,
+        part_mut(&mut tables.rows, parts.rows),
+        part_mut(&mut tables.roots, parts.roots),
+        part_mut(&mut tables.firsts, parts.firsts),
+        part_mut(&mut tables.dirs, parts.dirs),
+        part_mut(&mut tables.text, parts.text),
+        words.file,
+        between(&texts, 0, words.name),
+        between(&texts, words.name, words.path),
+        between(&texts, words.path, words.link),
+    );
+    Some(Made::from(res.map(|fs| Set { fs, ..set })))
 }
 
 // `trim`.
-fn trim(
-    fs: FileStorage,
-    parts: Places,
-    rows: &mut [u64],
-    roots: &mut [u8],
-    dirs: &mut [u64],
-    text: &mut [u8],
-) -> StorageResult {
-    trim::remove_tail_padding(
-        fs,
-        places::words_of(rows, parts.rows),
-        places::bytes_of(roots, parts.roots),
-        places::words_of(dirs, parts.dirs),
-        places::bytes_of(text, parts.text),
-    )
-}
-
-// What came of a change that the library was asked for: the set has the record that it gives.
-pub(crate) fn outcome(before: Set, res: StorageResult) -> Made {
-    match res {
-        StorageResult::Ok(fs) => {
-            let mut set = before;
-            set.fs = fs;
-            Made::Changed(set)
-        }
-        StorageResult::Err(refusal) => Made::Refused(refusal),
-    }
+fn trim(set: Set, tables: &mut Tables) -> Made {
+    let parts = set.parts;
+    let res = trim::remove_tail_padding(
+        set.fs,
+        part_mut(&mut tables.rows, parts.rows),
+        part_mut(&mut tables.roots, parts.roots),
+        part_mut(&mut tables.dirs, parts.dirs),
+        part_mut(&mut tables.text, parts.text),
+    );
+    Made::from(res.map(|fs| Set { fs, ..set }))
 }

@@ -17,6 +17,8 @@ mod renaming;
 mod sets;
 mod words;
 
+use crate::input::Input;
+use crate::places::Tables;
 use std::io;
 
 // Answers line by line. The tables have four parts each, one for each set. A proved loop has to end, and nothing
@@ -24,38 +26,16 @@ use std::io;
 // ends the program with its error.
 fn main(rt: HostRuntime) -> io::Result<()> {
     let out = rt.stdout();
-    let mut block = questions::large_buffer();
+    let mut input = Input::new(rt.stdin());
     let mut line = questions::large_buffer();
-    let mut rows = [0u64; 11264];
-    let mut roots = [0u8; 32768];
-    let mut firsts = [0u16; 4096];
-    let mut dirs = [0u64; 2048];
-    let mut text = texts();
+    let mut tables = Tables::new();
     let mut all = sets::none();
-    let mut cursor = input::start();
     for _ in 0..u64::MAX {
-        cursor = input::next_line(rt.stdin(), &mut block, &mut line, cursor)?;
-        if !cursor.is_line {
+        let Some(length) = input.next_line(&mut line)? else {
             break;
-        }
-        let length = cursor.length;
-        let made = calls::answer(
-            out,
-            &line,
-            length,
-            all,
-            &mut rows,
-            &mut roots,
-            &mut firsts,
-            &mut dirs,
-            &mut text,
-        )?;
+        };
+        let made = calls::answer(out, &line, length, all, &mut tables)?;
         all = calls::noted(out, made, all)?;
     }
     Ok(())
-}
-
-// The texts of the four sets and of their renames.
-fn texts() -> [u8; 1310720] {
-    [0u8; 1310720]
 }

@@ -1,21 +1,31 @@
 // The tables of the four sets, and the parts of them that a set is lent: each table has four quarters, one for each
 // set, and a set is lent the start of its own. The rows of files have the entries of renames after them, and the
-// texts of sets those of renames. Relies on the accessors of `lists`.
+// texts of sets those of renames. Relies on the kit only.
 ghost use Rattle.std.specs.Prelude.{◌≤◌};
-
-use lists::min_usize;
 
 // The tables: rows of files and entries of renames, roots, first files of pieces, directories, and texts of sets and of
 // renames.
-pub(crate) type Rows = [u64; 11264];
+#[derive(Drop)]
+pub(crate) struct Tables {
+    pub rows: [u64; 11264],
+    pub roots: [u8; 32768],
+    pub firsts: [u16; 4096],
+    pub dirs: [u64; 2048],
+    pub text: [u8; 1310720],
+}
 
-pub(crate) type Roots = [u8; 32768];
-
-pub(crate) type Firsts = [u16; 4096];
-
-pub(crate) type Dirs = [u64; 2048];
-
-pub(crate) type Texts = [u8; 1310720];
+impl Tables {
+    // Tables of zeros.
+    pub(crate) fn new() -> Tables {
+        Tables {
+            rows: [0; 11264],
+            roots: [0; 32768],
+            firsts: [0; 4096],
+            dirs: [0; 2048],
+            text: [0; 1310720],
+        }
+    }
+}
 
 // A part of a table: where it begins, and how many places it has.
 #[derive(Clone, Copy)]
@@ -37,67 +47,23 @@ pub(crate) struct Places {
     pub area: Place,
 }
 
-// The bounds of a part in a table.
-#[derive(Drop)]
-struct Bounds {
-    start: usize,
-    end: usize,
-}
-
-// Where a part lies in a table of a length, as far as that has it.
-fn inside(length: usize, place: Place) -> Bounds
-    ensures { (result.start ≤ result.end) × (result.end ≤ length) }
+// Where a part begins and ends in a table of a length, as far as that has it.
+fn inside(length: usize, place: Place) -> (usize, usize)
+    ensures { (result.0 ≤ result.1) × (result.1 ≤ length) }
 {
-    let from = min_usize(place.start, length);
-    let to = from + min_usize(place.count, length - from);
-    Bounds {
-        start: from,
-        end: to,
-    }
+    let from = place.start.min(length);
+    (from, from + place.count.min(length - from))
 }
 
-// The part of a table of words.
-pub(crate) fn words_at(table: &[u64], place: Place) -> &[u64] {
-    let part = inside(table.len(), place);
-    let from = part.start;
-    let to = part.end;
+// The part of a table.
+pub(crate) fn part<T>(table: &[T], place: Place) -> &[T] {
+    let (from, to) = inside(table.len(), place);
     &table[from..to]
 }
 
-// The part of a table of bytes.
-pub(crate) fn bytes_at(table: &[u8], place: Place) -> &[u8] {
-    lists::part(table, place.start, place.count)
-}
-
-// The part of a table of file numbers.
-pub(crate) fn numbers_at(table: &[u16], place: Place) -> &[u16] {
-    let part = inside(table.len(), place);
-    let from = part.start;
-    let to = part.end;
-    &table[from..to]
-}
-
-// The part of a table of words, to be changed.
-pub(crate) fn words_of(table: &mut [u64], place: Place) -> &mut [u64] {
-    let part = inside(table.len(), place);
-    let from = part.start;
-    let to = part.end;
-    &mut table[from..to]
-}
-
-// The part of a table of bytes, to be changed.
-pub(crate) fn bytes_of(table: &mut [u8], place: Place) -> &mut [u8] {
-    let part = inside(table.len(), place);
-    let from = part.start;
-    let to = part.end;
-    &mut table[from..to]
-}
-
-// The part of a table of file numbers, to be changed.
-pub(crate) fn numbers_of(table: &mut [u16], place: Place) -> &mut [u16] {
-    let part = inside(table.len(), place);
-    let from = part.start;
-    let to = part.end;
+// The part of a table, to be changed.
+pub(crate) fn part_mut<T>(table: &mut [T], place: Place) -> &mut [T] {
+    let (from, to) = inside(table.len(), place);
     &mut table[from..to]
 }
 
@@ -113,7 +79,7 @@ pub(crate) fn of_set(
     names: usize,
 ) -> Places {
     let at = place % 4;
-    let most = min_usize(files, 256);
+    let most = files.min(256);
     Places {
         rows: Place {
             start: at * 2048,
@@ -125,23 +91,23 @@ pub(crate) fn of_set(
         },
         firsts: Place {
             start: at * 1024,
-            count: min_usize(pieces, 1024),
+            count: pieces.min(1024),
         },
         dirs: Place {
             start: at * 512,
-            count: min_usize(dirs, 256) * 2,
+            count: dirs.min(256) * 2,
         },
         text: Place {
             start: at * 262144,
-            count: min_usize(text, 262144),
+            count: text.min(262144),
         },
         entries: Place {
             start: 8192 + at * 768,
-            count: min_usize(renames, 256) * 3,
+            count: renames.min(256) * 3,
         },
         area: Place {
             start: 1048576 + at * 65536,
-            count: min_usize(names, 65536),
+            count: names.min(65536),
         },
     }
 }

@@ -1,34 +1,41 @@
 // What the words of a line stand for, as the modules of the calls read them. Each function joins two of `script`, and
 // says nothing of its answer, so that its callers are proved without the forms of words. Relies on `script`.
 use crate::input::Buffer;
-use script::{Decoded, I32Word, I64Word, U64Word};
 
+// Stays: the next three differ in the reading of `script`, and no trait of std reads a number from bytes.
 // The `u64` that stands as the word of a number.
-pub(crate) fn u64_at(line: &[u8], number: usize) -> U64Word {
+pub(crate) fn u64_at(line: &[u8], number: usize) -> Option<u64> {
     script::to_u64(script::word(line, number))
 }
 
 // The `i64` that stands as the word of a number.
-pub(crate) fn i64_at(line: &[u8], number: usize) -> I64Word {
+// Stays: it differs from its twins in the reading of `script`, and no trait of std reads a number from bytes.
+pub(crate) fn i64_at(line: &[u8], number: usize) -> Option<i64> {
     script::to_i64(script::word(line, number))
 }
 
 // The `i32` that stands as the word of a number.
-pub(crate) fn i32_at(line: &[u8], number: usize) -> I32Word {
+// Stays: it differs from its twins in the reading of `script`, and no trait of std reads a number from bytes.
+pub(crate) fn i32_at(line: &[u8], number: usize) -> Option<i32> {
     script::to_i32(script::word(line, number))
 }
 
 // Decodes the word of a number into `target` after its first `used` bytes, and gives where it ends.
-pub(crate) fn decode(line: &[u8], number: usize, target: &mut Buffer, used: usize) -> Decoded {
+pub(crate) fn decode(
+    line: &[u8],
+    number: usize,
+    target: &mut Buffer,
+    used: usize,
+) -> Option<usize> {
     script::decode(script::word(line, number), target, used)
 }
 
 // Whether a line has a word of a number.
 pub(crate) fn has(line: &[u8], number: usize) -> bool {
-    0 < script::word(line, number).len()
+    !script::word(line, number).is_empty()
 }
 
 // The number of the form that a line has.
-pub(crate) fn form_of(forms: &[u8], line: &[u8]) -> usize {
+pub(crate) fn form_of(forms: &[u8], line: &[u8]) -> Option<usize> {
     script::form_of(forms, line)
 }

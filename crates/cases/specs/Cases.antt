@@ -1,8 +1,8 @@
 -- Document 01, 'Struck on the bench': the starred cases, in its order; then, of document 02 (v), those of set A again
 -- on a set that keeps the first file of each piece, and cases of that table. It relies on Questions.antt.
-use Rattle.std.specs.Prelude.{ℕ, Bool, true, false, ◌&&◌, List, [], ◌∷◌, ℤ, pos, replicate}
+use Rattle.std.specs.Prelude.{ℕ, Bool, true, false, ◌&&◌, List, [], ◌∷◌, ℤ, pos, replicate, Option, Some, None}
 use Rattle.types.specs.Refusals.{Outcome, value, refused}
-use Rattle.tables.specs.Model.{Optional, absent, present, Store}
+use Rattle.tables.specs.Model.{Store}
 use Rattle.additions.specs.Addition.{Addition}
 use Rattle.cases.specs.Questions.{new_store, built, answer, same_answer, Question, add_file, file_offset, num_pieces}
 use Rattle.cases.specs.Questions.{map_block, file_index_at_offset, map_file, exclusive, inclusive, piece_size2}
@@ -25,13 +25,13 @@ abbrev pub under : ℕ → List ℕ
 under letter = 115 ∷ 47 ∷ letter ∷ []
 
 -- the addition of a plain file
-abbrev pub file : ℕ → ℕ → Optional (List ℕ) → Addition
+abbrev pub file : ℕ → ℕ → Option (List ℕ) → Addition
 file letter size root =
-    record { given = absent; path = under letter; size = pos size; flags = 0; time = pos 0; link = []; root = root }
+    record { given = None; path = under letter; size = pos size; flags = 0; time = pos 0; link = []; root = root }
 
 -- 'Set A, v1, length 10: s/a 7, s/b 0, s/c 15, s/d 0'
 abbrev pub set_a : List Addition
-set_a = file 97 7 absent ∷ file 98 0 absent ∷ file 99 15 absent ∷ file 100 0 absent ∷ []
+set_a = file 97 7 None ∷ file 98 0 None ∷ file 99 15 None ∷ file 100 0 None ∷ []
 
 abbrev pub case : Question → Outcome (List ℤ) → Case
 case q e = record { question = q; expected = e }
@@ -74,32 +74,32 @@ cases_of_a =
 abbrev pub cases_of_empty : List Case
 cases_of_empty =
     -- on an empty v1 set, size 281474976710655 is taken, one more gives 3
-    case (add_file (file 97 281474976710655 absent)) (says []) ∷
-    case (add_file (file 97 281474976710656 absent)) (refused 3) ∷
+    case (add_file (file 97 281474976710655 None)) (says []) ∷
+    case (add_file (file 97 281474976710656 None)) (refused 3) ∷
     []
 
 abbrev pub cases_of_v2 : List Case
 cases_of_v2 =
     -- v2, length 16384, one file of 281474976710655: 4
-    case (add_file (file 97 281474976710655 (present (replicate 32 1)))) (refused 4) ∷
+    case (add_file (file 97 281474976710655 (Some (replicate 32 1)))) (refused 4) ∷
     []
 
 -- the addition of a link with this text
 abbrev pub link : ℕ → List ℕ → Addition
 link letter text =
-    record { given = absent; path = under letter; size = pos 0; flags = 8; time = pos 0; link = text; root = absent }
+    record { given = None; path = under letter; size = pos 0; flags = 8; time = pos 0; link = text; root = None }
 
 -- s/x/f, s/l to `x`, s/m to `l/f`, s/n to `/etc`
 abbrev pub linked_set : List Addition
 linked_set =
     record {
-      given = absent;
+      given = None;
       path = 115 ∷ 47 ∷ 120 ∷ 47 ∷ 102 ∷ [];
       size = pos 1;
       flags = 0;
       time = pos 0;
       link = [];
-      root = absent;
+      root = None;
     } ∷
     link 108 (120 ∷ []) ∷
     link 109 (108 ∷ 47 ∷ 102 ∷ []) ∷
@@ -126,8 +126,8 @@ cases_of_firsts =
 abbrev pub cases_of_places : List Case
 cases_of_places =
     -- 'An addition that needs more places in it gets 10': there are 3, for 30 bytes
-    case (add_file (file 98 23 absent)) (says []) ∷
-    case (add_file (file 98 24 absent)) (refused 10) ∷
+    case (add_file (file 98 23 None)) (says []) ∷
+    case (add_file (file 98 24 None)) (refused 10) ∷
     []
 
 -- the table
@@ -139,7 +139,7 @@ table =
     record { piece_length = 10; indexed = false; additions = linked_set; cases = cases_of_links } ∷
     record { piece_length = 10; indexed = true; additions = set_a; cases = cases_of_a } ∷
     record { piece_length = 10; indexed = true; additions = set_a; cases = cases_of_firsts } ∷
-    record { piece_length = 10; indexed = true; additions = file 97 7 absent ∷ []; cases = cases_of_places } ∷
+    record { piece_length = 10; indexed = true; additions = file 97 7 None ∷ []; cases = cases_of_places } ∷
     []
 
 -- each answer is the one expected

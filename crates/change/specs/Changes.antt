@@ -1,14 +1,8 @@
 -- What a change answers and what every lent table holds after it. It relies on the tables of `tables`.
 use Rattle.std.specs.Prelude.{ℕ, cond, List, eqb}
-use Rattle.types.specs.Refusals.{number_of, Outcome, value, refused}
+use Rattle.types.specs.Refusals.{Outcome, value, refused}
 use Rattle.tables.specs.declared.storage.FileStorage.{FileStorage}
 use Rattle.tables.specs.Model.{Store}
-use Rattle.change.specs.declared.result.StorageResult.{StorageResult}
-use Rattle.change.specs.declared.result.StorageResult.TheVariants.{Ok, Err}
-
-abbrev pub storage_says : StorageResult → Outcome FileStorage
-storage_says (Ok fs) = value fs
-storage_says (Err e) = refused (number_of e)
 
 -- the answer, and each table
 pub record Changed : Type 0 where

@@ -2,8 +2,6 @@
 // on `tables`, `rules` and `lists`.
 #![tactic(auto)]
 
-mod result;
 mod rooms;
 
-pub use result::StorageResult;
 pub use rooms::{Rooms, dirs_room, files_room, holds, rooms_in};

@@ -12,9 +12,7 @@ use lib.ListN.{length, get_or, drop, replicate}
 use lib.Seq.{sets, get_or-drop, drop-drop}
 use borrow.Author.Tests.{eqb-true, le-ltb, ltb-false, leb-true, not-false}
 use Rattle.lists.specs.Lists.{cleared}
-use Rattle.types.specs.Refusals.{number_of, value, refused}
-use Rattle.types.specs.declared.refusal.Refusal.{Refusal}
-use Rattle.types.proofs.Refusals.{numbered}
+use Rattle.types.specs.Refusals.{value, refused}
 use Rattle.tables.specs.Model.{Store}
 use Rattle.rules.specs.Rules.{Rule, when}
 use Rattle.rules.specs.Bounds.{bad_length}
@@ -29,9 +27,9 @@ use Rattle.links.specs.declared.mark.LinkVerdict.TheVariants.{Keep}
 use Rattle.links.specs.Judging.{verdict_read, verdict_of, verdicts_for, verdicts, judging_number}
 use Rattle.links.proofs.Judgements.{verdicts-set}
 use Rattle.texts.proofs.OneLink.{cond_no}
-use Rattle.cleaning.specs.Cleaning.{file_verdicts_for, file_verdicts, emptied, rewritten, cleaned_store, kept_after, new_bytes, text_needed, Cleaned, cleaned_to, cleaning_of, cleaning_number, clean_stored}
+use Rattle.cleaning.specs.Cleaning.{file_verdicts_for, file_verdicts, emptied, rewritten, cleaned_store, kept_after, new_bytes, text_needed, Cleaned, cleaned_to, cleaning_number}
 use Rattle.links.specs.Judging.{Judged, judged_of, judged}
-use Rattle.cleaning.specs.private.Writing.{flags_in, verdicts_by, all_verdicts, needed_by, cleaned_by, cleaned_within, is_done, cleared_if}
+use Rattle.cleaning.specs.private.Writing.{flags_in, verdicts_by, all_verdicts, cleaned_by, cleaned_within}
 
 -- ---- verdicts
 
@@ -154,9 +152,6 @@ module _ (s : Store) (marks scratch path : ℕ) where
   pub number-judged : judging_number s marks scratch path ≡ 0 → cleaning_number s marks scratch path ≡ cond (ltb (length s.text) (text_needed s)) 10 0
   number-judged e = number-parts ∙ ap (λ (k : ℕ). or_else k (cond (ltb (length s.text) (text_needed s)) 10 0)) e
 
-  pub number-refused : (e : Refusal) → judging_number s marks scratch path ≡ number_of e → cleaning_number s marks scratch path ≡ number_of e
-  number-refused e q = number-parts ∙ ap (λ (k : ℕ). or_else k (cond (ltb (length s.text) (text_needed s)) 10 0)) q ∙ rw (numbered e)
-
   -- what is known where links are judged
   pub record Judges : Type 0 where
     pub marked : link_count (entries_of s) ≤ marks
@@ -184,33 +179,9 @@ module _ (s : Store) (marks scratch path : ℕ) where
         local = passes _ _ _ p.0 p.1.0 (either-not (ltb 65535 n) (ltb scratch (space (entries_of s)) || ltb path (2 * space (entries_of s))) (le-ltb 65535 n few) work.1);
       }
 
--- ---- once links are judged
-
-module _ (vs : List LinkVerdict) (s : Store) (scratch : List ℕ) where
-  -- there is no room
-  pub cleaned-short : ltb (length s.text) (needed_by vs s) ≡ true → cleaned_to (refused 10) s [] scratch [] ≡ cleaned_by vs s scratch
-  cleaned-short e = rw e
-
-  -- all is written
-  pub cleaned-done : ltb (length s.text) (needed_by vs s) ≡ false → (t : Store) (scratch' : List ℕ) {scratch'' : List ℕ}
-      → t ≡ rewritten (length scratch) vs 0 (emptied vs 0 s) → scratch'' ≡ cleared scratch' → length scratch' ≡ length scratch
-      → cleaned_to (value t.fs) t [] scratch'' [] ≡ cleaned_by vs s scratch
-  cleaned-done e t scratch' {scratch''} q r h =
-      ap (λ (x : Store). cleaned_to (value x.fs) x [] scratch'' []) q
-      ∙ ap (λ (x : List ℕ). cleaned_to (value u.fs) u [] x []) (r ∙ ap (λ (k : ℕ). replicate k 0) h)
-      ∙ rw e
-    where
-      u : Store
-      u = rewritten (length scratch) vs 0 (emptied vs 0 s)
-
 -- ---- the call by lengths
 
 module _ (s : Store) (marks : ℕ) (scratch : List ℕ) (path : ℕ) where
-  -- the judgement refuses
-  pub within-stops : (e : Refusal) → judging_number s marks (length scratch) path ≡ number_of e
-      → cleaned_to (refused (number_of e)) s [] scratch [] ≡ cleaned_within s marks scratch path
-  within-stops e q = rw (number-refused s marks (length scratch) path e q, numbered e)
-
   -- it does not: the verdicts give the outcome
   pub within-goes : judging_number s marks (length scratch) path ≡ 0 → cleaned_by (file_verdicts s) s scratch ≡ cleaned_within s marks scratch path
   within-goes e = rw (number-judged s marks (length scratch) path e) (at (ltb (length s.text) (text_needed s)))
@@ -241,13 +212,6 @@ within-local s marks scratch path e =
 
 -- a judgement that says no, and one that says yes
 module _ (b : Bool) (k n : ℕ) (m marks marks' : List ℕ) where
-  said-no : (j : ℕ) → judged_of (refused j) m ≡ cond b (judged_of (value n) marks) (judged_of (refused k) marks') → k ≡ j
-  said-no j q = at b q
-    where
-      at : (b : Bool) → judged_of (refused j) m ≡ cond b (judged_of (value n) marks) (judged_of (refused k) marks') → k ≡ j
-      at true h = absurd (let z = ap (λ (x : Judged). x.says) h in let y : ◌≡◌ {A = ℕ} 0 1 = cc in omega arith)
-      at false h = let z : refused j ≡ refused k = ap (λ (x : Judged). x.says) h in cc
-
   said-yes : (j : ℕ) → judged_of (value j) m ≡ cond b (judged_of (value n) marks) (judged_of (refused k) marks') → (b ≡ true) × (m ≡ marks)
   said-yes j q = at b q
     where
@@ -259,12 +223,6 @@ module _ (s : Store) (marks : List ℕ) (k : ℕ) (long : length marks ≡ k) (s
   abbrev number : ℕ
   number = judging_number s (length marks) (length scratch) path
 
-  pub judging-stops : (e : Refusal) → judged_of (refused (number_of e)) m ≡ judged s marks (length scratch) path
-      → cleaned_to (refused (number_of e)) s [] scratch [] ≡ cleaned_within s k scratch path
-  judging-stops e q =
-      let said = said-no (eqb number 0) number (link_count (entries_of s)) m (sets marks 0 (verdicts s)) marks (number_of e) q in
-      within-stops s (length marks) scratch path e said ∙ ap (λ (x : ℕ). cleaned_within s x scratch path) long
-
   -- links are judged: what the marks then hold gives the outcome
   pub judging-goes : (n : ℕ) → judged_of (value n) m ≡ judged s marks (length scratch) path
       → cleaned_by (all_verdicts s m) s scratch ≡ cleaned_within s k scratch path
@@ -275,29 +233,3 @@ module _ (s : Store) (marks : List ℕ) (k : ℕ) (long : length marks ≡ k) (s
       ap (λ (vs : List LinkVerdict). cleaned_by vs s scratch) all
       ∙ within-goes s (length marks) scratch path e
       ∙ ap (λ (x : ℕ). cleaned_within s x scratch path) long
-
--- ---- the call
-
--- the same with other marks and another walk path
-abbrev with_space : List ℕ → List ℕ → Cleaned → Cleaned
-with_space m p c = cleaning_of c.says c.rows c.dirs c.text m c.scratch p
-
-module _ (s : Store) (marks scratch path : List ℕ) (c : Cleaned) (q : c ≡ cleaned_within s (length marks) scratch (length path)) where
-  abbrev all : ℕ
-  all = cleaning_number s (length marks) (length scratch) (length path)
-
-  abbrev done : List ℕ → List ℕ → Cleaned
-  done m p = cleaned_to (value (cleaned_store (length scratch) s).fs) (cleaned_store (length scratch) s) m (cleared scratch) p
-
-  abbrev left : List ℕ → List ℕ → Cleaned
-  left m p = cleaned_to (refused all) s m scratch p
-
-  -- marks and walk path are cleared just where the set is cleaned
-  pub clean_is : with_space (cleared_if (is_done c.says) marks) (cleared_if (is_done c.says) path) c ≡ clean_stored s marks scratch path
-  clean_is = ap (λ (x : Cleaned). with_space (cleared_if (is_done x.says) marks) (cleared_if (is_done x.says) path) x) q ∙ at (eqb all 0)
-    where
-      at : (t : Bool)
-          → with_space (cleared_if (is_done (cond t (done [] []) (left [] [])).says) marks) (cleared_if (is_done (cond t (done [] []) (left [] [])).says) path) (cond t (done [] []) (left [] []))
-          ≡ cond t (done (cleared marks) (cleared path)) (left marks path)
-      at true = refl
-      at false = refl

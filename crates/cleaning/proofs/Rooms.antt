@@ -6,7 +6,6 @@ use mathlib.Core.Bool.{Bool, true, false}
 use mathlib.Core.Logic.{⊎_elim}
 use mathlib.Core.List.{List, [], ◌∷◌}
 use native.Mathlib.Omega.{arith}
-use native.Mathlib.Nat.{sub-zero}
 use lib.Dec.{ltb}
 use lib.ListN.{length}
 use borrow.Author.Tests.{lt-ltb, le-ltb}
@@ -42,9 +41,6 @@ module _ (h : LinkVerdict → ℕ → ℕ) (g : ℕ → ℕ) (marks : List ℕ) 
     abbrev pub Leaving : ℕ → ℕ → ℕ → Type 0
     Leaving left i k = (i ≤ n) × (k ≤ i) × (left_by h (verdicts_by g marks (n - i) i k) i left ≡ left_by h (verdicts_by g marks n 0 0) 0 u)
 
-    pub leaving-start : Leaving u 0 0
-    leaving-start = (omega arith, omega arith, rw (sub-zero n))
-
     pub leaving-turn : (left i k : ℕ) → Leaving left i k → i < n → {left' k' : ℕ}
         → left' ≡ left - h (verdict_by (g i) marks k) i → k' ≡ mark_after (g i) k → Leaving left' (i + 1) k'
     leaving-turn left i k (b, m, e) t p q =
@@ -56,9 +52,6 @@ module _ (h : LinkVerdict → ℕ → ℕ) (g : ℕ → ℕ) (marks : List ℕ) 
     -- the same for a sum that is taken off
     abbrev pub Taking : ℕ → ℕ → ℕ → Type 0
     Taking left i k = (i ≤ n) × (k ≤ i) × (ltb left (sum_by h (verdicts_by g marks (n - i) i k) i) ≡ ltb u (sum_by h (verdicts_by g marks n 0 0) 0))
-
-    pub taking-start : Taking u 0 0
-    taking-start = (omega arith, omega arith, rw (sub-zero n))
 
     module _ (left i k : ℕ) (p : Taking left i k) where
       taking-next : i < n → ltb left (h (verdict_by (g i) marks k) i + sum_by h (verdicts_by g marks (n - (i + 1)) (i + 1) (mark_after (g i) k)) (i + 1)) ≡ ltb u (sum_by h (verdicts_by g marks n 0 0) 0)

@@ -24,6 +24,7 @@ fn write_link(
         ≡ rewritten_at (length scratch.old) verdict
         (lent fs rows.old dirs.old text.old) i }
 {
+    // Stays: a verdict is data of the set, and each of its three cases is one line.
     match verdict {
         LinkVerdict::Keep => fs,
         LinkVerdict::OwnPath => texts::write_own(fs, rows, dirs, text, i),
@@ -44,9 +45,8 @@ fn empty_link(
         ≡ emptied_at verdict (lent fs rows.old dirs.old text.old) i }
 {
     match verdict {
-        LinkVerdict::Keep => fs,
         LinkVerdict::OwnPath => texts::empty_text(fs, rows, dirs, text, i),
-        LinkVerdict::FromDirectory => fs,
+        LinkVerdict::Keep | LinkVerdict::FromDirectory => fs,
     }
 }
 
@@ -64,19 +64,19 @@ fn empty_links(
         (lent fs rows.old dirs.old text.old) }
 {
     let mut set = fs;
-    let mut i = 0;
     let mut k = 0;
-    while i < n {
+    for i in 0..n {
         let flags = tables::flags_at(rows, i);
         let verdict = verdict_of(flags, marks, k);
         set = empty_link(set, rows, dirs, text, i, verdict);
         k = mark_after(flags, k);
-        i += 1;
     }
     set
 }
 
 // Writes the new texts of the first n files.
+// Stays: this pass and the one before differ in their step alone, but a step takes all lent slices, so a closure for it
+// is no plainer.
 fn write_links(
     fs: FileStorage,
     n: usize,
@@ -91,14 +91,12 @@ fn write_links(
         (lent fs rows.old dirs.old text.old) }
 {
     let mut set = fs;
-    let mut i = 0;
     let mut k = 0;
-    while i < n {
+    for i in 0..n {
         let flags = tables::flags_at(rows, i);
         let verdict = verdict_of(flags, marks, k);
         set = write_link(set, rows, dirs, text, scratch, i, verdict);
         k = mark_after(flags, k);
-        i += 1;
     }
     set
 }

@@ -10,18 +10,17 @@ ghost use Rattle.cleaning.specs.private.Writing.{needed_by, verdicts_in};
 
 use crate::verdicts::{mark_after, verdict_of};
 use links::LinkVerdict;
-use lists::saturating_sub_usize;
 use tables::{FileStorage, Row, Span};
 
 // What is left of `left` bytes after a link's old text is removed, where its verdict changes it.
 fn left_after(used: usize, link: Span, verdict: LinkVerdict, left: usize) -> usize
     ensures { result ≡ left - if_changed verdict (clip used link).len }
 {
-    let gone = tables::clipped(used, link);
     match verdict {
         LinkVerdict::Keep => left,
-        LinkVerdict::OwnPath => saturating_sub_usize(left, gone.len),
-        LinkVerdict::FromDirectory => saturating_sub_usize(left, gone.len),
+        LinkVerdict::OwnPath | LinkVerdict::FromDirectory => {
+            left.saturating_sub(tables::clipped(used, link).len)
+        }
     }
 }
 
@@ -30,14 +29,12 @@ fn kept_after(used: usize, n: usize, rows: &[u64], marks: &[u8]) -> usize
     ensures { result ≡ left_by (gone_bytes rows.now used) (verdicts_in rows.now marks.now n) 0 used }
 {
     let mut left = used;
-    let mut i = 0;
     let mut k = 0;
-    while i < n {
+    for i in 0..n {
         let row = tables::row_at(rows, i);
         let verdict = verdict_of(row.flags, marks, k);
         left = left_after(used, row.link, verdict, left);
         k = mark_after(row.flags, k);
-        i += 1;
     }
     left
 }
@@ -54,6 +51,7 @@ fn joined_length(dirs: &[u64], text: &[u8], row: Row, leaf: Span) -> usize
 fn new_length(dirs: &[u64], text: &[u8], row: Row, verdict: LinkVerdict) -> usize
     ensures { result ≡ new_length dirs.now text.now verdict row }
 {
+    // Stays: a verdict is data of the set, and each of its three cases is one line.
     match verdict {
         LinkVerdict::Keep => 0,
         LinkVerdict::OwnPath => joined_length(dirs, text, row, row.name),
@@ -68,9 +66,8 @@ fn lacks_bytes(n: usize, rows: &[u64], dirs: &[u64], text: &[u8], marks: &[u8], 
         (verdicts_in rows.now marks.now n) 0) }
 {
     let mut left = room;
-    let mut i = 0;
     let mut k = 0;
-    while i < n {
+    for i in 0..n {
         let row = tables::row_at(rows, i);
         let verdict = verdict_of(row.flags, marks, k);
         let more = new_length(dirs, text, row, verdict);
@@ -79,7 +76,6 @@ fn lacks_bytes(n: usize, rows: &[u64], dirs: &[u64], text: &[u8], marks: &[u8], 
         }
         left -= more;
         k = mark_after(row.flags, k);
-        i += 1;
     }
     false
 }

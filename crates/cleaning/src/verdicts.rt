@@ -20,8 +20,5 @@ pub(crate) fn mark_after(flags: u64, k: usize) -> usize
     requires { k + 1 < 2 ^ 64 }
     ensures { result ≡ mark_after flags k }
 {
-    if lookup::is_flagged(flags) {
-        return k + 1;
-    }
-    k
+    if lookup::is_flagged(flags) { k + 1 } else { k }
 }

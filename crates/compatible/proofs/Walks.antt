@@ -1,6 +1,7 @@
 -- Laws of a composed path that is read byte by byte: what is left from a place on is a byte and what is left behind it, two
 -- paths are compared by their steps, and from its start on the whole path is left. They rely on the laws of joins.
-use Prim.Native.Nat.{ℕ, suc, ◌+◌, ◌≤◌, ◌<◌}
+use Rattle.std.specs.Prelude.{Some, None}
+use Prim.Native.Nat.{ℕ, suc, ◌+◌, ◌<◌}
 use mathlib.Core.Path.{◌≡◌, refl, sym, ap, ◌∙◌}
 use mathlib.Core.Logic.{⊎_elim}
 use mathlib.Core.Bool.{Bool, true, false, cond, not, true≢false}
@@ -8,46 +9,20 @@ use mathlib.Core.List.{List, [], ◌∷◌, ◌++◌, append-nil, append_assoc}
 use native.Mathlib.Numerals.{add-one}
 use native.Mathlib.Omega.{arith}
 use lib.Dec.{eqb}
-use lib.ListN.{length, get_or, drop, length-append, drop_of_length-le, get_or-append, get_or-eq_default}
-use lib.Seq.{drop-cons, get_or-append_seam}
-use borrow.Author.Tests.{lt-ltb, le-ltb}
+use lib.ListN.{length, drop, drop_of_length-le}
+use lib.Seq.{drop-cons}
+use borrow.Author.Tests.{lt-ltb, le-ltb, eq-eqb, ne_eqb}
 use Rattle.lists.specs.Lists.{equal}
 use Rattle.lists.proofs.Orders.{le-or-lt}
 use Rattle.path.specs.Join.{is_alone, is_empty, is_closed, glued, appended}
 use Rattle.compatible.specs.declared.walk.Position.{Position}
-use Rattle.compatible.specs.declared.walk.Step.{Step}
-use Rattle.compatible.specs.declared.walk.Step.TheVariants.{Byte, End}
-use Rattle.compatible.specs.declared.walk.Meeting.{Meeting}
-use Rattle.compatible.specs.declared.walk.Meeting.TheVariants as meeting
-use Rattle.compatible.specs.private.Walk.{ended, is_cut_first, is_cut_second, walk_start, rest_from, step_in, step_last, step_second, step_from, meeting_of}
+use Rattle.compatible.specs.private.Walk.{Step, ended, is_cut_first, is_cut_second, walk_start, rest_from, step_in, step_last, step_second, step_from}
 use Rattle.names.proofs.Composed.{append-none, dropped, kept-appended, closed-appended}
-
--- the length and the bytes of a part with the separator that may follow it
-module _ (l : List ℕ) where
-  pub length-ended : (cut : Bool) → length (ended l cut) ≡ cond cut (length l + 1) (length l)
-  length-ended true = length-append l (47 ∷ [])
-  length-ended false = rw (append-nil l)
-
-  pub byte-within : (cut : Bool) (at : ℕ) → at < length l → get_or l at 0 ≡ get_or (ended l cut) at 0
-  byte-within cut at h = sym (get_or-append l (cond cut (47 ∷ []) []) 0 at h)
-
-  pub byte_cut : (cut : Bool) (at : ℕ) → at ≡ length l → cut ≡ true → 47 ≡ get_or (ended l cut) at 0
-  byte_cut cut at e h = rw (e, h) (sym (get_or-append_seam l 47 [] 0))
-
-  byte_past : (cut : Bool) (at : ℕ) → length (ended l cut) ≤ at → 0 ≡ get_or (ended l cut) at 0
-  byte_past cut at h = sym (get_or-eq_default (ended l cut) 0 h)
-
-  pub byte-behind : (cut : Bool) (at : ℕ) → length l < at → 0 ≡ get_or (ended l cut) at 0
-  byte-behind true at h = byte_past true at (omega (arith, length-ended true))
-  byte-behind false at h = byte_past false at (omega (arith, length-ended false))
-
-  pub byte-uncut : (cut : Bool) (at : ℕ) → length l ≤ at → cut ≡ false → 0 ≡ get_or (ended l cut) at 0
-  byte-uncut cut at h e = let q : length (ended l cut) ≡ length l = length-ended cut ∙ rw e in byte_past cut at (omega arith)
 
 -- what a step says is left
 abbrev pub left : (Position → List ℕ) → Step → List ℕ
-left rest (Byte x p) = x ∷ rest p
-left rest End = []
+left rest (Some t) = t.0 ∷ rest t.1
+left rest None = []
 
 -- a step in one list, where what is left behind its byte is `tail`
 in_list : (rest : Position → List ℕ) (l tail : List ℕ) (k at : ℕ) (other : Step) → rest (record { part = k; at = at + 1 }) ≡ drop (at + 1) l ++ tail
@@ -59,7 +34,7 @@ in_list rest l tail k at other h e =
 
 module _ (a b c : List ℕ) where
   last-left : (at : ℕ) → drop at c ≡ left (rest_from a b c) (step_last c at)
-  last-left at = sym (append-nil (drop at c)) ∙ in_list (rest_from a b c) c [] 2 at End (sym (append-nil (drop (at + 1) c))) refl
+  last-left at = sym (append-nil (drop at c)) ∙ in_list (rest_from a b c) c [] 2 at None (sym (append-nil (drop (at + 1) c))) refl
 
   second-left : (at : ℕ) → drop at b ++ c ≡ left (rest_from a b c) (step_second b c at)
   second-left at = in_list (rest_from a b c) b c 1 at (step_last c 0) refl (sym (last-left 0))
@@ -77,42 +52,33 @@ module _ (a b c : List ℕ) where
       at false true = second-left p.at
       at false false = last-left p.at
 
--- what a meeting says of two paths
-abbrev pub told : (Position → List ℕ) → (Position → List ℕ) → Meeting → Bool
-told f g (meeting.Same p q) = equal (f p) (g q)
-told f g meeting.Differ = false
-told f g meeting.Over = true
+-- a turn of the comparison: what its steps say of what is left of the two paths
+module _ (a b c d e f : List ℕ) (p q : Position) (x y : Step) (h : x ≡ step_from a b c p) (k : y ≡ step_from d e f q) where
+  turn-told : equal (left (rest_from a b c) x) (left (rest_from d e f) y) ≡ equal (rest_from a b c p) (rest_from d e f q)
+  turn-told = rw (h, k) (sym (rw (step_left a b c p, step_left d e f q)))
 
-pub meeting-told : (f g : Position → List ℕ) (x y : Step) → equal (left f x) (left g y) ≡ told f g (meeting_of x y)
-meeting-told f g (Byte x p) (Byte y q) = at (eqb x y)
-  where
-    at : (b : Bool) → cond b (equal (f p) (g q)) false ≡ told f g (cond b (meeting.Same p q) meeting.Differ)
-    at true = refl
-    at false = refl
-meeting-told f g (Byte x p) End = refl
-meeting-told f g End (Byte y q) = refl
-meeting-told f g End End = refl
+  pub on-end : x ≡ None → y ≡ None → true ≡ equal (rest_from a b c p) (rest_from d e f q)
+  on-end u v = rw (u, v) at turn-told
 
--- where two steps meet on the same byte, what is left is shorter
-pub meeting-less : (f g : Position → List ℕ) (x y : Step) (p q : Position) → meeting_of x y ≡ meeting.Same p q → length (f p) < length (left f x)
-meeting-less f g (Byte x p) (Byte y q) r s e = at (eqb x y) e
-  where
-    at : (b : Bool) → cond b (meeting.Same p q) meeting.Differ ≡ meeting.Same r s → length (f r) < suc (length (f p))
-    at true e = let h : r ≡ p = cc in rw h (omega arith)
-    at false e = absurd (let z : ◌≡◌ {A = ℕ} 0 1 = cc in omega arith)
-meeting-less f g (Byte x p) End r s e = absurd (let z : ◌≡◌ {A = ℕ} 0 1 = cc in omega arith)
-meeting-less f g End (Byte y q) r s e = absurd (let z : ◌≡◌ {A = ℕ} 0 1 = cc in omega arith)
-meeting-less f g End End r s e = absurd (let z : ◌≡◌ {A = ℕ} 0 1 = cc in omega arith)
+  module _ (t : ℕ × Position) (u : x ≡ Some t) where
+    pub on-longer : y ≡ None → false ≡ equal (rest_from a b c p) (rest_from d e f q)
+    on-longer v = rw (u, v) at turn-told
 
--- a turn of the comparison: its meeting says whether what is left is the same, and where it goes on there is less left
-module _ (a b c d e f : List ℕ) (p q : Position) (x y : Step) (m : Meeting) (h : x ≡ step_from a b c p) (k : y ≡ step_from d e f q) (g : m ≡ meeting_of x y) where
-  pub turn-told : told (rest_from a b c) (rest_from d e f) m ≡ equal (rest_from a b c p) (rest_from d e f q)
-  turn-told = rw (g, h, k) (sym (rw (step_left a b c p, step_left d e f q) (meeting-told (rest_from a b c) (rest_from d e f) (step_from a b c p) (step_from d e f q))))
+    module _ (s : ℕ × Position) (v : y ≡ Some s) where
+      pub on_same : t.0 ≡ s.0 → equal (rest_from a b c t.1) (rest_from d e f s.1) ≡ equal (rest_from a b c p) (rest_from d e f q)
+      on_same g = rw (u, v, eq-eqb t.0 s.0 g) at turn-told
 
-  pub turn-less : (r s : Position) → m ≡ meeting.Same r s → length (rest_from a b c r) < length (rest_from a b c p)
-  turn-less r s z =
-      let t : length (rest_from a b c p) ≡ length (left (rest_from a b c) x) = ap length (step_left a b c p) ∙ rw h in
-      rw t (meeting-less (rest_from a b c) (rest_from d e f) x y r s (sym g ∙ z))
+      pub on-other : (t.0 ≡ s.0 → ⊥) → false ≡ equal (rest_from a b c p) (rest_from d e f q)
+      on-other g = rw (u, v, ne_eqb t.0 s.0 g) at turn-told
+
+  pub on-shorter : x ≡ None → (s : ℕ × Position) → y ≡ Some s → false ≡ equal (rest_from a b c p) (rest_from d e f q)
+  on-shorter u s v = rw (u, v) at turn-told
+
+-- behind a byte there is less left
+pub turn-less : (a b c : List ℕ) (p : Position) (x : Step) → x ≡ step_from a b c p → (t : ℕ × Position) → x ≡ Some t → length (rest_from a b c t.1) < length (rest_from a b c p)
+turn-less a b c p x h t e =
+    let l : length (rest_from a b c p) ≡ suc (length (rest_from a b c t.1)) = ap length (step_left a b c p) ∙ rw (← h, e) in
+    omega arith
 
 -- a part with its separator, and what follows
 glue : (a b : List ℕ) → ended a (not (is_closed a)) ++ b ≡ glued a b

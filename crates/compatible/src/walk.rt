@@ -3,19 +3,21 @@
 ghost use Rattle.std.specs.Prelude.{◌≡◌, length, get_or};
 ghost use Rattle.lists.specs.Lists.{equal};
 ghost use Rattle.path.specs.Join.{appended};
-ghost use Rattle.compatible.specs.private.Walk.{ended, is_cut_first, is_cut_second, walk_start, composition_of, whole_of};
-ghost use Rattle.compatible.specs.private.Walk.{step_last, step_second, step_from, meeting_of};
+ghost use Rattle.compatible.specs.private.Walk.{ended, is_cut_first, is_cut_second};
+ghost use Rattle.compatible.specs.private.Walk.{walk_start, composition_of, whole_of};
+ghost use Rattle.compatible.specs.private.Walk.{step_last, step_second, step_from};
 
 use path::{is_alone, is_closed};
 
 // A position in a composed path: one of its parts, 0 to 2, and a position in that part.
-#[derive(Drop)]
+#[derive(Clone, Copy)]
 pub(crate) struct Position {
     pub part: usize,
     pub at: usize,
 }
 
 // How three parts compose a path: whether a separator follows the first and the second, and where the path starts.
+// Stays: its two tests say where a separator stands; neither has a value beside it.
 #[derive(Drop)]
 pub(crate) struct Composition {
     pub cut_first: bool,
@@ -23,29 +25,11 @@ pub(crate) struct Composition {
     pub start: Position,
 }
 
-// A byte and the position after it, or the end.
-#[derive(Drop)]
-pub(crate) enum Step {
-    Byte(u8, Position),
-    End,
-}
-
-// What two steps meet on: the same byte, with the positions after it; different ones; or both ends.
-#[derive(Drop)]
-pub(crate) enum Meeting {
-    Same(Position, Position),
-    Differ,
-    Over,
-}
-
 // The length of a part and of the separator that may follow it.
 fn length_of(part: &[u8], cut: bool) -> usize
     ensures { result ≡ length (ended part.now cut) }
 {
-    if cut {
-        return part.len() + 1;
-    }
-    part.len()
+    if cut { part.len() + 1 } else { part.len() }
 }
 
 // The byte at position `at` of a part and of the separator that may follow it, 0 past the end.
@@ -64,34 +48,34 @@ fn byte_of(part: &[u8], cut: bool, at: usize) -> u8
     0
 }
 
-// A step in the last part.
-fn step_last(last: &[u8], at: usize) -> Step
+// A step in the last part: the byte there and the position after it, nothing at the end.
+fn step_last(last: &[u8], at: usize) -> Option<(u8, Position)>
     ensures { result ≡ step_last last.now at }
 {
     if at < last.len() {
-        return Step::Byte(
+        return Some((
             last[at],
             Position {
                 part: 2,
                 at: at + 1,
             },
-        );
+        ));
     }
-    Step::End
+    None
 }
 
 // A step in the second part, or in the last.
-fn step_second(second: &[u8], cut: bool, last: &[u8], at: usize) -> Step
+fn step_second(second: &[u8], cut: bool, last: &[u8], at: usize) -> Option<(u8, Position)>
     ensures { result ≡ step_second (ended second.now cut) last.now at }
 {
     if at < length_of(second, cut) {
-        return Step::Byte(
+        return Some((
             byte_of(second, cut, at),
             Position {
                 part: 1,
                 at: at + 1,
             },
-        );
+        ));
     }
     step_last(last, 0)
 }
@@ -104,19 +88,19 @@ fn step_first(
     cut2: bool,
     last: &[u8],
     from: Position,
-) -> Step
+) -> Option<(u8, Position)>
     ensures { result ≡ step_from (ended first.now cut1) (ended second.now cut2) last.now from }
 {
     let at = from.at;
     if from.part == 0 {
         if at < length_of(first, cut1) {
-            return Step::Byte(
+            return Some((
                 byte_of(first, cut1, at),
                 Position {
                     part: 0,
                     at: at + 1,
                 },
-            );
+            ));
         }
         return step_second(second, cut2, last, 0);
     }
@@ -124,28 +108,6 @@ fn step_first(
         return step_second(second, cut2, last, at);
     }
     step_last(last, at)
-}
-
-// What two steps meet on.
-fn meet(a: Step, b: Step) -> Meeting
-    ensures { result ≡ meeting_of a b }
-{
-    match a {
-        Step::Byte(x, p) => match b {
-            Step::Byte(y, q) => {
-                if x == y {
-                    Meeting::Same(p, q)
-                } else {
-                    Meeting::Differ
-                }
-            }
-            Step::End => Meeting::Differ,
-        },
-        Step::End => match b {
-            Step::Byte(_, _) => Meeting::Differ,
-            Step::End => Meeting::Over,
-        },
-    }
 }
 
 // Whether two composed paths are the same.
@@ -164,16 +126,17 @@ fn same_from(
 {
     let mut here = a.start;
     let mut there = b.start;
+    // Stays: no index is counted; the walk ends where both paths do.
     loop {
         let step = step_first(first_a, a.cut_first, second_a, a.cut_second, last_a, here);
         let other = step_first(first_b, b.cut_first, second_b, b.cut_second, last_b, there);
-        match meet(step, other) {
-            Meeting::Same(p, q) => {
+        match (step, other) {
+            (Some((x, p)), Some((y, q))) if x == y => {
                 here = p;
                 there = q;
             }
-            Meeting::Differ => return false,
-            Meeting::Over => return true,
+            (None, None) => return true,
+            _ => return false,
         }
     }
 }
@@ -182,26 +145,14 @@ fn same_from(
 fn is_cut_first(first: &[u8], second: &[u8], last: &[u8]) -> bool
     ensures { result ≡ is_cut_first first.now second.now last.now }
 {
-    if second.len() == 0 {
-        if last.len() == 0 {
-            return false;
-        }
-        return !is_closed(first);
-    }
-    !is_closed(first)
+    !(second.is_empty() && last.is_empty()) && !is_closed(first)
 }
 
 // Whether a separator follows the second part of a path.
 fn is_cut_second(second: &[u8], last: &[u8]) -> bool
     ensures { result ≡ is_cut_second second.now last.now }
 {
-    if second.len() == 0 {
-        return false;
-    }
-    if last.len() == 0 {
-        return false;
-    }
-    !is_closed(second)
+    !second.is_empty() && !last.is_empty() && !is_closed(second)
 }
 
 // Where the composed path begins.
@@ -229,6 +180,7 @@ fn compose(first: &[u8], second: &[u8], last: &[u8]) -> Composition
 }
 
 // Whether the paths that two times three parts compose are the same.
+// Stays: the paths stand in no slice that `==` could take; they are read from their parts.
 pub(crate) fn same_composed(
     first_a: &[u8],
     second_a: &[u8],

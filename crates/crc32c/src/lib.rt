@@ -25,23 +25,20 @@ fn feed_part(state: u32, data: &[u8]) -> u32
     ensures { result ≡ feed state «data».now }
 {
     let mut x = state;
-    let mut i = 0;
-    while i < data.len() {
-        x = byte_step(&TABLE, x, data[i]);
-        i += 1;
+    for &b in data {
+        x = byte_step(&TABLE, x, b);
     }
     x
 }
 
 // The register after the bytes of `data` in lower case.
+// Stays: one function over a closure for each byte is no plainer, since its contract must say what the closure answers.
 fn feed_lowercase(state: u32, data: &[u8]) -> u32
     ensures { result ≡ feed state (map lower «data».now) }
 {
     let mut x = state;
-    let mut i = 0;
-    while i < data.len() {
-        x = byte_step(&TABLE, x, to_ascii_lowercase(data[i]));
-        i += 1;
+    for &b in data {
+        x = byte_step(&TABLE, x, to_ascii_lowercase(b));
     }
     x
 }
@@ -50,13 +47,7 @@ fn feed_lowercase(state: u32, data: &[u8]) -> u32
 pub fn to_ascii_lowercase(b: u8) -> u8
     ensures { result ≡ lower b }
 {
-    if b < 65 {
-        return b;
-    }
-    if b <= 90 {
-        return b + 32;
-    }
-    b
+    b.to_ascii_lowercase()
 }
 
 // The CRC of the bytes so far, whose CRC is `crc`, and of `data`.

@@ -8,6 +8,7 @@ ghost use Rattle.exports.specs.Cleanings.{CleaningReturned, cleaning_returned};
 use crate::{State, put_answer, storage_at};
 
 // `cleaning::sanitize_symlinks`.
+// Stays: the C interface fixes the parameters and the answer.
 pub fn niflathen_sanitize_symlinks(
     state: &mut State,
     rows: &mut [u64],

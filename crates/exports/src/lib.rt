@@ -6,11 +6,11 @@
 #![tactic(auto)]
 
 ghost use Rattle.std.specs.Prelude.{◌≡◌, List, ℕ};
-ghost use Rattle.change.specs.Changes.{storage_says};
+ghost use Rattle.types.specs.Refusals.{outcome};
 ghost use Rattle.additions.specs.Addition.{optional_of};
 ghost use Rattle.plan.specs.Outcomes.{add_stored};
 ghost use Rattle.trim.specs.Removal.{trim_stored};
-ghost use Rattle.exports.specs.State.{Exported, exported, storage_of, store_at, words_of, bit, presence_of};
+ghost use Rattle.exports.specs.State.{Exported, exported, storage_of, store_at, words_of, presence_of};
 ghost use Rattle.exports.specs.State.{number_returned, state_after};
 
 mod cleanings;
@@ -18,7 +18,6 @@ mod questions;
 mod slices;
 
 use additions::FileInfo;
-use change::StorageResult;
 pub use cleanings::niflathen_sanitize_symlinks;
 pub use questions::{
     FileRequest, niflathen_file_index_at_offset, niflathen_map_block, niflathen_map_file,
@@ -26,14 +25,18 @@ pub use questions::{
 };
 pub use slices::niflathen_map_block_slices;
 use tables::{FileStorage, Presence, Sha256Hash, Span};
+use types::Refusal;
 
 // A set's record, as words.
+// Stays: the C interface lends a set's record as an array of words.
 pub type State = [u64; 12];
 
 // A root.
+// Stays: the C interface lends a root as an array of bytes.
 pub type Root = [u8; 32];
 
 // The record that a set's words hold.
+// Stays: the C interface lends a set as an array of words, and neither type is this crate's, as `From` would need.
 pub(crate) fn storage_at(state: &State) -> FileStorage
     ensures { result ≡ storage_of state.now }
 {
@@ -55,58 +58,55 @@ pub(crate) fn storage_at(state: &State) -> FileStorage
     }
 }
 
-// 1 for true, 0 for false.
-fn bit_of(on: bool) -> u64
-    ensures { result ≡ bit on }
-{
-    if on { 1 } else { 0 }
-}
-
 // The words of a set's record.
 fn words_of(fs: FileStorage) -> State
     ensures { result ≡ words_of fs }
 {
     [
         fs.piece_length,
-        bit_of(fs.v2),
+        u64::from(fs.v2),
         fs.num_files as u64,
         fs.num_paths as u64,
         fs.num_symlinks as u64,
-        bit_of(fs.indexed),
+        u64::from(fs.indexed),
         fs.name.at as u64,
         fs.name.len as u64,
         fs.text_len as u64,
         fs.total_size,
         fs.size_on_disk,
-        bit_of(fs.trimmed),
+        u64::from(fs.trimmed),
     ]
 }
 
 // 0 is absent, any other number present.
+// Stays: a presence is a number in the C interface, and neither type is this crate's, as `From` would need.
 fn presence_of(n: u8) -> Presence
     ensures { result ≡ presence_of n }
 {
     if n == 0 {
-        return Presence::Absent;
+        Presence::Absent
+    } else {
+        Presence::Present
     }
-    Presence::Present
 }
 
 // Writes the record that an answer holds, and gives the number of its refusal, 0 for none.
-pub(crate) fn put_answer(state: &mut State, answer: StorageResult) -> u32
-    ensures value { result ≡ number_returned (storage_says answer) }
-    ensures state_after { state.new ≡ state_after (storage_says answer) state.old }
+// Stays: the C interface returns numbers.
+pub(crate) fn put_answer(state: &mut State, answer: Result<FileStorage, Refusal>) -> u32
+    ensures value { result ≡ number_returned (outcome answer) }
+    ensures state_after { state.new ≡ state_after (outcome answer) state.old }
 {
     match answer {
-        StorageResult::Ok(fs) => {
+        Ok(fs) => {
             *state = words_of(fs);
             0
         }
-        StorageResult::Err(e) => types::number(e),
+        Err(e) => u32::from(e),
     }
 }
 
 // `storage::add_file`; `given` and `rooted` are 0 for none.
+// Stays: the C interface fixes the parameters and the answer.
 pub fn niflathen_add_file(
     state: &mut State,
     rows: &mut [u64],
@@ -173,6 +173,7 @@ pub fn niflathen_add_file(
 }
 
 // `trim::remove_tail_padding`, which is lent no table of first files and leaves it.
+// Stays: the C interface fixes the parameters and the answer.
 pub fn niflathen_remove_tail_padding(
     state: &mut State,
     rows: &mut [u64],

@@ -2,7 +2,7 @@
 // offset. A question that searches is lent the set's table of first files; of a set that keeps none nothing is looked
 // at. Relies on `layout`, `files`, `blocks` and on the record that a set's words hold.
 ghost use Rattle.std.specs.Prelude.{◌≡◌, pos, neg_ℤ};
-ghost use Rattle.types.specs.Refusals.{usize_says};
+ghost use Rattle.types.specs.Refusals.{number_of, outcome};
 ghost use Rattle.rules.specs.Results.{file_says, request_says};
 ghost use Rattle.blocks.specs.Block.{map_block};
 ghost use Rattle.files.specs.Given.{file_mapped};
@@ -14,40 +14,34 @@ ghost use Rattle.exports.specs.Layout.{count_returned, file_returned, request_re
 ghost use Rattle.exports.specs.Layout.{BlockReturned, block_returned, ListReturned, list_returned};
 
 use crate::{State, storage_at};
-use rules::{FileResult, RequestResult};
-use types::{FileIndex, PieceIndex, UsizeResult};
+use types::{FileIndex, PeerRequest, PieceIndex, Refusal};
 
-// Minus a number.
-fn negated(n: u32) -> i64
-    ensures { result ≡ neg_ℤ (pos n) }
+// Minus the number of a refusal.
+fn refused(refusal: Refusal) -> i64
+    ensures { result ≡ neg_ℤ (pos (number_of refusal)) }
 {
-    -(n as i64)
-}
-
-// An `i32` as an `i64`.
-fn wide(x: i32) -> i64
-    ensures { result ≡ x }
-{
-    x as i64
+    -i64::from(u32::from(refusal))
 }
 
 // A count, or minus the number of the refusal.
-pub(crate) fn count_returned(answer: UsizeResult) -> i64
-    ensures { result ≡ count_returned (usize_says answer) }
+// Stays: the C interface returns numbers.
+pub(crate) fn count_returned(answer: Result<usize, Refusal>) -> i64
+    ensures { result ≡ count_returned (outcome answer) }
 {
     match answer {
-        UsizeResult::Ok(n) => types::signed64(n as u64),
-        UsizeResult::Err(e) => negated(types::number(e)),
+        Ok(n) => types::signed64(n as u64),
+        Err(e) => refused(e),
     }
 }
 
 // The number of a file, or minus the number of the refusal.
-fn file_returned(answer: FileResult) -> i64
+// Stays: the C interface returns numbers.
+fn file_returned(answer: Result<FileIndex, Refusal>) -> i64
     ensures { result ≡ file_returned (file_says answer) }
 {
     match answer {
-        FileResult::Ok(f) => wide(f.0),
-        FileResult::Err(e) => negated(types::number(e)),
+        Ok(f) => i64::from(f.0),
+        Err(e) => refused(e),
     }
 }
 
@@ -62,26 +56,29 @@ pub struct FileRequest {
 }
 
 // The request of an answer, or the number of its refusal and zeros.
-fn request_returned(answer: RequestResult) -> FileRequest
-    ensures { result ≡ request_returned (request_says answer) }
-{
-    match answer {
-        RequestResult::Ok(r) => FileRequest {
-            refusal: 0,
-            piece: r.piece.0,
-            start: r.start,
-            length: r.length,
-        },
-        RequestResult::Err(e) => FileRequest {
-            refusal: types::number(e),
-            piece: 0,
-            start: 0,
-            length: 0,
-        },
+impl From<Result<PeerRequest, Refusal>> for FileRequest {
+    ghost from_gives = { λ answer returned. returned ≡ request_returned (request_says answer) };
+
+    fn from(answer: Result<PeerRequest, Refusal>) -> FileRequest {
+        match answer {
+            Ok(r) => FileRequest {
+                refusal: 0,
+                piece: r.piece.0,
+                start: r.start,
+                length: r.length,
+            },
+            Err(e) => FileRequest {
+                refusal: u32::from(e),
+                piece: 0,
+                start: 0,
+                length: 0,
+            },
+        }
     }
 }
 
 // `blocks::map_block_core`: the number of slices, or minus the number of the refusal.
+// Stays: the C interface fixes the parameters and the answer.
 pub fn niflathen_map_block(
     state: &State,
     rows: &[u64],
@@ -120,6 +117,7 @@ pub fn niflathen_map_block(
 }
 
 // `layout::file_index_at_offset`: the file's number, or minus the number of the refusal.
+// Stays: the C interface fixes the parameters and the answer.
 pub fn niflathen_file_index_at_offset(
     state: &State,
     rows: &[u64],
@@ -141,6 +139,7 @@ pub fn niflathen_file_index_at_offset(
 }
 
 // `files::map_file`: the request, or the number of the refusal. Arguments and answer go in registers.
+// Stays: the C interface fixes the parameters and the answer.
 pub fn niflathen_map_file(
     state: &State,
     rows: &[u64],
@@ -151,10 +150,11 @@ pub fn niflathen_map_file(
     ensures { result ≡
         request_returned (file_mapped (storage_of state.now) rows.now index offset size) }
 {
-    request_returned(files::map_file(storage_at(state), rows, FileIndex(index), offset, size))
+    FileRequest::from(files::map_file(storage_at(state), rows, FileIndex(index), offset, size))
 }
 
 // `files::map_files`: the number of questions, or minus the number of the refusal.
+// Stays: the C interface fixes the parameters and the answer.
 pub fn niflathen_map_files(
     state: &State,
     rows: &[u64],

@@ -11,6 +11,7 @@ use crate::{State, storage_at};
 use types::{FileSlice, PieceIndex};
 
 // `mapping::map_block`: the number of slices, or minus the number of the refusal.
+// Stays: the C interface fixes the parameters and the answer.
 pub fn niflathen_map_block_slices(
     state: &State,
     rows: &[u64],

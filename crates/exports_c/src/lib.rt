@@ -25,6 +25,7 @@ use exports::{FileRequest, Root, State};
 use types::FileSlice;
 
 // `storage::add_file`; `given` and `rooted` are 0 for none.
+// Stays: the C interface fixes the name, the parameters and the answer.
 #[unsafe(no_mangle)]
 pub extern "C" fn niflathen_add_file(
     state: &mut State,
@@ -87,6 +88,7 @@ pub extern "C" fn niflathen_add_file(
 }
 
 // `trim::remove_tail_padding`, which is lent no table of first files and leaves it.
+// Stays: the C interface fixes the name, the parameters and the answer.
 #[unsafe(no_mangle)]
 pub extern "C" fn niflathen_remove_tail_padding(
     state: &mut State,
@@ -114,6 +116,7 @@ pub extern "C" fn niflathen_remove_tail_padding(
 }
 
 // `cleaning::sanitize_symlinks`.
+// Stays: the C interface fixes the name, the parameters and the answer.
 #[unsafe(no_mangle)]
 pub extern "C" fn niflathen_sanitize_symlinks(
     state: &mut State,
@@ -144,6 +147,7 @@ pub extern "C" fn niflathen_sanitize_symlinks(
 }
 
 // `blocks::map_block_core`: the number of slices, or minus the number of the refusal.
+// Stays: the C interface fixes the name, the parameters and the answer.
 #[unsafe(no_mangle)]
 pub extern "C" fn niflathen_map_block(
     state: &State,
@@ -174,6 +178,7 @@ pub extern "C" fn niflathen_map_block(
 }
 
 // `layout::file_index_at_offset`: the file's number, or minus the number of the refusal.
+// Stays: the C interface fixes the name, the parameters and the answer.
 #[unsafe(no_mangle)]
 pub extern "C" fn niflathen_file_index_at_offset(
     state: &State,
@@ -190,6 +195,7 @@ pub extern "C" fn niflathen_file_index_at_offset(
 }
 
 // `files::map_file`: the request, or the number of the refusal. Arguments and answer go in registers.
+// Stays: the C interface fixes the name, the parameters and the answer.
 #[unsafe(no_mangle)]
 pub extern "C" fn niflathen_map_file(
     state: &State,
@@ -205,6 +211,7 @@ pub extern "C" fn niflathen_map_file(
 }
 
 // `files::map_files`: the number of questions, or minus the number of the refusal.
+// Stays: the C interface fixes the name, the parameters and the answer.
 #[unsafe(no_mangle)]
 pub extern "C" fn niflathen_map_files(
     state: &State,
@@ -223,6 +230,7 @@ pub extern "C" fn niflathen_map_files(
 }
 
 // `mapping::map_block`: the number of slices, or minus the number of the refusal.
+// Stays: the C interface fixes the name, the parameters and the answer.
 #[unsafe(no_mangle)]
 pub extern "C" fn niflathen_map_block_slices(
     state: &State,

@@ -1,57 +1,17 @@
--- What is known of a file once no rule stopped a question about it, and the decision of `map_file` in two parts. They rely on the rules in
--- order of `rules`.
---     file-known, file-few            the file is one of the set's, and the set's pieces can be counted
+-- The decision of `map_file` in two parts, and numbers by their low 31 bits. They rely on the rules in order of `rules`.
+--     low-as, low-whole                   the low 31 bits of a number
 --     past-held, past_index, bytes_past   a negative number's file is past the end of every set that a table holds
 --     position-range                      the tests of a question, where there is such a file
 --     last-known                          the refusal of a question that does not pass
 --     rules-apart                         a question about bytes of a file is answered where the set and the question pass
-use Rattle.std.proofs.Common.{◌≡◌, ℕ, suc, ◌-◌, ◌%◌, ◌^◌, ◌<◌, ◌≤◌, Bool, true, false, not, ◌&&◌, eqb, ltb, leb, [], ◌∷◌, ℤ, pos, negsuc, sym, refl, ap, ◌∙◌, true≢false, arith, w32, w64, SFits, of_z, le-ltb, lt-ltb, leb-true}
-use borrow.Author.Tests.{not-false}
+use Rattle.std.proofs.Common.{◌≡◌, ℕ, suc, ◌-◌, ◌%◌, ◌^◌, ◌<◌, ◌≤◌, Bool, true, false, not, ◌&&◌, eqb, ltb, leb, [], ◌∷◌, ℤ, pos, negsuc, sym, refl, ap, ◌∙◌, true≢false, arith, w32, w64, SFits, of_z, le-ltb, leb-true}
 use Rattle.tables.specs.declared.storage.FileStorage.{FileStorage}
 use Rattle.rules.specs.Rules.{when, first_of}
-use Rattle.rules.specs.Bounds.{bad_length, clamped_of, is_below}
-use Rattle.rules.specs.declared.decide.Check.{Check}
-use Rattle.rules.specs.declared.decide.Check.TheVariants.{Go}
-use Rattle.rules.specs.Results.{check_number}
-use Rattle.layout.specs.private.Deciding.{FewPieces}
+use Rattle.rules.specs.Bounds.{clamped_of, is_below}
 use Rattle.files.specs.private.Deciding.{set_rules, position_rules, bytes_rules}
-use Rattle.rules.specs.Questions.{num_pieces, bad_piece_length, no_file, many_pieces, bad_range, short, few_entries}
+use Rattle.rules.specs.Questions.{bad_piece_length, no_file, many_pieces, bad_range, short, few_entries}
 use Rattle.rules.proofs.Rules.{both_true}
-use Rattle.rules.proofs.Deciding.{gone, below-is, low-i32, held-few}
-use Rattle.layout.proofs.Deciding.{few-pieces}
-
-pub record FilePassed (fs : FileStorage) (z : ℤ) (many bad tree : Bool) : Type 0 where
-  pub length : bad_length fs.piece_length ≡ false
-  pub below : clamped_of z < fs.num_files
-  pub not-many : many ≡ false
-  pub not-bad : bad ≡ false
-  pub not-tree : tree ≡ false
-
-pub file-known : (fs : FileStorage) (z : ℤ) (many bad tree : Bool) (room : ℕ) {d : Check}
-    → check_number d ≡ first_of (bad_piece_length fs ∷ no_file fs z ∷ when many 13 ∷ when bad 14 ∷ when tree 16 ∷ short (leb fs.num_files room && few_entries fs) ∷ []) → d ≡ Go
-    → FilePassed fs z many bad tree
-file-known fs z many bad tree room c e =
-    let q = gone (bad_piece_length fs ∷ no_file fs z ∷ when many 13 ∷ when bad 14 ∷ when tree 16 ∷ short (leb fs.num_files room && few_entries fs) ∷ []) refl c e in
-    record {
-      length = q.0;
-      below = below-is fs.num_files z (not-false (is_below fs.num_files z) q.1.0);
-      not-many = q.1.1.0;
-      not-bad = q.1.1.1.0;
-      not-tree = q.1.1.1.1.0;
-    }
-
--- its row is there
-pub file-there : (fs : FileStorage) (z : ℤ) (many bad tree : Bool) (room : ℕ) {d : Check}
-    → check_number d ≡ first_of (bad_piece_length fs ∷ no_file fs z ∷ when many 13 ∷ when bad 14 ∷ when tree 16 ∷ short (leb fs.num_files room && few_entries fs) ∷ []) → d ≡ Go
-    → ltb (clamped_of z) room ≡ true
-file-there fs z many bad tree room c e =
-    let q = gone (bad_piece_length fs ∷ no_file fs z ∷ when many 13 ∷ when bad 14 ∷ when tree 16 ∷ short (leb fs.num_files room && few_entries fs) ∷ []) refl c e in
-    let b = below-is fs.num_files z (not-false (is_below fs.num_files z) q.1.0) in
-    let h = leb-true fs.num_files room (held-few fs (leb fs.num_files room) q.1.1.1.1.1.0).0 in
-    lt-ltb (clamped_of z) room (omega arith)
-
-pub file-few : (fs : FileStorage) (z : ℤ) (many bad tree : Bool) → many ≡ ltb 2147483647 (num_pieces fs) → FilePassed fs z many bad tree → FewPieces fs
-file-few fs z many bad tree h k = few-pieces fs k.length (sym h ∙ k.not-many)
+use Rattle.rules.proofs.Deciding.{low-i32}
 
 -- the low 31 bits of a number that is another
 pub low-as : {z : ℤ} {n m : ℕ} → z ≡ pos (n % 2 ^ 31) → n ≡ m → z ≡ pos (m % 2 ^ 31)

@@ -1,4 +1,5 @@
--- Laws of decisions about a file, and of requests.
+-- Laws of decisions about a file, of requests and of the words of an answer.
 pub mod Deciding
 pub mod Roots
 pub mod Requests
+pub mod Words

@@ -1,9 +1,9 @@
 -- `map_file` for a list of questions: question i is file, offset and size i of three tables; its answer is four words
 -- of a fourth. Not in document 01. It relies on `file_mapped`, which gives each answer.
-use Rattle.std.specs.Prelude.{ℕ, ◌/◌, min, cond, List, [], ◌∷◌, length, ℤ, pos, nat_lt, slice_index_or}
+use Rattle.types.specs.declared.refusal.Refusal.{Refusal}
+use Rattle.std.specs.Prelude.{ℕ, ◌/◌, min, cond, List, [], ◌∷◌, length, ℤ, pos, nat_lt, slice_index_or, Result}
 use Rattle.std.proofs.lemmas.List.Edits.{sets}
-use Rattle.types.specs.Refusals.{Outcome, value, refused, usize_says}
-use Rattle.types.specs.declared.refusal.UsizeResult.{UsizeResult}
+use Rattle.types.specs.Refusals.{Outcome, value, refused, outcome}
 use Rattle.tables.specs.declared.storage.FileStorage.{FileStorage}
 use Rattle.tables.specs.Rows.{filled}
 use Rattle.rules.specs.Bounds.{clamped_of}
@@ -25,8 +25,8 @@ pub record AnswersListed : Type 0 where
   pub says : Outcome ℕ
   pub answers : List ℕ
 
-abbrev pub listed_says : UsizeResult → List ℕ → AnswersListed
-listed_says r answers = record { says = usize_says r; answers = answers }
+abbrev pub listed_says : Result ℕ Refusal → List ℕ → AnswersListed
+listed_says r answers = record { says = outcome r; answers = answers }
 
 -- the number of questions, one for each file named, and their answers; 10 where a table is too short for them
 abbrev pub files_mapped : FileStorage → List ℕ → List ℤ → List ℤ → List ℤ → List ℕ → AnswersListed

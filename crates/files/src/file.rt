@@ -1,14 +1,16 @@
 // Answers about files' pieces, blocks and trees, and `map_file`. They rely on `merkle` for the nodes, on `types` for
 // signed numbers and on `rules`: each decides its refusals first.
-ghost use Rattle.std.specs.Prelude.{◌≡◌, ◌+◌, ◌*◌, ◌/◌, ◌%◌, ◌^◌, ◌<◌, ◌≤◌, false, not, [], ◌∷◌, length, pos, ◌==◌};
-ghost use Rattle.types.specs.Refusals.{number_of, usize_says};
+ghost use Rattle.std.specs.Prelude.{◌≡◌, ◌+◌, ◌*◌, ◌/◌, ◌%◌, ◌^◌, ◌<◌, ◌≤◌, ◌&&◌, false, not, [], ◌∷◌, length, pos, ◌==◌, IfOk};
+ghost use Rattle.types.specs.Refusals.{number_of, outcome};
 ghost use Rattle.lists.specs.Lists.{equal};
 ghost use Rattle.tables.specs.Rows.{row_at};
 ghost use Rattle.merkle.specs.Width.{has_tree};
 ghost use Rattle.rules.specs.Rules.{when, first_of};
-ghost use Rattle.rules.specs.Questions.{row_there, bad_piece_length, no_file, many_pieces, short};
+ghost use Rattle.rules.specs.Bounds.{clamped_of};
+ghost use Rattle.rules.specs.Questions.{row_there, bad_piece_length, no_file, many_pieces, no_tree, short, few_entries};
+ghost use Rattle.rules.specs.Questions.{rows_are_held, answered, file_pieces_answer};
 ghost use Rattle.answers.specs.Answers.{root_of};
-ghost use Rattle.rules.specs.Results.{i32_says, i64_says, piece_says, file_says};
+ghost use Rattle.rules.specs.Results.{piece_says, file_says};
 ghost use Rattle.rules.specs.Results.{range_numbers, piece_range_says, number_range_says, request_says};
 ghost use Rattle.files.specs.Request.{request_at};
 ghost use Rattle.files.specs.Given.{piece_at_file_given, last_piece_at_file_given, exclusive_given, inclusive_given};
@@ -22,16 +24,14 @@ ghost use Rattle.files.specs.Files.{position_of, exclusive_begin, end_or_begin, 
 ghost use Rattle.files.specs.Files.{exclusive_range, inclusive_range};
 
 use crate::number::file_or_past;
-use lists::{div, div_ceil, min};
+use lists::{div, div_ceil};
 use rules::{
-    Check, DEFAULT_BLOCK_SIZE, FileResult, I32RangeResult, I32Result, I64Result, PieceRangeResult,
-    PieceResult, RequestResult, are_both, are_held, ask_file, ask_set, count_pieces, has_many,
-    is_bad_length, is_bad_range, is_either, is_held, is_no_file, is_no_tree,
+    DEFAULT_BLOCK_SIZE, are_held, ask_file, ask_set, count_pieces, has_many, is_bad_length,
+    is_bad_range, is_no_file, is_no_tree,
 };
 use tables::{FileStorage, Sha256Hash};
 use types::{
-    FileIndex, I32Range, PeerRequest, PieceIndex, PieceIndexRange, Refusal, UsizeResult, clamped32,
-    clamped64, is_negative32,
+    FileIndex, I32Range, PeerRequest, PieceIndex, PieceIndexRange, Refusal, clamped, is_negative,
 };
 
 // A request in unsigned numbers.
@@ -56,30 +56,25 @@ fn blocks_of(rows: &[u64], k: usize) -> u64
     div_ceil(tables::size_at(rows, k), DEFAULT_BLOCK_SIZE)
 }
 
-// `(n - 1) / d` toward zero, as a piece: −1 where n is 0 and d is 1.
-fn last_quotient(n: u64, d: u64) -> PieceIndex
-    ensures { result.0 ≡ low31 (last_quotient n d) }
-{
-    if n == 0 {
-        if d == 1 {
-            return PieceIndex::none();
-        }
-        return PieceIndex::new(0);
-    }
-    PieceIndex::new(div(n - 1, d))
-}
-
-// One more than `(n - 1) / d` toward zero.
+// One more than `(n - 1) / d` toward zero: 0 where n is 0 and d is 1.
 fn after_quotient(n: u64, d: u64) -> u64
     ensures { result ≡ after_quotient n d }
 {
     if n == 0 {
-        if d == 1 {
-            return 0;
-        }
-        return 1;
+        return u64::from(d != 1);
     }
     div(n - 1, d) + 1
+}
+
+// `(n - 1) / d` toward zero, as a piece: −1 where n is 0 and d is 1.
+fn last_quotient(n: u64, d: u64) -> PieceIndex
+    ensures { result.0 ≡ low31 (last_quotient n d) }
+{
+    let after = after_quotient(n, d);
+    if after == 0 {
+        return PieceIndex::none();
+    }
+    PieceIndex::new(after - 1)
 }
 
 // A position in the set's bytes: its piece, and its start in that piece.
@@ -125,7 +120,7 @@ fn request_at(fs: FileStorage, at: u64, size: u64) -> UnsignedRequest
     UnsignedRequest {
         piece: c.piece,
         start: c.start,
-        length: min(size, fs.total_size - at),
+        length: size.min(fs.total_size - at),
     }
 }
 
@@ -144,10 +139,7 @@ fn exclusive_begin(r: UnsignedRequest) -> u64
 fn end_or_begin(begin: u64, end: u64) -> u64
     ensures { result ≡ end_or_begin begin end }
 {
-    if end < begin {
-        return begin;
-    }
-    if end == 2147483648 {
+    if end < begin || end == 2147483648 {
         return begin;
     }
     end
@@ -211,32 +203,29 @@ const MAX_LEAVES: u64 = 1073741823;
 fn is_no_width(leaves: u64) -> bool
     ensures { result ≡ not (has_tree leaves) }
 {
-    if leaves < 1 {
-        return true;
-    }
-    MAX_LEAVES < leaves
+    leaves < 1 || MAX_LEAVES < leaves
 }
 
 // Whether the row of file k is there and no tree has that number of leaves.
 fn is_no_node(rows: &[u64], k: usize, leaves: u64) -> bool
     ensures { result ≡ (no_node (row_there rows.now k) leaves).test }
 {
-    if rules::is_there(rows, k) {
-        return is_no_width(leaves);
-    }
-    false
+    rules::is_there(rows, k) && is_no_width(leaves)
 }
 
 // The first node of a layer of a file's tree with that number of leaves.
-fn first_node(fs: FileStorage, rows: &[u64], index: FileIndex, leaves: u64) -> UsizeResult
-    ensures { usize_says result ≡ node_given fs rows.now index.0 leaves }
+fn first_node(
+    fs: FileStorage,
+    rows: &[u64],
+    index: FileIndex,
+    leaves: u64,
+) -> Result<usize, Refusal>
+    ensures { outcome result ≡ node_given fs rows.now index.0 leaves }
 {
     let k = index.get();
-    let no_tree = is_either(is_no_tree(fs, rows, k), is_no_node(rows, k, leaves));
-    match ask_file(fs, index, false, false, no_tree, rows.len() / 8) {
-        Check::Go => merkle::merkle_first_node(leaves as usize),
-        Check::Stop(e) => UsizeResult::Err(e),
-    }
+    let no_tree = is_no_tree(fs, rows, k) || is_no_node(rows, k, leaves);
+    ask_file(fs, index, false, false, no_tree, rows.len() / 8)?;
+    merkle::merkle_first_node(leaves as usize)
 }
 
 // Whether `root` is the root of file k, which is zeros where it has none.
@@ -248,30 +237,60 @@ fn has_root_of(rows: &[u64], roots: &[u8], k: usize, root: Sha256Hash) -> bool
 }
 
 // The first of n files whose root is `root`, −1 where none fits.
+#[tactic(auto, using(crate::proofs::Roots::root_here, crate::proofs::Roots::root_next, crate::proofs::Roots::root_none))]
 fn find_root(rows: &[u64], roots: &[u8], n: usize, root: Sha256Hash) -> FileIndex
     ensures { result.0 ≡ low31 (root_from n 0 rows.now roots.now root.bytes) }
 {
-    let mut k = 0;
-    while k < n {
+    for k in 0..n {
         if has_root_of(rows, roots, k, root) {
             return FileIndex::new(k as u64);
         }
-        k += 1;
     }
     FileIndex::none()
 }
 
+// The number of the file whose pieces a question is about, or its refusal.
+fn file_of_pieces(fs: FileStorage, rows: &[u64], index: FileIndex) -> Result<usize, Refusal>
+    ensures answer { outcome result ≡ file_pieces_answer fs index.0 (rows_are_held fs rows.now) (λ k. k) }
+    ensures known { IfOk result (λ k. FewPieces fs × (k < fs.num_files)) }
+{
+    ask_file(fs, index, has_many(fs), false, false, rows.len() / 8)?;
+    Ok(index.get())
+}
+
+// The number of the file whose tree a question is about, or its refusal; `many` says whether the set has too many pieces
+// for the question.
+fn file_of_tree(
+    fs: FileStorage,
+    rows: &[u64],
+    index: FileIndex,
+    many: bool,
+) -> Result<usize, Refusal>
+    ensures { outcome result
+        ≡ answered
+        (bad_piece_length fs ∷
+        no_file fs index.0 ∷
+        when many 13 ∷
+        no_tree fs (row_at rows.now (clamped_of index.0)) ∷
+        short (rows_are_held fs rows.now && few_entries fs) ∷
+        [])
+        (clamped_of index.0) }
+{
+    let no_tree = is_no_tree(fs, rows, index.get());
+    ask_file(fs, index, many, false, no_tree, rows.len() / 8)?;
+    Ok(index.get())
+}
+
 // The first piece of a file.
-pub fn piece_index_at_file(fs: FileStorage, rows: &[u64], index: FileIndex) -> PieceResult
+pub fn piece_index_at_file(
+    fs: FileStorage,
+    rows: &[u64],
+    index: FileIndex,
+) -> Result<PieceIndex, Refusal>
     ensures { piece_says result ≡ piece_at_file_given fs rows.now index.0 }
 {
-    match ask_file(fs, index, has_many(fs), false, false, rows.len() / 8) {
-        Check::Go => PieceResult::Ok(PieceIndex::new(div(
-            tables::offset_at(rows, index.get()),
-            fs.piece_length,
-        ))),
-        Check::Stop(e) => PieceResult::Err(e),
-    }
+    let k = file_of_pieces(fs, rows, index)?;
+    Ok(PieceIndex::new(div(tables::offset_at(rows, k), fs.piece_length)))
 }
 
 // The last piece of file k.
@@ -285,100 +304,81 @@ fn last_piece_of(fs: FileStorage, rows: &[u64], k: usize) -> PieceIndex
 }
 
 // The last piece of a file, −1 for an empty file at 0 where the piece length is 1.
-pub fn last_piece_index_at_file(fs: FileStorage, rows: &[u64], index: FileIndex) -> PieceResult
+// Stays: only the form is that of the other questions about a file's pieces; its value is another.
+pub fn last_piece_index_at_file(
+    fs: FileStorage,
+    rows: &[u64],
+    index: FileIndex,
+) -> Result<PieceIndex, Refusal>
     ensures { piece_says result ≡ last_piece_at_file_given fs rows.now index.0 }
 {
-    match ask_file(fs, index, has_many(fs), false, false, rows.len() / 8) {
-        Check::Go => PieceResult::Ok(last_piece_of(fs, rows, index.get())),
-        Check::Stop(e) => PieceResult::Err(e),
-    }
+    let k = file_of_pieces(fs, rows, index)?;
+    Ok(last_piece_of(fs, rows, k))
 }
 
 // The number of pieces of a file that starts on a piece.
-pub fn file_num_pieces(fs: FileStorage, rows: &[u64], index: FileIndex) -> I32Result
-    ensures { i32_says result ≡ file_num_pieces_given fs rows.now index.0 }
+pub fn file_num_pieces(fs: FileStorage, rows: &[u64], index: FileIndex) -> Result<i32, Refusal>
+    ensures { outcome result ≡ file_num_pieces_given fs rows.now index.0 }
 {
-    match ask_file(
-        fs,
-        index,
-        has_many(fs),
-        false,
-        is_no_tree(fs, rows, index.get()),
-        rows.len() / 8,
-    ) {
-        Check::Go => I32Result::Ok(types::signed32(pieces_of(fs, rows, index.get()))),
-        Check::Stop(e) => I32Result::Err(e),
-    }
+    let k = file_of_tree(fs, rows, index, has_many(fs))?;
+    Ok(types::signed32(pieces_of(fs, rows, k)))
 }
 
 // A file's pieces, counted from 0.
-pub fn file_piece_range(fs: FileStorage, rows: &[u64], index: FileIndex) -> I32RangeResult
+pub fn file_piece_range(
+    fs: FileStorage,
+    rows: &[u64],
+    index: FileIndex,
+) -> Result<I32Range, Refusal>
     ensures { number_range_says result ≡ file_piece_range_given fs rows.now index.0 }
 {
-    match ask_file(
-        fs,
-        index,
-        has_many(fs),
-        false,
-        is_no_tree(fs, rows, index.get()),
-        rows.len() / 8,
-    ) {
-        Check::Go => I32RangeResult::Ok(I32Range {
-            begin: 0,
-            end: types::signed32(pieces_of(fs, rows, index.get())),
-        }),
-        Check::Stop(e) => I32RangeResult::Err(e),
-    }
+    let end = file_num_pieces(fs, rows, index)?;
+    Ok(I32Range { begin: 0, end })
 }
 
 // The number of blocks of a file that starts on a piece.
-pub fn file_num_blocks(fs: FileStorage, rows: &[u64], index: FileIndex) -> I64Result
-    ensures { i64_says result ≡ file_num_blocks_given fs rows.now index.0 }
+pub fn file_num_blocks(fs: FileStorage, rows: &[u64], index: FileIndex) -> Result<i64, Refusal>
+    ensures { outcome result ≡ file_num_blocks_given fs rows.now index.0 }
 {
-    match ask_file(
-        fs,
-        index,
-        false,
-        false,
-        is_no_tree(fs, rows, index.get()),
-        rows.len() / 8,
-    ) {
-        Check::Go => I64Result::Ok(types::signed64(blocks_of(rows, index.get()))),
-        Check::Stop(e) => I64Result::Err(e),
-    }
+    let k = file_of_tree(fs, rows, index, false)?;
+    Ok(types::signed64(blocks_of(rows, k)))
 }
 
 // The first node of the layer of pieces in a file's tree.
-pub fn file_first_piece_node(fs: FileStorage, rows: &[u64], index: FileIndex) -> UsizeResult
-    ensures { usize_says result ≡ first_piece_node_given fs rows.now index.0 }
+pub fn file_first_piece_node(
+    fs: FileStorage,
+    rows: &[u64],
+    index: FileIndex,
+) -> Result<usize, Refusal>
+    ensures { outcome result ≡ first_piece_node_given fs rows.now index.0 }
 {
     first_node(fs, rows, index, pieces_of(fs, rows, index.get()))
 }
 
 // The first node of the layer of blocks in a file's tree.
-pub fn file_first_block_node(fs: FileStorage, rows: &[u64], index: FileIndex) -> UsizeResult
-    ensures { usize_says result ≡ first_block_node_given fs rows.now index.0 }
+pub fn file_first_block_node(
+    fs: FileStorage,
+    rows: &[u64],
+    index: FileIndex,
+) -> Result<usize, Refusal>
+    ensures { outcome result ≡ first_block_node_given fs rows.now index.0 }
 {
     first_node(fs, rows, index, blocks_of(rows, index.get()))
 }
 
 // The first file whose root, zeros where it has none, is `root`; −1 where none fits.
+#[tactic(auto, using(crate::proofs::Roots::root_low))]
 pub fn file_index_for_root(
     fs: FileStorage,
     rows: &[u64],
     roots: &[u8],
     root: Sha256Hash,
-) -> FileResult
+) -> Result<FileIndex, Refusal>
     ensures { file_says result ≡ file_for_root_given fs rows.now roots.now root.bytes }
 {
-    let held = are_both(
-        is_held(fs.num_files, rows.len() / 8),
-        is_held(fs.num_files, roots.len() / 32),
-    );
-    match ask_set(fs, false, held) {
-        Check::Go => FileResult::Ok(find_root(rows, roots, fs.num_files, root)),
-        Check::Stop(e) => FileResult::Err(e),
-    }
+    let held = fs.num_files <= rows.len() / 8 && fs.num_files <= roots.len() / 32;
+    ask_set(fs, false, held)?;
+    Ok(find_root(rows, roots, fs.num_files, root))
 }
 
 // A request in signed numbers, which hold it.
@@ -405,23 +405,14 @@ fn offset_of(rows: &[u64], k: usize) -> u64
 fn passes_set(fs: FileStorage, room: usize) -> bool
     ensures { result ≡ (first_of (set_rules fs room) == 0) }
 {
-    if is_bad_length(fs.piece_length) {
-        return false;
-    }
-    if has_many(fs) {
-        return false;
-    }
-    are_held(fs, is_held(fs.num_files, room))
+    !is_bad_length(fs.piece_length) && !has_many(fs) && are_held(fs, fs.num_files <= room)
 }
 
 // Whether a question passes its own tests: file k is one of the set's, and offset and size are in range.
 fn passes_position(fs: FileStorage, k: usize, offset: i64, size: i32) -> bool
     ensures { result ≡ (first_of (position_rules fs (pos k) offset size) == 0) }
 {
-    if k < fs.num_files {
-        return !is_bad_range(offset, is_negative32(size));
-    }
-    false
+    k < fs.num_files && !is_bad_range(offset, is_negative(i64::from(size)))
 }
 
 // The refusal of a question about bytes of a file that does not pass: 10 where no test before it holds. `in_place` says
@@ -455,46 +446,44 @@ pub fn map_file(
     index: FileIndex,
     offset: i64,
     size: i32,
-) -> RequestResult
+) -> Result<PeerRequest, Refusal>
     ensures { request_says result ≡ file_mapped fs rows.now index.0 offset size }
 {
     let k = file_or_past(index);
     let fit = passes_set(fs, rows.len() / 8);
     let in_place = passes_position(fs, k, offset, size);
-    if are_both(fit, in_place) {
-        return RequestResult::Ok(signed_request(request_at(
+    if fit && in_place {
+        return Ok(signed_request(request_at(
             fs,
-            offset_of(rows, k) + clamped64(offset),
-            clamped32(size),
+            offset_of(rows, k) + clamped(offset),
+            clamped(i64::from(size)),
         )));
     }
-    RequestResult::Err(refused_bytes(fs, index, in_place))
+    Err(refused_bytes(fs, index, in_place))
 }
 
 // The pieces that lie wholly in a file.
+// Stays: only the form is that of the other questions about a file's pieces; its value is another.
 pub fn file_piece_range_exclusive(
     fs: FileStorage,
     rows: &[u64],
     index: FileIndex,
-) -> PieceRangeResult
+) -> Result<PieceIndexRange, Refusal>
     ensures { piece_range_says result ≡ exclusive_given fs rows.now index.0 }
 {
-    match ask_file(fs, index, has_many(fs), false, false, rows.len() / 8) {
-        Check::Go => PieceRangeResult::Ok(exclusive(fs, rows, index.get())),
-        Check::Stop(e) => PieceRangeResult::Err(e),
-    }
+    let k = file_of_pieces(fs, rows, index)?;
+    Ok(exclusive(fs, rows, k))
 }
 
 // The pieces that have a byte of a file.
+// Stays: only the form is that of the other questions about a file's pieces; its value is another.
 pub fn file_piece_range_inclusive(
     fs: FileStorage,
     rows: &[u64],
     index: FileIndex,
-) -> PieceRangeResult
+) -> Result<PieceIndexRange, Refusal>
     ensures { piece_range_says result ≡ inclusive_given fs rows.now index.0 }
 {
-    match ask_file(fs, index, has_many(fs), false, false, rows.len() / 8) {
-        Check::Go => PieceRangeResult::Ok(inclusive(fs, rows, index.get())),
-        Check::Stop(e) => PieceRangeResult::Err(e),
-    }
+    let k = file_of_pieces(fs, rows, index)?;
+    Ok(inclusive(fs, rows, k))
 }

@@ -1,6 +1,6 @@
 // `map_file` for a list of questions: one call of it for each, in a loop that the compiler sees whole. It relies on
 // file.rt and on the laws of rows written one after another (tables, proofs/Filled.antt).
-ghost use Rattle.std.specs.Prelude.{◌≡◌, ◌+◌, ◌*◌, ◌/◌, ◌<◌, ◌≤◌, [], ◌∷◌, length};
+ghost use Rattle.std.specs.Prelude.{◌≡◌, ◌+◌, ◌*◌, ◌/◌, ◌<◌, ◌≤◌, length};
 ghost use Rattle.std.proofs.lemmas.List.Edits.{sets};
 ghost use Rattle.tables.specs.Rows.{filled};
 ghost use Rattle.rules.specs.Bounds.{clamped_of};
@@ -8,47 +8,30 @@ ghost use Rattle.rules.specs.Results.{request_says};
 ghost use Rattle.files.specs.List.{listed_says, answer_words, answer_at, files_mapped};
 
 use crate::file::map_file;
-use rules::RequestResult;
 use tables::FileStorage;
-use types::{FileIndex, Refusal, UsizeResult, clamped32};
-
-// Puts four words side by side, from position `at` on.
-fn put_words(answers: &mut [u32], at: usize, w0: u32, w1: u32, w2: u32, w3: u32)
-    requires { at + 3 < length answers.old }
-    ensures { answers.new ≡ sets answers.old at (w0 ∷ w1 ∷ w2 ∷ w3 ∷ []) }
-{
-    answers[at] = w0;
-    answers[at + 1] = w1;
-    answers[at + 2] = w2;
-    answers[at + 3] = w3;
-}
+use types::{FileIndex, PeerRequest, Refusal, clamped};
 
 // An `i32` as a word, 0 where it is negative.
 fn word32(x: i32) -> u32
     ensures { result ≡ clamped_of x }
 {
-    clamped32(x) as u32
+    clamped(i64::from(x)) as u32
 }
 
 // Puts the four words of the answer to question i.
-fn put_answer(answers: &mut [u32], i: usize, answer: RequestResult)
+fn put_answer(answers: &mut [u32], i: usize, answer: Result<PeerRequest, Refusal>)
     requires { i * 4 + 3 < length answers.old }
     ensures { answers.new ≡ sets answers.old (i * 4) (answer_words (request_says answer)) }
 {
-    match answer {
-        RequestResult::Ok(r) => put_words(
-            answers,
-            i * 4,
-            0,
-            word32(r.piece.0),
-            word32(r.start),
-            word32(r.length),
-        ),
-        RequestResult::Err(e) => put_words(answers, i * 4, types::number(e), 0, 0, 0),
-    }
+    let words = match answer {
+        Ok(r) => [0, word32(r.piece.0), word32(r.start), word32(r.length)],
+        Err(e) => [u32::from(e), 0, 0, 0],
+    };
+    answers[i * 4..i * 4 + 4].copy_from_slice(&words);
 }
 
 // Answers each question.
+// Stays: a table for each number of a question is what the C interface lends.
 fn answer_each(
     fs: FileStorage,
     rows: &[u64],
@@ -65,12 +48,9 @@ fn answer_each(
         (filled (answer_at fs rows.now files.now offsets.now sizes.now) 0
         (length files.now)) }
 {
-    let n = files.len();
-    let mut i = 0;
-    while i < n {
+    for i in 0..files.len() {
         let answer = map_file(fs, rows, FileIndex(files[i]), offsets[i], sizes[i]);
         put_answer(answers, i, answer);
-        i += 1;
     }
 }
 
@@ -83,19 +63,16 @@ pub fn map_files(
     offsets: &[i64],
     sizes: &[i32],
     answers: &mut [u32],
-) -> UsizeResult
+) -> Result<usize, Refusal>
     ensures { listed_says result answers.new
         ≡ files_mapped fs rows.now files.now offsets.now sizes.now
         answers.old }
 {
     let n = files.len();
-    let room = lists::min_usize(
-        offsets.len(),
-        lists::min_usize(sizes.len(), answers.len() / 4),
-    );
+    let room = offsets.len().min(sizes.len().min(answers.len() / 4));
     if room < n {
-        return UsizeResult::Err(Refusal::NoRoom);
+        return Err(Refusal::NoRoom);
     }
     answer_each(fs, rows, files, offsets, sizes, answers);
-    UsizeResult::Ok(n)
+    Ok(n)
 }

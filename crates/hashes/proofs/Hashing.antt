@@ -1,6 +1,7 @@
 -- Laws of a directory's beginnings and of their hashes. A running hash goes on from one separator to the next, and starts anew
 -- with each directory. They rely on the laws of `crc32c` about parts.
---     scan-turn, scan-stop, scan-end, scan-within   the scan for the next separator
+--     before_position, scan-within                  the scan for the next separator
+--     beginning_number                              one beginning more than separators
 --     begin-first, begin-next, begin-end            a directory's beginnings, one after the other
 --     hashes-first, hashes-next, hashes-end         a directory's hashes, one after the other; hash-next gives the next one,
 --                                                   hash-all the directory's own
@@ -8,12 +9,13 @@
 --     all-within                                    the hashes of what stands behind the set's name
 use Prim.Native.Nat.{ℕ, suc, ◌+◌, ◌-◌, ◌≤◌, ◌<◌}
 use mathlib.Core.Path.{◌≡◌, refl, sym, ap, ◌∙◌}
-use mathlib.Core.Bool.{Bool, true, false, cond}
+use mathlib.Core.Bool.{Bool, true, false, cond, not}
 use mathlib.Core.List.{List, [], ◌∷◌, ◌++◌, map, append-nil, append_assoc}
 use native.Mathlib.Numerals.{add-one}
 use native.Mathlib.Omega.{arith}
 use lib.ListN.{length, get_or, take, drop, length-drop, drop_of_length-le}
 use lib.Seq.{drop-cons, drop-drop, take-suc, take-add, take_all}
+use Rattle.std.specs.List.{filter, position_or_len}
 use Rattle.path.specs.Split.{is_separator, before_first}
 use Rattle.crc32c.specs.Crc.{crc_from, lower}
 use Rattle.crc32c.proofs.Parts.{crc-lower}
@@ -46,6 +48,25 @@ one-first seen (c ∷ t) = at (is_separator c) (one-first (seen ++ (c ∷ [])) t
     at true e = rw append-nil
     at false e = rw append_assoc at e
 
+-- as many as there are separators, and one more
+pub beginning_number : (seen d : List ℕ) → length (beginnings_from seen d) ≡ length (filter is_separator d) + 1
+beginning_number seen [] = refl
+beginning_number seen (c ∷ t) = at (is_separator c) (beginning_number (seen ++ (c ∷ [])) t)
+  where
+    at : (b : Bool) → length (beginnings_from (seen ++ (c ∷ [])) t) ≡ length (filter is_separator t) + 1
+        → length (cond b (seen ∷ beginnings_from (seen ++ (c ∷ [])) t) (beginnings_from (seen ++ (c ∷ [])) t)) ≡ length (cond b (c ∷ filter is_separator t) (filter is_separator t)) + 1
+    at true e = omega arith
+    at false e = e
+
+-- as many bytes stand before the first separator as a search for it passes
+pub before_position : (t : List ℕ) → position_or_len is_separator t ≡ length (before_first t)
+before_position [] = refl
+before_position (c ∷ t) = at (is_separator c) (before_position t)
+  where
+    at : (b : Bool) → position_or_len is_separator t ≡ length (before_first t) → cond (not b) (1 + position_or_len is_separator t) 0 ≡ length (cond b [] (c ∷ before_first t))
+    at true e = refl
+    at false e = omega arith
+
 -- what stands before a separator is the list's first part
 before-part : (t : List ℕ) → before_first t ≡ take (length (before_first t)) t
 before-part [] = refl
@@ -55,24 +76,13 @@ before-part (c ∷ t) = at (is_separator c) (before-part t)
     at true e = refl
     at false e = ap (λ (l : List ℕ). c ∷ l) e
 
-before-le : (t : List ℕ) → length (before_first t) ≤ length t
+pub before-le : (t : List ℕ) → length (before_first t) ≤ length t
 before-le [] = omega arith
 before-le (c ∷ t) = at (is_separator c) (before-le t)
   where
     at : (b : Bool) → length (before_first t) ≤ length t → length (cond b [] (c ∷ before_first t)) ≤ suc (length t)
     at true e = omega arith
     at false e = omega arith
-
--- the scan for a separator: a turn, a separator, the end
-module _ (d : List ℕ) (i : ℕ) where
-  pub scan-turn : i < length d → is_separator (get_or d i 0) ≡ false → (i + 1) + length (before_first (drop (i + 1) d)) ≡ i + length (before_first (drop i d))
-  scan-turn h e = rw (add-one i, drop-cons d i 0 h, e) (omega arith)
-
-  pub scan-stop : i < length d → is_separator (get_or d i 0) ≡ true → i ≡ i + length (before_first (drop i d))
-  scan-stop h e = rw (drop-cons d i 0 h, e) (omega arith)
-
-  pub scan-end : length d ≤ i → i ≡ i + length (before_first (drop i d))
-  scan-end h = rw (drop_of_length-le d {i = i} h) (omega arith)
 
 -- the beginning that ends at place k, where a scan from place i came to
 module _ (d : List ℕ) (i k : ℕ) (e : k ≡ i + length (before_first (drop i d))) where

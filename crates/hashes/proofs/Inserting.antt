@@ -1,6 +1,6 @@
 -- Laws of putting numbers into a list that rises, and into a table whose first places hold such a list. They rely on the laws
 -- of `lists` about runs of stores.
---     below_up, below-down, below-le   where a number belongs, by halving
+--     rising-sorted                    a list that rises is in order
 --     stays, goes, kept                one number put into a table, or none
 --     Going, going, gone-on, arrived   what is still to be gathered into a table, from the start to the end
 --     gathered-is                      what is gathered into an empty list is the list in order
@@ -21,7 +21,7 @@ use Rattle.lists.proofs.Parts.{drop-take, part_length}
 use Rattle.lists.proofs.Orders.{le-or-lt}
 use Rattle.lists.proofs.Runs.{sets-append, sets-cut, sets_over, part-sets}
 use Rattle.hashes.specs.Hashes.{inserted, ascending}
-use Rattle.hashes.specs.private.Gathering.{above, gathered, below_count, Rising, Begun, TableHolds}
+use Rattle.hashes.specs.private.Gathering.{above, gathered, Rising, Begun, TableHolds}
 
 -- how two numbers stand to each other
 data Order (a b : ℕ) : Type 0 where
@@ -182,58 +182,29 @@ rising-at b [] k r h = absurd (omega arith)
 rising-at b (x ∷ xs) zero r h = r.0
 rising-at b (x ∷ xs) (suc k) r h = omega (arith, r.0, rising-at (x + 1) xs k r.1 (omega arith))
 
--- where a number belongs: `below_count`
-pub below-le : (h : ℕ) (xs : List ℕ) → below_count h xs ≤ length xs
-below-le h [] = omega arith
-below-le h (x ∷ xs) = at (ltb x h) (below-le h xs)
-  where
-    at : (t : Bool) → below_count h xs ≤ length xs → cond t (suc (below_count h xs)) 0 ≤ suc (length xs)
-    at true e = omega arith
-    at false e = omega arith
+pub rising-sorted : (b : ℕ) (xs : List ℕ) → Rising b xs → (i j : ℕ) → i ≤ j → j < length xs → get_or xs i 0 ≤ get_or xs j 0
+rising-sorted b [] r i j h k = absurd (omega arith)
+rising-sorted b (x ∷ xs) r zero zero h k = omega arith
+rising-sorted b (x ∷ xs) r zero (suc j) h k = omega (arith, rising-at (x + 1) xs j r.1 (omega arith))
+rising-sorted b (x ∷ xs) r (suc i) zero h k = absurd (omega arith)
+rising-sorted b (x ∷ xs) r (suc i) (suc j) h k = rising-sorted (x + 1) xs r.1 i j (omega arith) (omega arith)
 
--- one at place k that is below h has only such before it
-pub below_up : (b h : ℕ) (xs : List ℕ) (k : ℕ) → Rising b xs → k < length xs → get_or xs k 0 < h → k + 1 ≤ below_count h xs
-below_up b h [] k r q p = absurd (omega arith)
-below_up b h (x ∷ xs) zero r q p = rw (lt-ltb x h p) (omega arith)
-below_up b h (x ∷ xs) (suc k) r q p =
-    let e = rising-at (x + 1) xs k r.1 (omega arith) in
-    rw (lt-ltb x h (omega arith)) (omega (arith, below_up (x + 1) h xs k r.1 (omega arith) p))
+-- the number is there already, at place p, or it goes to that place, between those below it and those above
+found : (b h : ℕ) (xs : List ℕ) (p : ℕ) → Rising b xs → p < length xs → get_or xs p 0 ≡ h → inserted h xs ≡ xs
+found b h [] p r q e = absurd (omega arith)
+found b h (x ∷ xs) zero r q e = inserted_same h x xs (sym e)
+found b h (x ∷ xs) (suc p) r q e =
+    let k = rising-at (x + 1) xs p r.1 (omega arith) in
+    inserted-high h x xs (omega arith) ∙ ap (λ (l : List ℕ). x ∷ l) (found (x + 1) h xs p r.1 (omega arith) e)
 
-pub below-down : (h : ℕ) (xs : List ℕ) (k : ℕ) → k < length xs → h ≤ get_or xs k 0 → below_count h xs ≤ k
-below-down h [] k q p = omega arith
-below-down h (x ∷ xs) zero q p = rw (le-ltb x h p) (omega arith)
-below-down h (x ∷ xs) (suc k) q p = at (ltb x h) (below-down h xs k (omega arith) p)
-  where
-    at : (t : Bool) → below_count h xs ≤ k → cond t (suc (below_count h xs)) 0 ≤ suc k
-    at true e = omega arith
-    at false e = omega arith
-
--- the number is there already, or it goes between
-found : (h : ℕ) (xs : List ℕ) → below_count h xs < length xs → get_or xs (below_count h xs) 0 ≡ h → inserted h xs ≡ xs
-found h [] q e = absurd (omega arith)
-found h (x ∷ xs) q e = at (order x h) (found h xs)
-  where
-    at : Order x h → (below_count h xs < length xs → get_or xs (below_count h xs) 0 ≡ h → inserted h xs ≡ xs) → inserted h (x ∷ xs) ≡ x ∷ xs
-    at (lower p) f =
-        let w = lt-ltb x h p in
-        let q' : suc (below_count h xs) < suc (length xs) = rw w at q in
-        inserted-high h x xs p ∙ ap (λ (l : List ℕ). x ∷ l) (f (omega arith) (rw w at e))
-    at (same p) f = inserted_same h x xs (sym p)
-    at (higher p) f = let w : x ≡ h = rw (le-ltb x h (omega arith)) at e in absurd (omega arith)
-
-between : (h : ℕ) (xs : List ℕ) → (below_count h xs < length xs → get_or xs (below_count h xs) 0 ≡ h → ⊥)
-    → inserted h xs ≡ take (below_count h xs) xs ++ (h ∷ drop (below_count h xs) xs)
-between h [] q = refl
-between h (x ∷ xs) q = at (order x h) (between h xs)
-  where
-    at : Order x h → ((below_count h xs < length xs → get_or xs (below_count h xs) 0 ≡ h → ⊥) → inserted h xs ≡ take (below_count h xs) xs ++ (h ∷ drop (below_count h xs) xs))
-        → inserted h (x ∷ xs) ≡ take (below_count h (x ∷ xs)) (x ∷ xs) ++ (h ∷ drop (below_count h (x ∷ xs)) (x ∷ xs))
-    at (lower p) f =
-        let w = lt-ltb x h p in
-        let q' = rw w at q in
-        inserted-high h x xs p ∙ rw w (ap (λ (l : List ℕ). x ∷ l) (f (λ a e. q' (omega arith) e)))
-    at (same p) f = let q' = rw (le-ltb x h (omega arith)) at q in absurd (q' (omega arith) p)
-    at (higher p) f = inserted-low h x xs p ∙ rw (le-ltb x h (omega arith))
+between : (h : ℕ) (xs : List ℕ) (p : ℕ) → p ≤ length xs → ((k : ℕ) → k < p → get_or xs k 0 < h) → ((k : ℕ) → p ≤ k → k < length xs → h < get_or xs k 0)
+    → inserted h xs ≡ take p xs ++ (h ∷ drop p xs)
+between h [] zero q l u = refl
+between h [] (suc p) q l u = absurd (omega arith)
+between h (x ∷ xs) zero q l u = inserted-low h x xs (u 0 (omega arith) (omega arith))
+between h (x ∷ xs) (suc p) q l u =
+    inserted-high h x xs (l 0 (omega arith))
+    ∙ ap (λ (t : List ℕ). x ∷ t) (between h xs p (omega arith) (λ k i. l (suc k) (omega arith)) (λ k i j. u (suc k) (omega arith) (omega arith)))
 
 -- a table whose first places hold xs, and more gathered into them
 module _ (l xs : List ℕ) where
@@ -302,39 +273,24 @@ arrived b n {l} g =
     let w = g.begun.within in
     (sym (sets-own l n w) ∙ g.stored, omega (arith, length-take n l, g.counted))
 
--- both of two tests hold
-are-both : (a b : Bool) → (a && b) ≡ true → (a ≡ true) × (b ≡ true)
-are-both true b e = (refl, e)
-are-both false b e = absurd (false≢true e)
-
 -- a table as it was, of which n places are taken
 pub kept : (n : ℕ) (l : List ℕ) → n ≤ length l → TableHolds l (take n l) l n
 kept n l h = record { stored = sym (sets-own l n h); count = omega (arith, length-take n l) }
 
--- one number put into a table at its place p, or there already
-module _ (l : List ℕ) (n h p : ℕ) (w : Begun n l) (e : p ≡ below_count h (take n l)) where
-  pub stays : (t : Bool) → t ≡ (ltb p n && eqb (get_or l p 0) h) → t ≡ true → TableHolds l (inserted h (take n l)) l n
-  stays t d y =
-      let b = are-both (ltb p n) (eqb (get_or l p 0) h) (sym d ∙ y) in
-      let q = ltb-true p n b.0 in
-      let f = found h (take n l) (rw (← e) (omega (arith, length-take n l, w.within))) (rw (← e, get_or-take n l p 0 q) (eqb-true (get_or l p 0) h b.1)) in
-      rw f (kept n l w.within)
+-- one number, there already at place p, or put into a table at that place
+module _ (l : List ℕ) (n h p : ℕ) (w : Begun n l) where
+  pub stays : p < length (take n l) → get_or (take n l) p 0 ≡ h → TableHolds l (inserted h (take n l)) l n
+  stays q e = rw (found 0 h (take n l) p w.rising q e) (kept n l w.within)
 
-  pub goes : (t : Bool) (k : List ℕ) (r : ℕ) → t ≡ (ltb p n && eqb (get_or l p 0) h) → t ≡ false → k ≡ sets l p (h ∷ part_of l p (n - p)) → r ≡ min (length l) (n + 1)
-      → TableHolds l (inserted h (take n l)) k r
-  goes t k r d y s c =
+  pub goes : p ≤ length (take n l) → ((k : ℕ) → k < p → get_or (take n l) k 0 < h) → ((k : ℕ) → p ≤ k → k < length (take n l) → h < get_or (take n l) k 0)
+      → (k : List ℕ) (r : ℕ) → k ≡ sets l p (h ∷ part_of l p (n - p)) → r ≡ min (length l) (n + 1) → TableHolds l (inserted h (take n l)) k r
+  goes q below beyond k r s c =
       let u = take n l in
       let m = w.within in
       let lu : length u ≡ n = length-take-le n l m in
-      let pn : p ≤ n = omega (arith, below-le h u) in
-      let no : below_count h u < length u → get_or u (below_count h u) 0 ≡ h → ⊥ =
-      λ a q.
-      let a' : p < n = omega arith in
-      let q' : get_or l p 0 ≡ h = rw (← e, get_or-take n l p 0 a') at q in
-      false≢true (sym y ∙ d ∙ rw (lt-ltb p n a', eq-eqb (get_or l p 0) h q'))
-      in
+      let pn : p ≤ n = omega arith in
       let v = h ∷ part_of l p (n - p) in
-      let f : inserted h u ≡ take p l ++ v = rw (← e, take-take p n l pn, drop-take p n l) at (between h u no) in
+      let f : inserted h u ≡ take p l ++ v = rw (take-take p n l pn, drop-take p n l) at (between h u p q below beyond) in
       let z = ap length f ∙ length-append (take p l) v in
       record {
         stored = s ∙ sets-front l p v (omega arith) ∙ ap (sets l 0) (sym f);

@@ -1,10 +1,10 @@
 -- Document 01, 'Names': `all_path_hashes`: the hash of each directory and of each part of it that stands before a
 -- separator, after the set's name. 'unordered sets and maps come out ascending', each hash once. It relies on the hash
 -- of a path in Paths.antt of `names`.
-use Rattle.std.specs.Prelude.{ℕ, cond, ◌&&◌, List, [], ◌∷◌, ◌++◌, map, eqb, ltb, leb, length}
+use Rattle.types.specs.declared.refusal.Refusal.{Refusal}
+use Rattle.std.specs.Prelude.{ℕ, cond, ◌&&◌, List, [], ◌∷◌, ◌++◌, map, eqb, ltb, leb, length, Result}
 use Rattle.std.proofs.lemmas.List.Edits.{sets}
-use Rattle.types.specs.Refusals.{Outcome, value, refused, usize_says}
-use Rattle.types.specs.declared.refusal.UsizeResult.{UsizeResult}
+use Rattle.types.specs.Refusals.{Outcome, value, refused, outcome}
 use Rattle.path.specs.Split.{is_separator}
 use Rattle.tables.specs.declared.storage.FileStorage.{FileStorage}
 use Rattle.tables.specs.Span.{text_at}
@@ -54,8 +54,8 @@ pub record HashesListed : Type 0 where
   pub says : Outcome ℕ
   pub table : List ℕ
 
-abbrev pub listed_of : UsizeResult → List ℕ → HashesListed
-listed_of r table = record { says = usize_says r; table = table }
+abbrev pub listed_of : Result ℕ Refusal → List ℕ → HashesListed
+listed_of r table = record { says = outcome r; table = table }
 
 -- the hashes hs at the start of `out`, or refusal k, which leaves it as it was
 abbrev pub listed : ℕ → List ℕ → List ℕ → HashesListed

@@ -2,85 +2,47 @@
 // separators, in order, each once. There is no work space: a pass over the directories puts the hashes
 // at or above a bound into a table of at most 8192 places, in order, and the next pass goes on behind them. It
 // relies on `crc32c` for the running hash, on `answers` for the refusals, and on the laws of proofs/.
-ghost use Rattle.std.specs.Prelude.{◌&&◌, ◌≡◌, [], ◌∷◌, map, ◌+◌, ◌-◌, ◌≤◌, ◌<◌, eqb, ltb, leb, length, get_or, take, drop};
+ghost use Rattle.std.specs.Prelude.{◌≡◌, [], ◌∷◌, map, ◌+◌, ◌-◌, ◌≤◌, ◌<◌, leb, length, take, drop};
 ghost use Rattle.std.proofs.lemmas.List.Edits.{sets};
 ghost use Rattle.lists.specs.Lists.{part_of};
 ghost use Rattle.path.specs.Split.{before_first};
 ghost use Rattle.crc32c.specs.Crc.{crc_from, lower};
 ghost use Rattle.names.specs.Paths.{led, hash_of};
 ghost use Rattle.hashes.specs.Hashes.{beginnings, inserted, ascending, listed_of, all_path_hashes};
-ghost use Rattle.hashes.specs.private.Gathering.{above, gathered, below_count, Begun, TableHolds, WindowHolds};
+ghost use Rattle.hashes.specs.private.Gathering.{above, gathered, Begun, TableHolds, WindowHolds};
 ghost use Rattle.hashes.specs.private.Gathering.{hashes_after, hashes_within, ascending_within, beginnings_within};
 ghost use Rattle.hashes.specs.private.Gathering.{hashes_put};
 
-use lists::min_usize;
 use names::hash_led;
-use rules::SpanResult;
 use tables::FileStorage;
-use types::{Refusal, UsizeResult};
-
-// The number of the first n hashes that are below h, found by halving.
-fn place_of(table: &[u32], n: usize, h: u32) -> usize
-    requires { Begun n table.now }
-    ensures { result ≡ below_count h (take n table.now) }
-{
-    let mut lo = 0;
-    let mut hi = n;
-    while lo < hi {
-        let mid = lo + (hi - lo) / 2;
-        if table[mid] < h {
-            lo = mid + 1;
-        } else {
-            hi = mid;
-        }
-    }
-    lo
-}
-
-// Whether p is below n and place p of the table holds h.
-fn is_there(table: &[u32], n: usize, p: usize, h: u32) -> bool
-    requires { n ≤ length table.now }
-    ensures { result ≡ (ltb p n && eqb (get_or table.now p 0) h) }
-{
-    if p < n {
-        return table[p] == h;
-    }
-    false
-}
+use types::Refusal;
 
 // Puts h at place p, and moves what stands from p up to n one place on; the last falls off where there is
 // no room.
 fn push(table: &mut [u32], p: usize, n: usize, h: u32)
-    requires { n ≤ length table.old }
+    requires { (p ≤ n) × (n ≤ length table.old) }
     ensures { table.new ≡ sets table.old p (h ∷ part_of table.old p (n - p)) }
 {
-    let mut x = h;
-    let mut i = p;
-    while i < n {
-        let y = table[i];
-        table[i] = x;
-        x = y;
-        i += 1;
-    }
-    if i < table.len() {
-        table[i] = x;
+    let end = table.len().min(n + 1);
+    if p < end {
+        table.copy_within(p..end - 1, p + 1);
+        table[p] = h;
     }
 }
 
 // Puts h among the first n hashes unless it is there, and gives the number of hashes after it.
+// Stays: the table is lent and its hashes are counted beside it, since no function here has a heap.
 fn insert(table: &mut [u32], n: usize, h: u32) -> usize
     requires { Begun n table.old }
     ensures { TableHolds table.old (inserted h (take n table.old)) table.new result }
 {
-    let p = place_of(table, n, h);
-    if is_there(table, n, p, h) {
-        return n;
+    match table[..n].binary_search(&h) {
+        Ok(_) => n,
+        Err(p) => {
+            push(table, p, n, h);
+            table.len().min(n + 1)
+        }
     }
-    push(table, p, n, h);
-    if n < table.len() {
-        return n + 1;
-    }
-    n
 }
 
 // The same where h is at or above `bound`; else nothing changes.
@@ -88,7 +50,7 @@ fn keep(table: &mut [u32], n: usize, bound: u64, h: u32) -> usize
     requires { Begun n table.old }
     ensures { TableHolds table.old (gathered bound (h ∷ []) (take n table.old)) table.new result }
 {
-    if (h as u64) < bound {
+    if u64::from(h) < bound {
         return n;
     }
     insert(table, n, h)
@@ -99,14 +61,8 @@ fn next_separator(path: &[u8], from: usize) -> usize
     requires { from ≤ length path.now }
     ensures { result ≡ from + length (before_first (drop from path.now)) }
 {
-    let mut i = from;
-    while i < path.len() {
-        if path[i] == b'/' {
-            return i;
-        }
-        i += 1;
-    }
-    i
+    let rest = &path[from..];
+    from + rest.iter().position(|c| *c == b'/').unwrap_or(rest.len())
 }
 
 // The number of hashes that a table holds after a directory is kept, and the hash of the whole directory.
@@ -118,6 +74,7 @@ struct Kept {
 
 // Keeps the hashes of a directory's beginnings; `state` is the hash of what stands before the directory, and
 // each directory starts from it.
+// Stays: a turn hashes a separator and the part behind it in one call; over the parts that `split` gives it takes two.
 fn keep_dir(table: &mut [u32], n: usize, bound: u64, state: u32, d: &[u8]) -> Kept
     requires { Begun n table.old }
     ensures { TableHolds table.old
@@ -125,7 +82,7 @@ fn keep_dir(table: &mut [u32], n: usize, bound: u64, state: u32, d: &[u8]) -> Ke
         result.held
         × (result.state ≡ crc_from state (map lower d.now)) }
 {
-    if d.len() == 0 {
+    if d.is_empty() {
         return Kept { held: n, state };
     }
     let mut end = next_separator(d, 0);
@@ -155,12 +112,11 @@ fn gather(
         table.new result }
 {
     let mut kept = Kept { held: 0, state };
-    let mut i = 0;
-    while i < count {
+    // Stays: a directory is read by its number, which `tables::dir_at` takes.
+    for i in 0..count {
         let place = tables::dir_at(dirs, i);
         let d = tables::text_at(text, place);
         kept = keep_dir(table, kept.held, bound, state, d);
-        i += 1;
     }
     kept.held
 }
@@ -195,13 +151,14 @@ fn fill(out: &mut [u32], state: u32, dirs: &[u64], text: &[u8], count: usize) ->
 {
     let mut at = 0;
     let mut bound = 0;
+    // Stays: a pass takes the bound that the pass before it left, and may end the whole; `chunks_mut` hands on neither.
     while at < out.len() {
-        let end = at + min_usize(8192, out.len() - at);
+        let end = at + 8192.min(out.len() - at);
         let n = fill_window(out, at, end, bound, state, dirs, text, count);
         if n < end - at {
             return at + n;
         }
-        bound = out[end - 1] as u64 + 1;
+        bound = u64::from(out[end - 1]) + 1;
         at = end;
     }
     at
@@ -229,12 +186,13 @@ fn has_room(
 {
     let mut left = room;
     let mut n = gather(table, 0, state, dirs, text, count);
+    // Stays: no index is counted here; a pass follows each one that filled the table.
     while n == table.len() {
         if left < n {
             return false;
         }
         left -= n;
-        let bound = table[n - 1] as u64 + 1;
+        let bound = u64::from(table[n - 1]) + 1;
         n = gather(table, bound, state, dirs, text, count);
     }
     n <= left
@@ -252,16 +210,10 @@ fn fits(room: usize, state: u32, dirs: &[u64], text: &[u8], count: usize) -> boo
 fn beginning_count(d: &[u8]) -> usize
     ensures { result ≡ length (beginnings d.now) }
 {
-    if d.len() == 0 {
+    if d.is_empty() {
         return 0;
     }
-    let mut n = 1;
-    let mut end = next_separator(d, 0);
-    while end < d.len() {
-        n += 1;
-        end = next_separator(d, end + 1);
-    }
-    n
+    d.iter().filter(|c| **c == b'/').count() + 1
 }
 
 // Whether the first `count` directories have at most `room` beginnings, repeats included.
@@ -269,15 +221,14 @@ fn repeats_fit(room: usize, dirs: &[u64], text: &[u8], count: usize) -> bool
     ensures { result ≡ leb (length (beginnings_within dirs.now text.now count)) room }
 {
     let mut left = room;
-    let mut i = 0;
-    while i < count {
+    // Stays: a directory is read by its number, which `tables::dir_at` takes.
+    for i in 0..count {
         let place = tables::dir_at(dirs, i);
         let n = beginning_count(tables::text_at(text, place));
         if left < n {
             return false;
         }
         left -= n;
-        i += 1;
     }
     true
 }
@@ -287,35 +238,40 @@ fn repeats_fit(room: usize, dirs: &[u64], text: &[u8], count: usize) -> bool
 fn all_fit(room: usize, state: u32, dirs: &[u64], text: &[u8], count: usize) -> bool
     ensures { result ≡ leb (length (ascending_within state dirs.now text.now count)) room }
 {
-    if repeats_fit(room, dirs, text, count) {
-        return true;
-    }
-    fits(room, state, dirs, text, count)
+    repeats_fit(room, dirs, text, count) || fits(room, state, dirs, text, count)
 }
 
 // Puts the hashes of the first `count` directories, after `state`, into `out`, or refuses where a table is too short.
-fn put_hashes(state: u32, dirs: &[u64], text: &[u8], count: usize, out: &mut [u32]) -> UsizeResult
+// Stays: the hashes go into a lent table, since no function here has a heap.
+fn put_hashes(
+    state: u32,
+    dirs: &[u64],
+    text: &[u8],
+    count: usize,
+    out: &mut [u32],
+) -> Result<usize, Refusal>
     ensures { listed_of result out.new ≡ hashes_put state dirs.now text.now count out.old }
 {
     if dirs.len() / 2 < count {
-        return UsizeResult::Err(Refusal::NoRoom);
+        return Err(Refusal::NoRoom);
     }
     if all_fit(out.len(), state, dirs, text, count) {
-        return UsizeResult::Ok(fill(out, state, dirs, text, count));
+        return Ok(fill(out, state, dirs, text, count));
     }
-    UsizeResult::Err(Refusal::NoRoom)
+    Err(Refusal::NoRoom)
 }
 
 // The hash of each directory and of each part of one that stands before a separator, after the set's name:
 // in `out`, ascending, each once.
-pub fn all_path_hashes(fs: FileStorage, dirs: &[u64], text: &[u8], out: &mut [u32]) -> UsizeResult
+pub fn all_path_hashes(
+    fs: FileStorage,
+    dirs: &[u64],
+    text: &[u8],
+    out: &mut [u32],
+) -> Result<usize, Refusal>
     ensures { listed_of result out.new ≡ all_path_hashes fs dirs.now text.now out.old }
 {
-    match answers::name(fs, text) {
-        SpanResult::Ok(place) => {
-            let state = lead(tables::text_at(text, place));
-            put_hashes(state, dirs, text, fs.num_paths, out)
-        }
-        SpanResult::Err(e) => UsizeResult::Err(e),
-    }
+    let place = answers::name(fs, text)?;
+    let state = lead(tables::text_at(text, place));
+    put_hashes(state, dirs, text, fs.num_paths, out)
 }

@@ -25,13 +25,13 @@ use Rattle.renames.specs.Finding.{bytes_from}
 use Rattle.renames.specs.Renames.{in_order_in}
 use Rattle.imports.specs.Imports.{namings, list_held, imported, has_negative, import_lent}
 use Rattle.imports.specs.private.Importing.{is_listed, renames_kept, renames_given, with_all, kept_state, is_full, import_number, import_asked}
-use Rattle.imports.specs.private.Merging.{Noted, placed_from, is_noted, given_at, merged_from}
+use Rattle.imports.specs.private.Merging.{Noted, noted_from, placed_from, is_noted, given_at, merged_from}
 use Rattle.renames.proofs.Ordered.{order-mode, order-bytes}
 use Rattle.renames.proofs.Deciding.{passes}
 use Rattle.renames.proofs.Decisions.{five-passed, same_test, order-in}
 use Rattle.renames.proofs.Rising.{rises-read}
 use Rattle.imports.proofs.Imported.{imported-is, fresh_kept, with-given}
-use Rattle.imports.proofs.Noting.{noted-named}
+use Rattle.imports.proofs.Noting.{few-files, zeros-noted, noted-named}
 use Rattle.imports.proofs.Merged.{merged-is}
 use Rattle.imports.proofs.Keeping.{kept-count, kept-bytes, kept-few, kept-short}
 
@@ -41,34 +41,6 @@ use Rattle.imports.proofs.Keeping.{kept-count, kept-bytes, kept-few, kept-short}
 five-held : {A : Type 0} (a b l o s : Bool) (p q : A) → value p ≡ outcome_of (first_of (when a 1 ∷ when b 11 ∷ when (not l) 10 ∷ when (not o) 10 ∷ when s 10 ∷ [])) q → l ≡ true
 five-held a b l o s p q h =
     not-false l (passes (when a 1 ∷ when b 11 ∷ when (not l) 10 ∷ when (not o) 10 ∷ when s 10 ∷ []) refl p q h).0.1.1.0
-
-module _ (fs : FileStorage) (rf : RenamedFiles) (e : List ℕ) (room : ℕ) (zs : List ℤ) (held : Bool) (come : RenamedFiles) where
-  abbrev stay : RenamedFiles
-  stay = kept_state (is_listed fs.num_files zs) rf e
-
-  pub asked-ill : bad_length fs.piece_length ≡ true → refused 1 ≡ import_asked fs rf e room zs held come
-  asked-ill g = rw g
-
-  module _ (g : bad_length fs.piece_length ≡ false) where
-    asked-rest : (n l o s : Bool) → any is_negative zs ≡ n → held ≡ l → in_order_in rf e room ≡ o → is_full (length e) room stay come ≡ s
-        → outcome_of (cond n 11 (cond (not l) 10 (cond (not o) 10 (cond s 10 0)))) stay ≡ import_asked fs rf e room zs held come
-    asked-rest n l o s p k q r = rw (g, p, k, q, r)
-
-    pub asked-negative : any is_negative zs ≡ true → refused 11 ≡ import_asked fs rf e room zs held come
-    asked-negative p = asked-rest true held (in_order_in rf e room) (is_full (length e) room stay come) p refl refl refl
-
-    module _ (p : any is_negative zs ≡ false) where
-      pub asked-short : held ≡ false → refused 10 ≡ import_asked fs rf e room zs held come
-      asked-short k = asked-rest false false (in_order_in rf e room) (is_full (length e) room stay come) p k refl refl
-
-      pub asked-disorder : held ≡ true → in_order_in rf e room ≡ false → refused 10 ≡ import_asked fs rf e room zs held come
-      asked-disorder k q = asked-rest false true false (is_full (length e) room stay come) p k q refl
-
-      pub asked-full : held ≡ true → in_order_in rf e room ≡ true → is_full (length e) room stay come ≡ true → refused 10 ≡ import_asked fs rf e room zs held come
-      asked-full k q r = asked-rest false true true true p k q r
-
-      pub asked-none : held ≡ true → in_order_in rf e room ≡ true → is_full (length e) room stay come ≡ false → value stay ≡ import_asked fs rf e room zs held come
-      asked-none k q r = asked-rest false true true false p k q r
 
 -- what stays lies within the tables
 pub stay-in : (named : ℕ → Bool) (rf : RenamedFiles) (e : List ℕ) (room : ℕ) → in_order_in rf e room ≡ true
@@ -172,6 +144,9 @@ module _ (fs : FileStorage) (rf : RenamedFiles) (e t : List ℕ) (zs : List ℤ)
     import-held =
         both_true (list_held zs lengths names) (few_entries fs)
         (five-held (bad_length fs.piece_length) (any is_negative zs) list (in_order_in rf e (length t)) (is_full (length e) (length t) (kept_state named rf e) (state_of comes)) st (kept_state named rf e) h)
+
+    pub import-noted : (l : List ℕ) → l ≡ noted_from files 0 zs (replicate 65536 0) → Noted fs.num_files zs l
+    import-noted l x = zeros-noted files zs l x (few-files fs import-held.1)
 
     pub import-sum : sum (take (length zs) lengths) ≤ length names
     import-sum = leb-true _ _ (both_true (leb (length zs) (length lengths)) (leb (sum (take (length zs) lengths)) (length names)) import-held.0).1

@@ -2,11 +2,10 @@
 -- hold the list of them. These laws rely on those of `renames` (its proofs/Readings.antt).
 use Prim.Native.Nat.{ℕ, zero, suc, ◌+◌, ◌-◌, ◌*◌, ◌≤◌, ◌<◌}
 use mathlib.Core.Path.{◌≡◌, refl, sym, ap, ◌∙◌}
-use mathlib.Core.Bool.{Bool, true, false, cond, not}
+use mathlib.Core.Bool.{Bool, true, false, cond}
 use mathlib.Core.List.{List, [], ◌∷◌, ◌++◌}
-use native.Mathlib.Nat.{sub-zero, add-zero}
+use native.Mathlib.Nat.{add-zero}
 use native.Mathlib.Omega.{arith}
-use borrow.Author.Tests.{not-true, not-false}
 use lib.ListN.{length, get_or, take, drop, length-append, length-drop}
 use lib.Seq.{sets, length-sets, length-take-le, drop-drop, get_or-drop}
 use Rattle.lists.specs.Lists.{part_of}
@@ -90,24 +89,14 @@ module _ (named : ℕ → Bool) where
 
   -- ---- one entry of the counts, and their end
 
-  flipped : (b : Bool) (k : ℕ) → cond b 0 k ≡ cond (not b) k 0
-  flipped true k = refl
-  flipped false k = refl
-
   module _ (n i : ℕ) (e : List ℕ) where
-    count_turn : i < n → kept_count named (n - i) i e ≡ cond (listed e i) 0 1 + kept_count named (n - (i + 1)) (i + 1) e
+    pub count_turn : i < n → kept_count named (n - i) i e ≡ cond (listed e i) 0 1 + kept_count named (n - (i + 1)) (i + 1) e
     unfolding kept_count
     count_turn h = let m : n - i ≡ suc (n - (i + 1)) = omega arith in rw m
 
-    size-turn : i < n → kept_bytes named (n - i) i e ≡ cond (listed e i) 0 (get_or e (i * 3 + 2) 0) + kept_bytes named (n - (i + 1)) (i + 1) e
+    pub size-turn : i < n → kept_bytes named (n - i) i e ≡ cond (listed e i) 0 (get_or e (i * 3 + 2) 0) + kept_bytes named (n - (i + 1)) (i + 1) e
     unfolding kept_bytes
     size-turn h = let m : n - i ≡ suc (n - (i + 1)) = omega arith in rw m
-
-    pub counted : i < n → (stays : Bool) (len : ℕ) → stays ≡ not (named (get_or e (i * 3) 0)) → len ≡ get_or e (i * 3 + 2) 0
-        → (kept_count named (n - i) i e ≡ cond stays 1 0 + kept_count named (n - (i + 1)) (i + 1) e)
-        × (kept_bytes named (n - i) i e ≡ cond stays len 0 + kept_bytes named (n - (i + 1)) (i + 1) e)
-    counted h stays len q k =
-        rw (q, k) (count_turn h ∙ rw (flipped (listed e i) 1), size-turn h ∙ rw (flipped (listed e i) (get_or e (i * 3 + 2) 0)))
 
     pub count-end : n ≤ i → kept_count named (n - i) i e ≡ 0
     unfolding kept_count
@@ -129,9 +118,6 @@ module _ (named : ℕ → Bool) where
       × (sets e (to * 3) (kept_words named (n - i) i e₀) ≡ sets e₀ 0 (kept_words named n 0 e₀))
 
   module _ (n : ℕ) (e₀ : List ℕ) where
-    pub moved-start : n * 3 ≤ length e₀ → Moved n e₀ e₀ 0 0
-    moved-start h = (omega arith, omega arith, h, refl, refl, rw (sub-zero n))
-
     -- an entry that is not moved yet
     moved_word : (e : List ℕ) (i to j : ℕ) → Moved n e₀ e i to → get_or e (i * 3 + j) 0 ≡ get_or e₀ (i * 3 + j) 0
     moved_word e i to j (a, b, h, l, d, s) =
@@ -158,16 +144,21 @@ module _ (named : ℕ → Bool) where
         let p : (i + 1) * 3 ≡ i * 3 + 3 = omega arith in
         rw p (sym (drop-drop 3 (i * 3) e) ∙ ap (drop 3) d ∙ drop-drop 3 (i * 3) e₀)
 
-    moved-skip : (e : List ℕ) (i to : ℕ) → Moved n e₀ e i to → i < n → named (get_or e₀ (i * 3) 0) ≡ true → Moved n e₀ e (i + 1) to
-    moved-skip e i to (a, b, h, l, d, s) g q =
+    pub moved-skip : (e : List ℕ) (i to : ℕ) → Moved n e₀ e i to → i < n → named (get_or e (i * 3) 0) ≡ true → Moved n e₀ e (i + 1) to
+    moved-skip e i to (a, b, h, l, d, s) g r =
         let w = words-turn i g in
+        let q = rw (moved-file e i to (a, b, h, l, d, s)) at r in
         (omega arith, omega arith, h, l, rest-same e i to (a, b, h, l, d, s), rw (w, q) at s)
 
-    moved-keep : (e : List ℕ) (i to : ℕ) → Moved n e₀ e i to → i < n → named (get_or e₀ (i * 3) 0) ≡ false
-        → Moved n e₀ (sets e (to * 3) (get_or e₀ (i * 3) 0 ∷ get_or e₀ (i * 3 + 1) 0 ∷ get_or e₀ (i * 3 + 2) 0 ∷ [])) (i + 1) (to + 1)
-    moved-keep e i to (a, b, h, l, d, s) g q =
+    pub moved-keep : (e : List ℕ) (i to : ℕ) → Moved n e₀ e i to → i < n → named (get_or e (i * 3) 0) ≡ false
+        → Moved n e₀ (sets e (to * 3) (get_or e (i * 3) 0 ∷ get_or e (i * 3 + 1) 0 ∷ get_or e (i * 3 + 2) 0 ∷ [])) (i + 1) (to + 1)
+    moved-keep e i to (a, b, h, l, d, s) g r =
+        let m : Moved n e₀ e i to = (a, b, h, l, d, s) in
         let w = words-turn i g in
-        let p : (to + 1) * 3 ≡ to * 3 + 3 = omega arith in (
+        let f = moved-file e i to m in
+        let q = rw f at r in
+        let p : (to + 1) * 3 ≡ to * 3 + 3 = omega arith in
+        rw (f, moved_word e i to 1 m, moved_word e i to 2 m) (
           omega arith,
           omega arith,
           h,
@@ -175,15 +166,6 @@ module _ (named : ℕ → Bool) where
           drop-sets-le (entry i) e (to * 3) ((i + 1) * 3) (omega arith) ∙ rest-same e i to (a, b, h, l, d, s),
           rw p (sym (sets-append (entry i) (kept_words named (n - (i + 1)) (i + 1) e₀) e (to * 3)) ∙ (rw (w, q) at s)),
         )
-
-    -- one entry, as it is moved or not
-    pub moved-turn : (e e' : List ℕ) (i to to' : ℕ) (stays : Bool) → Moved n e₀ e i to → i < n → stays ≡ not (named (get_or e (i * 3) 0))
-        → e' ≡ sets e (to * 3) (cond stays (get_or e (i * 3) 0 ∷ get_or e (i * 3 + 1) 0 ∷ get_or e (i * 3 + 2) 0 ∷ []) []) → to' ≡ cond stays (to + 1) to
-        → Moved n e₀ e' (i + 1) to'
-    moved-turn e e' i to to' true m g q x y =
-        let f = moved-file e i to m in
-        rw (x, y, f, moved_word e i to 1 m, moved_word e i to 2 m) (moved-keep e i to m g (not-true _ (rw f at (sym q))))
-    moved-turn e e' i to to' false m g q x y = rw (x, y) (moved-skip e i to m g (not-false _ (rw (moved-file e i to m) at (sym q))))
 
     pub moved-end : (e : List ℕ) (i to : ℕ) → Moved n e₀ e i to → n ≤ i → e ≡ sets e₀ 0 (kept_words named n 0 e₀)
     moved-end e i to (a, b, h, l, d, s) g = let w = words-end i g in rw w at s
@@ -200,9 +182,6 @@ module _ (named : ℕ → Bool) where
       × (sets t to (texts_of (renames_kept named (renames_from (n - i) i e (drop from t₀)))) ≡ sets t₀ 0 (texts_of (renames_kept named (renames_from n 0 e t₀))))
 
   module _ (n : ℕ) (e t₀ : List ℕ) where
-    pub joined-start : bytes_from n 0 e ≤ length t₀ → Joined n e t₀ t₀ 0 0 0
-    joined-start h = (omega arith, omega arith, rw (sub-zero n) (omega arith), refl, refl, rw (sub-zero n))
-
     abbrev len : ℕ → ℕ
     len i = get_or e (i * 3 + 2) 0
 
@@ -232,13 +211,13 @@ module _ (named : ℕ → Bool) where
     pub joined_in : (t : List ℕ) (i from to : ℕ) → Joined n e t₀ t i from to → i < n → from + get_or e (i * 3 + 2) 0 ≤ length t
     joined_in t i from to (a, b, h, l, d, s) g = omega (arith, bytes-step i g)
 
-    joined-skip : (t : List ℕ) (i from to : ℕ) → Joined n e t₀ t i from to → i < n → named (get_or e (i * 3) 0) ≡ true
+    pub joined-skip : (t : List ℕ) (i from to : ℕ) → Joined n e t₀ t i from to → i < n → named (get_or e (i * 3) 0) ≡ true
         → Joined n e t₀ t (i + 1) (from + get_or e (i * 3 + 2) 0) to
     joined-skip t i from to (a, b, h, l, d, s) g q =
         let w = texts-turn i from g in
         (omega arith, omega arith, omega (arith, bytes-step i g), l, text-rest t i from to (a, b, h, l, d, s), rw (w, q) at s)
 
-    joined-keep : (t : List ℕ) (i from to : ℕ) → Joined n e t₀ t i from to → i < n → named (get_or e (i * 3) 0) ≡ false
+    pub joined-keep : (t : List ℕ) (i from to : ℕ) → Joined n e t₀ t i from to → i < n → named (get_or e (i * 3) 0) ≡ false
         → Joined n e t₀ (sets t to (part_of t from (get_or e (i * 3 + 2) 0))) (i + 1) (from + get_or e (i * 3 + 2) 0) (to + get_or e (i * 3 + 2) 0)
     joined-keep t i from to (a, b, h, l, d, s) g q =
         let w = texts-turn i from g in
@@ -254,12 +233,13 @@ module _ (named : ℕ → Bool) where
           sym (rw k at u) ∙ rw same ((rw (w, q) at s)),
         )
 
-    -- one text, as it is moved or not
-    pub joined-turn : (t t' : List ℕ) (i from to to' len : ℕ) (stays : Bool) → Joined n e t₀ t i from to → i < n → stays ≡ not (named (get_or e (i * 3) 0))
-        → len ≡ get_or e (i * 3 + 2) 0 → t' ≡ sets t to (cond stays (part_of t from len) []) → to' ≡ cond stays (to + len) to
-        → Joined n e t₀ t' (i + 1) (from + len) to'
-    joined-turn t t' i from to to' len true m g q k x y = rw (x, y, k) (joined-keep t i from to m g (not-true _ (sym q)))
-    joined-turn t t' i from to to' len false m g q k x y = rw (x, y, k) (joined-skip t i from to m g (not-false _ (sym q)))
-
     pub joined_end : (t : List ℕ) (i from to : ℕ) → Joined n e t₀ t i from to → n ≤ i → t ≡ sets t₀ 0 (texts_of (renames_kept named (renames_from n 0 e t₀)))
     joined_end t i from to (a, b, h, l, d, s) g = let w = texts-end i from g in rw w at s
+
+-- ---- for the functions that count and move them
+
+pub ruleset counting = (count_turn, size-turn, count-end, size-end, kept-few, kept-short)
+
+pub ruleset moving = (moved-skip, moved-keep, moved-end)
+
+pub ruleset joining = (joined_in, joined-skip, joined-keep, joined_end)

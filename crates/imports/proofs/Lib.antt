@@ -1,9 +1,7 @@
 -- Laws of imports: the list as it is lent, what is kept, what is given, and how both come together. They rely on the laws of `lists`,
 -- `rules` and `renames`.
-pub mod Numbers
 pub mod Imported
 pub mod Keeping
-pub mod Giving
 pub mod Noting
 pub mod Merging
 pub mod Raising

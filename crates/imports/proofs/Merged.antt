@@ -1,6 +1,7 @@
 -- The merge gives what the import asks: renames in ascending order are told by what they give each file, and for each file the notes
 -- hold the last name that the list gives it. These laws rely on those of proofs/Noting.antt and of `renames` (its
 -- proofs/Rising.antt).
+use Rattle.std.specs.Prelude.{Option, Some, None}
 use Prim.Native.Nat.{ℕ, zero, suc, ◌+◌, ◌-◌, ◌≤◌, ◌<◌}
 use mathlib.Core.Path.{◌≡◌, refl, sym, ap, ◌∙◌}
 use mathlib.Core.Bool.{Bool, true, false, cond, not, true≢false, ◌&&◌}
@@ -15,7 +16,6 @@ use lib.ListN.{length, get_or, set, drop, replicate, length-replicate}
 use lib.Seq.{drop-drop, get_or-drop}
 use Rattle.lists.specs.Lists.{part_of}
 use Rattle.lists.proofs.Orders.{le-or-lt}
-use Rattle.tables.specs.Model.{Optional, absent, present}
 use Rattle.rules.specs.Bounds.{clamped_of, is_below}
 use Rattle.renames.specs.declared.rename.RenameMode.TheVariants.{FullPath}
 use Rattle.renames.specs.Renames.{Renamed, with_rename}
@@ -29,14 +29,14 @@ use Rattle.imports.proofs.Noting.{length-cell, zeros-read, cell, cell-none, list
 
 -- ---- renames in ascending order are told by what they give each file
 
-no-rename : (rs : List Renamed) (a k : ℕ) → Rises a rs → k < a → rename_for k rs ≡ absent
+no-rename : (rs : List Renamed) (a k : ℕ) → Rises a rs → k < a → rename_for k rs ≡ None
 no-rename [] a k r h = refl
 no-rename (x ∷ xs) a k r h = rw (ne_eqb x.file k (λ e. omega (arith, r.0))) (no-rename xs (x.file + 1) k r.1 (omega (arith, r.0)))
 
-absent-not : (x : Renamed) → absent ≡ present x → ⊥
+absent-not : (x : Renamed) → None ≡ Some x → ⊥
 absent-not x e = let z : ◌≡◌ {A = ℕ} 0 1 = cc in omega arith
 
-own-rename : (x : Renamed) (xs : List Renamed) → rename_for x.file (x ∷ xs) ≡ present x
+own-rename : (x : Renamed) (xs : List Renamed) → rename_for x.file (x ∷ xs) ≡ Some x
 own-rename x xs = rw (eq-eqb x.file x.file refl)
 
 pub alike : (xs ys : List Renamed) (a b : ℕ) → Rises a xs → Rises b ys → ((k : ℕ) → rename_for k xs ≡ rename_for k ys) → xs ≡ ys
@@ -61,7 +61,7 @@ alike (x ∷ xs) (y ∷ ys) a b r s h = step (side x.file y.file) (alike xs ys (
         absurd (absent-not y (sym (no-rename (x ∷ xs) x.file y.file (omega arith, r.1) g) ∙ h y.file ∙ own-rename y ys))
     step (same g) ih =
         let n = h x.file in
-        let p : present x ≡ present y = sym (own-rename x xs) ∙ n ∙ ap (λ (k : ℕ). rename_for k (y ∷ ys)) g ∙ own-rename y ys in
+        let p : Some x ≡ Some y = sym (own-rename x xs) ∙ n ∙ ap (λ (k : ℕ). rename_for k (y ∷ ys)) g ∙ own-rename y ys in
         let q : x ≡ y = cc in
         rw (ih (λ k. others g k (eqb x.file k) refl)) (ap (λ (z : Renamed). z ∷ ys) q)
 
@@ -69,30 +69,30 @@ alike (x ∷ xs) (y ∷ ys) a b r s h = step (side x.file y.file) (alike xs ys (
 
 module _ (files k : ℕ) where
   -- the last name of the list for file k, or o where there is none
-  abbrev given_or : List Naming → Optional Renamed → Optional Renamed
+  abbrev given_or : List Naming → Option Renamed → Option Renamed
   given_or [] o = o
-  given_or (x ∷ xs) o = given_or xs (cond (is_of files k x.file) (present (full_path x)) o)
+  given_or (x ∷ xs) o = given_or xs (cond (is_of files k x.file) (Some (full_path x)) o)
 
-  with-for : (r : Renamed) (rs : List Renamed) → rename_for k (with_rename r rs) ≡ cond (eqb r.file k) (present r) (rename_for k rs)
+  with-for : (r : Renamed) (rs : List Renamed) → rename_for k (with_rename r rs) ≡ cond (eqb r.file k) (Some r) (rename_for k rs)
   with-for r [] = refl
   with-for r (x ∷ xs) = step (side r.file x.file) (with-for r xs)
     where
-      twice : (c d : Bool) (p o : Optional Renamed) → c ≡ d → cond c p o ≡ cond c p (cond d (present x) o)
+      twice : (c d : Bool) (p o : Option Renamed) → c ≡ d → cond c p o ≡ cond c p (cond d (Some x) o)
       twice true d p o e = refl
       twice false true p o e = absurd (true≢false (sym e))
       twice false false p o e = refl
 
       apart : (c d : Bool) → eqb r.file k ≡ c → eqb x.file k ≡ d → x.file < r.file
-          → (o : Optional Renamed) → cond d (present x) (cond c (present r) o) ≡ cond c (present r) (cond d (present x) o)
+          → (o : Option Renamed) → cond d (Some x) (cond c (Some r) o) ≡ cond c (Some r) (cond d (Some x) o)
       apart true true p q g o = absurd (omega (arith, eqb-true r.file k p, eqb-true x.file k q))
       apart true false p q g o = refl
       apart false true p q g o = refl
       apart false false p q g o = refl
 
-      step : Side r.file x.file → rename_for k (with_rename r xs) ≡ cond (eqb r.file k) (present r) (rename_for k xs)
-          → rename_for k (with_rename r (x ∷ xs)) ≡ cond (eqb r.file k) (present r) (rename_for k (x ∷ xs))
+      step : Side r.file x.file → rename_for k (with_rename r xs) ≡ cond (eqb r.file k) (Some r) (rename_for k xs)
+          → rename_for k (with_rename r (x ∷ xs)) ≡ cond (eqb r.file k) (Some r) (rename_for k (x ∷ xs))
       step (below g) ih = rw (with-before r x xs g)
-      step (same g) ih = rw (with-same r x xs g) (twice (eqb r.file k) (eqb x.file k) (present r) (rename_for k xs) (ap (λ (n : ℕ). eqb n k) g))
+      step (same g) ih = rw (with-same r x xs g) (twice (eqb r.file k) (eqb x.file k) (Some r) (rename_for k xs) (ap (λ (n : ℕ). eqb n k) g))
       step (above g) ih = rw (with-behind r x xs g, ih) (apart (eqb r.file k) (eqb x.file k) refl refl g (rename_for k xs))
 
   imported-for : (xs : List Naming) (rs : List Renamed) → rename_for k (imported files xs rs) ≡ given_or xs (rename_for k rs)
@@ -100,7 +100,7 @@ module _ (files k : ℕ) where
   imported-for (x ∷ xs) rs =
       imported-for xs (cond (is_below files x.file) (with_rename (full_path x) rs) rs) ∙ ap (given_or xs) (at (is_below files x.file))
     where
-      at : (b : Bool) → rename_for k (cond b (with_rename (full_path x) rs) rs) ≡ cond (b && eqb (clamped_of x.file) k) (present (full_path x)) (rename_for k rs)
+      at : (b : Bool) → rename_for k (cond b (with_rename (full_path x) rs) rs) ≡ cond (b && eqb (clamped_of x.file) k) (Some (full_path x)) (rename_for k rs)
       at true = with-for (full_path x) rs
       at false = refl
 
@@ -117,16 +117,16 @@ rises-imported files (x ∷ xs) rs a = rises-imported files xs (cond (is_below f
 lower : (x k : ℕ) → k ≤ x → (x ≡ k → ⊥) → k + 1 ≤ x
 lower x k h n = ⊎_elim (λ g. g) (λ g. absurd (n (omega arith))) (le-or-lt (k + 1) x)
 
-kept_for : (named : ℕ → Bool) (k : ℕ) (rs : List Renamed) → rename_for k (renames_kept named rs) ≡ cond (named k) absent (rename_for k rs)
+kept_for : (named : ℕ → Bool) (k : ℕ) (rs : List Renamed) → rename_for k (renames_kept named rs) ≡ cond (named k) None (rename_for k rs)
 kept_for named k [] = none (named k)
   where
-    none : (b : Bool) → ◌≡◌ {A = Optional Renamed} absent (cond b absent absent)
+    none : (b : Bool) → ◌≡◌ {A = Option Renamed} None (cond b None None)
     none true = refl
     none false = refl
 kept_for named k (r ∷ rs) = at (named r.file) (eqb r.file k) refl refl (kept_for named k rs)
   where
-    at : (b c : Bool) → named r.file ≡ b → eqb r.file k ≡ c → rename_for k (renames_kept named rs) ≡ cond (named k) absent (rename_for k rs)
-        → rename_for k (cond b (renames_kept named rs) (r ∷ renames_kept named rs)) ≡ cond (named k) absent (cond c (present r) (rename_for k rs))
+    at : (b c : Bool) → named r.file ≡ b → eqb r.file k ≡ c → rename_for k (renames_kept named rs) ≡ cond (named k) None (rename_for k rs)
+        → rename_for k (cond b (renames_kept named rs) (r ∷ renames_kept named rs)) ≡ cond (named k) None (cond c (Some r) (rename_for k rs))
     at true true p q ih = let n : named k ≡ true = ap named (sym (eqb-true r.file k q)) ∙ p in ih ∙ rw n
     at true false p q ih = ih
     at false true p q ih = let n : named k ≡ false = ap named (sym (eqb-true r.file k q)) ∙ p in rw (q, n)
@@ -151,13 +151,13 @@ module _ (files : ℕ) (zs : List ℤ) (given : ℕ → Renamed) (own : (k : ℕ
 
   -- the file itself, and any other
   module _ (k : ℕ) (m : List Renamed) where
-    step-own : (rs : List Renamed) → Rises k rs → rename_for k m ≡ absent → (b : Bool)
-        → rename_for k (cond b (given k ∷ []) (own_at k rs) ++ m) ≡ cond b (present (given k)) (rename_for k rs)
+    step-own : (rs : List Renamed) → Rises k rs → rename_for k m ≡ None → (b : Bool)
+        → rename_for k (cond b (given k ∷ []) (own_at k rs) ++ m) ≡ cond b (Some (given k)) (rename_for k rs)
     step-own rs a n true = rw (eq-eqb (given k).file k (own k))
     step-own [] a n false = n
     step-own (r ∷ rs) a n false = at (eqb r.file k) refl
       where
-        at : (c : Bool) → eqb r.file k ≡ c → rename_for k (cond c (r ∷ []) [] ++ m) ≡ cond c (present r) (rename_for k rs)
+        at : (c : Bool) → eqb r.file k ≡ c → rename_for k (cond c (r ∷ []) [] ++ m) ≡ cond c (Some r) (rename_for k rs)
         at true e = rw e
         at false e = n ∙ sym (no-rename rs (r.file + 1) k a.1 (omega (arith, a.0)))
 
@@ -209,7 +209,7 @@ module _ (files : ℕ) (zs : List ℤ) (given : ℕ → Renamed) (own : (k : ℕ
       ∙ rest-other k j d rs (named k)
 
   merged-within : (n k : ℕ) (rs : List Renamed) → Rises k rs → Fresh files zs rs → (j : ℕ) → k ≤ j → j < k + n
-      → rename_for j (merged_from named given n k rs) ≡ cond (named j) (present (given j)) (rename_for j rs)
+      → rename_for j (merged_from named given n k rs) ≡ cond (named j) (Some (given j)) (rename_for j rs)
   unfolding merged_from
   merged-within zero k rs a f j h g = absurd (omega arith)
   merged-within (suc n) k rs a f j h g =
@@ -220,7 +220,7 @@ module _ (files : ℕ) (zs : List ℤ) (given : ℕ → Renamed) (own : (k : ℕ
       let d : k ≡ j → ⊥ = λ e. omega arith in
       step_other k m j d rs (named k)
       ∙ merged-within n (k + 1) (rest_at named k rs) r.0 r.1 j x (omega arith)
-      ∙ ap (λ (o : Optional Renamed). cond (named j) (present (given j)) o) (rest-other k j d rs (named k)))
+      ∙ ap (λ (o : Option Renamed). cond (named j) (Some (given j)) o) (rest-other k j d rs (named k)))
       (λ x.
       let q : k ≡ j = omega arith in
       let z = no-rename m (k + 1) k (rises-merged n (k + 1) (rest_at named k rs) r.0 r.1) (omega arith) in
@@ -229,17 +229,17 @@ module _ (files : ℕ) (zs : List ℤ) (given : ℕ → Renamed) (own : (k : ℕ
 
 -- ---- what the notes give a file
 
-module _ (files k : ℕ) (lengths names : List ℕ) (old : Optional Renamed) where
+module _ (files k : ℕ) (lengths names : List ℕ) (old : Option Renamed) where
   -- as it is read from the notes l and the places p
-  abbrev read : List ℕ → List ℕ → Optional Renamed
-  read l p = cond (eqb (get_or l k 0) 0) old (present (given_at l p lengths names k))
+  abbrev read : List ℕ → List ℕ → Option Renamed
+  read l p = cond (eqb (get_or l k 0) 0) old (Some (given_at l p lengths names k))
 
   module _ (z : ℤ) (i at : ℕ) (l p : List ℕ) (h : files ≤ length l) (g : files ≤ length p) where
     abbrev x : Naming
     x = record { file = z; name = part_of names at (get_or lengths i 0) }
 
     read_one : (b c : Bool) → is_below files z ≡ b → eqb (clamped_of z) k ≡ c
-        → read (cond b (set l (clamped_of z) (i + 1)) l) (cond b (set p (clamped_of z) at) p) ≡ cond (b && c) (present (full_path x)) (read l p)
+        → read (cond b (set l (clamped_of z) (i + 1)) l) (cond b (set p (clamped_of z) at) p) ≡ cond (b && c) (Some (full_path x)) (read l p)
     read_one b c q e =
         let u : get_or (cond b (set l (clamped_of z) (i + 1)) l) k 0 ≡ cond (b && c) (i + 1) (get_or l k 0) = cell files k z (i + 1) l h b q ∙ rw e in
         let v : get_or (cond b (set p (clamped_of z) at) p) k 0 ≡ cond (b && c) at (get_or p k 0) = cell files k z at p g b q ∙ rw e in
@@ -247,8 +247,8 @@ module _ (files k : ℕ) (lengths names : List ℕ) (old : Optional Renamed) whe
       where
         both : (b c : Bool) → is_below files z ≡ b → eqb (clamped_of z) k ≡ c
             → cond (eqb (cond (b && c) (i + 1) (get_or l k 0)) 0) old
-            (present (record { file = k; mode = FullPath; name = part_of names (cond (b && c) at (get_or p k 0)) (get_or lengths (cond (b && c) (i + 1) (get_or l k 0) - 1) 0) }))
-            ≡ cond (b && c) (present (full_path x)) (read l p)
+            (Some (record { file = k; mode = FullPath; name = part_of names (cond (b && c) at (get_or p k 0)) (get_or lengths (cond (b && c) (i + 1) (get_or l k 0) - 1) 0) }))
+            ≡ cond (b && c) (Some (full_path x)) (read l p)
         both true true q e =
             let n : i + 1 - 1 ≡ i = omega arith in
             rw (ne_eqb (i + 1) 0 (λ w. omega arith), n, eqb-true (clamped_of z) k e)
@@ -283,35 +283,35 @@ module _ (files : ℕ) (zs : List ℤ) (lengths names l p : List ℕ) (rs : List
   zeros-in : files ≤ length {A = ℕ} (replicate 65536 0)
   zeros-in = omega (arith, n.1, length-replicate {A = ℕ} 65536 0)
 
-  imported-gives : (k : ℕ) → rename_for k (imported files (namings zs lengths names) rs) ≡ cond (lists k) (present (gives k)) (rename_for k rs)
+  imported-gives : (k : ℕ) → rename_for k (imported files (namings zs lengths names) rs) ≡ cond (lists k) (Some (gives k)) (rename_for k rs)
   imported-gives k =
       let old = rename_for k rs in
       let z : eqb (get_or {A = ℕ} (replicate 65536 0) k 0) 0 ≡ true = rw (zeros-read 65536 k) in
       let s : read files k lengths names old l p ≡ given_or files k (namings zs lengths names) (read files k lengths names old (replicate 65536 0) (replicate 65536 0)) =
       rw (n.0, places) (notes-say files k lengths names old zs 0 0 (replicate 65536 0) (replicate 65536 0) zeros-in zeros-in) in
       let o : read files k lengths names old (replicate 65536 0) (replicate 65536 0) ≡ old = rw z in
-      let c : read files k lengths names old l p ≡ cond (lists k) (present (gives k)) old = rw (cell-none files k zs l n) (flip (lists k) old) in
+      let c : read files k lengths names old l p ≡ cond (lists k) (Some (gives k)) old = rw (cell-none files k zs l n) (flip (lists k) old) in
       imported-for files k (namings zs lengths names) rs ∙ ap (given_or files k (namings zs lengths names)) (sym o) ∙ sym s ∙ c
     where
-      flip : (b : Bool) (old : Optional Renamed) → cond (not b) old (present (gives k)) ≡ cond b (present (gives k)) old
+      flip : (b : Bool) (old : Option Renamed) → cond (not b) old (Some (gives k)) ≡ cond b (Some (gives k)) old
       flip true old = refl
       flip false old = refl
 
-  merged-gives : (k : ℕ) → rename_for k (merged_from lists gives files 0 stays) ≡ cond (lists k) (present (gives k)) (rename_for k rs)
+  merged-gives : (k : ℕ) → rename_for k (merged_from lists gives files 0 stays) ≡ cond (lists k) (Some (gives k)) (rename_for k rs)
   merged-gives k =
       ⊎_elim
       (λ h. merged-later files zs gives (λ j. refl) files 0 stays k (omega arith) ∙ kept_for lists k rs ∙ past (lists k) refl h)
       (λ h.
       merged-within files zs gives (λ j. refl) files 0 stays (rises-kept files zs rs 0 up) (fresh_kept files zs rs) k (omega arith) (omega arith)
-      ∙ ap (λ (o : Optional Renamed). cond (lists k) (present (gives k)) o) (kept_for lists k rs)
+      ∙ ap (λ (o : Option Renamed). cond (lists k) (Some (gives k)) o) (kept_for lists k rs)
       ∙ twice (lists k))
       (le-or-lt files k)
     where
-      past : (b : Bool) → lists k ≡ b → files ≤ k → cond b absent (rename_for k rs) ≡ cond b (present (gives k)) (rename_for k rs)
+      past : (b : Bool) → lists k ≡ b → files ≤ k → cond b None (rename_for k rs) ≡ cond b (Some (gives k)) (rename_for k rs)
       past true q h = absurd (omega (arith, listed_in files k zs q))
       past false q h = refl
 
-      twice : (b : Bool) → cond b (present (gives k)) (cond b absent (rename_for k rs)) ≡ cond b (present (gives k)) (rename_for k rs)
+      twice : (b : Bool) → cond b (Some (gives k)) (cond b None (rename_for k rs)) ≡ cond b (Some (gives k)) (rename_for k rs)
       twice true = refl
       twice false = refl
 

@@ -4,16 +4,15 @@ use Prim.Native.Nat.{ℕ, zero, suc, ◌+◌, ◌-◌, ◌*◌, ◌≤◌, ◌<�
 use mathlib.Core.Path.{◌≡◌, refl, sym, ap, ◌∙◌}
 use mathlib.Core.Bool.{Bool, true, false, cond, true≢false}
 use mathlib.Core.Logic.{◌⊎◌, inl, inr}
-use mathlib.Core.List.{List, [], ◌∷◌, ◌++◌, append-nil}
+use mathlib.Core.List.{List, [], ◌∷◌, ◌++◌, append-nil, append_assoc}
 use native.Mathlib.Nat.{sub-zero, add-zero}
 use native.Mathlib.Omega.{arith}
 use borrow.Author.Tests.{lt-ltb, le-ltb, ltb-true}
 use lib.Dec.{eqb, ltb}
-use lib.ListN.{length, get_or, take, drop, length-append, length-drop}
-use lib.Seq.{sets, length-sets, length-take-le, drop-drop, get_or-drop}
+use lib.ListN.{length, get_or, take, drop, length-append, length-drop, take-append-drop}
+use lib.Seq.{sets, sets-eq, length-sets, length-take-le, drop-drop, get_or-drop}
 use Rattle.lists.specs.Lists.{part_of}
 use Rattle.lists.proofs.Orders.{le-or-lt}
-use Rattle.lists.proofs.Parts.{drop-take}
 use Rattle.lists.proofs.Runs.{sets-append, drop-sets-le}
 use Rattle.rules.proofs.Rules.{both_true}
 use Rattle.renames.specs.declared.rename.RenameMode.TheVariants.{FullPath}
@@ -23,7 +22,6 @@ use Rattle.renames.specs.Finding.{bytes_from, entry_is_named}
 use Rattle.imports.specs.private.Merging.{own_at, left_at, step_at, rest_at, merged_from, kept_in, step_words, step_text, step_place}
 use Rattle.renames.proofs.Kept.{length-words}
 use Rattle.renames.proofs.Readings.{mode-word, length-renames, texts-back, words_back, words_append, texts-append}
-use Rattle.renames.proofs.Splices.{sets-still}
 
 -- ---- the lists
 
@@ -166,6 +164,13 @@ module _ (total : ℕ) (e t : List ℕ) where
 
 -- ---- the whole merge
 
+-- a table's own cells, written where they stand, change nothing
+sets-still : (l : List ℕ) (i n : ℕ) → i + n ≤ length l → sets l i (take n (drop i l)) ≡ l
+sets-still l i n h =
+    let k : length (take n (drop i l)) ≡ n = length-take-le n (drop i l) (omega (arith, length-drop i l)) in
+    sets-eq (take n (drop i l)) l i (omega arith)
+    ∙ rw (k, ← drop-drop n i l, append_assoc, take-append-drop n (drop i l), take-append-drop i l)
+
 -- what agrees from a on agrees further on
 drop-further : (a b : ℕ) (x y : List ℕ) → a ≤ b → drop a x ≡ drop a y → drop b x ≡ drop b y
 drop-further a b x y h e =
@@ -256,16 +261,8 @@ module _ (named : ℕ → Bool) (given : ℕ → Renamed) (file : (k : ℕ) → 
         words_back n p.next e₀ (drop p.from t₀) (λ j a d. g.modes j a (omega (arith, d, g.here))) (omega (arith, g.here, g.held)) (omega (arith, length-drop p.from t₀, g.fits))
         ∙ ap (take (n * 3)) (sym g.entries) in
         let x : texts_of kept ≡ take b (drop p.from t) = texts-back n p.next e₀ (drop p.from t₀) ∙ ap (take b) (sym g.text) in
-        let u : total * 3 - p.next * 3 ≡ n * 3 = omega (arith, g.here) in
-        let v : p.from + b - p.from ≡ b = omega arith in
-        let still : sets e (p.next * 3) (take (n * 3) (drop (p.next * 3) e)) ≡ e =
-        ap (λ (m : ℕ). sets e (p.next * 3) (take m (drop (p.next * 3) e))) (sym u)
-        ∙ ap (sets e (p.next * 3)) (sym (drop-take (p.next * 3) (total * 3) e))
-        ∙ sets-still e (total * 3) (p.next * 3) (omega (arith, g.words, g.held)) in
-        let quiet : sets t p.from (take b (drop p.from t)) ≡ t =
-        ap (λ (m : ℕ). sets t p.from (take m (drop p.from t))) (sym v)
-        ∙ ap (sets t p.from) (sym (drop-take p.from (p.from + b) t))
-        ∙ sets-still t (p.from + b) p.from (omega (arith, g.bytes, g.fits)) in
+        let still = sets-still e (p.next * 3) (n * 3) (omega (arith, g.words, g.here, g.held)) in
+        let quiet = sets-still t p.from b (omega (arith, g.bytes, g.fits)) in
         let y = g.left-entries in
         let r = g.left-text in
         (sym still ∙ (rw (z, to, w) at y), sym quiet ∙ (rw (z, at, x) at r))

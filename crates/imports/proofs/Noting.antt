@@ -10,7 +10,7 @@ use native.Mathlib.Numerals.{add-one}
 use borrow.Author.Tests.{lt-ltb, eq-eqb, ne_eqb, eqb-true, eqb-false, leb-true}
 use lib.Dec.{eqb, ltb, leb}
 use lib.IntN.{ℤ, pos}
-use lib.ListN.{length, get_or, set, drop, replicate, length-set, length-replicate, drop_of_length-le}
+use lib.ListN.{length, get_or, set, drop, replicate, length-set, length-replicate}
 use lib.Seq.{drop-cons, drop-drop, get_or-drop, get_or-set_same, get_or-set_other}
 use Rattle.rules.specs.Bounds.{clamped_of, is_below}
 use Rattle.tables.specs.declared.storage.FileStorage.{FileStorage}
@@ -145,19 +145,15 @@ few-files fs h = leb-true fs.num_files 65535 (both_true (leb fs.num_files 65535)
 pub zeros-noted : (files : ℕ) (zs : List ℤ) (l : List ℕ) → l ≡ noted_from files 0 zs (replicate 65536 0) → files ≤ 65535 → Noted files zs l
 zeros-noted files zs l e h = (e, omega arith)
 
--- ---- one number written down, and the end
+-- the files that the notes of a list name, where the list is held and the set is counted
+pub held-named : (fs : FileStorage) (zs : List ℤ) (l : List ℕ) → l ≡ noted_from fs.num_files 0 zs (replicate 65536 0) → (held : Bool) → (held && few_entries fs) ≡ true
+    → is_noted fs.num_files l ≡ is_listed fs.num_files zs
+held-named fs zs l e held h =
+    noted-named fs.num_files zs l (zeros-noted fs.num_files zs l e (few-files fs (both_true held (few_entries fs) h).1))
+
+-- ---- one number written down
 
 module _ (files : ℕ) (zs : List ℤ) where
-  pub noted-turn : (i : ℕ) (l : List ℕ) → i < length zs
-      → noted_from files i (drop i zs) l
-      ≡ noted_from files (i + 1) (drop (i + 1) zs) (cond (is_below files (get_or zs i (pos 0))) (set l (clamped_of (get_or zs i (pos 0))) (i + 1)) l)
-  noted-turn i l h =
-      let k : drop i zs ≡ get_or zs i (pos 0) ∷ drop (i + 1) zs = drop-cons zs i (pos 0) h ∙ rw (add-one i) in
-      rw k
-
-  pub noted-end : (i : ℕ) (l : List ℕ) → length zs ≤ i → noted_from files i (drop i zs) l ≡ l
-  noted-end i l h = rw (drop_of_length-le zs {i = i} h)
-
   pub placed-turn : (i at : ℕ) (lengths l : List ℕ) → i < length zs
       → placed_from files at (drop i zs) (drop i lengths) l
       ≡ placed_from files (at + get_or lengths i 0) (drop (i + 1) zs) (drop (i + 1) lengths) (cond (is_below files (get_or zs i (pos 0))) (set l (clamped_of (get_or zs i (pos 0))) at) l)
@@ -169,6 +165,3 @@ module _ (files : ℕ) (zs : List ℤ) where
       rw k
       (ap (λ (n : ℕ). placed_from files (at + n) (drop (i + 1) zs) (drop 1 (drop i lengths)) m) f
       ∙ ap (λ (x : List ℕ). placed_from files (at + get_or lengths i 0) (drop (i + 1) zs) x m) g)
-
-  pub placed_end : (i at : ℕ) (lengths l : List ℕ) → length zs ≤ i → placed_from files at (drop i zs) lengths l ≡ l
-  placed_end i at lengths l h = rw (drop_of_length-le zs {i = i} h)

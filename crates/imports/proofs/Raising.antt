@@ -5,10 +5,9 @@ use mathlib.Core.Path.{◌≡◌, refl, sym, ap, ◌∙◌}
 use mathlib.Core.Bool.{Bool}
 use mathlib.Core.Logic.{⊎_elim}
 use mathlib.Core.List.{List, [], ◌∷◌, ◌++◌}
-use native.Mathlib.Nat.{zero-add}
 use native.Mathlib.Omega.{arith}
 use lib.ListN.{length, get_or, set, take, drop, length-append, length-drop}
-use lib.Seq.{sets, sets-eq, length-sets, length-take-le, drop-append-add}
+use lib.Seq.{paste, sets, sets-eq, length-sets, length-take-le, drop-append-add}
 use Rattle.lists.proofs.Orders.{le-or-lt}
 use Rattle.lists.proofs.Runs.{sets-drop, sets_over, sets-set-below, part-sets}
 use Rattle.renames.specs.declared.rename.RenamedFiles.{RenamedFiles}
@@ -16,6 +15,7 @@ use Rattle.renames.specs.Renames.{Renamed, renames_from, renames_of, words_of, t
 use Rattle.renames.specs.Finding.{bytes_from}
 use Rattle.imports.specs.private.Importing.{renames_kept, kept_state, kept_words}
 use Rattle.imports.specs.private.Merging.{merged_from, kept_in}
+use Rattle.renames.proofs.Splices.{copied}
 use Rattle.renames.proofs.Kept.{at-word, words-rest, mode_small, length-words, list_read}
 use Rattle.imports.proofs.Keeping.{kept-count, kept-bytes, kept-words}
 
@@ -108,13 +108,19 @@ module _ (named : ℕ → Bool) (given : ℕ → Renamed) (files : ℕ) (rf stay
         ap (take stay.text_len) y₁ ∙ ap (λ (n : ℕ). take n (sets t 0 (texts_of stays))) stay-bytes ∙ p
 
     -- and up
-    module _ (e₂ t₂ : List ℕ) (x₂ : e₂ ≡ sets e₁ (0 + come.num_renames * 3) (drop 0 (take (stay.num_renames * 3) e₁)))
-        (y₂ : t₂ ≡ sets t₁ (0 + come.text_len) (drop 0 (take stay.text_len t₁))) where
+    module _ (e₂ t₂ : List ℕ) (x₂ : e₂ ≡ paste e₁ (come.num_renames * 3) (drop 0 e₁) (stay.num_renames * 3 - 0))
+        (y₂ : t₂ ≡ paste t₁ come.text_len (drop 0 t₁) (stay.text_len - 0)) where
       up-words : e₂ ≡ sets e₁ (c * 3) (words_of stays)
-      up-words = x₂ ∙ rw (zero-add (c * 3)) (ap (sets e₁ (c * 3)) first-words)
+      up-words =
+          x₂
+          ∙ copied e₁ 0 (stay.num_renames * 3) (c * 3) (omega arith) (omega (arith, long.0)) (omega (arith, long.0))
+          ∙ ap (sets e₁ (c * 3)) first-words
 
       up-bytes : t₂ ≡ sets t₁ cb (texts_of stays)
-      up-bytes = y₂ ∙ rw (zero-add cb) (ap (sets t₁ cb) first-bytes)
+      up-bytes =
+          y₂
+          ∙ copied t₁ 0 stay.text_len cb (omega arith) (omega (arith, long.1)) (omega (arith, long.1))
+          ∙ ap (sets t₁ cb) first-bytes
 
       abbrev total : ℕ
       total = stay.num_renames + c

@@ -1,4 +1,4 @@
-// How many names a list gives, and how many bytes they have. Relies on notes.rt and on the laws of proofs/Giving.antt.
+// How many names a list gives, and how many bytes they have. Relies on notes.rt.
 ghost use Rattle.std.specs.Prelude.{◌≡◌};
 ghost use Rattle.renames.specs.Renames.{state_of};
 ghost use Rattle.imports.specs.private.Importing.{renames_given};
@@ -18,16 +18,13 @@ pub(crate) fn count_given(
     requires { Noted files numbers.now notes.now }
     ensures { result ≡ state_of (renames_given files numbers.now lengths.now names.now) }
 {
-    let mut i = 0;
     let mut at = 0;
     let mut count = 0;
     let mut bytes = 0;
-    while i < numbers.len() {
-        let counts = does_count(numbers, i, files, notes);
-        let len = lists::part(names, at, lists::word(lengths, i) as usize).len();
+    for i in 0..numbers.len() {
+        let len = lists::part(names, at, lists::item_or(lengths, i, 0) as usize).len();
         at += len;
-        i += 1;
-        if counts {
+        if does_count(numbers, i, files, notes) {
             count += 1;
             bytes += len;
         }

@@ -3,9 +3,9 @@
 // the tables, on keep.rt, give.rt and merge.rt for what is kept and what is given, and on the laws of
 // proofs/Importing.antt.
 ghost use Rattle.std.specs.Prelude.{◌≡◌, ◌&&◌, ◌/◌, ◌≤◌, replicate};
+ghost use Rattle.types.specs.Refusals.{outcome};
 ghost use Rattle.rules.specs.Questions.{few_entries};
 ghost use Rattle.renames.specs.Renames.{renames_changed_of, state_of};
-ghost use Rattle.renames.specs.Results.{renames_says};
 ghost use Rattle.imports.specs.Imports.{list_held, import_lent};
 ghost use Rattle.imports.specs.private.Importing.{renames_given, is_full, import_asked};
 ghost use Rattle.imports.specs.private.Merging.{noted_from};
@@ -13,9 +13,9 @@ ghost use Rattle.imports.specs.private.Merging.{noted_from};
 use crate::give::count_given;
 use crate::keep::count_kept;
 use crate::listed::{has_negative, is_list_held};
-use crate::merge::give;
+use crate::merge::{NotedList, give};
 use crate::notes::{note_last, note_places};
-use renames::{RenamedFiles, RenamesResult, is_in_order};
+use renames::{RenamedFiles, is_in_order};
 use rules::{are_held, is_bad_length};
 use tables::FileStorage;
 use types::Refusal;
@@ -25,10 +25,7 @@ fn is_full(words: usize, room: usize, stay: RenamedFiles, come: RenamedFiles) ->
     requires { (stay.num_renames ≤ words / 3) × (stay.text_len ≤ room) }
     ensures { result ≡ is_full words room stay come }
 {
-    if words / 3 - stay.num_renames < come.num_renames {
-        return true;
-    }
-    room - stay.text_len < come.text_len
+    words / 3 - stay.num_renames < come.num_renames || room - stay.text_len < come.text_len
 }
 
 // The record of the renames that are kept, or why the list is refused; `room` is the length of the text area.
@@ -41,36 +38,37 @@ fn decide(
     lengths: &[u64],
     names: &[u8],
     notes: &[u64],
-) -> RenamesResult
+) -> Result<RenamedFiles, Refusal>
     requires { notes.now ≡ noted_from fs.num_files 0 numbers.now (replicate 65536 0) }
-    ensures { renames_says result ≡ import_asked fs renames entries.now room numbers.now
+    ensures { outcome result ≡ import_asked fs renames entries.now room numbers.now
         (list_held numbers.now lengths.now names.now && few_entries fs)
         (state_of
         (renames_given fs.num_files numbers.now lengths.now names.now)) }
 {
     if is_bad_length(fs.piece_length) {
-        return RenamesResult::Err(Refusal::InvalidPieceLength);
+        return Err(Refusal::InvalidPieceLength);
     }
     if has_negative(numbers) {
-        return RenamesResult::Err(Refusal::NoSuchFile);
+        return Err(Refusal::NoSuchFile);
     }
     if !are_held(fs, is_list_held(numbers, lengths, names)) {
-        return RenamesResult::Err(Refusal::NoRoom);
+        return Err(Refusal::NoRoom);
     }
     if !is_in_order(renames, entries, room) {
-        return RenamesResult::Err(Refusal::NoRoom);
+        return Err(Refusal::NoRoom);
     }
     let stay = count_kept(renames, entries, notes, fs.num_files);
     let come = count_given(numbers, lengths, names, fs.num_files, notes);
     if is_full(entries.len(), room, stay, come) {
-        return RenamesResult::Err(Refusal::NoRoom);
+        return Err(Refusal::NoRoom);
     }
-    RenamesResult::Ok(stay)
+    Ok(stay)
 }
 
 // Records other paths for many files, or why not: file `numbers[i]` gets the name of `lengths[i]` bytes, the names
 // stand one after the other. Numbers past the end are skipped, and of repeats the last counts. A list with fewer
 // lengths than numbers, or fewer bytes of names than the lengths say, is refused.
+// Stays: without a heap the list of pairs is lent as three arrays.
 pub fn import_filenames(
     fs: FileStorage,
     renames: RenamedFiles,
@@ -79,15 +77,15 @@ pub fn import_filenames(
     numbers: &[i32],
     lengths: &[u64],
     names: &[u8],
-) -> RenamesResult
-    ensures { renames_changed_of (renames_says result) rename_entries.new rename_text.new
+) -> Result<RenamedFiles, Refusal>
+    ensures { renames_changed_of (outcome result) rename_entries.new rename_text.new
         ≡ import_lent fs renames rename_entries.old rename_text.old numbers.now
         lengths.now names.now }
 {
     let files = fs.num_files;
     let mut notes = [0u64; 65536];
     note_last(&mut notes, numbers, files);
-    let decision = decide(
+    let stay = decide(
         fs,
         renames,
         rename_entries,
@@ -96,31 +94,20 @@ pub fn import_filenames(
         lengths,
         names,
         &notes,
-    );
-    match decision {
-        RenamesResult::Ok(stay) => {
-            let mut places = [0u64; 65536];
-            note_places(&mut places, numbers, lengths, files);
-            let come = count_given(numbers, lengths, names, files, &notes);
-            let num_renames = stay.num_renames + come.num_renames;
-            let text_len = stay.text_len + come.text_len;
-            give(
-                renames,
-                stay,
-                come,
-                rename_entries,
-                rename_text,
-                files,
-                &notes,
-                &places,
-                lengths,
-                names,
-            );
-            RenamesResult::Ok(RenamedFiles {
-                num_renames,
-                text_len,
-            })
-        }
-        RenamesResult::Err(e) => RenamesResult::Err(e),
-    }
+    )?;
+    let mut places = [0u64; 65536];
+    note_places(&mut places, numbers, lengths, files);
+    let come = count_given(numbers, lengths, names, files, &notes);
+    let list = NotedList {
+        files,
+        notes: &notes,
+        places: &places,
+        lengths,
+        names,
+    };
+    give(renames, stay, come, rename_entries, rename_text, list);
+    Ok(RenamedFiles {
+        num_renames: stay.num_renames + come.num_renames,
+        text_len: stay.text_len + come.text_len,
+    })
 }

@@ -1,6 +1,6 @@
 // The renames that are kept when a list of names is imported: counting them, and moving them together in both
-// tables. Relies on notes.rt, on `renames` for writing and on the laws of proofs/Keeping.antt.
-ghost use Rattle.std.specs.Prelude.{◌≡◌, cond, [], ◌∷◌, ◌+◌, ◌*◌, ◌≤◌, ◌<◌, ◌^◌, length, get_or};
+// tables. Relies on notes.rt and on the laws of proofs/Keeping.antt.
+ghost use Rattle.std.specs.Prelude.{◌≡◌, [], ◌∷◌, ◌+◌, ◌*◌, ◌≤◌, ◌<◌, ◌^◌, length, get_or};
 ghost use Rattle.std.proofs.lemmas.List.Edits.{sets};
 ghost use Rattle.lists.specs.Lists.{part_of};
 ghost use Rattle.renames.specs.Renames.{renames_from, texts_of};
@@ -9,10 +9,10 @@ ghost use Rattle.imports.specs.private.Importing.{renames_kept, kept_state, kept
 ghost use Rattle.imports.specs.private.Merging.{is_noted};
 
 use crate::notes::is_noted;
-use renames::{RenamedFiles, put_three};
-use tables::Span;
+use renames::RenamedFiles;
 
 // The record of the renames that are kept.
+#[tactic(auto, using(crate::proofs::Keeping::counting))]
 pub(crate) fn count_kept(
     renames: RenamedFiles,
     entries: &[u64],
@@ -23,17 +23,12 @@ pub(crate) fn count_kept(
         × (bytes_from renames.num_renames 0 entries.now < 2 ^ 64) }
     ensures { result ≡ kept_state (is_noted files notes.now) renames entries.now }
 {
-    let n = renames.num_renames;
-    let mut i = 0;
     let mut count = 0;
     let mut bytes: usize = 0;
-    while i < n {
-        let stays = !is_noted(notes, files, lists::word(entries, i * 3));
-        let len = lists::word(entries, i * 3 + 2) as usize;
-        i += 1;
-        if stays {
+    for i in 0..renames.num_renames {
+        if !is_noted(notes, files, entries[i * 3]) {
             count += 1;
-            bytes += len;
+            bytes += entries[i * 3 + 2] as usize;
         }
     }
     RenamedFiles {
@@ -42,66 +37,46 @@ pub(crate) fn count_kept(
     }
 }
 
-// Moves entry i down to entry `to` if it stays, and gives the number of the next free entry.
-pub(crate) fn keep_entry(entries: &mut [u64], i: usize, to: usize, stays: bool) -> usize
+// Moves entry i down to entry `to`.
+pub(crate) fn keep_entry(entries: &mut [u64], i: usize, to: usize)
     requires { (to ≤ i) × (i * 3 + 3 ≤ length entries.old) }
-    ensures value { result ≡ cond stays (to + 1) to }
-    ensures entries_after { entries.new
+    ensures { entries.new
         ≡ sets entries.old (to * 3)
-        (cond stays
         (get_or entries.old (i * 3) 0
         ∷ get_or entries.old (i * 3 + 1) 0
         ∷ get_or entries.old (i * 3 + 2) 0
-        ∷ [])
-        []) }
+        ∷ []) }
 {
-    if stays {
-        let file = lists::word(entries, i * 3);
-        let mode = lists::word(entries, i * 3 + 1);
-        let len = lists::word(entries, i * 3 + 2);
-        put_three(entries, to * 3, file, mode, len);
-        return to + 1;
-    }
-    to
+    entries.copy_within(i * 3..i * 3 + 3, to * 3);
 }
 
 // Moves the kept ones of the first n entries together.
+// Stays: the entries in use are the first n of a longer table that the caller lends, here and below.
+#[tactic(auto, using(crate::proofs::Keeping::moving))]
 pub(crate) fn keep_entries(entries: &mut [u64], n: usize, notes: &[u64], files: usize)
     requires { n * 3 ≤ length entries.old }
     ensures { entries.new
         ≡ sets entries.old 0 (kept_words (is_noted files notes.now) n 0 entries.old) }
 {
-    let mut i = 0;
     let mut to = 0;
-    while i < n {
-        let stays = !is_noted(notes, files, lists::word(entries, i * 3));
-        to = keep_entry(entries, i, to, stays);
-        i += 1;
+    for i in 0..n {
+        if !is_noted(notes, files, entries[i * 3]) {
+            keep_entry(entries, i, to);
+            to += 1;
+        }
     }
 }
 
-// Moves a text of `len` bytes from position `from` down to position `to` if it stays, and gives the position of
-// the next free byte.
-pub(crate) fn keep_text(text: &mut [u8], from: usize, len: usize, to: usize, stays: bool) -> usize
+// Moves a text of `len` bytes from position `from` down to position `to`.
+pub(crate) fn keep_text(text: &mut [u8], from: usize, len: usize, to: usize)
     requires { (to ≤ from) × (from + len ≤ length text.old) }
-    ensures value { result ≡ cond stays (to + len) to }
-    ensures text_after { text.new ≡ sets text.old to (cond stays (part_of text.old from len) []) }
+    ensures { text.new ≡ sets text.old to (part_of text.old from len) }
 {
-    if stays {
-        tables::remove_text(
-            text,
-            from + len,
-            Span {
-                at: to,
-                len: from - to,
-            },
-        );
-        return to + len;
-    }
-    to
+    text.copy_within(from..from + len, to);
 }
 
 // Moves the texts of the kept ones of the first n entries together.
+#[tactic(auto, using(crate::proofs::Keeping::joining))]
 pub(crate) fn keep_texts(text: &mut [u8], entries: &[u64], n: usize, notes: &[u64], files: usize)
     requires { (n * 3 ≤ length entries.now) × (bytes_from n 0 entries.now ≤ length text.old) }
     ensures { text.new
@@ -110,14 +85,14 @@ pub(crate) fn keep_texts(text: &mut [u8], entries: &[u64], n: usize, notes: &[u6
         (renames_kept (is_noted files notes.now)
         (renames_from n 0 entries.now text.old))) }
 {
-    let mut i = 0;
     let mut from = 0;
     let mut to = 0;
-    while i < n {
-        let stays = !is_noted(notes, files, lists::word(entries, i * 3));
-        let len = lists::word(entries, i * 3 + 2) as usize;
-        to = keep_text(text, from, len, to, stays);
+    for i in 0..n {
+        let len = entries[i * 3 + 2] as usize;
+        if !is_noted(notes, files, entries[i * 3]) {
+            keep_text(text, from, len, to);
+            to += len;
+        }
         from += len;
-        i += 1;
     }
 }

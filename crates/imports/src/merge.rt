@@ -1,26 +1,47 @@
 // The names of a list and the renames that are kept, brought together: the kept ones stand at the end of the room that
-// all need, and the files are gone through in order, so that nothing unread is overwritten. Relies on keep.rt and
-// `renames` for writing, on notes.rt for the names and on the laws of proofs/Merging.antt.
+// all need, and the files are gone through in order, so that nothing unread is overwritten. Relies on keep.rt for
+// moving, on notes.rt for the names and on the laws of proofs/Merging.antt.
 ghost use Rattle.std.specs.Prelude.{◌≡◌, true, [], ◌∷◌, ℕ, ◌+◌, ◌-◌, ◌*◌, ◌≤◌, ◌<◌, length, get_or};
 ghost use Rattle.std.proofs.lemmas.List.Edits.{sets};
 ghost use Rattle.lists.specs.Lists.{part_of};
 ghost use Rattle.renames.specs.Renames.{renames_of, words_of, texts_of};
 ghost use Rattle.renames.specs.Finding.{bytes_from, entry_is_named};
 ghost use Rattle.imports.specs.private.Importing.{renames_kept, kept_state};
-ghost use Rattle.imports.specs.private.Merging.{is_noted, name_noted, given_at, kept_in, merged_from};
+ghost use Rattle.imports.specs.private.Merging.{kept_in};
+ghost use Rattle.imports.specs.private.Listed.{named_in, given_in, merged_with};
 ghost use Rattle.imports.specs.private.Merging.{step_words, step_text, after_given, after_kept, step_place};
 
 use crate::keep::{keep_entries, keep_entry, keep_text, keep_texts};
 use crate::notes::is_noted;
-use renames::{RenamedFiles, is_named, move_up, move_words, put_three};
+use renames::{RenameMode, RenamedFiles, is_named};
 
 // The next free entry and the next free byte, and the next entry that is kept and where its text begins.
-#[derive(Drop)]
+#[derive(Clone, Copy)]
 pub(crate) struct Place {
     pub to: usize,
     pub at: usize,
     pub next: usize,
     pub from: usize,
+}
+
+// A list of names as it is merged: for each of `files` files the last number that names it and where its name begins,
+// and the lengths and the names as they are lent.
+#[derive(Clone, Copy)]
+pub(crate) struct NotedList<'a> {
+    pub files: usize,
+    pub notes: &'a [u64],
+    pub places: &'a [u64],
+    pub lengths: &'a [u64],
+    pub names: &'a [u8],
+}
+
+// The name that is noted for a file.
+fn name_of<'a>(list: NotedList<'a>, file: usize) -> &'a [u8]
+    ensures { result.now ≡ (given_in list.entry file).name }
+{
+    let i = (lists::item_or(list.notes, file, 0) as usize).saturating_sub(1);
+    let at = lists::item_or(list.places, file, 0) as usize;
+    lists::part(list.names, at, lists::item_or(list.lengths, i, 0) as usize)
 }
 
 // Writes a name that is given to a file, and gives the place after it.
@@ -30,13 +51,17 @@ fn put_given(entries: &mut [u64], text: &mut [u8], p: Place, file: usize, name: 
     ensures entries_after { entries.new ≡ sets entries.old (p.to * 3) (file ∷ 0 ∷ length name.now ∷ []) }
     ensures text_after { text.new ≡ sets text.old p.at name.now }
 {
-    lists::copy_after(text, p.at, name);
-    put_three(entries, p.to * 3, file as u64, 0, name.len() as u64);
+    let entry = [
+        file as u64,
+        u64::from(RenameMode::FullPath),
+        name.len() as u64,
+    ];
+    entries[p.to * 3..p.to * 3 + 3].copy_from_slice(&entry);
+    text[p.at..p.at + name.len()].copy_from_slice(name);
     Place {
         to: p.to + 1,
         at: p.at + name.len(),
-        next: p.next,
-        from: p.from,
+        ..p
     }
 }
 
@@ -57,12 +82,12 @@ fn put_kept(entries: &mut [u64], text: &mut [u8], p: Place) -> Place
         ≡ sets text.old p.at
         (part_of text.old p.from (get_or entries.old (p.next * 3 + 2) 0)) }
 {
-    let len = lists::word(entries, p.next * 3 + 2) as usize;
-    let at = keep_text(text, p.from, len, p.at, true);
-    let to = keep_entry(entries, p.next, p.to, true);
+    let len = entries[p.next * 3 + 2] as usize;
+    keep_text(text, p.from, len, p.at);
+    keep_entry(entries, p.next, p.to);
     Place {
-        to,
-        at,
+        to: p.to + 1,
+        at: p.at + len,
         next: p.next + 1,
         from: p.from + len,
     }
@@ -75,44 +100,36 @@ fn put_file(
     p: Place,
     total: usize,
     file: usize,
-    files: usize,
-    notes: &[u64],
-    places: &[u64],
-    lengths: &[u64],
-    names: &[u8],
+    list: NotedList<'_>,
 ) -> Place
     requires { (total * 3 ≤ length entries.old)
         × (p.to ≤ p.next)
         × (p.at ≤ p.from)
-        × (is_noted files notes.now file ≡ true
+        × (named_in list file ≡ true
         → (p.to < total)
-        × (p.at + length (name_noted notes.now places.now lengths.now names.now file) ≤ length text.old))
+        × (p.at + length (given_in list file).name ≤ length text.old))
         × (entry_is_named total file p.next entries.old ≡ true
         → p.from + get_or entries.old (p.next * 3 + 2) 0 ≤ length text.old) }
-    ensures value { result ≡ step_place (is_noted files notes.now file) (entry_is_named total file p.next entries.old)
-        (length
-        (name_noted notes.now places.now lengths.now names.now file))
+    ensures value { result ≡ step_place (named_in list.entry file) (entry_is_named total file p.next entries.old)
+        (length (given_in list.entry file).name)
         (get_or entries.old (p.next * 3 + 2) 0)
         p }
     ensures entries_after { entries.new
         ≡ sets entries.old (p.to * 3)
-        (step_words (is_noted files notes.now file) (entry_is_named total file p.next entries.old) file
-        (name_noted notes.now places.now lengths.now names.now file)
+        (step_words (named_in list.entry file) (entry_is_named total file p.next entries.old) file
+        (given_in list.entry file).name
         entries.old
         p.next) }
     ensures text_after { text.new
         ≡ sets text.old p.at
-        (step_text (is_noted files notes.now file) (entry_is_named total file p.next entries.old)
-        (name_noted notes.now places.now lengths.now names.now file)
+        (step_text (named_in list.entry file) (entry_is_named total file p.next entries.old)
+        (given_in list.entry file).name
         text.old
         p.from
         (get_or entries.old (p.next * 3 + 2) 0)) }
 {
-    if is_noted(notes, files, file as u64) {
-        let i = lists::saturating_sub_usize(lists::word(notes, file) as usize, 1);
-        let at = lists::word(places, file) as usize;
-        let name = lists::part(names, at, lists::word(lengths, i) as usize);
-        return put_given(entries, text, p, file, name);
+    if is_noted(list.notes, list.files, file as u64) {
+        return put_given(entries, text, p, file, name_of(list, file));
     }
     if is_named(entries, total, file as u64, p.next) {
         return put_kept(entries, text, p);
@@ -127,42 +144,23 @@ fn merge(
     text: &mut [u8],
     come: RenamedFiles,
     total: usize,
-    files: usize,
-    notes: &[u64],
-    places: &[u64],
-    lengths: &[u64],
-    names: &[u8],
+    list: NotedList<'_>,
 )
     requires { (come.num_renames ≤ total)
         × (total * 3 ≤ length entries.old)
         × (come.text_len + bytes_from (total - come.num_renames) come.num_renames entries.old
         ≤ length text.old)
         × ((j : ℕ) → come.num_renames ≤ j → j < total → get_or entries.old (j * 3 + 1) 0 ≤ 2)
-        × (length
-        (merged_from (is_noted files notes.now) (given_at notes.now places.now lengths.now names.now) files 0
-        (kept_in total come.num_renames come.text_len entries.old text.old))
+        × (length (merged_with list (kept_in total come.num_renames come.text_len entries.old text.old))
         ≡ total)
-        × (length
-        (texts_of
-        (merged_from (is_noted files notes.now) (given_at notes.now places.now lengths.now names.now) files 0
-        (kept_in total come.num_renames come.text_len entries.old text.old)))
+        × (length (texts_of (merged_with list (kept_in total come.num_renames come.text_len entries.old text.old)))
         ≡ come.text_len + bytes_from (total - come.num_renames) come.num_renames entries.old) }
     ensures entries_after { entries.new
         ≡ sets entries.old 0
-        (words_of
-        (merged_from (is_noted files notes.now)
-        (given_at notes.now places.now lengths.now names.now)
-        files
-        0
-        (kept_in total come.num_renames come.text_len entries.old text.old))) }
+        (words_of (merged_with list.entry (kept_in total come.num_renames come.text_len entries.old text.old))) }
     ensures text_after { text.new
         ≡ sets text.old 0
-        (texts_of
-        (merged_from (is_noted files notes.now)
-        (given_at notes.now places.now lengths.now names.now)
-        files
-        0
-        (kept_in total come.num_renames come.text_len entries.old text.old))) }
+        (texts_of (merged_with list.entry (kept_in total come.num_renames come.text_len entries.old text.old))) }
 {
     let mut p = Place {
         to: 0,
@@ -170,12 +168,8 @@ fn merge(
         next: come.num_renames,
         from: come.text_len,
     };
-    let mut k = 0;
-    while k < files {
-        p = put_file(
-            entries, text, p, total, k, files, notes, places, lengths, names,
-        );
-        k += 1;
+    for k in 0..list.files {
+        p = put_file(entries, text, p, total, k, list);
     }
 }
 
@@ -187,54 +181,29 @@ pub(crate) fn give(
     come: RenamedFiles,
     entries: &mut [u64],
     text: &mut [u8],
-    files: usize,
-    notes: &[u64],
-    places: &[u64],
-    lengths: &[u64],
-    names: &[u8],
+    list: NotedList<'_>,
 )
     requires { (renames.num_renames * 3 ≤ length entries.old)
         × (bytes_from renames.num_renames 0 entries.old ≤ length text.old)
         × ((j : ℕ) → 0 ≤ j → j < 0 + renames.num_renames → get_or entries.old (j * 3 + 1) 0 ≤ 2)
-        × (stay ≡ kept_state (is_noted files notes.now) renames entries.old)
+        × (stay ≡ kept_state (named_in list) renames entries.old)
         × ((stay.num_renames + come.num_renames) * 3 ≤ length entries.old)
         × (stay.text_len + come.text_len ≤ length text.old)
-        × (length
-        (merged_from (is_noted files notes.now) (given_at notes.now places.now lengths.now names.now) files 0
-        (renames_kept (is_noted files notes.now) (renames_of renames entries.old text.old)))
+        × (length (merged_with list (renames_kept (named_in list) (renames_of renames entries.old text.old)))
         ≡ stay.num_renames + come.num_renames)
-        × (length
-        (texts_of
-        (merged_from (is_noted files notes.now) (given_at notes.now places.now lengths.now names.now) files 0
-        (renames_kept (is_noted files notes.now) (renames_of renames entries.old text.old))))
+        × (length (texts_of (merged_with list (renames_kept (named_in list) (renames_of renames entries.old text.old))))
         ≡ stay.text_len + come.text_len) }
     ensures entries_after { entries.new
         ≡ sets entries.old 0
-        (words_of
-        (merged_from (is_noted files notes.now)
-        (given_at notes.now places.now lengths.now names.now)
-        files
-        0
-        (renames_kept (is_noted files notes.now)
-        (renames_of renames entries.old text.old)))) }
+        (words_of (merged_with list.entry (renames_kept (named_in list.entry) (renames_of renames entries.old text.old)))) }
     ensures text_after { text.new
         ≡ sets text.old 0
-        (texts_of
-        (merged_from (is_noted files notes.now)
-        (given_at notes.now places.now lengths.now names.now)
-        files
-        0
-        (renames_kept (is_noted files notes.now)
-        (renames_of renames entries.old text.old)))) }
+        (texts_of (merged_with list.entry (renames_kept (named_in list.entry) (renames_of renames entries.old text.old)))) }
 {
-    let kept = stay.num_renames;
-    let given = come.num_renames;
-    let total = kept + given;
-    keep_texts(text, entries, renames.num_renames, notes, files);
-    keep_entries(entries, renames.num_renames, notes, files);
-    move_up(text, stay.text_len, 0, come.text_len);
-    move_words(entries, kept * 3, 0, given * 3);
-    merge(
-        entries, text, come, total, files, notes, places, lengths, names,
-    );
+    let total = stay.num_renames + come.num_renames;
+    keep_texts(text, entries, renames.num_renames, list.notes, list.files);
+    keep_entries(entries, renames.num_renames, list.notes, list.files);
+    text.copy_within(..stay.text_len, come.text_len);
+    entries.copy_within(..stay.num_renames * 3, come.num_renames * 3);
+    merge(entries, text, come, total, list);
 }

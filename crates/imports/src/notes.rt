@@ -1,25 +1,19 @@
 // Notes of a list of names, a cell for each file: the last number that names it, and where its name begins. So a
-// question about a file or about a number is one read. Relies on listed.rt for the numbers and on the laws of
-// proofs/Noting.antt.
+// question about a file or about a number is one read. Relies on the laws of proofs/Noting.antt.
 ghost use Rattle.std.specs.Prelude.{◌≡◌, cond, ◌+◌, ◌<◌, ◌^◌, pos, length, get_or, set, take, drop};
 ghost use Rattle.lists.specs.Lists.{sum};
 ghost use Rattle.rules.specs.Bounds.{clamped_of, is_below};
 ghost use Rattle.imports.specs.private.Importing.{counts};
 ghost use Rattle.imports.specs.private.Merging.{noted_from, Noted, placed_from, is_noted};
 
-use crate::listed::index_at;
-use types::UsizeResult;
+use types::FileIndex;
 
-// Writes a value to the cell of the file that number i names, if it is one of `files` files.
-fn note(notes: &mut [u64], numbers: &[i32], i: usize, files: usize, value: u64)
-    ensures { notes.new
-        ≡ cond (is_below files (get_or numbers.now i (pos 0)))
-        (set notes.old (clamped_of (get_or numbers.now i (pos 0))) value)
-        notes.old }
+// Writes a value to the cell of a file, if it is one of `files` files.
+fn note(notes: &mut [u64], file: FileIndex, files: usize, value: u64)
+    ensures { notes.new ≡ cond (is_below files file.0) (set notes.old (clamped_of file.0) value) notes.old }
 {
-    match index_at(numbers, i).within(files) {
-        UsizeResult::Ok(k) => lists::put_word(notes, k, value),
-        UsizeResult::Err(_) => {}
+    if let Ok(k) = file.within(files) {
+        lists::put(notes, k, value);
     }
 }
 
@@ -27,10 +21,8 @@ fn note(notes: &mut [u64], numbers: &[i32], i: usize, files: usize, value: u64)
 pub(crate) fn note_last(notes: &mut [u64], numbers: &[i32], files: usize)
     ensures { notes.new ≡ noted_from files 0 numbers.now notes.old }
 {
-    let mut i = 0;
-    while i < numbers.len() {
-        note(notes, numbers, i, files, (i + 1) as u64);
-        i += 1;
+    for (i, number) in numbers.iter().enumerate() {
+        note(notes, FileIndex(*number), files, (i + 1) as u64);
     }
 }
 
@@ -40,12 +32,10 @@ pub(crate) fn note_places(places: &mut [u64], numbers: &[i32], lengths: &[u64], 
     ensures { places.new
         ≡ placed_from files 0 numbers.now lengths.now places.old }
 {
-    let mut i = 0;
     let mut at: u64 = 0;
-    while i < numbers.len() {
-        note(places, numbers, i, files, at);
-        at += lists::word(lengths, i);
-        i += 1;
+    for (i, number) in numbers.iter().enumerate() {
+        note(places, FileIndex(*number), files, at);
+        at += lists::item_or(lengths, i, 0);
     }
 }
 
@@ -53,10 +43,7 @@ pub(crate) fn note_places(places: &mut [u64], numbers: &[i32], lengths: &[u64], 
 pub(crate) fn is_noted(notes: &[u64], files: usize, file: u64) -> bool
     ensures { result ≡ is_noted files notes.now file }
 {
-    if file < files as u64 {
-        return lists::word(notes, file as usize) != 0;
-    }
-    false
+    file < files as u64 && lists::item_or(notes, file as usize, 0) != 0
 }
 
 // Whether number i counts: it is that of one of `files` files, and no later number repeats it.
@@ -64,8 +51,8 @@ pub(crate) fn does_count(numbers: &[i32], i: usize, files: usize, notes: &[u64])
     requires { (i < length numbers.now) × Noted files numbers.now notes.now }
     ensures { result ≡ counts files (get_or numbers.now i (pos 0)) (drop (i + 1) numbers.now) }
 {
-    match index_at(numbers, i).within(files) {
-        UsizeResult::Ok(k) => lists::word(notes, k) == (i + 1) as u64,
-        UsizeResult::Err(_) => false,
+    match FileIndex(numbers[i]).within(files) {
+        Ok(k) => lists::item_or(notes, k, 0) == (i + 1) as u64,
+        Err(_) => false,
     }
 }

@@ -1,6 +1,6 @@
 -- Laws of the search by halving, and what it finds on ascending offsets: the last file whose offset is at or before the
 -- target. They rely on nothing else.
---     reach-some, reach-mono   how many rows steps tell apart
+--     reach_some, reach_mono   how many rows steps tell apart
 --     split                what is left on either side of a step
 --     idle, enough         steps that go nowhere, and how many steps are enough
 --     within               the place found is among the n
@@ -15,16 +15,16 @@ use Rattle.layout.specs.Search.{offset_at, ascend, last_at_or_before, file_found
 use Rattle.layout.specs.Steps.{reach, stride, moved, halved}
 
 -- j steps tell at least one row apart, and one step more at most twice as many
-pub reach-some : (j : ℕ) → 0 < reach j
-reach-some j = omega (arith, pow_pos j)
+pub reach_some : (j : ℕ) → 0 < reach j
+reach_some j = omega (arith, pow_pos j)
 
 reach-next : (j : ℕ) → (reach j ≤ reach (j + 1)) × (reach (j + 1) ≤ reach j + reach j)
 reach-next j =
     let e : 2 ^ (j + 1) ≡ 2 ^ j + 2 ^ j = ap (λ (i : ℕ). 2 ^ i) (add-one j) ∙ two-pow-succ j in
     (omega arith, omega arith)
 
-pub reach-mono : (i j : ℕ) → i ≤ j → reach i ≤ reach j
-reach-mono i j h = let p : 2 ^ i ≤ 2 ^ j = pow_mono h in omega arith
+pub reach_mono : (i j : ℕ) → i ≤ j → reach i ≤ reach j
+reach_mono i j h = let p : 2 ^ i ≤ 2 ^ j = pow_mono h in omega arith
 
 -- n steps are enough for n rows
 below : (n : ℕ) → n < 2 ^ n
@@ -83,7 +83,7 @@ module _ (f : ℕ → ℕ) (t n : ℕ) where
   idle i zero b h = let e : i + 0 ≡ i = omega arith in rw e
   idle i (suc d) b h =
       let e : i + suc d ≡ suc (i + d) = omega arith in
-      let z : stride n (i + d) ≡ 0 = none n (reach (i + d)) (reach (i + d + 1)) (omega (arith, h, reach-mono i (i + d) (omega arith))) in
+      let z : stride n (i + d) ≡ 0 = none n (reach (i + d)) (reach (i + d + 1)) (omega (arith, h, reach_mono i (i + d) (omega arith))) in
       rw e (ap (halved (i + d) f t n) (stays b (stride n (i + d)) z) ∙ idle i d b h)
 
   pub within : (j b : ℕ) → b + min n (reach j) ≤ n → halved j f t n b + min n 1 ≤ n
@@ -201,7 +201,7 @@ none-steps f t n zero s h = refl
 none-steps f t n (suc j) s h =
     let p = split n j 0 (omega arith) in
     let u = p.up in
-    let r = reach-some j in
+    let r = reach_some j in
     let e : leb (f (0 + stride n j)) t ≡ false = lt-leb (f (0 + stride n j)) t (h (0 + stride n j) (omega arith)) in
     rw e (none-steps f t n j s h)
 

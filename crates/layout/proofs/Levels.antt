@@ -1,14 +1,14 @@
 -- Laws of the search in steps whose number depends on the number of rows alone (specs/private/Level.antt). They rely on the laws of
 -- halving.
 --     first, later         how many words a step goes
---     all-rows, found      where a search begins and ends
+--     all_rows, found      where a search begins and ends
 --     skipped, begun       steps that are not needed
 --     inside, turned       a step
 use Rattle.std.proofs.Common.{◌≡◌, ℕ, ◌+◌, ◌-◌, ◌*◌, ◌/◌, ◌%◌, ◌^◌, ◌<◌, ◌≤◌, min, Bool, true, false, cond, ltb, leb, List, get_or, sym, refl, ap, ◌∙◌, add-one, arith, ltb-false, ltb-true}
 use Rattle.layout.specs.Search.{offset_at, file_found}
 use Rattle.layout.specs.Steps.{reach, stride, moved, halved}
 use Rattle.layout.specs.private.Level.{Level}
-use Rattle.layout.proofs.Halving.{reach-some, Split, split, idle, enough, found-is}
+use Rattle.layout.proofs.Halving.{reach_some, Split, split, idle, enough, found-is}
 
 within-words : (b s n most : ℕ) {at w : ℕ} → 0 < most → 0 < n → b + s + min n most ≤ n → at ≡ b * 8 → w ≡ s * 8 → at + w < n * 8
 within-words b s n most z h q p e = omega arith
@@ -46,8 +46,8 @@ module _ (rows : List ℕ) (n t : ℕ) where
           let e : j + (i - j) ≡ i = omega arith in
           rw e at (idle f t n j (i - j) b k)
 
-  pub all-rows : (j : ℕ) → n ≤ reach j → Level rows n t j 0
-  all-rows j h = record { b = 0; place = omega arith; left = omega arith; gives = same j n 0 h (enough n) }
+  pub all_rows : (j : ℕ) → n ≤ reach j → Level rows n t j 0
+  all_rows j h = record { b = 0; place = omega arith; left = omega arith; gives = same j n 0 h (enough n) }
 
   pub skipped : (i j : ℕ) {at : ℕ} → n ≤ reach i → n ≤ reach j → Level rows n t j at → Level rows n t i at
   skipped i j h k l = record { b = l.b; place = l.place; left = omega (arith, l.left); gives = same i j l.b h k ∙ l.gives }
@@ -70,7 +70,7 @@ module _ (rows : List ℕ) (n t : ℕ) where
     parts = split n j l.b l.left
 
     pub inside : 0 < n → at + s < n * 8
-    inside h = let p = l.place in let q = parts.up in let z = reach-some j in within-words l.b (stride n j) n (reach j) z h q p e
+    inside h = let p = l.place in let q = parts.up in let z = reach_some j in within-words l.b (stride n j) n (reach j) z h q p e
 
     gives : halved j f t n (moved f t l.b (stride n j)) ≡ halved n f t n 0
     unfolding halved

@@ -7,6 +7,5 @@ pub mod Near
 pub mod Starting
 pub mod Slices
 pub mod Starts
-pub mod Plans
 pub mod Sums
 pub mod Alike

@@ -1,12 +1,11 @@
 -- Document 02 (v): the first files of a window, looked at one by one. The laws rely on `tables` for rows that two tables
 -- share.
---     first-least, first-most        the file found lies in what was looked at, or behind it
---     first-has                      a file found there has the byte
---     first-here, first_next         one file more
+--     first-least                    the file found is not before the first one looked at
+--     first_has                      a file found there has the byte
+--     first_here, first_next, first_none   one file more, and none left
 --     byte_above, first_alike        files behind the rows that differ
---     near-least, near-has           the same of a window's first files
---     lent-rest                      all rows from a word on
-use Rattle.std.proofs.Common.{◌≡◌, ℕ, zero, suc, ◌+◌, ◌-◌, ◌*◌, ◌<◌, ◌≤◌, Bool, true, false, cond, ◌&&◌, ltb, leb, List, length, take, drop, refl, ap, ◌∙◌, arith, length-drop, take_all, ltb-true}
+--     near-least, near_has           the same of a window's first files
+use Rattle.std.proofs.Common.{◌≡◌, ℕ, zero, suc, ◌+◌, ◌-◌, ◌*◌, ◌<◌, ◌≤◌, Bool, true, false, cond, ◌&&◌, ltb, leb, List, drop, refl, ap, ◌∙◌, arith, ltb-true}
 use Rattle.tables.specs.declared.rows.Row.{Row}
 use Rattle.tables.specs.Rows.{row_width}
 use Rattle.tables.proofs.Words.{row-above}
@@ -22,20 +21,11 @@ first-least rows (suc n) k t = by (has_byte rows k t) (first-least rows n (k + 1
     by true h = omega arith
     by false h = omega arith
 
-pub first-most : (rows : List ℕ) (n k t : ℕ) → first_with rows n k t ≤ k + n
-unfolding first_with
-first-most rows zero k t = omega arith
-first-most rows (suc n) k t = by (has_byte rows k t) (first-most rows n (k + 1) t)
-  where
-    by : (b : Bool) → first_with rows n (k + 1) t ≤ k + 1 + n → cond b k (first_with rows n (k + 1) t) ≤ k + suc n
-    by true h = omega arith
-    by false h = omega arith
-
 -- the file found has the byte
-pub first-has : (rows : List ℕ) (n k t : ℕ) → first_with rows n k t < k + n → has_byte rows (first_with rows n k t) t ≡ true
+pub first_has : (rows : List ℕ) (n k t : ℕ) → first_with rows n k t < k + n → has_byte rows (first_with rows n k t) t ≡ true
 unfolding first_with
-first-has rows zero k t h = absurd (omega arith)
-first-has rows (suc n) k t h = by (has_byte rows k t) refl h (first-has rows n (k + 1) t)
+first_has rows zero k t h = absurd (omega arith)
+first_has rows (suc n) k t h = by (has_byte rows k t) refl h (first_has rows n (k + 1) t)
   where
     by : (b : Bool) → has_byte rows k t ≡ b → cond b k (first_with rows n (k + 1) t) < k + suc n
         → (first_with rows n (k + 1) t < k + 1 + n → has_byte rows (first_with rows n (k + 1) t) t ≡ true)
@@ -43,15 +33,23 @@ first-has rows (suc n) k t h = by (has_byte rows k t) refl h (first-has rows n (
     by true e l f = e
     by false e l f = f (omega arith)
 
--- one file more: it has the byte, or the search goes on behind it
-pub first-here : (rows : List ℕ) (n k t : ℕ) → 0 < n → has_byte rows k t ≡ true → first_with rows n k t ≡ k
-unfolding first_with
-first-here rows zero k t h e = absurd (omega arith)
-first-here rows (suc n) k t h e = ap (λ (b : Bool). cond b k (first_with rows n (k + 1) t)) e
+-- one file more, before file `to`: it has the byte, or the search goes on behind it; and none left
+module _ (rows : List ℕ) (k to t : ℕ) where
+  pub first_here : k < to → has_byte rows k t ≡ true → first_with rows (to - k) k t ≡ k
+  unfolding first_with
+  first_here h e =
+      let d : to - k ≡ suc (to - (k + 1)) = omega arith in
+      rw d (ap (λ (b : Bool). cond b k (first_with rows (to - (k + 1)) (k + 1) t)) e)
 
-pub first_next : (rows : List ℕ) (n k t : ℕ) → has_byte rows k t ≡ false → first_with rows (suc n) k t ≡ first_with rows n (k + 1) t
-unfolding first_with
-first_next rows n k t e = ap (λ (b : Bool). cond b k (first_with rows n (k + 1) t)) e
+  pub first_next : k < to → has_byte rows k t ≡ false → first_with rows (to - k) k t ≡ first_with rows (to - (k + 1)) (k + 1) t
+  unfolding first_with
+  first_next h e =
+      let d : to - k ≡ suc (to - (k + 1)) = omega arith in
+      rw d (ap (λ (b : Bool). cond b k (first_with rows (to - (k + 1)) (k + 1) t)) e)
+
+  pub first_none : to ≤ k → first_with rows (to - k) k t ≡ k
+  unfolding first_with
+  first_none h = let d : to - k ≡ 0 = omega arith in rw d
 
 -- ---- two tables that hold the same from file m on
 
@@ -70,16 +68,11 @@ first_alike rows others m e (suc n) k t h =
 pub near-least : (rows : List ℕ) (w : Window) (t : ℕ) → w.low ≤ found_near rows w t
 near-least rows w t = first-least rows (near_end w - w.low) w.low t
 
-pub near-has : (rows : List ℕ) (w : Window) (t : ℕ) → ltb (found_near rows w t) (near_end w) ≡ true → has_byte rows (found_near rows w t) t ≡ true
-near-has rows w t e =
+pub near_has : (rows : List ℕ) (w : Window) (t : ℕ) → ltb (found_near rows w t) (near_end w) ≡ true → has_byte rows (found_near rows w t) t ≡ true
+near_has rows w t e =
     let h : found_near rows w t < near_end w = ltb-true (found_near rows w t) (near_end w) e in
     let l : w.low ≤ found_near rows w t = near-least rows w t in
-    first-has rows (near_end w - w.low) w.low t (behind (found_near rows w t) (near_end w) w.low l h)
+    first_has rows (near_end w - w.low) w.low t (behind (found_near rows w t) (near_end w) w.low l h)
   where
     behind : (k end low : ℕ) → low ≤ k → k < end → k < low + (end - low)
     behind k end low a b = omega arith
-
--- ---- rows as they are lent to a search
-
-pub lent-rest : (rows : List ℕ) (k : ℕ) → take (length rows - k) (drop k rows) ≡ drop k rows
-lent-rest rows k = take_all (length rows - k) (drop k rows) (omega (arith, length-drop k rows))

@@ -1,8 +1,8 @@
 -- Laws of the slices of a block, as the loops use them: a turn, and the end.
---     walk_turn, walk-length      the slice of one file, and those after it
+--     walk_turn, walk_length      the slice of one file, and those after it
 --     walk_none, walk_end         nothing left to take, or no file left
---     walk-files, walk-bytes      there are no more slices than files, nor than bytes
-use Rattle.std.proofs.Common.{◌≡◌, ℕ, zero, suc, ◌+◌, ◌-◌, ◌<◌, ◌≤◌, min, Bool, true, false, cond, eqb, List, [], ◌∷◌, ◌++◌, length, refl, ap, ◌∙◌, arith, length-append, ne_eqb}
+--     walk_files, walk_bytes      there are no more slices than files, nor than bytes
+use Rattle.std.proofs.Common.{◌≡◌, ℕ, zero, suc, ◌+◌, ◌-◌, ◌<◌, ◌≤◌, min, Bool, true, false, cond, eqb, List, [], ◌∷◌, ◌++◌, length, refl, arith, ne_eqb}
 use Rattle.tables.specs.Rows.{row_at}
 use Rattle.layout.specs.Mapping.{Slice, before, walk}
 
@@ -21,8 +21,8 @@ before-length s = at (eqb s.size 0)
     at true = refl
     at false = refl
 
-pub one-le : (n : ℕ) → cond (eqb n 0) 0 1 ≤ 1
-one-le n = at (eqb n 0)
+pub one_le : (n : ℕ) → cond (eqb n 0) 0 1 ≤ 1
+one_le n = at (eqb n 0)
   where
     at : (b : Bool) → cond b 0 1 ≤ 1
     at true = omega arith
@@ -54,24 +54,24 @@ module _ (rows : List ℕ) where
   walk_end files k s n h = let e : files - k ≡ 0 = omega arith in rw e
 
   -- no file has two slices, and none is empty
-  pub walk-files : (f k s n : ℕ) → length (walk f rows k s n) ≤ f
+  pub walk_files : (f k s n : ℕ) → length (walk f rows k s n) ≤ f
   unfolding walk
-  walk-files zero k s n = omega arith
-  walk-files (suc f) k s n =
+  walk_files zero k s n = omega arith
+  walk_files (suc f) k s n =
       let s' : Slice = record { file = k; offset = s; size = min ((row_at rows k).size - s) n } in
       let rest = walk f rows (k + 1) (s - (row_at rows k).size) (n - ((row_at rows k).size - s)) in
-      let i : length rest ≤ f = walk-files f (k + 1) (s - (row_at rows k).size) (n - ((row_at rows k).size - s)) in
+      let i : length rest ≤ f = walk_files f (k + 1) (s - (row_at rows k).size) (n - ((row_at rows k).size - s)) in
       let e = before_more s' rest in
-      let o = one-le (min ((row_at rows k).size - s) n) in
+      let o = one_le (min ((row_at rows k).size - s) n) in
       omega arith
 
-  pub walk-bytes : (f k s n : ℕ) → length (walk f rows k s n) ≤ n
+  pub walk_bytes : (f k s n : ℕ) → length (walk f rows k s n) ≤ n
   unfolding walk
-  walk-bytes zero k s n = omega arith
-  walk-bytes (suc f) k s n =
+  walk_bytes zero k s n = omega arith
+  walk_bytes (suc f) k s n =
       let part = min ((row_at rows k).size - s) n in
       let rest = walk f rows (k + 1) (s - (row_at rows k).size) (n - ((row_at rows k).size - s)) in
-      let i : length rest ≤ n - ((row_at rows k).size - s) = walk-bytes f (k + 1) (s - (row_at rows k).size) (n - ((row_at rows k).size - s)) in
+      let i : length rest ≤ n - ((row_at rows k).size - s) = walk_bytes f (k + 1) (s - (row_at rows k).size) (n - ((row_at rows k).size - s)) in
       let e = before_more (record { file = k; offset = s; size = part }) rest in
       let o = count-le part in
       omega arith
@@ -88,7 +88,14 @@ module _ (rows : List ℕ) where
         (record { file = k; offset = s; size = min ((row_at rows k).size - s) n })
         (walk (files - (k + 1)) rows (k + 1) (s - (row_at rows k).size) (n - ((row_at rows k).size - s))))
 
-    pub walk-length : length (walk (files - k) rows k s n) ≡ cond (eqb part 0) 0 1 + length (walk (files - (k + 1)) rows (k + 1) s' n')
-    walk-length =
-        ap length walk_turn ∙ length-append (before (record { file = k; offset = s; size = part }) []) _ ∙
-        ap (λ (m : ℕ). m + length (walk (files - (k + 1)) rows (k + 1) s' n')) (before-length (record { file = k; offset = s; size = part }))
+  pub walk_length : (files k s n : ℕ) → k < files
+      → length (walk (files - k) rows k s n)
+      ≡ cond (eqb (min ((row_at rows k).size - s) n) 0) 0 1
+      + length (walk (files - (k + 1)) rows (k + 1) (s - (row_at rows k).size) (n - ((row_at rows k).size - s)))
+  unfolding walk
+  walk_length files k s n h =
+      let e : files - k ≡ suc (files - (k + 1)) = omega arith in
+      rw e
+      (before_more
+      (record { file = k; offset = s; size = min ((row_at rows k).size - s) n })
+      (walk (files - (k + 1)) rows (k + 1) (s - (row_at rows k).size) (n - ((row_at rows k).size - s))))

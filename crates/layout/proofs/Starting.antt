@@ -4,18 +4,15 @@
 --     row-dropped                      a row among those from a file on
 --     found_alike                      'the search, given its start, answers the same whatever the rows before it hold'
 --     from-least                       the search from a window's first file finds that one or a later one
---     window-is, is-window, no-files, past-files
---                                      a window that has files of the set, and one that has not
---     checked-near, checked-far, unchecked
---                                      the file found by either
---     within-below, within_in          the file found is one of them, whatever the rows hold
+--     window-is, is-window             a window that has files of the set
+--     checked-near                     the file found among its first ones
+--     within_below, within_in          the file found is one of them, whatever the rows hold
 --     last-unique, byte_last           the last file that begins at or before a byte
 --     found_within                     for every window, the file found is the last that begins at or before the target
 --     within-as-read                   so it is the one that the search over all rows finds
 --     found-from                       the file found among those of a window that has the byte
 --     told-within, told-found          the same by a table of the file in which each piece begins
-use Rattle.std.proofs.Common.{◌≡◌, ℕ, zero, suc, ◌+◌, ◌-◌, ◌*◌, ◌<◌, ◌≤◌, min, Bool, true, false, cond, ◌&&◌, ltb, leb, ◌⊎◌, List, get_or, drop, sym, refl, ap, ◌∙◌, subst, inl, inr, arith, get_or-drop, ltb-true, le-ltb, lt-ltb, le-leb, leb-true}
-use borrow.Author.Tests.{lt-leb}
+use Rattle.std.proofs.Common.{◌≡◌, ℕ, zero, suc, ◌+◌, ◌-◌, ◌*◌, ◌<◌, ◌≤◌, min, Bool, true, false, cond, ◌&&◌, ltb, leb, ◌⊎◌, List, get_or, drop, sym, refl, ap, ◌∙◌, subst, inl, inr, arith, get_or-drop, ltb-true, lt-ltb, le-leb, leb-true}
 use Rattle.lists.proofs.Orders.{le-or-lt}
 use Rattle.tables.specs.declared.storage.FileStorage.{FileStorage}
 use Rattle.tables.specs.declared.rows.Row.{Row}
@@ -26,7 +23,7 @@ use Rattle.layout.specs.declared.window.Window.{Window}
 use Rattle.layout.specs.Window.{Begins, Told}
 use Rattle.layout.specs.Search.{file_found, has_byte, near_end, found_near, found_far, found_from, is_within, found_within}
 use Rattle.layout.proofs.Halving.{Ascending, Last, found-last, found_below, found_in}
-use Rattle.layout.proofs.Near.{first_alike, near-least, near-has}
+use Rattle.layout.proofs.Near.{first_alike, near-least, near_has}
 
 -- a row among those from a file on
 pub row-dropped : (rows : List ℕ) (low i : ℕ) → row_at (drop (low * row_width) rows) i ≡ row_at rows (low + i)
@@ -63,34 +60,16 @@ window-is w n e =
 pub is-window : (w : Window) (n : ℕ) → w.low < w.high → w.high ≤ n → is_within w n ≡ true
 is-window w n a b = rw (lt-ltb w.low w.high a, le-leb w.high n b)
 
-pub no-files : (w : Window) (n : ℕ) → w.high ≤ w.low → is_within w n ≡ false
-no-files w n a = rw (le-ltb w.low w.high a)
-
-pub past-files : (w : Window) (n : ℕ) → w.low < w.high → n < w.high → is_within w n ≡ false
-past-files w n a b = rw (lt-ltb w.low w.high a, lt-leb w.high n b)
-
--- the file found by a window that has files of the set: one of its first, or the one found by halving; and by a window
--- that has none
+-- the file found by a window that has files of the set, where it is one of its first
 module _ (rows : List ℕ) (n : ℕ) (w : Window) (t : ℕ) where
   pub checked-near : is_within w n ≡ true → found_near rows w t < near_end w → found_near rows w t ≡ found_within rows n w t
   checked-near e h =
       let l : ltb (found_near rows w t) (near_end w) ≡ true = lt-ltb (found_near rows w t) (near_end w) h in
-      let b : has_byte rows (found_near rows w t) t ≡ true = near-has rows w t l in
+      let b : has_byte rows (found_near rows w t) t ≡ true = near_has rows w t l in
       sym
       (ap (λ (x : Bool). cond (is_within w n && has_byte rows (cond x (found_near rows w t) (found_far rows w t)) t) (cond x (found_near rows w t) (found_far rows w t)) (file_found rows n t)) l ∙
       ap (λ (x : Bool). cond (x && has_byte rows (found_near rows w t) t) (found_near rows w t) (file_found rows n t)) e ∙
       ap (λ (x : Bool). cond x (found_near rows w t) (file_found rows n t)) b)
-
-  pub checked-far : is_within w n ≡ true → near_end w ≤ found_near rows w t
-      → cond (has_byte rows (found_far rows w t) t) (found_far rows w t) (file_found rows n t) ≡ found_within rows n w t
-  checked-far e h =
-      let l : ltb (found_near rows w t) (near_end w) ≡ false = le-ltb (found_near rows w t) (near_end w) h in
-      sym
-      (ap (λ (x : Bool). cond (is_within w n && has_byte rows (cond x (found_near rows w t) (found_far rows w t)) t) (cond x (found_near rows w t) (found_far rows w t)) (file_found rows n t)) l ∙
-      ap (λ (x : Bool). cond (x && has_byte rows (found_far rows w t) t) (found_far rows w t) (file_found rows n t)) e)
-
-  pub unchecked : is_within w n ≡ false → file_found rows n t ≡ found_within rows n w t
-  unchecked e = sym (ap (λ (x : Bool). cond (x && has_byte rows (found_from rows w t) t) (found_from rows w t) (file_found rows n t)) e)
 
 near-below : (rows : List ℕ) (w : Window) (t n : ℕ) → w.high ≤ n → ltb (found_near rows w t) (near_end w) ≡ true → found_near rows w t < n
 near-below rows w t n h q = among (found_near rows w t) (ltb-true (found_near rows w t) (near_end w) q)
@@ -107,8 +86,8 @@ from-below rows n w t e = by (ltb (found_near rows w t) (near_end w)) refl (wind
 
 -- the file found is one of the n
 module _ (rows : List ℕ) (n : ℕ) (w : Window) (t : ℕ) where
-  pub within-below : 0 < n → found_within rows n w t < n
-  within-below s = by (is_within w n) refl (has_byte rows (found_from rows w t) t)
+  pub within_below : 0 < n → found_within rows n w t < n
+  within_below s = by (is_within w n) refl (has_byte rows (found_from rows w t) t)
     where
       by : (x : Bool) → is_within w n ≡ x → (y : Bool) → cond (x && y) (found_from rows w t) (file_found rows n t) < n
       by false p y = found_below rows n t s
@@ -206,7 +185,7 @@ module _ (rows : List ℕ) (n t : ℕ) (laid : Laid rows n) where
   found-from w l h b f = by (ltb (found_near rows w t) (near_end w)) refl
     where
       by : (x : Bool) → ltb (found_near rows w t) (near_end w) ≡ x → Last rows n t (cond x (found_near rows w t) (found_far rows w t))
-      by true q = has_last (found_near rows w t) (near-below rows w t n h q) (near-has rows w t q)
+      by true q = has_last (found_near rows w t) (near-below rows w t n h q) (near_has rows w t q)
       by false q = found-far w l h b f
 
 -- ---- a table of the file in which each piece begins

@@ -14,5 +14,5 @@ pub use piece::{
     last_file_index_at_piece, last_piece, num_pieces, piece_range, piece_size, piece_size2,
 };
 pub use plan::{Plan, plan_block};
-pub use start::{Cursor, Start, has_room, slice_count, start_block};
+pub use start::{Cursor, has_room, slice_count, start_block};
 pub use window::{Window, no_window, window_for};

@@ -2,22 +2,21 @@
 // and on `rules`: each decides its refusals first. Those that search for a file begin with a window; the answer is the
 // same for every window, on rows that lie end to end (proofs/Starting.antt).
 ghost use Rattle.std.specs.Prelude.{◌≡◌, ◌+◌, ◌-◌, ◌*◌, ◌/◌, ◌^◌, ◌<◌, ◌≤◌, length};
+ghost use Rattle.types.specs.Refusals.{outcome};
 ghost use Rattle.rules.specs.Bounds.{max_pieces};
-ghost use Rattle.rules.specs.Results.{i32_says, piece_says, file_says, piece_range_says, file_range_says};
+ghost use Rattle.rules.specs.Results.{piece_says, file_says, piece_range_says, file_range_says};
 ghost use Rattle.layout.specs.Pieces.{less_one, start_of, piece_size, piece_size2};
 ghost use Rattle.layout.specs.Given.{num_pieces_given, last_piece_given, piece_range_given, file_range_given};
-ghost use Rattle.layout.specs.Given.{piece_size_given, piece_size2_given, blocks_in_piece2_given, blocks_per_piece_given};
+ghost use Rattle.layout.specs.Given.{piece_size_given, piece_size2_given};
+ghost use Rattle.layout.specs.Given.{blocks_in_piece2_given, blocks_per_piece_given};
 ghost use Rattle.layout.specs.Given.{file_at_offset_given, file_at_piece_given, last_file_at_piece_given};
 
 use crate::search::{find_near_within, find_within, partition_point};
 use crate::window::Window;
-use lists::{div_ceil, min, saturating_sub};
-use rules::{
-    Check, DEFAULT_BLOCK_SIZE, FileRangeResult, FileResult, I32Result, PieceRangeResult,
-    PieceResult, ask_piece, ask_pieces, ask_set, count_pieces, is_bad_offset, is_held,
-};
+use lists::div_ceil;
+use rules::{DEFAULT_BLOCK_SIZE, ask_piece, ask_pieces, ask_set, count_pieces, is_bad_offset};
 use tables::FileStorage;
-use types::{FileIndex, FileIndexRange, PieceIndex, PieceIndexRange, clamped64};
+use types::{FileIndex, FileIndexRange, PieceIndex, PieceIndexRange, Refusal, clamped};
 
 // The last of n pieces, −1 for 0.
 fn last_of(n: u64) -> PieceIndex
@@ -39,12 +38,14 @@ pub(crate) fn start_of(fs: FileStorage, p: u64) -> u64
 }
 
 // The size of piece p: the piece length, but for the last.
+#[tactic(auto, using(crate::proofs::Sizes::size_le))]
 fn size_of(fs: FileStorage, p: u64) -> u64
     requires { (p < 2 ^ 32) × (p * fs.piece_length < 2 ^ 64) }
-    ensures { result ≡ piece_size fs p }
+    ensures value { result ≡ piece_size fs p }
+    ensures low { 0 < fs.piece_length → result ≤ fs.piece_length }
 {
     if p + 1 == count_pieces(fs) {
-        return saturating_sub(fs.total_size, start_of(fs, p));
+        return fs.total_size.saturating_sub(start_of(fs, p));
     }
     fs.piece_length
 }
@@ -52,17 +53,17 @@ fn size_of(fs: FileStorage, p: u64) -> u64
 // The size of piece p, cut where the next file begins: the first with an offset past the piece's start.
 fn size2_of(fs: FileStorage, rows: &[u64], window: Window, p: u64) -> u64
     requires { (p < 2 ^ 32) × (p * fs.piece_length < 2 ^ 64) × (fs.num_files ≤ length rows.now / 8) }
-    ensures { result ≡ piece_size2 fs rows.now window p }
+    ensures value { result ≡ piece_size2 fs rows.now window p }
+    ensures low { 0 < fs.piece_length → result ≤ fs.piece_length }
 {
     let start = start_of(fs, p);
     let next = partition_point(rows, fs.num_files, window, start);
     if fs.num_files <= next {
         return size_of(fs, p);
     }
-    min(
-        saturating_sub(tables::offset_at(rows, next), start),
-        fs.piece_length,
-    )
+    tables::offset_at(rows, next)
+        .saturating_sub(start)
+        .min(fs.piece_length)
 }
 
 // Where the last byte of piece p stands.
@@ -70,101 +71,93 @@ fn last_byte(fs: FileStorage, p: u64) -> u64
     requires { (p < 2 ^ 32) × (p * fs.piece_length + piece_size fs p < 2 ^ 64) }
     ensures { result ≡ start_of fs p + piece_size fs p - 1 }
 {
-    saturating_sub(start_of(fs, p) + size_of(fs, p), 1)
+    start_of(fs, p) + size_of(fs, p).saturating_sub(1)
 }
 
 // How many pieces the set has.
-pub fn num_pieces(fs: FileStorage) -> I32Result
-    ensures { i32_says result ≡ num_pieces_given fs }
+// Stays: only the form is that of the other questions about the set's pieces; its value is another.
+pub fn num_pieces(fs: FileStorage) -> Result<i32, Refusal>
+    ensures { outcome result ≡ num_pieces_given fs }
 {
-    match ask_pieces(fs) {
-        Check::Go => I32Result::Ok(types::signed32(count_pieces(fs))),
-        Check::Stop(e) => I32Result::Err(e),
-    }
+    ask_pieces(fs)?;
+    Ok(types::signed32(count_pieces(fs)))
 }
 
 // The last piece, −1 where there is none.
-pub fn last_piece(fs: FileStorage) -> PieceResult
+// Stays: only the form is that of the other questions about the set's pieces; its value is another.
+pub fn last_piece(fs: FileStorage) -> Result<PieceIndex, Refusal>
     ensures { piece_says result ≡ last_piece_given fs }
 {
-    match ask_pieces(fs) {
-        Check::Go => PieceResult::Ok(last_of(count_pieces(fs))),
-        Check::Stop(e) => PieceResult::Err(e),
-    }
+    ask_pieces(fs)?;
+    Ok(last_of(count_pieces(fs)))
 }
 
 // All pieces.
-pub fn piece_range(fs: FileStorage) -> PieceRangeResult
+pub fn piece_range(fs: FileStorage) -> Result<PieceIndexRange, Refusal>
     ensures { piece_range_says result ≡ piece_range_given fs }
 {
-    match ask_pieces(fs) {
-        Check::Go => PieceRangeResult::Ok(PieceIndexRange {
-            begin: PieceIndex::new(0),
-            end: PieceIndex::new(count_pieces(fs)),
-        }),
-        Check::Stop(e) => PieceRangeResult::Err(e),
-    }
+    ask_pieces(fs)?;
+    Ok(PieceIndexRange {
+        begin: PieceIndex::new(0),
+        end: PieceIndex::new(count_pieces(fs)),
+    })
 }
 
 // All files.
-pub fn file_range(fs: FileStorage) -> FileRangeResult
+pub fn file_range(fs: FileStorage) -> Result<FileIndexRange, Refusal>
     ensures { file_range_says result ≡ file_range_given fs }
 {
-    match ask_set(fs, false, true) {
-        Check::Go => FileRangeResult::Ok(FileIndexRange {
-            begin: FileIndex::new(0),
-            end: FileIndex::new(fs.num_files as u64),
-        }),
-        Check::Stop(e) => FileRangeResult::Err(e),
-    }
+    ask_set(fs, false, true)?;
+    Ok(FileIndexRange {
+        begin: FileIndex::new(0),
+        end: FileIndex::new(fs.num_files as u64),
+    })
 }
 
 // The size of a piece: the piece length, but for the last.
-pub fn piece_size(fs: FileStorage, piece: PieceIndex) -> I32Result
-    ensures { i32_says result ≡ piece_size_given fs piece.0 }
+pub fn piece_size(fs: FileStorage, piece: PieceIndex) -> Result<i32, Refusal>
+    ensures { outcome result ≡ piece_size_given fs piece.0 }
 {
-    match ask_piece(fs, piece, false, true) {
-        Check::Go => I32Result::Ok(types::signed32(size_of(fs, piece.get() as u64))),
-        Check::Stop(e) => I32Result::Err(e),
-    }
+    ask_piece(fs, piece, false, true)?;
+    Ok(types::signed32(size_of(fs, piece.get() as u64)))
 }
 
 // The size of a piece, cut where the next file begins.
-pub fn piece_size2(fs: FileStorage, rows: &[u64], window: Window, piece: PieceIndex) -> I32Result
-    ensures { i32_says result ≡ piece_size2_given fs rows.now window piece.0 }
+pub fn piece_size2(
+    fs: FileStorage,
+    rows: &[u64],
+    window: Window,
+    piece: PieceIndex,
+) -> Result<i32, Refusal>
+    ensures { outcome result ≡ piece_size2_given fs rows.now window piece.0 }
 {
-    match ask_piece(fs, piece, false, is_held(fs.num_files, rows.len() / 8)) {
-        Check::Go => I32Result::Ok(types::signed32(size2_of(fs, rows, window, piece.get() as u64))),
-        Check::Stop(e) => I32Result::Err(e),
-    }
+    ask_piece(fs, piece, false, fs.num_files <= rows.len() / 8)?;
+    Ok(types::signed32(size2_of(fs, rows, window, piece.get() as u64)))
 }
 
 // How many blocks a piece has that is cut where the next file begins.
+#[tactic(auto, using(crate::proofs::Sizes::blocks_le))]
 pub fn blocks_in_piece2(
     fs: FileStorage,
     rows: &[u64],
     window: Window,
     piece: PieceIndex,
-) -> I32Result
-    ensures { i32_says result ≡ blocks_in_piece2_given fs rows.now window piece.0 }
+) -> Result<i32, Refusal>
+    ensures { outcome result ≡ blocks_in_piece2_given fs rows.now window piece.0 }
 {
-    match ask_piece(fs, piece, false, is_held(fs.num_files, rows.len() / 8)) {
-        Check::Go => I32Result::Ok(types::signed32(div_ceil(
-            size2_of(fs, rows, window, piece.get() as u64),
-            DEFAULT_BLOCK_SIZE,
-        ))),
-        Check::Stop(e) => I32Result::Err(e),
-    }
+    ask_piece(fs, piece, false, fs.num_files <= rows.len() / 8)?;
+    Ok(types::signed32(div_ceil(
+        size2_of(fs, rows, window, piece.get() as u64),
+        DEFAULT_BLOCK_SIZE,
+    )))
 }
 
 // How many blocks a piece of full length has.
-pub fn blocks_per_piece(fs: FileStorage) -> I32Result
-    ensures { i32_says result ≡ blocks_per_piece_given fs }
+pub fn blocks_per_piece(fs: FileStorage) -> Result<i32, Refusal>
+    ensures { outcome result ≡ blocks_per_piece_given fs }
 {
-    match ask_set(fs, false, true) {
-        Check::Go => I32Result::Ok(types::signed32(div_ceil(fs.piece_length, DEFAULT_BLOCK_SIZE))),
-        Check::Stop(e) => I32Result::Err(e),
-    }
+    ask_set(fs, false, true)?;
+    Ok(types::signed32(div_ceil(fs.piece_length, DEFAULT_BLOCK_SIZE)))
 }
 
 // The file at an offset.
@@ -173,19 +166,15 @@ pub fn file_index_at_offset(
     rows: &[u64],
     window: Window,
     offset: i64,
-) -> FileResult
+) -> Result<FileIndex, Refusal>
     ensures { file_says result ≡ file_at_offset_given fs rows.now window offset }
 {
-    match ask_set(
+    ask_set(
         fs,
         is_bad_offset(fs, offset),
-        is_held(fs.num_files, rows.len() / 8),
-    ) {
-        Check::Go => FileResult::Ok(FileIndex::new(
-            find_near_within(rows, fs.num_files, window, clamped64(offset)) as u64,
-        )),
-        Check::Stop(e) => FileResult::Err(e),
-    }
+        fs.num_files <= rows.len() / 8,
+    )?;
+    Ok(FileIndex::new(find_near_within(rows, fs.num_files, window, clamped(offset)) as u64))
 }
 
 // The file at the start of a piece.
@@ -194,15 +183,13 @@ pub fn file_index_at_piece(
     rows: &[u64],
     window: Window,
     piece: PieceIndex,
-) -> FileResult
+) -> Result<FileIndex, Refusal>
     ensures { file_says result ≡ file_at_piece_given fs rows.now window piece.0 }
 {
-    match ask_piece(fs, piece, false, is_held(fs.num_files, rows.len() / 8)) {
-        Check::Go => FileResult::Ok(FileIndex::new(
-            find_within(rows, fs.num_files, window, start_of(fs, piece.get() as u64)) as u64,
-        )),
-        Check::Stop(e) => FileResult::Err(e),
-    }
+    ask_piece(fs, piece, false, fs.num_files <= rows.len() / 8)?;
+    Ok(FileIndex::new(
+        find_within(rows, fs.num_files, window, start_of(fs, piece.get() as u64)) as u64,
+    ))
 }
 
 // The file at the last byte of a piece.
@@ -211,16 +198,14 @@ pub fn last_file_index_at_piece(
     rows: &[u64],
     window: Window,
     piece: PieceIndex,
-) -> FileResult
+) -> Result<FileIndex, Refusal>
     ensures { file_says result ≡ last_file_at_piece_given fs rows.now window piece.0 }
 {
-    match ask_piece(fs, piece, false, is_held(fs.num_files, rows.len() / 8)) {
-        Check::Go => FileResult::Ok(FileIndex::new(find_within(
-            rows,
-            fs.num_files,
-            window,
-            last_byte(fs, piece.get() as u64),
-        ) as u64)),
-        Check::Stop(e) => FileResult::Err(e),
-    }
+    ask_piece(fs, piece, false, fs.num_files <= rows.len() / 8)?;
+    Ok(FileIndex::new(find_within(
+        rows,
+        fs.num_files,
+        window,
+        last_byte(fs, piece.get() as u64),
+    ) as u64))
 }

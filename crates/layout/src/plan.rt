@@ -1,39 +1,19 @@
-// The plan of a block: what `map_block` answers, how many slices it writes into a table with `room` places, and where
-// the first begins. It relies on the block's start and on the count of the slices.
+// The plan of a block: how many slices `map_block` writes into a table with `room` places, and where the first begins,
+// or why the block is refused. It relies on the block's start and on the count of the slices.
 ghost use Rattle.std.specs.Prelude.{◌≡◌};
-ghost use Rattle.types.specs.Refusals.{number_of, usize_says};
-ghost use Rattle.layout.specs.Plan.{Planned, stayed, block_plan};
+ghost use Rattle.types.specs.Refusals.{outcome};
+ghost use Rattle.layout.specs.Plan.{block_plan};
 
 use crate::start::{Cursor, count_slices, start_block};
 use crate::window::Window;
-use rules::Check;
 use tables::FileStorage;
-use types::{PieceIndex, Refusal, UsizeResult};
+use types::{PieceIndex, Refusal};
 
-// The answer of `map_block`, how many slices it writes, and where the first begins.
+// How many slices `map_block` writes, and where the first begins.
 #[derive(Drop)]
 pub struct Plan {
-    pub answer: UsizeResult,
     pub count: usize,
     pub from: Cursor,
-}
-
-// The plan of a refusal, which writes nothing.
-fn refuse(e: Refusal) -> Plan
-    ensures { ◌≡◌ {A = Planned}
-        (record { says = usize_says result.answer; count = result.count; from = result.from })
-        (stayed (number_of e)) }
-{
-    Plan {
-        answer: UsizeResult::Err(e),
-        count: 0,
-        from: Cursor {
-            file: 0,
-            files: 0,
-            skip: 0,
-            left: 0,
-        },
-    }
 }
 
 // The plan for a block of a piece, into a table with `room` places.
@@ -45,24 +25,13 @@ pub fn plan_block(
     offset: i64,
     size: i64,
     room: usize,
-) -> Plan
-    ensures { ◌≡◌ {A = Planned}
-        (record { says = usize_says result.answer; count = result.count; from = result.from })
-        (block_plan fs rows.now window piece.0 offset size room) }
+) -> Result<Plan, Refusal>
+    ensures { outcome result ≡ block_plan fs rows.now window piece.0 offset size room }
 {
-    let start = start_block(fs, rows, window, piece, offset, size);
-    let check = start.check;
-    if let Check::Stop(e) = check {
-        return refuse(e);
-    }
-    let from = start.from;
-    let count = count_slices(rows, from.files, from.file, from.skip, from.left);
+    let from = start_block(fs, rows, window, piece, offset, size)?;
+    let count = count_slices(rows, from);
     if room < count {
-        return refuse(Refusal::NoRoom);
+        return Err(Refusal::NoRoom);
     }
-    Plan {
-        answer: UsizeResult::Ok(count),
-        count,
-        from,
-    }
+    Ok(Plan { count, from })
 }

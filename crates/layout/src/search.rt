@@ -31,6 +31,7 @@ fn reach_of(j: usize) -> usize
 
 // Step j of the search, which stands at word `at`. Where j steps do not tell n rows apart but one more
 // does, the step is the first, and where j steps do, there is none.
+#[tactic(auto, using(crate::proofs::Levels::inside, crate::proofs::Levels::turned, crate::proofs::Levels::first, crate::proofs::Levels::later, crate::proofs::Levels::begun, crate::proofs::Halving::reach_mono, crate::proofs::Halving::reach_some))]
 fn turn(rows: &[u64], n: usize, target: u64, j: usize, at: usize) -> usize
     requires { (n ≤ length rows.now / 8) × (j < 60) × Level rows.now n target (j + 1) at }
     ensures { Level rows.now n target j result }
@@ -48,6 +49,7 @@ fn turn(rows: &[u64], n: usize, target: u64, j: usize, at: usize) -> usize
 
 // The steps of the search from `top` down to `low`. Both are constants, so that the compiler writes
 // the steps out and makes each without a branch.
+#[tactic(auto, using(crate::proofs::Levels::skipped, crate::proofs::Halving::reach_mono))]
 fn turns(rows: &[u64], n: usize, target: u64, top: usize, low: usize, at: usize) -> usize
     requires { (n ≤ length rows.now / 8) × (low ≤ top) × (top ≤ 60) × Level rows.now n target top at }
     ensures { Level rows.now n target low result }
@@ -56,15 +58,14 @@ fn turns(rows: &[u64], n: usize, target: u64, top: usize, low: usize, at: usize)
         return at;
     }
     let mut e = at;
-    let mut j = top;
-    while low < j {
-        j -= 1;
+    for j in (low..top).rev() {
         e = turn(rows, n, target, j, e);
     }
     e
 }
 
 // The file found at the target.
+#[tactic(auto, using(crate::proofs::Levels::all_rows, crate::proofs::Levels::found))]
 pub(crate) fn find(rows: &[u64], n: usize, target: u64) -> usize
     requires { n ≤ length rows.now / 8 }
     ensures { result ≡ file_found rows.now n target }
@@ -77,6 +78,7 @@ pub(crate) fn find(rows: &[u64], n: usize, target: u64) -> usize
 
 // The file found at the target, without a call where there are few files: the compiler does not take
 // all steps into a question, but it takes these.
+#[tactic(auto, using(crate::proofs::Levels::all_rows, crate::proofs::Levels::found))]
 pub(crate) fn find_near(rows: &[u64], n: usize, target: u64) -> usize
     requires { n ≤ length rows.now / 8 }
     ensures { result ≡ file_found rows.now n target }
@@ -99,22 +101,22 @@ fn has_byte(rows: &[u64], k: usize, target: u64) -> bool
 }
 
 // The first file from one on and before another that has the byte at the target; the other where none has it.
+#[tactic(auto, using(crate::proofs::Near::first_here, crate::proofs::Near::first_next, crate::proofs::Near::first_none))]
 fn first_with(rows: &[u64], from: usize, to: usize, target: u64) -> usize
     requires { (from ≤ to) × (to ≤ length rows.now / 8) }
     ensures { result ≡ first_with rows.now (to - from) from target }
 {
-    let mut k = from;
-    while k < to {
+    for k in from..to {
         if has_byte(rows, k, target) {
             return k;
         }
-        k += 1;
     }
-    k
+    to
 }
 
 // The file found at the target by halving over the rows from file `low` on up to file `high`, if it has the byte there;
 // else the one found among all. The search sees nothing before the rows that it is lent.
+#[tactic(auto, using(crate::proofs::Halving::found_below))]
 fn find_far(rows: &[u64], n: usize, low: usize, high: usize, target: u64) -> usize
     requires { (n ≤ length rows.now / 8) × (low < high) × (high ≤ n) }
     ensures { result ≡ cond
@@ -127,7 +129,7 @@ fn find_far(rows: &[u64], n: usize, low: usize, high: usize, target: u64) -> usi
     if has_byte(rows, k, target) {
         return k;
     }
-    find(&rows[0..], n, target)
+    find(rows, n, target)
 }
 
 // The file found at the target, where the search begins with the files from `low` on up to `high`. It is one call in each
@@ -136,13 +138,10 @@ fn find_between(rows: &[u64], n: usize, low: usize, high: usize, target: u64) ->
     requires { n ≤ length rows.now / 8 }
     ensures { result ≡ found_within rows.now n (record { low = low; high = high }) target }
 {
-    if high <= low {
-        return find(&rows[0..], n, target);
+    if high <= low || n < high {
+        return find(rows, n, target);
     }
-    if n < high {
-        return find(&rows[0..], n, target);
-    }
-    let end = lists::min_usize(low + 4, high);
+    let end = (low + 4).min(high);
     let k = first_with(rows, low, end, target);
     if k < end {
         return k;
@@ -151,25 +150,30 @@ fn find_between(rows: &[u64], n: usize, low: usize, high: usize, target: u64) ->
 }
 
 // The file found at the target, where the search begins with a window.
+#[tactic(auto, using(crate::proofs::Starting::within_in))]
 pub(crate) fn find_within(rows: &[u64], n: usize, window: Window, target: u64) -> usize
     requires { n ≤ length rows.now / 8 }
-    ensures { result ≡ found_within rows.now n window target }
+    ensures value { result ≡ found_within rows.now n window target }
+    ensures among { result ≤ n }
 {
-    find_between(&rows[0..], n, window.low, window.high, target)
+    find_between(rows, n, window.low, window.high, target)
 }
 
 // The same, without a call where there is no window and there are few files.
+#[tactic(auto, using(crate::proofs::Halving::found_in, crate::proofs::Starting::within_in))]
 pub(crate) fn find_near_within(rows: &[u64], n: usize, window: Window, target: u64) -> usize
     requires { n ≤ length rows.now / 8 }
-    ensures { result ≡ found_within rows.now n window target }
+    ensures value { result ≡ found_within rows.now n window target }
+    ensures among { result ≤ n }
 {
     if window.low < window.high {
-        return find_between(&rows[0..], n, window.low, window.high, target);
+        return find_between(rows, n, window.low, window.high, target);
     }
     find_near(rows, n, target)
 }
 
 // How many of the first n rows begin at or before the target; the search begins with a window.
+#[tactic(auto, using(crate::proofs::Starting::within_below))]
 pub(crate) fn partition_point(rows: &[u64], n: usize, window: Window, target: u64) -> usize
     requires { n ≤ length rows.now / 8 }
     ensures { result ≡ partition_point rows.now n window target }

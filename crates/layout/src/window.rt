@@ -6,7 +6,7 @@ ghost use Rattle.layout.specs.Window.{no_window, high_of, window_at, window_for}
 
 use rules::MAX_PIECES;
 use tables::FileStorage;
-use types::{PieceIndex, clamped32, clamped64};
+use types::{PieceIndex, clamped};
 
 // The files with which a search begins: from `low` on and before `high`; none where `high` is no larger.
 #[derive(Drop)]
@@ -26,10 +26,7 @@ pub fn no_window() -> Window
 fn first_at(firsts: &[u16], p: usize) -> usize
     ensures { result ≡ slice_index firsts.now p }
 {
-    if p < firsts.len() {
-        return firsts[p] as usize;
-    }
-    0
+    lists::item_or(firsts, p, 0) as usize
 }
 
 // A quotient, without a division where it is 0 or the divisor is a power of two, as most piece lengths are: then by a
@@ -66,7 +63,7 @@ fn window_at(fs: FileStorage, firsts: &[u16], p: u64) -> Window
     requires { bad_length fs.piece_length ≡ false }
     ensures { result ≡ window_at fs firsts.now p }
 {
-    let places = lists::min(firsts.len() as u64, MAX_PIECES);
+    let places = (firsts.len() as u64).min(MAX_PIECES);
     if places <= p {
         return no_window();
     }
@@ -81,12 +78,9 @@ fn window_at(fs: FileStorage, firsts: &[u16], p: u64) -> Window
 pub fn window_for(fs: FileStorage, firsts: &[u16], piece: PieceIndex, offset: i64) -> Window
     ensures { result ≡ window_for fs firsts.now piece.0 offset }
 {
-    if !fs.indexed {
+    if !fs.indexed || rules::is_bad_length(fs.piece_length) {
         return no_window();
     }
-    if rules::is_bad_length(fs.piece_length) {
-        return no_window();
-    }
-    let more = quotient(clamped64(offset), fs.piece_length);
-    window_at(fs, firsts, clamped32(piece.0) + more)
+    let more = quotient(clamped(offset), fs.piece_length);
+    window_at(fs, firsts, clamped(i64::from(piece.0)) + more)
 }

@@ -53,9 +53,6 @@ module _ (s : Store) (ms p : List ℕ) (e : ℕ) where
       pub dir-on : e < next → walk_of (entries_of s) (directories_of s) ms p next ≡ goes_on
       dir-on q = rw m (turn-dir (is_directory (directories_of s)) (known (entries_of s) (directories_of s)) ls p e h d (omega arith))
 
-      pub dir-less : e < next → left ls p next < left ls p e
-      dir-less q = omega arith
-
       pub dir-stop : next ≤ e → goes_on ≡ false
       dir-stop q = turn-dir-stop (is_directory (directories_of s)) (known (entries_of s) (directories_of s)) ls p e h d (omega arith)
 

@@ -6,7 +6,7 @@ use mathlib.Core.Bool.{Bool, true, false, cond}
 use mathlib.Core.List.{List, [], ◌∷◌, ◌++◌, append-nil, append_assoc}
 use native.Mathlib.Omega.{arith}
 use lib.Dec.{eqb}
-use lib.ListN.{length, get_or, set, drop, replicate, length-set}
+use lib.ListN.{length, set, drop, replicate, length-set}
 use lib.Seq.{get_or-set_same, get_or-set_other, drop-append-le, drop-drop}
 use Rattle.path.specs.Join.{is_alone, is_closed, combined}
 use Rattle.rope.specs.Rope.{frame_width, half_word, kind, start, unused, segment, flat}
@@ -116,22 +116,9 @@ module _ (t : ℕ → List ℕ) (frames : List ℕ) (k w : ℕ) (h : k * frame_w
 
 -- ---- what is alone
 
-same_bool : (b : Bool) → b ≡ cond b true false
-same_bool true = refl
-same_bool false = refl
-
 no_bool : (b : Bool) → false ≡ cond b false false
 no_bool true = refl
 no_bool false = refl
-
-pub alone-none : (p : List ℕ) → length p ≡ 0 → true ≡ is_alone p
-alone-none [] h = refl
-alone-none (c ∷ p) h = absurd (omega arith)
-
-pub alone-one : (p : List ℕ) → length p ≡ 1 → eqb (get_or p 0 0) 46 ≡ is_alone p
-alone-one [] h = absurd (omega arith)
-alone-one (c ∷ []) h = same_bool (eqb c 46)
-alone-one (c ∷ d ∷ p) h = absurd (omega arith)
 
 pub alone-more : (p : List ℕ) → 1 < length p → false ≡ is_alone p
 alone-more [] h = absurd (omega arith)
@@ -141,9 +128,6 @@ alone-more (c ∷ d ∷ p) h = no_bool (eqb c 46)
 -- ---- a link's text and the rest of the path
 
 module _ (l r : List ℕ) where
-  pub combined-rest : is_alone l ≡ true → r ≡ combined l r
-  combined-rest e = rw e
-
   pub combined-text : is_alone l ≡ false → is_alone r ≡ true → l ≡ combined l r
   combined-text e f = rw (e, f)
 

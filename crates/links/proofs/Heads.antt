@@ -4,10 +4,9 @@ use Prim.Native.Nat.{ℕ, ◌+◌, ◌<◌, ◌≤◌}
 use mathlib.Core.Path.{◌≡◌, sym, ap, ◌∙◌}
 use mathlib.Core.Bool.{false}
 use mathlib.Core.List.{List}
-use native.Mathlib.Omega.{arith}
 use native.Mathlib.Numerals.{add-one}
-use lib.ListN.{length, get_or, set, take, drop}
-use lib.Seq.{length-take-le, take_all, take-suc, take-suc-set}
+use lib.ListN.{length, get_or, set, take}
+use lib.Seq.{length-take-le, take-suc, take-suc-set}
 use Rattle.lists.specs.Lists.{equal}
 use Rattle.rope.specs.Rope.{held_path, front}
 use Rattle.links.specs.private.Walking.{Fronted}
@@ -24,9 +23,6 @@ module _ (h p : List ℕ) (e : ℕ) (is : h ≡ take (length h) p) (n : length h
   -- a path that is not the buffer is not the path's front
   pub head-not : (x : List ℕ) → equal x h ≡ false → equal x (take e p) ≡ false
   head-not x q = ap (equal x) (sym head-whole) ∙ q
-
-  pub head-part : take e (drop 0 h) ≡ take e p
-  head-part = take_all e h (omega arith) ∙ head-whole
 
 -- the first n bytes of a buffer, where they are those of the path
 pub fronted : (rows dirs text frames : List ℕ) (depth e n : ℕ) (b : List ℕ) → e ≤ length (held_path rows dirs text frames depth) → n ≤ length b

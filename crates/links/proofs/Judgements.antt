@@ -10,15 +10,11 @@ use lib.ListN.{length, drop}
 use lib.Seq.{sets, sets-eq}
 use borrow.Author.Tests.{ltb-false, leb-true, not-false}
 use Rattle.lists.proofs.Runs.{sets-whole}
-use Rattle.types.specs.Refusals.{number_of, value, refused, usize_says}
-use Rattle.types.specs.declared.refusal.Refusal.{Refusal}
-use Rattle.types.specs.declared.refusal.UsizeResult.{UsizeResult}
-use Rattle.types.specs.declared.refusal.UsizeResult.TheVariants as usize
-use Rattle.types.proofs.Refusals.{numbered}
+use Rattle.types.specs.Refusals.{value}
 use Rattle.tables.specs.Model.{Store}
 use Rattle.rules.specs.Rules.{Rule, when, outcome_of}
 use Rattle.rules.specs.Bounds.{bad_length}
-use Rattle.rules.proofs.Rules.{both_true, passed, either-false, outcome-value, outcome-refused}
+use Rattle.rules.proofs.Rules.{both_true, passed, either-false, outcome-value}
 use Rattle.rules.specs.Questions.{rows_are_held, dirs_held, text_held, few_entries, short}
 use Rattle.lookup.specs.Lookup.{Entry, entries_of, directories_of}
 use Rattle.lookup.specs.Space.{space, link_count, lacks_space}
@@ -84,19 +80,19 @@ module _ (s : Store) where
           walked = ltb-false path (2 * space (entries_of s)) b.1;
         }
 
-    -- what the decision says
-    module _ (d : UsizeResult) (h : usize_says d ≡ outcome_of (judging_number s marks scratch path) (link_count (entries_of s))) where
-      pub judged-ok : (n : ℕ) → d ≡ usize.Ok n → (judging_number s marks scratch path ≡ 0) × (n ≡ link_count (entries_of s))
-      judged-ok n q = outcome-value (judging_number s marks scratch path) n (link_count (entries_of s)) (ap usize_says (sym q) ∙ h)
+    -- where none stops, the number is that of the links, and there is a mark for each
+    module _ (n : ℕ) (h : value n ≡ outcome_of (judging_number s marks scratch path) (link_count (entries_of s))) where
+      pub judged-none : judging_number s marks scratch path ≡ 0
+      judged-none = (outcome-value (judging_number s marks scratch path) n (link_count (entries_of s)) h).0
 
-      pub judged-err : (e : Refusal) → d ≡ usize.Err e → judging_number s marks scratch path ≡ number_of e
-      judged-err e q = outcome-refused (judging_number s marks scratch path) (number_of e) (link_count (entries_of s)) (ap usize_says (sym q) ∙ h)
+      pub judged-count : n ≡ link_count (entries_of s)
+      judged-count = (outcome-value (judging_number s marks scratch path) n (link_count (entries_of s)) h).1
+
+      pub judged-fits : n ≤ marks
+      judged-fits = omega (arith, judged-count, (roomy judged-none).marked)
 
   -- the outcome
   module _ (marks : List ℕ) (scratch path : ℕ) where
     pub judged-yes : (n : ℕ) (x : List ℕ) → judging_number s (length marks) scratch path ≡ 0 → n ≡ link_count (entries_of s) → x ≡ sets marks 0 (verdicts s)
         → judged_of (value n) x ≡ judged s marks scratch path
     judged-yes n x e a b = rw (e, a, b)
-
-    pub judged-no : (e : Refusal) → judging_number s (length marks) scratch path ≡ number_of e → judged_of (refused (number_of e)) marks ≡ judged s marks scratch path
-    judged-no e q = rw (q, numbered e)

@@ -1,23 +1,22 @@
--- Laws of the first pass: what its tests on one link say of the mark, and the pass over all files, which sets the marks
--- of those still to come. They rely on the definitions of Judging.antt and on the laws of frames in Leads.antt and
+-- Laws of the first pass: what the text from a link's directory says of its mark, and the pass over all files, which sets
+-- the marks of those still to come. They rely on the definitions of Judging.antt and on the laws of frames in Leads.antt and
 -- Fronts.antt.
 use Prim.Native.Nat.{ℕ, ◌+◌, ◌*◌, ◌/◌, ◌≤◌}
 use mathlib.Core.Path.{◌≡◌, refl, sym, ap, ◌∙◌}
-use mathlib.Core.Bool.{Bool, true, false, cond, not, false≢true, true≢false, ◌&&◌}
+use mathlib.Core.Bool.{Bool, true, false, cond, not, false≢true, ◌&&◌}
 use mathlib.Core.List.{List, [], ◌∷◌}
 use native.Mathlib.Omega.{arith}
 use native.Mathlib.Numerals.{add-one}
 use lib.Dec.{eqb}
 use lib.ListN.{length, set, take}
 use lib.Seq.{sets, take_all}
-use Rattle.path.specs.Split.{is_complete}
 use Rattle.path.specs.Join.{appended}
 use Rattle.tables.specs.declared.span.Span.{Span}
 use Rattle.tables.specs.declared.rows.Row.{Row}
 use Rattle.tables.specs.Span.{text_at}
 use Rattle.tables.specs.Rows.{dir_at, has, is_inside}
 use Rattle.tables.specs.Model.{single, absolute, stored, Store, directory_of}
-use Rattle.lookup.specs.Lookup.{Entry, Seen, nothing, file, link, file_at, is_directory, seen_code}
+use Rattle.lookup.specs.Lookup.{Entry, file_at, is_directory}
 use Rattle.lookup.specs.Space.{link_count}
 use Rattle.lookup.specs.private.Rows.{entry_at, row_text}
 use Rattle.lookup.proofs.Rows.{branch_in, branch_at, text_at_lem}
@@ -27,46 +26,10 @@ use Rattle.links.specs.private.Walking.{first_marks, with_frame, path_of}
 use Rattle.rope.proofs.Leads.{lead-beside}
 use Rattle.links.proofs.Fronts.{flat-alone}
 
--- ---- what stands at a path, by its number
-
-pub code-link : (x : Seen) → 2 ≡ seen_code x → x ≡ link
-code-link nothing h = absurd (omega arith)
-code-link file h = absurd (omega arith)
-code-link link h = refl
-
-pub code-file : (x : Seen) → 1 ≡ seen_code x → x ≡ file
-code-file nothing h = absurd (omega arith)
-code-file file h = refl
-code-file link h = absurd (omega arith)
-
-pub code-nothing : (x : Seen) (n : ℕ) → n ≡ seen_code x → (n ≡ 2 → ⊥) → (n ≡ 1 → ⊥) → x ≡ nothing
-code-nothing nothing n e h k = refl
-code-nothing file n e h k = absurd (k e)
-code-nothing link n e h k = absurd (h e)
-
 -- ---- the mark of one link
-
--- from its directory, by what stands there
-module _ (b : Bool) (x : Seen) (other : ℕ) where
-  pub settled-dir : b ≡ true → 18 ≡ settled_mark b x other
-  settled-dir h = rw h
-
-  pub settled-link : b ≡ false → x ≡ link → 18 ≡ settled_mark b x other
-  settled-link h k = rw (h, k)
-
-  pub settled-file : b ≡ false → x ≡ file → 16 ≡ settled_mark b x other
-  settled-file h k = rw (h, k)
-
-  pub settled-other : b ≡ false → x ≡ nothing → other ≡ settled_mark b x other
-  settled-other h k = rw (h, k)
 
 -- by its directory: none, or one that its text is taken from
 module _ (files : List Entry) (ds : List (List ℕ)) (t : List ℕ) (other : ℕ) where
-  kinds-not : (a b : Bool) (d : List ℕ) (o : Bool) → (not a && not b) ≡ false → other ≡ relative_mark files ds (cond a single (cond b absolute (stored d o))) t other
-  kinds-not true b d o e = refl
-  kinds-not false true d o e = refl
-  kinds-not false false d o e = absurd (true≢false e)
-
   kinds-in : (a b : Bool) (text : List ℕ) (c : Span) (y : List ℕ) (o : Bool) → (not a && not b) ≡ true → y ≡ appended (text_at text (cond (not a && not b) c (record { at = 0; len = 0 }))) t
       → settled_mark (is_directory ds y) (file_at files y) other ≡ relative_mark files ds (cond a single (cond b absolute (stored (text_at text c) o))) t other
   kinds-in true b text c y o e q = absurd (false≢true e)
@@ -74,9 +37,6 @@ module _ (files : List Entry) (ds : List (List ℕ)) (t : List ℕ) (other : ℕ
   kinds-in false false text c y o e q = rw q
 
   module _ (s : Store) (r : Row) where
-    pub near-not : is_inside r ≡ false → other ≡ relative_mark files ds (directory_of s r) t other
-    near-not = kinds-not (eqb r.path_index 1073741823) (eqb r.path_index 1073741822) (text_at s.text (dir_at s.dirs r.path_index)) (has r.flags 32)
-
     pub near-in : (y : List ℕ) → is_inside r ≡ true → y ≡ appended (branch_in s.dirs s.text r) t → settled_mark (is_directory ds y) (file_at files y) other ≡ relative_mark files ds (directory_of s r) t other
     near-in y = kinds-in (eqb r.path_index 1073741823) (eqb r.path_index 1073741822) s.text (dir_at s.dirs r.path_index) y (has r.flags 32)
 
@@ -93,25 +53,6 @@ module _ (s : Store) (i n : ℕ) (f f' : List ℕ) (h : frame_width ≤ length f
       let q : (i * 4 + 2) / 4 ≡ i = omega arith in
       let w : appended (branch_at s i) (row_text s.rows s.text i) ≡ leads s.rows s.dirs s.text (i * 4 + 2) = rw q at (lead-beside s.rows s.dirs s.text (i * 4 + 2) (omega arith)) in
       take_all n (path_of s f' 1) (omega (arith, k, ap length one-path)) ∙ one-path ∙ sym w ∙ ap (appended (branch_at s i)) (text_at_lem s i)
-
--- by its text as given
-module _ (files : List Entry) (ds : List (List ℕ)) (f : Entry) where
-  pub first-absolute : is_complete f.text ≡ true → 8 ≡ first_mark files ds f
-  first-absolute h = rw h
-
-  module _ (h : is_complete f.text ≡ false) where
-    pub first-link : file_at files f.text ≡ link → 1 ≡ first_mark files ds f
-    first-link k = rw (h, k)
-
-    pub first-file : file_at files f.text ≡ file → 0 ≡ first_mark files ds f
-    first-file k = rw (h, k)
-
-    module _ (k : file_at files f.text ≡ nothing) where
-      pub first-dir : is_directory ds f.text ≡ true → 1 ≡ first_mark files ds f
-      first-dir d = rw (h, k, d)
-
-      pub first-near : is_directory ds f.text ≡ false → relative_mark files ds f.directory f.text 25 ≡ first_mark files ds f
-      first-near d = rw (h, k, d)
 
 -- ---- the pass over all files
 

@@ -12,7 +12,9 @@ use Rattle.lists.proofs.Equality.{equal-true}
 use Rattle.path.specs.Split.{is_complete}
 use Rattle.path.specs.Join.{appended}
 use Rattle.tables.specs.Model.{Directory, single, absolute, stored, path_in}
-use Rattle.lookup.specs.Lookup.{Entry, own_path, is_directory, Seen, nothing, file, link, file_at}
+use Rattle.lookup.specs.Lookup.{Entry, own_path, is_directory, file_at}
+use Rattle.lookup.specs.declared.set.Seen.{Seen}
+use Rattle.lookup.specs.declared.set.Seen.TheVariants.{Nothing, RegularFile, FlaggedLink}
 use Rattle.links.specs.Clean.{First, first_pass, direct, settled, relative, Link, Lead, none, to, lead_at, unless, link_of, links_of}
 use Rattle.links.specs.Judging.{settled_mark, direct_mark, relative_mark, first_mark}
 use Rattle.links.specs.private.Walking.{lead, first_marks, lead_text, leading, but_later, any_at, open_link, open_of, untraversed}
@@ -25,16 +27,16 @@ pub record Says (f : Entry) (r : First) (m : ℕ) : Type 0 where
 -- so where the text is taken from the link's directory
 settled_says : (f : Entry) (b : Bool) (s : Seen) (t : List ℕ) (o : First) (m : ℕ) → path_in f.directory f.text ≡ t → Says f o (lead m) → Says f (settled b s t o) (lead (settled_mark b s m))
 settled_says f true s t o m e h = record { leads = refl; text = λ q. e }
-settled_says f false link t o m e h = record { leads = refl; text = λ q. e }
-settled_says f false file t o m e h = record { leads = refl; text = λ q. absurd (false≢true q) }
-settled_says f false nothing t o m e h = h
+settled_says f false FlaggedLink t o m e h = record { leads = refl; text = λ q. e }
+settled_says f false RegularFile t o m e h = record { leads = refl; text = λ q. absurd (false≢true q) }
+settled_says f false Nothing t o m e h = h
 
 -- so where the text is taken as given
 direct-says : (f : Entry) (s : Seen) (b : Bool) (o : First) (m : ℕ) → Says f o (lead m) → Says f (direct s b f.text o) (lead (direct_mark s b m))
-direct-says f link b o m h = record { leads = refl; text = λ q. refl }
-direct-says f file b o m h = record { leads = refl; text = λ q. absurd (false≢true q) }
-direct-says f nothing true o m h = record { leads = refl; text = λ q. refl }
-direct-says f nothing false o m h = h
+direct-says f FlaggedLink b o m h = record { leads = refl; text = λ q. refl }
+direct-says f RegularFile b o m h = record { leads = refl; text = λ q. absurd (false≢true q) }
+direct-says f Nothing true o m h = record { leads = refl; text = λ q. refl }
+direct-says f Nothing false o m h = h
 
 abbrev pub is_to : Lead → Bool
 is_to none = false
@@ -87,8 +89,8 @@ module _ (files : List Entry) (dirs : List (List ℕ)) where
     where
       settled-low : (b : Bool) (s : Seen) → lead (settled_mark b s 25) ≤ 2
       settled-low true s = omega arith
-      settled-low false nothing = omega arith
-      settled-low false file = omega arith
+      settled-low false Nothing = omega arith
+      settled-low false RegularFile = omega arith
       settled-low false link = omega arith
 
       near : (p : Directory) → lead (relative_mark files dirs p f.text 25) ≤ 2
@@ -97,10 +99,10 @@ module _ (files : List Entry) (dirs : List (List ℕ)) where
       near (stored d outside) = settled-low (is_directory dirs (appended d f.text)) (file_at files (appended d f.text))
 
       direct-low : (s : Seen) (b : Bool) (m : ℕ) → lead m ≤ 2 → lead (direct_mark s b m) ≤ 2
-      direct-low nothing true m h = omega arith
-      direct-low nothing false m h = h
-      direct-low file b m h = omega arith
-      direct-low link b m h = omega arith
+      direct-low Nothing true m h = omega arith
+      direct-low Nothing false m h = h
+      direct-low RegularFile b m h = omega arith
+      direct-low FlaggedLink b m h = omega arith
 
       go : (b : Bool) → lead (cond b 8 (direct_mark (file_at files f.text) (is_directory dirs f.text) (relative_mark files dirs f.directory f.text 25))) ≤ 2
       go true = omega arith

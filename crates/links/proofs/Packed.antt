@@ -1,11 +1,11 @@
 -- Marks as numbers: a lead below 8 and 8 times a verdict. These laws rely on the kit's laws of lists.
-use Prim.Native.Nat.{ℕ, zero, suc, ◌+◌, ◌-◌, ◌*◌, ◌/◌, ◌<◌, ◌≤◌}
+use Prim.Native.Nat.{ℕ, zero, suc, ◌+◌, ◌*◌, ◌/◌, ◌<◌, ◌≤◌}
 use mathlib.Core.Path.{◌≡◌, refl, sym, ap, ◌∙◌}
-use mathlib.Core.List.{List, [], ◌∷◌, ◌++◌, map, append-nil}
+use mathlib.Core.List.{List, [], ◌∷◌, ◌++◌, map}
 use native.Mathlib.Omega.{arith}
 use native.Mathlib.Numerals.{add-one}
-use lib.ListN.{length, get_or, set, take, drop, drop_of_length-le, length-map}
-use lib.Seq.{drop-cons, get_or_at, set_at, take-suc, append_snoc, take_all, length-take-le, map-set_same}
+use lib.ListN.{length, get_or, set, take, drop, length-map}
+use lib.Seq.{drop-cons, get_or_at, set_at, take-suc, append_snoc, length-take-le, map-set_same}
 use Rattle.links.specs.private.Walking.{lead, verdict, untraversed}
 
 -- ---- maps of marks
@@ -38,9 +38,6 @@ module _ (f : ℕ → ℕ) where
     pub map-turn : k < length ms → set (map f (take k ms) ++ drop k ms) k (f (get_or ms k 0)) ≡ map f (take (k + 1) ms) ++ drop (k + 1) ms
     map-turn h =
         rw (drop-cons ms k 0 h, set_at (map f (take k ms)) (get_or ms k 0) (drop (suc k) ms) (f (get_or ms k 0)) k (done-long h), add-one, take-suc ms k 0 h, map-append (take k ms) (get_or ms k 0 ∷ []), append_snoc)
-
-    pub map-end : length ms ≤ k → map f (take k ms) ++ drop k ms ≡ map f ms
-    map-end h = rw (take_all k ms h, drop_of_length-le ms {i = k} h, append-nil)
 
 -- ---- leads and verdicts
 
@@ -78,18 +75,6 @@ marks-from (x ∷ a) (y ∷ b) h k =
     cc
 
 -- ---- a lead without its use
-
-pub fresh-low : (m : ℕ) → m < 3 → m ≡ untraversed m
-fresh-low zero h = refl
-fresh-low (suc zero) h = refl
-fresh-low (suc (suc zero)) h = refl
-fresh-low (suc (suc (suc m))) h = absurd (omega arith)
-
-pub fresh-high : (m : ℕ) → 3 ≤ m → m - 2 ≡ untraversed m
-fresh-high zero h = absurd (omega arith)
-fresh-high (suc zero) h = absurd (omega arith)
-fresh-high (suc (suc zero)) h = absurd (omega arith)
-fresh-high (suc (suc (suc m))) h = omega arith
 
 pub fresh-small : (m : ℕ) → untraversed m ≤ m
 fresh-small zero = omega arith

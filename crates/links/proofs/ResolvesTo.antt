@@ -14,7 +14,9 @@ use Rattle.lists.proofs.Equality.{equal-true, equal-false}
 use Rattle.path.specs.Split.{is_complete}
 use Rattle.path.specs.Join.{appended, combined}
 use Rattle.tables.specs.Model.{Directory, single, absolute, stored}
-use Rattle.lookup.specs.Lookup.{Entry, own_path, is_directory, Seen, nothing, file, link, is_there, file_at, known}
+use Rattle.lookup.specs.Lookup.{Entry, own_path, is_directory, is_there, file_at, known}
+use Rattle.lookup.specs.declared.set.Seen.{Seen}
+use Rattle.lookup.specs.declared.set.Seen.TheVariants.{Nothing, RegularFile, FlaggedLink}
 use Rattle.links.specs.Clean.{First, first_pass, direct, settled, relative, Link, Lead, none, to, lead_at, without_link, unless, link_of, links_of, part_end, stop, done, on, further, through, step, follow, walk, left, resolves, clean_text}
 
 -- ---- where a cleaned link leads
@@ -63,18 +65,18 @@ module _ (files : List Entry) (dirs : List (List ℕ)) where
 
   -- a text that the first pass left and that is not walked is known, or the link's own path
   settled-known : (t p : List ℕ) (b : Bool) (s : Seen) (o : First) → (o.walked ≡ false → (o.text ≡ p) ⊎ (known files dirs o.text ≡ true)) → cond (is_there s) true b ≡ known files dirs t → (settled b s t o).walked ≡ false → ((settled b s t o).text ≡ p) ⊎ (known files dirs (settled b s t o).text ≡ true)
-  settled-known t p true nothing o k e h = inr (sym e)
-  settled-known t p true file o k e h = inr (sym e)
-  settled-known t p true link o k e h = inr (sym e)
-  settled-known t p false nothing o k e h = k h
-  settled-known t p false file o k e h = inr (sym e)
-  settled-known t p false link o k e h = inr (sym e)
+  settled-known t p true Nothing o k e h = inr (sym e)
+  settled-known t p true RegularFile o k e h = inr (sym e)
+  settled-known t p true FlaggedLink o k e h = inr (sym e)
+  settled-known t p false Nothing o k e h = k h
+  settled-known t p false RegularFile o k e h = inr (sym e)
+  settled-known t p false FlaggedLink o k e h = inr (sym e)
 
   direct-known : (t p : List ℕ) (s : Seen) (b : Bool) (o : First) → (o.walked ≡ false → (o.text ≡ p) ⊎ (known files dirs o.text ≡ true)) → cond (is_there s) true b ≡ known files dirs t → (direct s b t o).walked ≡ false → ((direct s b t o).text ≡ p) ⊎ (known files dirs (direct s b t o).text ≡ true)
-  direct-known t p nothing true o k e h = inr (sym e)
-  direct-known t p nothing false o k e h = k h
-  direct-known t p file b o k e h = inr (sym e)
-  direct-known t p link b o k e h = inr (sym e)
+  direct-known t p Nothing true o k e h = inr (sym e)
+  direct-known t p Nothing false o k e h = k h
+  direct-known t p RegularFile b o k e h = inr (sym e)
+  direct-known t p FlaggedLink b o k e h = inr (sym e)
 
   first-known : (f : Entry) → (first_pass files dirs f).walked ≡ false → ((first_pass files dirs f).text ≡ own_path f) ⊎ (known files dirs (first_pass files dirs f).text ≡ true)
   first-known f h = go (is_complete f.text) h

@@ -10,7 +10,9 @@ use Rattle.path.specs.Split.{is_complete}
 use Rattle.path.specs.Join.{appended}
 use Rattle.tables.specs.Model.{Directory, single, absolute, stored, Store}
 use Rattle.tables.proofs.Tabled.{length-tabled}
-use Rattle.lookup.specs.Lookup.{Entry, own_path, Seen, nothing, file, link, file_at, is_directory, entries_of}
+use Rattle.lookup.specs.Lookup.{Entry, own_path, file_at, is_directory, entries_of}
+use Rattle.lookup.specs.declared.set.Seen.{Seen}
+use Rattle.lookup.specs.declared.set.Seen.TheVariants.{Nothing, RegularFile, FlaggedLink}
 use Rattle.lookup.specs.Space.{directory_length, space}
 use Rattle.lookup.specs.private.Rows.{entry_at}
 use Rattle.links.specs.Clean.{Link, First, settled, direct, relative, first_pass, link_of, links_of, Lead, none, to, lead_at, unless, weight}
@@ -27,15 +29,15 @@ plain f t l h = record { leading = λ q. h; given = λ q. absurd (false≢true q
 
 settled-fits : (f : Entry) (b : Bool) (s : Seen) (t : List ℕ) (o : First) → length t ≤ directory_length f.directory + length f.text + 1 → Fits f o → Fits f (settled b s t o)
 settled-fits f true s t o h k = plain f t true h
-settled-fits f false nothing t o h k = k
-settled-fits f false file t o h k = plain f t false h
-settled-fits f false link t o h k = plain f t true h
+settled-fits f false Nothing t o h k = k
+settled-fits f false RegularFile t o h k = plain f t false h
+settled-fits f false FlaggedLink t o h k = plain f t true h
 
 direct-fits : (f : Entry) (s : Seen) (b : Bool) (t : List ℕ) (o : First) → length t ≤ directory_length f.directory + length f.text + 1 → Fits f o → Fits f (direct s b t o)
-direct-fits f nothing true t o h k = plain f t true h
-direct-fits f nothing false t o h k = k
-direct-fits f file b t o h k = plain f t false h
-direct-fits f link b t o h k = plain f t true h
+direct-fits f Nothing true t o h k = plain f t true h
+direct-fits f Nothing false t o h k = k
+direct-fits f RegularFile b t o h k = plain f t false h
+direct-fits f FlaggedLink b t o h k = plain f t true h
 
 module _ (files : List Entry) (dirs : List (List ℕ)) where
   pub first_fits : (f : Entry) → Fits f (first_pass files dirs f)

@@ -7,7 +7,9 @@ use mathlib.Core.List.{List, [], ◌∷◌, ◌++◌}
 use Rattle.path.specs.Split.{is_complete}
 use Rattle.path.specs.Join.{is_alone, is_empty, is_closed, appended}
 use Rattle.tables.specs.Model.{Directory, single, absolute, stored, path_in}
-use Rattle.lookup.specs.Lookup.{Entry, own_path, Seen, nothing, file, link, file_at, is_directory}
+use Rattle.lookup.specs.Lookup.{Entry, own_path, file_at, is_directory}
+use Rattle.lookup.specs.declared.set.Seen.{Seen}
+use Rattle.lookup.specs.declared.set.Seen.TheVariants.{Nothing, RegularFile, FlaggedLink}
 use Rattle.links.specs.Clean.{First, settled, direct, relative, first_pass, links_of, resolves, clean_text}
 use Rattle.links.proofs.Room.{first_fits}
 
@@ -41,15 +43,15 @@ own-relative f h r = go f.directory h r
 -- the text that the first pass leaves it
 settled-relative : (b : Bool) (s : Seen) (t : List ℕ) (o : First) → is_complete t ≡ false → is_complete o.text ≡ false → is_complete (settled b s t o).text ≡ false
 settled-relative true s t o h k = h
-settled-relative false nothing t o h k = k
-settled-relative false file t o h k = h
-settled-relative false link t o h k = h
+settled-relative false Nothing t o h k = k
+settled-relative false RegularFile t o h k = h
+settled-relative false FlaggedLink t o h k = h
 
 direct-relative : (s : Seen) (b : Bool) (t : List ℕ) (o : First) → is_complete t ≡ false → is_complete o.text ≡ false → is_complete (direct s b t o).text ≡ false
-direct-relative nothing true t o h k = h
-direct-relative nothing false t o h k = k
-direct-relative file b t o h k = h
-direct-relative link b t o h k = h
+direct-relative Nothing true t o h k = h
+direct-relative Nothing false t o h k = k
+direct-relative RegularFile b t o h k = h
+direct-relative FlaggedLink b t o h k = h
 
 module _ (files : List Entry) (dirs : List (List ℕ)) (f : Entry) (h : Placed f.directory f.name) (r : f.directory ≡ absolute → ⊥) where
   first-relative : is_complete (first_pass files dirs f).text ≡ false
@@ -94,16 +96,16 @@ module _ (files : List Entry) (dirs : List (List ℕ)) (f : Entry) where
   settled-own : (b : Bool) (s : Seen) (t : List ℕ) (o : First) → path_in f.directory f.text ≡ t → Left o → Left (settled b s t o)
   unfolding Left
   settled-own true s t o e h = λ w q. named-itself (e ∙ q)
-  settled-own false link t o e h = λ w q. named-itself (e ∙ q)
-  settled-own false file t o e h = λ w q. named-itself (e ∙ q)
-  settled-own false nothing t o e h = h
+  settled-own false FlaggedLink t o e h = λ w q. named-itself (e ∙ q)
+  settled-own false RegularFile t o e h = λ w q. named-itself (e ∙ q)
+  settled-own false Nothing t o e h = h
 
   direct-own : (s : Seen) (b : Bool) (o : First) → Left o → Left (direct s b f.text o)
   unfolding Left
-  direct-own link b o h = λ w q. was-own q
-  direct-own file b o h = λ w q. was-own q
-  direct-own nothing true o h = λ w q. was-own q
-  direct-own nothing false o h = h
+  direct-own FlaggedLink b o h = λ w q. was-own q
+  direct-own RegularFile b o h = λ w q. was-own q
+  direct-own Nothing true o h = λ w q. was-own q
+  direct-own Nothing false o h = h
 
   first-own : Left (first_pass files dirs f)
   unfolding Left

@@ -7,7 +7,9 @@ use lib.Dec.{eqb}
 use Rattle.path.specs.Split.{is_complete}
 use Rattle.path.specs.Join.{appended}
 use Rattle.tables.specs.Model.{Directory, single, absolute, stored, path_in}
-use Rattle.lookup.specs.Lookup.{Entry, own_path, is_directory, Seen, nothing, file, link, file_at}
+use Rattle.lookup.specs.Lookup.{Entry, own_path, is_directory, file_at}
+use Rattle.lookup.specs.declared.set.Seen.{Seen}
+use Rattle.lookup.specs.declared.set.Seen.TheVariants.{Nothing, RegularFile, FlaggedLink}
 use Rattle.links.specs.Clean.{First, settled, direct, relative, first_pass, links_of, resolves, clean_text}
 use Rattle.links.specs.Judging.{settled_mark, direct_mark, relative_mark, first_mark, verdict_read, verdict_of, text_by}
 
@@ -30,17 +32,17 @@ module _ (goes : List ℕ → Bool) (f : Entry) where
   settled-tells : (b : Bool) (s : Seen) (t : List ℕ) (m : ℕ) (o : First) → path_in f.directory f.text ≡ t → Tells goes f m o → Tells goes f (settled_mark b s m) (settled b s t o)
   unfolding Tells
   settled-tells true s t m o e h = e
-  settled-tells false link t m o e h = e
-  settled-tells false file t m o e h = e
-  settled-tells false nothing t m o e h = h
+  settled-tells false FlaggedLink t m o e h = e
+  settled-tells false RegularFile t m o e h = e
+  settled-tells false Nothing t m o e h = h
 
   -- a text as it was given
   direct-tells : (s : Seen) (b : Bool) (m : ℕ) (o : First) → Tells goes f m o → Tells goes f (direct_mark s b m) (direct s b f.text o)
   unfolding Tells
-  direct-tells link b m o h = refl
-  direct-tells file b m o h = refl
-  direct-tells nothing true m o h = refl
-  direct-tells nothing false m o h = h
+  direct-tells FlaggedLink b m o h = refl
+  direct-tells RegularFile b m o h = refl
+  direct-tells Nothing true m o h = refl
+  direct-tells Nothing false m o h = h
 
   module _ (files : List Entry) (dirs : List (List ℕ)) where
     abbrev other : First

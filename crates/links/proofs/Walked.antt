@@ -6,7 +6,6 @@ use mathlib.Core.Bool.{Bool, true, false, cond}
 use mathlib.Core.List.{List, [], ◌∷◌, ◌++◌, map, append-nil}
 use native.Mathlib.Omega.{arith}
 use native.Mathlib.Numerals.{add-one}
-use borrow.Author.Tests.{eq-eqb, ne_eqb}
 use lib.Dec.{eqb}
 use lib.ListN.{length, get_or, set, take, drop, length-drop, length-map}
 use lib.Seq.{take_all, get_or-drop, drop-drop, drop-set-lt, map-set_same, take-suc-set, append_snoc}
@@ -18,13 +17,6 @@ use Rattle.links.proofs.Packed.{map-set}
 use Rattle.links.proofs.Scans.{cond_yes, cond_no}
 
 module _ (files : List Entry) (dirs : List (List ℕ)) where
-  -- a mark after the second pass: where a walk decides, and elsewhere
-  pub walked_by : (f : Entry) (m v : ℕ) → verdict m ≡ 3 → cond (resolves files dirs (links_of files dirs files) f.text) 0 1 ≡ v → v * 8 + lead m ≡ walked_mark files dirs f m
-  walked_by f m v e q = rw (eq-eqb (verdict m) 3 e, q)
-
-  pub walked-not : (f : Entry) (m : ℕ) → (verdict m ≡ 3 → ⊥) → m ≡ walked_mark files dirs f m
-  walked-not f m e = rw (ne_eqb (verdict m) 3 e)
-
   -- the second pass keeps a mark's lead
   walked-lead : (f : Entry) (m : ℕ) → lead (walked_mark files dirs f m) ≡ lead m
   walked-lead f m = go (eqb (verdict m) 3) (cond (resolves files dirs (links_of files dirs files) f.text) 0 1)

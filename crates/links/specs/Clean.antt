@@ -5,15 +5,17 @@
 -- Names from elsewhere: `cond t a b` is a where t is true, else b; `eqb`, `ltb` and `leb` test =, < and ≤; `a - b` is 0
 -- where b is larger. `take n` and `drop n` are the first n elements and the rest.
 -- Of a file (lookup, specs/Lookup.antt): `flagged`, that it is a link with flag 8 and a text; `own_path`, its internal
--- path; `file_at`, what stands at a path: `nothing`, a `file` or a `link`; `known`, that a file or a directory does. Of
+-- path; `file_at`, what stands at a path: `Nothing`, a `RegularFile` or a `FlaggedLink`; `known`, that a file or a directory does. Of
 -- paths (path, specs/Join.antt): `appended` and `combined` are the Rust's `append_path` and `combine_path`;
 -- `lsplit_at_first p n` is p up to its first separator from position n on; `is_complete`, that a path is absolute.
-use Rattle.std.specs.Prelude.{ℕ, zero, suc, ◌+◌, ◌-◌, Bool, true, false, cond, List, [], ◌∷◌, map, ltb, length, take, drop}
+use Rattle.std.specs.Prelude.{ℕ, zero, suc, ◌+◌, ◌-◌, Bool, true, false, cond, List, [], ◌∷◌, map, ltb, length, take, drop, Option, Some}
 use Rattle.lists.specs.Lists.{equal}
 use Rattle.path.specs.Split.{is_complete, lsplit_at_first}
 use Rattle.path.specs.Join.{appended, combined}
-use Rattle.tables.specs.Model.{Optional, present, Directory, single, absolute, stored, File, Model}
-use Rattle.lookup.specs.Lookup.{Entry, entry_of, own_path, Seen, nothing, file, link, is_directory, file_at, known}
+use Rattle.tables.specs.Model.{Directory, single, absolute, stored, File, Model}
+use Rattle.lookup.specs.Lookup.{Entry, entry_of, own_path, is_directory, file_at, known}
+use Rattle.lookup.specs.declared.set.Seen.{Seen}
+use Rattle.lookup.specs.declared.set.Seen.TheVariants.{Nothing, RegularFile, FlaggedLink}
 
 -- ---- the first pass
 
@@ -27,16 +29,16 @@ pub record First : Type 0 where
 -- where it names neither. A directory goes before a file of the same path
 abbrev pub settled : Bool → Seen → List ℕ → First → First
 settled true s t other = record { text = t; leads = true; walked = false }
-settled false link t other = record { text = t; leads = true; walked = false }
-settled false file t other = record { text = t; leads = false; walked = false }
-settled false nothing t other = other
+settled false FlaggedLink t other = record { text = t; leads = true; walked = false }
+settled false RegularFile t other = record { text = t; leads = false; walked = false }
+settled false Nothing t other = other
 
 -- a text as it was given: a file goes before a directory of the same path
 abbrev pub direct : Seen → Bool → List ℕ → First → First
-direct link d t other = record { text = t; leads = true; walked = false }
-direct file d t other = record { text = t; leads = false; walked = false }
-direct nothing true t other = record { text = t; leads = true; walked = false }
-direct nothing false t other = other
+direct FlaggedLink d t other = record { text = t; leads = true; walked = false }
+direct RegularFile d t other = record { text = t; leads = false; walked = false }
+direct Nothing true t other = record { text = t; leads = true; walked = false }
+direct Nothing false t other = other
 
 abbrev pub relative : List Entry → List (List ℕ) → Directory → List ℕ → First → First
 relative files dirs single t other = other
@@ -151,7 +153,7 @@ second_pass files dirs ls p r =
 abbrev pub clean_text : List Entry → List (List ℕ) → Entry → List ℕ
 clean_text files dirs f = second_pass files dirs (links_of files dirs files) (own_path f) (first_pass files dirs f)
 
-abbrev pub linked_to : Optional (List ℕ) → File → File
+abbrev pub linked_to : Option (List ℕ) → File → File
 linked_to t f =
     record {
       offset = f.offset;
@@ -167,7 +169,7 @@ linked_to t f =
 
 abbrev pub clean_file : List Entry → List (List ℕ) → File → File
 clean_file files dirs f =
-    cond (entry_of f).flagged (linked_to (present (clean_text files dirs (entry_of f))) f) f
+    cond (entry_of f).flagged (linked_to (Some (clean_text files dirs (entry_of f))) f) f
 
 -- the set after a cleaning: of each flagged link, the text; nothing else
 abbrev pub cleaned_of : Model → Model

@@ -11,7 +11,9 @@ use Rattle.tables.specs.Model.{Directory, single, absolute, stored, path_in, Sto
 use Rattle.rules.specs.Rules.{Rule, when, first_of}
 use Rattle.rules.specs.Bounds.{bad_length}
 use Rattle.rules.specs.Questions.{rows_are_held, dirs_held, text_held, few_entries, short}
-use Rattle.lookup.specs.Lookup.{Entry, own_path, Seen, nothing, file, link, is_directory, file_at, entries_of}
+use Rattle.lookup.specs.Lookup.{Entry, own_path, is_directory, file_at, entries_of}
+use Rattle.lookup.specs.declared.set.Seen.{Seen}
+use Rattle.lookup.specs.declared.set.Seen.TheVariants.{Nothing, RegularFile, FlaggedLink}
 use Rattle.lookup.specs.Lookup.{directories_of}
 use Rattle.lookup.specs.Space.{link_count, lacks_space}
 use Rattle.links.specs.declared.mark.LinkVerdict.{LinkVerdict}
@@ -66,15 +68,15 @@ walk_decides = 25
 
 abbrev pub settled_mark : Bool → Seen → ℕ → ℕ
 settled_mark true s other = from_directory_and_leads
-settled_mark false link other = from_directory_and_leads
-settled_mark false file other = from_directory
-settled_mark false nothing other = other
+settled_mark false FlaggedLink other = from_directory_and_leads
+settled_mark false RegularFile other = from_directory
+settled_mark false Nothing other = other
 
 abbrev pub direct_mark : Seen → Bool → ℕ → ℕ
-direct_mark link d other = keeps_text_and_leads
-direct_mark file d other = keeps_text
-direct_mark nothing true other = keeps_text_and_leads
-direct_mark nothing false other = other
+direct_mark FlaggedLink d other = keeps_text_and_leads
+direct_mark RegularFile d other = keeps_text
+direct_mark Nothing true other = keeps_text_and_leads
+direct_mark Nothing false other = other
 
 abbrev pub relative_mark : List Entry → List (List ℕ) → Directory → List ℕ → ℕ → ℕ
 relative_mark files dirs single t other = other

@@ -33,9 +33,10 @@ pub(crate) fn cut_in(
         pos }
 {
     let c = skipped_in(rows, dirs, text, frames, depth);
-    let mut i = c + lists::saturating_sub_usize(pos, c);
+    let mut i = c + pos.saturating_sub(c);
     let mut k = depth;
     let mut at = i;
+    // Stays: the loop ends where the path does, whose length is not at hand, so that `i` has no range.
     while has_byte(rows, dirs, text, frames, k, at) {
         let p = seek(rows, dirs, text, frames, k, at);
         if path_byte(rows, dirs, text, frames, p.k, p.at) == b'/' {

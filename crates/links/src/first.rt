@@ -15,11 +15,12 @@ use crate::mark::{
     WALK_DECIDES,
 };
 use crate::scan::{dir_in, file_in};
-use lookup::{file_at, is_directory, is_link, link_text};
+use lookup::{Seen, file_at, is_directory, is_link, link_text};
 use rope::{FRAME_WIDTH, lead_length};
 use tables::FileStorage;
 
 // The mark of a link whose text from its directory is the part.
+// Stays: marks are lent bytes, so a mark is a number.
 fn settled_mark(
     fs: FileStorage,
     rows: &[u64],
@@ -42,14 +43,11 @@ fn settled_mark(
     if dir_in(fs, rows, dirs, text, frames, part, head) {
         return FROM_DIRECTORY_AND_LEADS;
     }
-    let seen = file_in(fs, rows, dirs, text, frames, part, head);
-    if seen == 2 {
-        return FROM_DIRECTORY_AND_LEADS;
+    match file_in(fs, rows, dirs, text, frames, part, head) {
+        Seen::FlaggedLink => FROM_DIRECTORY_AND_LEADS,
+        Seen::RegularFile => FROM_DIRECTORY,
+        Seen::Nothing => WALK_DECIDES,
     }
-    if seen == 1 {
-        return FROM_DIRECTORY;
-    }
-    WALK_DECIDES
 }
 
 // The mark of link i, whose text names nothing of the set as given: its text from its directory is a path of one frame.
@@ -86,17 +84,16 @@ fn first_mark(fs: FileStorage, rows: &[u64], dirs: &[u64], text: &[u8], i: usize
     if path::is_complete(t) {
         return OWN_PATH_TAKEN;
     }
-    let seen = file_at(fs, rows, dirs, text, t);
-    if seen == 2 {
-        return KEEPS_TEXT_AND_LEADS;
+    match file_at(fs, rows, dirs, text, t) {
+        Seen::FlaggedLink => KEEPS_TEXT_AND_LEADS,
+        Seen::RegularFile => KEEPS_TEXT,
+        Seen::Nothing => {
+            if is_directory(fs, dirs, text, t) {
+                return KEEPS_TEXT_AND_LEADS;
+            }
+            relative_mark(fs, rows, dirs, text, i)
+        }
     }
-    if seen == 1 {
-        return KEEPS_TEXT;
-    }
-    if is_directory(fs, dirs, text, t) {
-        return KEEPS_TEXT_AND_LEADS;
-    }
-    relative_mark(fs, rows, dirs, text, i)
 }
 
 // Sets mark k where file i is a flagged link, and gives the number of marks that the file has, 1 or 0.
@@ -119,7 +116,7 @@ fn mark_one(
 {
     if is_link(rows, i) {
         let m = first_mark(fs, rows, dirs, text, i);
-        lists::put_byte(marks, k, m);
+        lists::put(marks, k, m);
         return 1;
     }
     0
@@ -138,10 +135,8 @@ pub(crate) fn first_marks(
         ≡ sets marks.old 0
         (first_marks_in (lent fs rows.now dirs.now text.now)) }
 {
-    let mut i = 0;
     let mut k = 0;
-    while i < fs.num_files {
+    for i in 0..fs.num_files {
         k += mark_one(fs, rows, dirs, text, marks, i, k);
-        i += 1;
     }
 }

@@ -42,17 +42,15 @@ fn drop_front(
         ≡ drop count (held_path rows.now dirs.now text.now frames.old depth) }
     ensures upper_bound { result ≤ depth }
 {
-    let mut k = depth;
     let mut left = count;
-    while 0 < k {
-        let n = text_left(rows, dirs, text, frames, k - 1);
-        let t = tail_in(frames, k - 1);
+    for k in (0..depth).rev() {
+        let n = text_left(rows, dirs, text, frames, k);
+        let t = tail_in(frames, k);
         if is_in(left, n, t) {
-            advance(frames, k - 1, left);
-            return k;
+            advance(frames, k, left);
+            return k + 1;
         }
         left = left - n - t;
-        k -= 1;
     }
     0
 }
@@ -85,7 +83,7 @@ fn lead_tail(rows: &[u64], dirs: &[u64], text: &[u8], v: u32) -> u32
     ensures { result ≡ cond (is_closed (leads rows.now dirs.now text.now v)) 0 1 }
 {
     let n = lead_length(rows, dirs, text, v);
-    if lead_byte(rows, dirs, text, v, lists::saturating_sub_usize(n, 1)) == b'/' {
+    if lead_byte(rows, dirs, text, v, n.saturating_sub(1)) == b'/' {
         return 0;
     }
     1

@@ -39,15 +39,14 @@ pub(crate) fn put_head(
     if buf.len() < part.e {
         return 0;
     }
-    let mut i = 0;
     let mut k = part.depth;
     let mut at = 0;
-    while i < part.e {
+    // Stays: each byte is sought from the place of the one before; the buffer is longer than the part.
+    for i in 0..part.e {
         let p = seek(rows, dirs, text, frames, k, at);
         buf[i] = path_byte(rows, dirs, text, frames, p.k, p.at);
         k = p.k;
         at = p.at + 1;
-        i += 1;
     }
     part.e
 }

@@ -2,7 +2,7 @@
 // first pass marks, and walks decide the rest, with frames in a local array. It relies on first.rt, second.rt, `lookup`
 // and the laws of proofs/Judgements.antt.
 ghost use Rattle.std.specs.Prelude.{◌&&◌, ◌≡◌, map, ◌*◌, ◌^◌, ◌<◌, ◌≤◌, length};
-ghost use Rattle.types.specs.Refusals.{usize_says};
+ghost use Rattle.types.specs.Refusals.{outcome};
 ghost use Rattle.rules.specs.Rules.{outcome_of};
 ghost use Rattle.rules.specs.Questions.{rows_are_held, dirs_held, text_held, few_entries};
 ghost use Rattle.lookup.specs.Space.{space, link_count};
@@ -14,20 +14,14 @@ use crate::first::first_marks;
 use crate::second::walk_links;
 use lookup::{count_links, lacks_space};
 use tables::FileStorage;
-use types::{Refusal, UsizeResult};
+use types::Refusal;
 
 // Whether the lent tables hold what the set counts.
 fn holds_tables(fs: FileStorage, rows: &[u64], dirs: &[u64], text: &[u8]) -> bool
     ensures { result ≡ (rows_are_held fs rows.now
         && (dirs_held fs dirs.now && text_held fs text.now)) }
 {
-    if rows.len() / 8 < fs.num_files {
-        return false;
-    }
-    if dirs.len() / 2 < fs.num_paths {
-        return false;
-    }
-    fs.text_len <= text.len()
+    fs.num_files <= rows.len() / 8 && fs.num_paths <= dirs.len() / 2 && fs.text_len <= text.len()
 }
 
 // Whether they do, and the set has no more files and directories than it may.
@@ -48,32 +42,30 @@ pub fn links_to_judge(
     marks: usize,
     scratch: usize,
     walk_path: usize,
-) -> UsizeResult
-    ensures { usize_says result ≡ outcome_of
+) -> Result<usize, Refusal>
+    ensures { outcome result ≡ outcome_of
         (judging_number (lent fs rows.now dirs.now text.now) marks scratch
         walk_path)
         (link_count (files_in fs rows.now dirs.now text.now)) }
 {
     if rules::is_bad_length(fs.piece_length) {
-        return UsizeResult::Err(Refusal::InvalidPieceLength);
+        return Err(Refusal::InvalidPieceLength);
     }
     if !is_held(fs, rows, dirs, text) {
-        return UsizeResult::Err(Refusal::NoRoom);
+        return Err(Refusal::NoRoom);
     }
     if lacks_space(fs, rows, dirs, text, marks, scratch, walk_path) {
-        return UsizeResult::Err(Refusal::NoRoom);
+        return Err(Refusal::NoRoom);
     }
-    UsizeResult::Ok(count_links(fs, rows))
+    Ok(count_links(fs, rows))
 }
 
 // Leaves of each mark the verdict alone.
 fn keep_verdicts(marks: &mut [u8])
     ensures { marks.new ≡ map verdict marks.old }
 {
-    let mut k = 0;
-    while k < marks.len() {
-        marks[k] = marks[k] / 8;
-        k += 1;
+    for mark in marks.iter_mut() {
+        *mark /= 8;
     }
 }
 
@@ -102,16 +94,12 @@ pub fn judge_links(
     marks: &mut [u8],
     scratch: usize,
     walk_path: usize,
-) -> UsizeResult
-    ensures { judged_of (usize_says result) marks.new
+) -> Result<usize, Refusal>
+    ensures { judged_of (outcome result) marks.new
         ≡ judged (lent fs rows.now dirs.now text.now) marks.old scratch
         walk_path }
 {
-    match links_to_judge(fs, rows, dirs, text, marks.len(), scratch, walk_path) {
-        UsizeResult::Ok(n) => {
-            judge(fs, rows, dirs, text, &mut marks[..n]);
-            UsizeResult::Ok(n)
-        }
-        UsizeResult::Err(e) => UsizeResult::Err(e),
-    }
+    let n = links_to_judge(fs, rows, dirs, text, marks.len(), scratch, walk_path)?;
+    judge(fs, rows, dirs, text, &mut marks[..n]);
+    Ok(n)
 }

@@ -5,14 +5,28 @@ ghost use Rattle.links.specs.Judging.{verdict_read};
 ghost use Rattle.links.specs.private.Walking.{lead, verdict, untraversed};
 
 // A link's text stays, becomes the link's own internal path, or becomes the text from the link's directory.
-#[derive(Drop)]
+#[derive(Clone, Copy, PartialEq, Eq)]
 pub enum LinkVerdict {
     Keep,
     OwnPath,
     FromDirectory,
 }
 
+// The verdict that a number is read as.
+impl From<u8> for LinkVerdict {
+    ghost from_gives = { λ number verdict. verdict ≡ verdict_read number };
+
+    fn from(number: u8) -> LinkVerdict {
+        match number {
+            VERDICT_KEEP => LinkVerdict::Keep,
+            VERDICT_OWN_PATH => LinkVerdict::OwnPath,
+            _ => LinkVerdict::FromDirectory,
+        }
+    }
+}
+
 // Verdicts as marks hold them; any other number is read as `FromDirectory`.
+// Stays: marks are lent bytes, so what they hold are numbers.
 pub(crate) const VERDICT_KEEP: u8 = 0;
 
 pub(crate) const VERDICT_OWN_PATH: u8 = 1;
@@ -37,28 +51,21 @@ pub(crate) const WALK_DECIDES: u8 = 25;
 pub(crate) fn lead_at(marks: &[u8], k: usize) -> u8
     ensures { result ≡ get_or (map lead marks.now) k 0 }
 {
-    lists::byte(marks, k) % 8
+    lists::item_or(marks, k, 0) % 8
 }
 
 // The verdict of mark k, 0 where there is none.
 pub(crate) fn verdict_at(marks: &[u8], k: usize) -> u8
     ensures { result ≡ verdict (get_or marks.now k 0) }
 {
-    lists::byte(marks, k) / 8
+    lists::item_or(marks, k, 0) / 8
 }
 
 // The verdict that mark k holds once links are judged; past the end of the marks, `Keep`.
 pub fn verdict_in(marks: &[u8], k: usize) -> LinkVerdict
     ensures { result ≡ verdict_read (get_or marks.now k 0) }
 {
-    let v = lists::byte(marks, k);
-    if v == VERDICT_KEEP {
-        return LinkVerdict::Keep;
-    }
-    if v == VERDICT_OWN_PATH {
-        return LinkVerdict::OwnPath;
-    }
-    LinkVerdict::FromDirectory
+    LinkVerdict::from(lists::item_or(marks, k, 0))
 }
 
 // Sets the lead of mark k and keeps its verdict; past the end it does nothing.
@@ -67,7 +74,7 @@ pub(crate) fn put_lead(marks: &mut [u8], k: usize, m: u8)
     ensures marks_after { map lead marks.new ≡ set (map lead marks.old) k m }
     ensures marks_unchanged { map verdict marks.new ≡ map verdict marks.old }
 {
-    lists::put_byte(marks, k, lists::byte(marks, k) / 8 * 8 + m);
+    lists::put(marks, k, lists::item_or(marks, k, 0) / 8 * 8 + m);
 }
 
 // Sets the verdict of mark k and keeps its lead; past the end it does nothing.
@@ -75,17 +82,14 @@ pub(crate) fn put_verdict(marks: &mut [u8], k: usize, v: u8)
     requires { v < 32 }
     ensures { marks.new ≡ set marks.old k (v * 8 + lead (get_or marks.old k 0)) }
 {
-    lists::put_byte(marks, k, v * 8 + lists::byte(marks, k) % 8);
+    lists::put(marks, k, v * 8 + lists::item_or(marks, k, 0) % 8);
 }
 
 // The lead m, untraversed.
 fn untraversed_lead(m: u8) -> u8
     ensures { result ≡ untraversed m }
 {
-    if m < 3 {
-        return m;
-    }
-    m - 2
+    if m < 3 { m } else { m - 2 }
 }
 
 // Makes all traversed leads untraversed.
@@ -93,10 +97,8 @@ pub(crate) fn reopen(marks: &mut [u8])
     ensures marks_after { map lead marks.new ≡ map untraversed (map lead marks.old) }
     ensures marks_unchanged { map verdict marks.new ≡ map verdict marks.old }
 {
-    let mut k = 0;
-    while k < marks.len() {
+    for k in 0..marks.len() {
         let m = untraversed_lead(lead_at(marks, k));
         put_lead(marks, k, m);
-        k += 1;
     }
 }

@@ -75,11 +75,11 @@ pub(crate) fn resolve(
     let mut buf = [0u8; HEAD_SIZE];
     let mut depth = 1;
     let mut e = cut_in(rows, dirs, text, frames, depth, 0);
+    // Stays: document 01 asks for this labelled exit from the nested scan.
     'walk: while has_byte(rows, dirs, text, frames, depth, e) {
-        let part = Part { depth: depth, e: e };
+        let part = Part { depth, e };
         let n = put_head(rows, dirs, text, frames, part, &mut buf);
-        let mut d = 0;
-        while d < fs.num_paths {
+        for d in 0..fs.num_paths {
             if covers_part(rows, dirs, text, frames, part, &buf[..n], d) {
                 let next = cut_in(rows, dirs, text, frames, depth, e + 1);
                 if next <= e {
@@ -88,11 +88,9 @@ pub(crate) fn resolve(
                 e = next;
                 continue 'walk;
             }
-            d += 1;
         }
-        let mut i = 0;
         let mut k = 0;
-        while i < fs.num_files {
+        for i in 0..fs.num_files {
             let m = lead_mark(fs, rows, dirs, text, marks, frames, part, &buf[..n], i, k);
             if m != 0 {
                 depth = traverse(rows, dirs, text, marks, frames, part, i, k, m);
@@ -100,14 +98,13 @@ pub(crate) fn resolve(
                 continue 'walk;
             }
             k += link_count(rows, i);
-            i += 1;
         }
         break;
     }
     if has_byte(rows, dirs, text, frames, depth, e) {
         return false;
     }
-    let part = Part { depth: depth, e: e };
+    let part = Part { depth, e };
     let n = put_head(rows, dirs, text, frames, part, &mut buf);
     known_in(fs, rows, dirs, text, frames, part, &buf[..n])
 }

@@ -4,14 +4,14 @@ ghost use Rattle.std.specs.Prelude.{◌≡◌, false, cond, List, map, ℕ, ◌+
 ghost use Rattle.lists.specs.Lists.{equal};
 ghost use Rattle.tables.specs.Rows.{row_at};
 ghost use Rattle.tables.specs.Model.{internal_path};
-ghost use Rattle.lookup.specs.Lookup.{is_directory, file_at, known, is_flagged, seen_code, lent, files_in, dirs_in};
+ghost use Rattle.lookup.specs.Lookup.{is_directory, file_at, known, is_flagged, lent, files_in, dirs_in};
 ghost use Rattle.lookup.specs.private.Rows.{entry_at, entries_from};
 ghost use Rattle.rope.specs.Rope.{front};
 ghost use Rattle.links.specs.private.Walking.{lead, any_at, lead_mark, Fronted};
 
 use crate::head::{Part, covers_part, own_part};
 use crate::mark::lead_at;
-use lookup::{is_link, link_count};
+use lookup::{Seen, is_link, link_count};
 use tables::FileStorage;
 
 // Whether a directory of the set covers the part.
@@ -29,12 +29,10 @@ pub(crate) fn dir_in(
         (front rows.now dirs.now text.now frames.now part.depth
         part.e) }
 {
-    let mut d = 0;
-    while d < fs.num_paths {
+    for d in 0..fs.num_paths {
         if covers_part(rows, dirs, text, frames, part, head, d) {
             return true;
         }
-        d += 1;
     }
     false
 }
@@ -47,14 +45,10 @@ fn may_stand(rows: &[u64], text: &[u8], part: Part, head: &[u8], i: usize) -> bo
         × ((dirs : List ℕ)
         → equal (internal_path dirs text.now (row_at rows.now i)) head.now ≡ false) }
 {
-    if head.len() == part.e {
-        return lookup::ends_with_name(rows, text, i, head);
-    }
-    true
+    head.len() != part.e || lookup::ends_with_name(rows, text, i, head)
 }
 
-// What stands at the part: 0 nothing, 1 a file, 2 a flagged link. Of files with one internal path the last counts, so
-// it goes from the last to the first.
+// What stands at the part. Of files with one internal path the last counts, so it goes from the last to the first.
 pub(crate) fn file_in(
     fs: FileStorage,
     rows: &[u64],
@@ -63,27 +57,24 @@ pub(crate) fn file_in(
     frames: &[u32],
     part: Part,
     head: &[u8],
-) -> u8
+) -> Seen
     requires { Fronted rows.now dirs.now text.now frames.now part.depth part.e head.now }
-    ensures { result ≡ seen_code
-        (file_at (files_in fs rows.now dirs.now text.now)
+    ensures { result ≡ file_at (files_in fs rows.now dirs.now text.now)
         (front rows.now dirs.now text.now frames.now part.depth
-        part.e)) }
+        part.e) }
 {
-    let mut k = 0;
-    while k < fs.num_files {
-        k += 1;
-        let i = fs.num_files - k;
-        if may_stand(rows, text, part, head, i) {
-            if own_part(rows, dirs, text, frames, part, head, i) {
-                if is_link(rows, i) {
-                    return 2;
-                }
-                return 1;
-            }
+    for i in (0..fs.num_files).rev() {
+        if may_stand(rows, text, part, head, i)
+            && own_part(rows, dirs, text, frames, part, head, i)
+        {
+            return if is_link(rows, i) {
+                Seen::FlaggedLink
+            } else {
+                Seen::RegularFile
+            };
         }
     }
-    0
+    Seen::Nothing
 }
 
 // Whether a file or a directory of the set stands at the part.
@@ -102,10 +93,10 @@ pub(crate) fn known_in(
         (front rows.now dirs.now text.now frames.now part.depth
         part.e) }
 {
-    if file_in(fs, rows, dirs, text, frames, part, head) != 0 {
-        return true;
+    match file_in(fs, rows, dirs, text, frames, part, head) {
+        Seen::RegularFile | Seen::FlaggedLink => true,
+        Seen::Nothing => dir_in(fs, rows, dirs, text, frames, part, head),
     }
-    dir_in(fs, rows, dirs, text, frames, part, head)
 }
 
 // Whether file i is a flagged link that leads on, by mark k, and stands at the part, traversed or not.
@@ -162,19 +153,18 @@ fn has_link(
         (front rows.now dirs.now text.now frames.now part.depth
         part.e) }
 {
-    let mut i = i0;
     let mut k = k0;
-    while i < fs.num_files {
+    for i in i0..fs.num_files {
         if is_link_at(rows, dirs, text, marks, frames, part, head, i, k) {
             return true;
         }
         k += link_count(rows, i);
-        i += 1;
     }
     false
 }
 
 // The lead of link i with mark k, if a walk may go through that link at the part and no later one is there; else 0.
+// Stays: a lead is a number as the bytes of marks hold it, and 0 there leads nowhere.
 pub(crate) fn lead_mark(
     fs: FileStorage,
     rows: &[u64],

@@ -41,9 +41,10 @@ fn verdict_by(resolved: bool) -> u8
     ensures { result ≡ cond resolved verdict_keep verdict_own_path }
 {
     if resolved {
-        return VERDICT_KEEP;
+        VERDICT_KEEP
+    } else {
+        VERDICT_OWN_PATH
     }
-    VERDICT_OWN_PATH
 }
 
 // The second pass on file i: a walk decides mark k where the first pass left it to one. Gives the number of marks that
@@ -94,10 +95,8 @@ pub(crate) fn walk_links(
         × Bounded (lent fs rows.now dirs.now text.now) (length frames.old) }
     ensures { map verdict marks.new ≡ verdicts (lent fs rows.now dirs.now text.now) }
 {
-    let mut i = 0;
     let mut k = 0;
-    while i < fs.num_files {
+    for i in 0..fs.num_files {
         k += walk_one(fs, rows, dirs, text, marks, frames, i, k);
-        i += 1;
     }
 }

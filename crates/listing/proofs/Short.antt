@@ -1,6 +1,7 @@
 -- The listing of every input is at most 262144 bytes long, the length of the buffer that `setlist` lends: a file's path is
 -- at most twice as long as its line and one byte more, a pad's is short, and there are at most 400 files. Relies on the
 -- laws of Printed.antt and Steps.antt.
+use Rattle.std.specs.Prelude.{Option, Some, None}
 use Prim.Native.Nat.{ℕ, suc, ◌+◌, ◌*◌, ◌%◌, ◌≤◌}
 use mathlib.Core.Path.{◌≡◌, refl, sym, ap, subst, ◌∙◌}
 use mathlib.Core.Bool.{Bool, true, false, cond, not, ◌&&◌, ◌||◌}
@@ -16,7 +17,7 @@ use Rattle.lists.proofs.Decimals.{decimal-few, column-length}
 use Rattle.types.specs.Refusals.{Outcome, value, refused}
 use Rattle.path.specs.Split.{is_separator, is_complete, trimmed_from, trimmed, before_last, after_last, after_first, rsplit_branch, rsplit_leaf, lsplit_first, lsplit_rest, has_parent_path}
 use Rattle.path.specs.Join.{is_empty}
-use Rattle.tables.specs.Model.{Optional, absent, present, Directory, single, absolute, stored, File, Model}
+use Rattle.tables.specs.Model.{Directory, single, absolute, stored, File, Model}
 use Rattle.rules.specs.Rules.{first_of}
 use Rattle.rules.specs.Bounds.{limit, is_negative, bad_length}
 use Rattle.additions.specs.Addition.{Addition, limited_name, bad_name, disagree, files_of, without_leading, directory_under, path_name, stored_name, directory_added, new_name, file_added, pad_added, pad_directory_name, pad_of, size_added, added, lacks, text_of, adding_rules, added_to}
@@ -89,17 +90,17 @@ name-few : (path : List ℕ) → length (path_name path) ≤ length path
 name-few path = cond-few (is_complete path) path (rsplit_leaf path) (length path) (omega arith) (leaf-part-few path)
 
 -- the length of an internal path
-module _ (offset size : ℕ) (name : List ℕ) (flags : ℕ) (time : ℤ) (link root : Optional (List ℕ)) (made : Bool) where
+module _ (offset size : ℕ) (name : List ℕ) (flags : ℕ) (time : ℤ) (link root : Option (List ℕ)) (made : Bool) where
   inside-few : (d : Directory) → length (internal_path (record { offset = offset; size = size; name = name; directory = d; flags = flags; time = time; link = link; root = root; made = made })) ≤ directory_length d + 1 + length name
   unfolding directory_length
   inside-few single = omega arith
   inside-few absolute = omega arith
   inside-few (stored d outside) = joined-few d name
 
-added-path-few : (m : Model) (a : Addition) → a.given ≡ absent → length (internal_path (file_added m a)) ≤ 2 * length a.path + 1
+added-path-few : (m : Model) (a : Addition) → a.given ≡ None → length (internal_path (file_added m a)) ≤ 2 * length a.path + 1
 added-path-few m a e =
     let f = file_added m a in
-    let n : f.name ≡ path_name a.path = ap (λ (g : Optional (List ℕ)). stored_name g a.path) e in
+    let n : f.name ≡ path_name a.path = ap (λ (g : Option (List ℕ)). stored_name g a.path) e in
     omega (
       arith,
       inside-few f.offset f.size f.name f.flags f.time f.link f.root f.made (directory_added m a),
@@ -126,13 +127,13 @@ pad-few false offset size pad h = omega arith
 pads-few : (offset size : ℕ) → paths_length (pad_added offset size) ≤ 26 * length (pad_added offset size)
 pads-few offset size =
     pad-few (eqb size 0) offset size
-    (record { offset = offset; size = size; name = decimal size; directory = stored pad_directory_name false; flags = 1; time = pos 0; link = absent; root = absent; made = true })
+    (record { offset = offset; size = size; name = decimal size; directory = stored pad_directory_name false; flags = 1; time = pos 0; link = None; root = None; made = true })
     (omega (arith, joined-few pad_directory_name (decimal size), decimal-few size))
 
 length-files : (fs gs : List File) → length (fs ++ gs) ≡ length fs + length gs
 length-files fs gs = length-append fs gs
 
-added-few : (m : Model) (a : Addition) → a.given ≡ absent → paths_length (added m a).files + 26 * files_of m ≤ paths_length m.files + 2 * length a.path + 26 * files_of (added m a)
+added-few : (m : Model) (a : Addition) → a.given ≡ None → paths_length (added m a).files + 26 * files_of m ≤ paths_length m.files + 2 * length a.path + 26 * files_of (added m a)
 unfolding paths_length
 added-few m a e =
     let pads = pad_added (m.total + size_added a) (pad_of m a) in
@@ -260,7 +261,7 @@ step-few : (l : List ℕ) (ls : List (List ℕ)) (line : ℕ) (m n : Model)
     → Bounded m n (length l + lines_length ls)
 step-few l ls line m n ih e = reads (file_in l) refl e
   where
-    goes : (f : FileEntry) → file_in l ≡ present f → (o : Outcome Model) → added_to places m (addition_of f) ≡ o → go_on o (line + 1) (λ x. run_from places (line + 1) x ls) ≡ listed n → Bounded m n (length l + lines_length ls)
+    goes : (f : FileEntry) → file_in l ≡ Some f → (o : Outcome Model) → added_to places m (addition_of f) ≡ o → go_on o (line + 1) (λ x. run_from places (line + 1) x ls) ≡ listed n → Bounded m n (length l + lines_length ls)
     goes f q (refused k) p r = let z : ◌≡◌ {A = ℕ} 0 1 = cc in absurd (omega arith)
     goes f q (value x) p r =
         let a = addition_of f in
@@ -272,9 +273,9 @@ step-few l ls line m n ih e = reads (file_in l) refl e
           paths = omega (arith, b.paths, g, ap length (path-is l f q), length-drop 19 l);
         }
 
-    reads : (o : Optional FileEntry) → file_in l ≡ o → read_as o (line + 1) (λ f. go_on (added_to places m (addition_of f)) (line + 1) (λ x. run_from places (line + 1) x ls)) ≡ listed n → Bounded m n (length l + lines_length ls)
-    reads absent q r = let z : ◌≡◌ {A = ℕ} 0 1 = cc in absurd (omega arith)
-    reads (present f) q r = goes f q (added_to places m (addition_of f)) refl r
+    reads : (o : Option FileEntry) → file_in l ≡ o → read_as o (line + 1) (λ f. go_on (added_to places m (addition_of f)) (line + 1) (λ x. run_from places (line + 1) x ls)) ≡ listed n → Bounded m n (length l + lines_length ls)
+    reads None q r = let z : ◌≡◌ {A = ℕ} 0 1 = cc in absurd (omega arith)
+    reads (Some f) q r = goes f q (added_to places m (addition_of f)) refl r
 
 ends-few : (b : Bool) (line : ℕ) (m n : Model) → files_of m ≤ 400 → cond b (stopped 13 line) (listed m) ≡ listed n → Bounded m n 0
 ends-few true line m n h e = let z : ◌≡◌ {A = ℕ} 0 1 = cc in absurd (omega arith)
@@ -287,10 +288,10 @@ unfolding run_from lines_length
 run-few [] line m n h e = ends-few (ltb 2147483647 (ceiling m.total m.piece_length)) line m n h e
 run-few (l ∷ ls) line m n h e = step-few l ls line m n (λ x k r. run-few ls (line + 1) x n k r) e
 
-opened-few : (ls : List (List ℕ)) (o : Optional ℕ) (n : Model) → read_as o 1 (λ k. go_on (opened_as k) 1 (λ x. run_from places 1 x ls)) ≡ listed n → (files_of n ≤ 400) × (paths_length n.files ≤ 2 * lines_length ls + 26 * files_of n)
+opened-few : (ls : List (List ℕ)) (o : Option ℕ) (n : Model) → read_as o 1 (λ k. go_on (opened_as k) 1 (λ x. run_from places 1 x ls)) ≡ listed n → (files_of n ≤ 400) × (paths_length n.files ≤ 2 * lines_length ls + 26 * files_of n)
 unfolding paths_length
-opened-few ls absent n e = let z : ◌≡◌ {A = ℕ} 0 1 = cc in absurd (omega arith)
-opened-few ls (present k) n e = opens (eqb k 0) e
+opened-few ls None n e = let z : ◌≡◌ {A = ℕ} 0 1 = cc in absurd (omega arith)
+opened-few ls (Some k) n e = opens (eqb k 0) e
   where
     opens : (b : Bool) → go_on (cond b (refused 1) (value (new_model k))) 1 (λ x. run_from places 1 x ls) ≡ listed n → (files_of n ≤ 400) × (paths_length n.files ≤ 2 * lines_length ls + 26 * files_of n)
     opens true q = let z : ◌≡◌ {A = ℕ} 0 1 = cc in absurd (omega arith)

@@ -1,5 +1,6 @@
 -- Laws of the run: what a line's numbers are bounded by, and what a line that is obeyed or refused does to the rest of the
 -- run. They rely on the laws of `sound` for additions.
+use Rattle.std.specs.Prelude.{Option, Some, None}
 use Prim.Native.Nat.{ℕ, ◌+◌, ◌-◌, ◌%◌, ◌≤◌, ◌<◌, ◌^◌}
 use mathlib.Core.Path.{◌≡◌, refl, sym, ap, subst, ◌∙◌}
 use mathlib.Core.Bool.{Bool, true, false, cond, ◌&&◌}
@@ -15,7 +16,7 @@ use Rattle.types.specs.declared.refusal.Refusal.TheVariants.{TooManyPieces}
 use Rattle.types.specs.Refusals.{Outcome, value, refused}
 use Rattle.tables.specs.declared.storage.FileStorage.{FileStorage}
 use Rattle.tables.specs.Entry.{presence_if}
-use Rattle.tables.specs.Model.{Optional, absent, present, present_if, Model, Store, view_of, store_of}
+use Rattle.tables.specs.Model.{present_if, Model, Store, view_of, store_of}
 use Rattle.rules.specs.Rules.{outcome_of}
 use Rattle.additions.specs.Addition.{Addition, added, added_to, optional_of}
 use Rattle.change.specs.declared.rooms.Rooms.{Rooms}
@@ -31,7 +32,7 @@ use Rattle.listing_input.specs.Form.{FileEntry, lines, provided, only_if, number
 use Rattle.listing.specs.Run.{addition_of, counted, go_on, opened_as, read_as, run_from, run, places}
 use Rattle.listing_output.specs.Output.{Run, listed, stopped}
 use Rattle.listing_input.specs.Answers.{first_line}
-use Rattle.listing.specs.declared.run.RunResult.TheVariants.{Listed, Stopped}
+use Rattle.std.specs.Prelude.{Ok, Err}
 use Rattle.listing.specs.private.Steps.{opened_by, obeyed, counted_by, run_says, Placed}
 use Rattle.listing_input.proofs.Reading.{number_small, first-take, lines_next}
 
@@ -41,30 +42,30 @@ nil_is [] e = refl
 nil_is (c ∷ l) e = absurd (omega arith)
 
 -- a number that passed the test of the piece length
-length-small : (b : Bool) (o : Optional ℕ) (n : ℕ) → present n ≡ provided b (only_if (λ m. leb m 2147483647) o) → n ≤ 2147483647
+length-small : (b : Bool) (o : Option ℕ) (n : ℕ) → Some n ≡ provided b (only_if (λ m. leb m 2147483647) o) → n ≤ 2147483647
 length-small false o n e = let z : ◌≡◌ {A = ℕ} 0 1 = cc in absurd (omega arith)
-length-small true absent n e = let z : ◌≡◌ {A = ℕ} 0 1 = cc in absurd (omega arith)
-length-small true (present m) n e = at (leb m 2147483647) refl e
+length-small true None n e = let z : ◌≡◌ {A = ℕ} 0 1 = cc in absurd (omega arith)
+length-small true (Some m) n e = at (leb m 2147483647) refl e
   where
-    at : (b : Bool) → leb m 2147483647 ≡ b → present n ≡ present_if b m → n ≤ 2147483647
+    at : (b : Bool) → leb m 2147483647 ≡ b → Some n ≡ present_if b m → n ≤ 2147483647
     at true q p = let z : n ≡ m = cc in omega (arith, leb-true m 2147483647 q)
     at false q p = let z : ◌≡◌ {A = ℕ} 0 1 = cc in absurd (omega arith)
 
-pub piece-length-is : (line : List ℕ) (n : ℕ) → present n ≡ piece_length_in line → n % 2 ^ 31 ≡ n
+pub piece-length-is : (line : List ℕ) (n : ℕ) → Some n ≡ piece_length_in line → n % 2 ^ 31 ≡ n
 piece-length-is line n e = mod-eq_of_lt (omega (arith, length-small (eqb (length line) 10) (number_in line) n e))
 
 -- the size in a file line
-abbrev size_in : Optional FileEntry → ℕ
-size_in absent = 0
-size_in (present e) = e.size
+abbrev size_in : Option FileEntry → ℕ
+size_in None = 0
+size_in (Some e) = e.size
 
-size_small : (b : Bool) (o f : Optional ℕ) (path : List ℕ) → ((n : ℕ) → o ≡ present n → n < 1000000000000000) → size_in (provided b (entry_of o f path)) < 1000000000000000
+size_small : (b : Bool) (o f : Option ℕ) (path : List ℕ) → ((n : ℕ) → o ≡ Some n → n < 1000000000000000) → size_in (provided b (entry_of o f path)) < 1000000000000000
 size_small false o f path h = omega arith
-size_small true absent f path h = omega arith
-size_small true (present n) absent path h = omega arith
-size_small true (present n) (present m) path h = h n refl
+size_small true None f path h = omega arith
+size_small true (Some n) None path h = omega arith
+size_small true (Some n) (Some m) path h = h n refl
 
-pub size_is : (line : List ℕ) (size flags : ℕ) → present (record { size = size; flags = flags; path = drop 19 line }) ≡ file_in line → size % 2 ^ 63 ≡ size
+pub size_is : (line : List ℕ) (size flags : ℕ) → Some (record { size = size; flags = flags; path = drop 19 line }) ≡ file_in line → size % 2 ^ 63 ≡ size
 size_is line size flags e =
     let q : size ≡ size_in (file_in line) = ap size_in e in
     let b =
@@ -74,25 +75,25 @@ size_is line size flags e =
     mod-eq_of_lt (omega (arith, q))
 
 -- the path of a file line stands from place 19 on
-path-at : (b : Bool) (o f : Optional ℕ) (path : List ℕ) (e : FileEntry) → provided b (entry_of o f path) ≡ present e → e.path ≡ path
+path-at : (b : Bool) (o f : Option ℕ) (path : List ℕ) (e : FileEntry) → provided b (entry_of o f path) ≡ Some e → e.path ≡ path
 path-at false o f path e h = let z : ◌≡◌ {A = ℕ} 0 1 = cc in absurd (omega arith)
-path-at true absent f path e h = let z : ◌≡◌ {A = ℕ} 0 1 = cc in absurd (omega arith)
-path-at true (present n) absent path e h = let z : ◌≡◌ {A = ℕ} 0 1 = cc in absurd (omega arith)
-path-at true (present n) (present m) path e h =
+path-at true None f path e h = let z : ◌≡◌ {A = ℕ} 0 1 = cc in absurd (omega arith)
+path-at true (Some n) None path e h = let z : ◌≡◌ {A = ℕ} 0 1 = cc in absurd (omega arith)
+path-at true (Some n) (Some m) path e h =
     let z : record { size = n; flags = m; path = path } ≡ e = cc in
     sym (ap (λ (x : FileEntry). x.path) z)
 
-pub path-is : (line : List ℕ) (e : FileEntry) → file_in line ≡ present e → e.path ≡ drop 19 line
+pub path-is : (line : List ℕ) (e : FileEntry) → file_in line ≡ Some e → e.path ≡ drop 19 line
 path-is line e h =
     path-at (leb 19 (length line) && (eqb (get_or line 15 0) 32 && eqb (get_or line 18 0) 32))
     (number_in (part_of line 0 15)) (only_if are_flags (number_in (part_of line 16 2))) (drop 19 line) e h
 
 -- a root that flags give has 32 bytes
-root-at : (b : Bool) (r : List ℕ) → present_if b (replicate 32 1) ≡ present r → length r ≡ 32
+root-at : (b : Bool) (r : List ℕ) → present_if b (replicate 32 1) ≡ Some r → length r ≡ 32
 root-at true r e = let q : replicate 32 1 ≡ r = cc in sym (ap length q)
 root-at false r e = let z : ◌≡◌ {A = ℕ} 0 1 = cc in absurd (omega arith)
 
-root_is : (e : FileEntry) (r : List ℕ) → (addition_of e).root ≡ present r → length r ≡ 32
+root_is : (e : FileEntry) (r : List ℕ) → (addition_of e).root ≡ Some r → length r ≡ 32
 root_is e r p = root-at (leb 16 e.flags) r p
 
 -- what flags say of a root, as a call brings it
@@ -105,7 +106,7 @@ pub counted_is : (fs : FileStorage) (rows roots dirs text : List ℕ) (line : �
     → run_says (counted_by fs line) rows roots dirs text ≡ counted line (view_of (store_of fs rows roots [] dirs text))
 counted_is fs rows roots dirs text line = at (ltb 2147483647 (ceiling fs.total_size fs.piece_length))
   where
-    at : (b : Bool) → run_says (cond b (Stopped TooManyPieces line) (Listed fs)) rows roots dirs text ≡ cond b (stopped 13 line) (listed (view_of (store_of fs rows roots [] dirs text)))
+    at : (b : Bool) → run_says (cond b (Err (record { refusal = TooManyPieces; line = line })) (Ok fs)) rows roots dirs text ≡ cond b (stopped 13 line) (listed (view_of (store_of fs rows roots [] dirs text)))
     at true = refl
     at false = refl
 
@@ -132,7 +133,7 @@ module _ (s : Store) (p : Placed s.rows s.roots s.dirs s.text) (ok : Sound s) (p
   next-is = refl
 
   -- the rest of the run, by what the line says
-  abbrev after : Optional FileEntry → Run
+  abbrev after : Option FileEntry → Run
   after o = read_as o (line + 1) (λ e. go_on (added_to places (view_of s) (addition_of e)) (line + 1) (λ next. run_from places (line + 1) next ls))
 
   -- the rest of the run, by what an addition answers
@@ -153,7 +154,7 @@ module _ (s : Store) (p : Placed s.rows s.roots s.dirs s.text) (ok : Sound s) (p
         at true q = let z : ◌≡◌ {A = ℕ} 0 1 = cc in absurd (omega arith)
         at false q = let z : k ≡ adding_number s (view_of s) a = cc in ap (λ (n : ℕ). stopped n (line + 1)) z
 
-    go-added : ((r : List ℕ) → a.root ≡ present r → length r ≡ 32) → (fs : FileStorage) → (add_stored s a).says ≡ value fs
+    go-added : ((r : List ℕ) → a.root ≡ Some r → length r ≡ 32) → (fs : FileStorage) → (add_stored s a).says ≡ value fs
         → Sound (new_store fs (add_stored s a)) × (fs.indexed ≡ false) × (run_from places (line + 1) (view_of (new_store fs (add_stored s a))) ls ≡ onward (added_to places (view_of s) a))
     go-added root fs e =
         let r = at (eqb (adding_number s (view_of s) a) 0) refl e in (r.0, r.1, r.2 ∙ sym (ap onward (adding-is a)))
@@ -170,14 +171,14 @@ module _ (s : Store) (p : Placed s.rows s.roots s.dirs s.text) (ok : Sound s) (p
             )
         at false t q = let z : ◌≡◌ {A = ℕ} 0 1 = cc in absurd (omega arith)
 
-  stop-at : (o : Optional FileEntry) (k : ℕ) → (obeyed o s).says ≡ refused k → stopped k (line + 1) ≡ after o
-  stop-at absent k e = let q : k ≡ 17 = cc in ap (λ (n : ℕ). stopped n (line + 1)) q
-  stop-at (present f) k e = stop-added (addition_of f) k e
+  stop-at : (o : Option FileEntry) (k : ℕ) → (obeyed o s).says ≡ refused k → stopped k (line + 1) ≡ after o
+  stop-at None k e = let q : k ≡ 17 = cc in ap (λ (n : ℕ). stopped n (line + 1)) q
+  stop-at (Some f) k e = stop-added (addition_of f) k e
 
-  go-at : (o : Optional FileEntry) (fs : FileStorage) → (obeyed o s).says ≡ value fs
+  go-at : (o : Option FileEntry) (fs : FileStorage) → (obeyed o s).says ≡ value fs
       → Sound (new_store fs (obeyed o s)) × (fs.indexed ≡ false) × (run_from places (line + 1) (view_of (new_store fs (obeyed o s))) ls ≡ after o)
-  go-at absent fs e = let z : ◌≡◌ {A = ℕ} 0 1 = cc in absurd (omega arith)
-  go-at (present f) fs e = go-added (addition_of f) (root_is f) fs e
+  go-at None fs e = let z : ◌≡◌ {A = ℕ} 0 1 = cc in absurd (omega arith)
+  go-at (Some f) fs e = go-added (addition_of f) (root_is f) fs e
 
 -- a line is no longer than what is left of the input
 pub line-few : (input : List ℕ) (at : ℕ) → length (first_line (drop at input)) ≤ length input - at
@@ -253,9 +254,9 @@ module _ (input : List ℕ) where
     pub first_stops : (j : ℕ) → opened_by (piece_length_in (part_of input 0 n)) ≡ refused j → stopped j 1 ≡ run places input
     first_stops j o = stop (piece_length_in (part_of input 0 n)) o ∙ run-first
       where
-        stop : (x : Optional ℕ) → opened_by x ≡ refused j → stopped j 1 ≡ read_as x 1 (λ m. go_on (opened_as m) 1 (λ y. run_from places 1 y (lines (drop (n + 1) input))))
-        stop absent q = let z : j ≡ 17 = cc in ap (λ (i : ℕ). stopped i 1) z
-        stop (present m) q = at (eqb m 0) q
+        stop : (x : Option ℕ) → opened_by x ≡ refused j → stopped j 1 ≡ read_as x 1 (λ m. go_on (opened_as m) 1 (λ y. run_from places 1 y (lines (drop (n + 1) input))))
+        stop None q = let z : j ≡ 17 = cc in ap (λ (i : ℕ). stopped i 1) z
+        stop (Some m) q = at (eqb m 0) q
           where
             at : (b : Bool) → cond b (refused 1) (value (new_storage m false)) ≡ refused j → stopped j 1 ≡ go_on (cond b (refused 1) (value (new_model m))) 1 (λ y. run_from places 1 y (lines (drop (n + 1) input)))
             at true r = let z : j ≡ 1 = cc in ap (λ (i : ℕ). stopped i 1) z
@@ -264,9 +265,9 @@ module _ (input : List ℕ) where
     pub first_goes : (fs : FileStorage) → opened_by (piece_length_in (part_of input 0 n)) ≡ value fs → (m : ℕ) × (fs ≡ new_storage m false) × (run_from places 1 (new_model m) (lines (drop (n + 1) input)) ≡ run places input)
     first_goes fs o = let r = go (piece_length_in (part_of input 0 n)) o in (r.0, r.1, r.2 ∙ run-first)
       where
-        go : (x : Optional ℕ) → opened_by x ≡ value fs → (m : ℕ) × (fs ≡ new_storage m false) × (run_from places 1 (new_model m) (lines (drop (n + 1) input)) ≡ read_as x 1 (λ i. go_on (opened_as i) 1 (λ y. run_from places 1 y (lines (drop (n + 1) input)))))
-        go absent q = let z : ◌≡◌ {A = ℕ} 0 1 = cc in absurd (omega arith)
-        go (present m) q = let r = at (eqb m 0) q in (m, r.0, r.1)
+        go : (x : Option ℕ) → opened_by x ≡ value fs → (m : ℕ) × (fs ≡ new_storage m false) × (run_from places 1 (new_model m) (lines (drop (n + 1) input)) ≡ read_as x 1 (λ i. go_on (opened_as i) 1 (λ y. run_from places 1 y (lines (drop (n + 1) input)))))
+        go None q = let z : ◌≡◌ {A = ℕ} 0 1 = cc in absurd (omega arith)
+        go (Some m) q = let r = at (eqb m 0) q in (m, r.0, r.1)
           where
             at : (b : Bool) → cond b (refused 1) (value (new_storage m false)) ≡ value fs → (fs ≡ new_storage m false) × (run_from places 1 (new_model m) (lines (drop (n + 1) input)) ≡ go_on (cond b (refused 1) (value (new_model m))) 1 (λ y. run_from places 1 y (lines (drop (n + 1) input))))
             at true r = let z : ◌≡◌ {A = ℕ} 0 1 = cc in absurd (omega arith)

@@ -1,9 +1,9 @@
 -- Document 01, 'The listing': what `setlist` prints for an input. Its lines are read as `listing_input` says and obeyed
 -- on the model, by opening as `storage` and adding as `additions` say; the set that results, or the refusal and its
 -- line, is printed as `listing_output` says.
-use Rattle.std.specs.Prelude.{ℕ, ◌+◌, ◌%◌, cond, List, [], ◌∷◌, eqb, ltb, leb, pos, length, replicate}
+use Rattle.std.specs.Prelude.{ℕ, ◌+◌, ◌%◌, cond, List, [], ◌∷◌, eqb, ltb, leb, pos, length, replicate, Option, Some, None}
 use Rattle.types.specs.Refusals.{Outcome, value, refused}
-use Rattle.tables.specs.Model.{Optional, absent, present, present_if, Model}
+use Rattle.tables.specs.Model.{present_if, Model}
 use Rattle.additions.specs.Addition.{Addition, added_to}
 use Rattle.change.specs.declared.rooms.Rooms.{Rooms}
 use Rattle.storage.specs.Opening.{new_model}
@@ -15,9 +15,9 @@ abbrev pub counted : ℕ → Model → Run
 counted line m = cond (ltb 2147483647 (pieces m)) (stopped 13 line) (listed m)
 
 -- what was read from line `line`, and the run that follows; 17 where the line is out of form
-abbrev pub read_as : {A : Type 0} → Optional A → ℕ → (A → Run) → Run
-read_as absent line next = stopped 17 line
-read_as (present a) line next = next a
+abbrev pub read_as : {A : Type 0} → Option A → ℕ → (A → Run) → Run
+read_as None line next = stopped 17 line
+read_as (Some a) line next = next a
 
 -- the set after line `line`, and the run that follows; a refused line ends it
 abbrev pub go_on : Outcome Model → ℕ → (Model → Run) → Run
@@ -28,7 +28,7 @@ go_on (refused k) line next = stopped k line
 abbrev pub addition_of : FileEntry → Addition
 addition_of e =
     record {
-      given = absent;
+      given = None;
       path = e.path;
       size = pos e.size;
       flags = e.flags % 8;

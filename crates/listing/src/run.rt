@@ -1,11 +1,11 @@
 // The run: lines are obeyed one by one, and the first refusal of any kind ends it. Relies on `listing_input`
 // for the lines, on `storage` for opening and additions, and on the laws of proofs/Steps.antt.
 ghost use Rattle.std.specs.Prelude.{◌≡◌, false, [], leb, ◌+◌, ◌≤◌, length, drop};
-ghost use Rattle.types.specs.Refusals.{usize_says};
+ghost use Rattle.types.specs.Refusals.{outcome};
 ghost use Rattle.path.specs.Join.{Joined};
 ghost use Rattle.tables.specs.Entry.{presence_if};
 ghost use Rattle.tables.specs.Model.{view_of, store_of};
-ghost use Rattle.change.specs.Changes.{Changed, storage_says};
+ghost use Rattle.change.specs.Changes.{Changed};
 ghost use Rattle.sound.specs.Sound.{Sound};
 ghost use Rattle.listing_input.specs.Form.{lines, piece_length_in, file_in};
 ghost use Rattle.listing_output.specs.Printing.{put_text};
@@ -13,30 +13,28 @@ ghost use Rattle.listing.specs.Run.{run, run_from, places, listing};
 ghost use Rattle.listing.specs.private.Steps.{opened_by, obeyed, stopped_by, counted_by, run_says, Placed};
 
 use additions::FileInfo;
-use change::StorageResult;
-use listing_input::{FileLine, Number, file_in, line_length, piece_length_in};
+use listing_input::{FileLine, file_in, line_length, piece_length_in};
 use listing_output::{put_refusal, put_set};
 use tables::{FileStorage, Presence, Sha256Hash};
-use types::{Refusal, UsizeResult};
+use types::Refusal;
 
-// How a run ends: with a set, or with a refusal and its line.
-#[derive(Drop)]
-pub(crate) enum RunResult {
-    Listed(FileStorage),
-    Stopped(Refusal, usize),
+// The refusal that ends a run, and the line that it carries.
+#[derive(Clone, Copy)]
+pub(crate) struct Stop {
+    pub refusal: Refusal,
+    pub line: usize,
 }
 
 // Obeys the first line: a set with its piece length.
-fn open_line(line: &[u8]) -> StorageResult
-    ensures { storage_says result ≡ opened_by (piece_length_in line.now) }
+fn open_line(line: &[u8]) -> Result<FileStorage, Refusal>
+    ensures { outcome result ≡ opened_by (piece_length_in line.now) }
 {
-    let Number::Of(n) = piece_length_in(line) else {
-        return StorageResult::Err(Refusal::ParseFailed);
-    };
+    let n = piece_length_in(line).ok_or(Refusal::ParseFailed)?;
     storage::open(types::signed32(n))
 }
 
 // Whether flags give a root.
+// Stays: document 01 asks for an enum of presence beside a root.
 fn rooted_by(flags: u64) -> Presence
     ensures { result ≡ presence_if (leb 16 flags) }
 {
@@ -54,10 +52,10 @@ fn add_line(
     dirs: &mut [u64],
     text: &mut [u8],
     line: &[u8],
-) -> StorageResult
+) -> Result<FileStorage, Refusal>
     ensures { ◌≡◌ {A = Changed}
         (record {
-          says = storage_says result;
+          says = outcome result;
           rows = rows.new;
           roots = roots.new;
           firsts = [];
@@ -68,10 +66,7 @@ fn add_line(
         (store_of fs rows.old roots.old [] dirs.old
         text.old)) }
 {
-    let FileLine::Of(size, flags) = file_in(line) else {
-        return StorageResult::Err(Refusal::ParseFailed);
-    };
-    let none = lists::part(line, 0, 0);
+    let FileLine { size, flags } = file_in(line).ok_or(Refusal::ParseFailed)?;
     let path = lists::part(line, 19, line.len());
     let bytes = [1u8; 32];
     let file = FileInfo {
@@ -91,31 +86,31 @@ fn add_line(
         dirs,
         text,
         file,
-        none,
+        &[],
         path,
-        none,
+        &[],
     )
 }
 
-// The run that a refused line ends. Its callers hand on refusals only, but `let else` hands on the whole answer: the
-// other arm is never reached.
-fn stopped_by(answer: StorageResult, line: usize) -> RunResult
+// The end of a run by the refusal of a line, which carries the line.
+fn stopped_by(answer: Result<FileStorage, Refusal>, line: usize) -> Result<FileStorage, Stop>
     ensures { result ≡ stopped_by answer line }
 {
-    match answer {
-        StorageResult::Err(e) => RunResult::Stopped(e, line),
-        StorageResult::Ok(_) => RunResult::Stopped(Refusal::ParseFailed, line),
-    }
+    let refusal = answer.err().unwrap_or(Refusal::ParseFailed);
+    Err(Stop { refusal, line })
 }
 
 // The run that ends after the last line: refusal 13 where there are too many pieces.
-fn counted_by(fs: FileStorage, line: usize) -> RunResult
+fn counted_by(fs: FileStorage, line: usize) -> Result<FileStorage, Stop>
     ensures { result ≡ counted_by fs line }
 {
     if 2147483647 < lists::div_ceil(fs.total_size, fs.piece_length) {
-        return RunResult::Stopped(Refusal::TooManyPieces, line);
+        return Err(Stop {
+            refusal: Refusal::TooManyPieces,
+            line,
+        });
     }
-    RunResult::Listed(fs)
+    Ok(fs)
 }
 
 // Obeys the file lines from position `from` of the input on; the first of them is line 2.
@@ -127,7 +122,7 @@ fn add_lines(
     roots: &mut [u8],
     dirs: &mut [u64],
     text: &mut [u8],
-) -> RunResult
+) -> Result<FileStorage, Stop>
     requires placed { Placed rows.old roots.old dirs.old text.old }
     requires sound { Sound (store_of fs rows.old roots.old [] dirs.old text.old) }
     requires indexed_value { fs.indexed ≡ false }
@@ -142,11 +137,13 @@ fn add_lines(
     let mut set = fs;
     let mut at = from;
     let mut line = 1;
+    // Stays: the library's `split` would give an empty line after the last line feed.
     while at < input.len() {
         let n = line_length(input, at);
         line += 1;
         let answer = add_line(set, rows, roots, dirs, text, lists::part(input, at, n));
-        let StorageResult::Ok(next) = answer else {
+        // Stays: document 01 asks that each line's answer is taken apart by let else.
+        let Ok(next) = answer else {
             return stopped_by(answer, line);
         };
         set = next;
@@ -162,28 +159,34 @@ fn run_input(
     roots: &mut [u8],
     dirs: &mut [u64],
     text: &mut [u8],
-) -> RunResult
+) -> Result<FileStorage, Stop>
     requires { Placed rows.old roots.old dirs.old text.old }
     ensures { run_says result rows.new roots.new dirs.new text.new ≡
         run places input.now }
 {
     if 65536 < input.len() {
-        return RunResult::Stopped(Refusal::ParseFailed, 0);
+        return Err(Stop {
+            refusal: Refusal::ParseFailed,
+            line: 0,
+        });
     }
     if input.len() == 0 {
-        return RunResult::Stopped(Refusal::ParseFailed, 1);
+        return Err(Stop {
+            refusal: Refusal::ParseFailed,
+            line: 1,
+        });
     }
     let n = line_length(input, 0);
     let answer = open_line(lists::part(input, 0, n));
-    let StorageResult::Ok(fs) = answer else {
+    let Ok(fs) = answer else {
         return stopped_by(answer, 1);
     };
     add_lines(input, n + 1, fs, rows, roots, dirs, text)
 }
 
 // The listing of an input, at the start of `out`, and its length; refusal 10 where `out` is too short.
-pub fn list(input: &[u8], out: &mut [u8]) -> UsizeResult
-    ensures { ◌≡◌ {A = Joined} (record { says = usize_says result; buf = out.new })
+pub fn list(input: &[u8], out: &mut [u8]) -> Result<usize, Refusal>
+    ensures { ◌≡◌ {A = Joined} (record { says = outcome result; buf = out.new })
         (put_text (listing input.now) out.old) }
 {
     let mut rows = [0u64; 3200];
@@ -192,7 +195,7 @@ pub fn list(input: &[u8], out: &mut [u8]) -> UsizeResult
     let mut text = [0u8; 65536];
     let ended = run_input(input, &mut rows, &mut roots, &mut dirs, &mut text);
     match ended {
-        RunResult::Listed(fs) => put_set(fs, &rows, &dirs, &text, out),
-        RunResult::Stopped(refusal, line) => put_refusal(refusal, line, out),
+        Ok(fs) => put_set(fs, &rows, &dirs, &text, out),
+        Err(stop) => put_refusal(stop.refusal, stop.line, out),
     }
 }

@@ -1,22 +1,26 @@
--- Laws of reading: how the lines of an input follow from its first line, one place of each scan, and how large a number
--- of 15 columns is.
+-- Laws of reading: what the library's searches find, how the lines of an input follow from its first line, and how large a
+-- number of 15 columns is.
+use Rattle.std.specs.Prelude.{Option, Some, None}
 use Prim.Native.Nat.{ℕ, suc, ◌+◌, ◌-◌, ◌*◌, ◌^◌, ◌≤◌, ◌<◌}
 use mathlib.Core.Path.{◌≡◌, refl, sym, ap, ◌∙◌}
-use mathlib.Core.Bool.{Bool, true, false, cond, ◌&&◌, ◌||◌}
+use mathlib.Core.Bool.{Bool, true, false, not, cond, ◌||◌}
 use mathlib.Core.List.{List, [], ◌∷◌, ◌++◌, append-nil, append_assoc}
 use native.Mathlib.Omega.{arith}
 use native.Mathlib.Nat.{mul_assoc, pow-succ', pow-le-pow_right}
-use native.Mathlib.Numerals.{add-one}
 use lib.Dec.{eqb, ltb, leb}
-use lib.ListN.{length, get_or, take, drop, drop_of_length-le}
+use lib.ListN.{length, take, drop}
 use lib.Seq.{drop-cons, drop-drop}
-use borrow.Author.Tests.{eq-eqb, ne_eqb, leb-true}
+use borrow.Author.Tests.{leb-true}
+use Rattle.std.specs.List.{position_or_len, list_all}
+use Rattle.std.specs.Option.{unwrap_or}
+use Rattle.std.proofs.lemmas.List.Recursion.{is_position_or_len}
+use Rattle.std.proofs.lemmas.List.Sums.{prefix_len-le-length}
 use Rattle.lists.specs.Lists.{part_of}
 use Rattle.lists.specs.Decimal.{value_from}
 use Rattle.path.specs.Join.{is_empty}
-use Rattle.tables.specs.Model.{Optional, absent, present, present_if}
+use Rattle.tables.specs.Model.{present_if}
 use Rattle.rules.proofs.Rules.{both_true}
-use Rattle.listing_input.specs.Form.{lines_from, lines, unblanked, is_digit, are_digits, is_number, number_in, only_if}
+use Rattle.listing_input.specs.Form.{lines_from, lines, unblanked, is_digit, are_digits, is_number, number_in}
 use Rattle.listing_input.specs.Answers.{first_line}
 
 -- what stands after the first line feed
@@ -24,31 +28,25 @@ abbrev pub after_line : List ℕ → List ℕ
 after_line [] = []
 after_line (c ∷ t) = cond (eqb c 10) t (after_line t)
 
--- one place of the scan for a line feed
-module _ (l : List ℕ) (i : ℕ) (h : i < length l) where
-  pub line-turn : (get_or l i 0 ≡ 10 → ⊥) → length (first_line (drop i l)) ≡ suc (length (first_line (drop (i + 1) l)))
-  line-turn e = rw (add-one i, drop-cons l i 0 h, ne_eqb (get_or l i 0) 10 e)
+-- the library's search for a byte, by the place that it finds
+found-by : (b : Bool) (k n : ℕ) (r : Option ℕ) → b ≡ ltb k n → k ≤ n → r ≡ cond b (Some k) None → unwrap_or r n ≡ k
+found-by true k n r e h q = rw q
+found-by false k n r e h q = grind (arith, e, q)
 
-  pub line-stop : get_or l i 0 ≡ 10 → length (first_line (drop i l)) ≡ 0
-  line-stop e = rw (drop-cons l i 0 h, eq-eqb (get_or l i 0) 10 e)
+line_step : (b : Bool) (c : ℕ) (f : List ℕ) → length (cond b [] (c ∷ f)) ≡ cond b 0 (1 + length f)
+line_step true c f = refl
+line_step false c f = omega arith
 
-  pub blank_turn : get_or l i 0 ≡ 32 → unblanked (drop i l) ≡ unblanked (drop (i + 1) l)
-  blank_turn e = rw (add-one i, drop-cons l i 0 h, e)
+-- the length of the first line
+pub line_found : (l : List ℕ) (r : Option ℕ) → r ≡ cond (ltb (position_or_len (λ c. eqb c 10) l) (length l)) (Some (position_or_len (λ c. eqb c 10) l)) None → unwrap_or r (length l) ≡ length (first_line l)
+line_found l r e =
+    found-by (ltb (position_or_len (λ c. eqb c 10) l) (length l)) (position_or_len (λ c. eqb c 10) l) (length l) r refl (prefix_len-le-length (λ c. not (eqb c 10)) l) e
+    ∙ sym (is_position_or_len (λ s. length (first_line s)) (λ c. eqb c 10) refl (λ c t. line_step (eqb c 10) c (first_line t)) l)
 
-  pub blank-stop : (get_or l i 0 ≡ 32 → ⊥) → unblanked (drop i l) ≡ drop i l
-  blank-stop e = rw (drop-cons l i 0 h, ne_eqb (get_or l i 0) 32 e)
-
-  pub digits-turn : is_digit (get_or l i 0) ≡ true → are_digits (drop i l) ≡ are_digits (drop (i + 1) l)
-  digits-turn e = rw (add-one i, drop-cons l i 0 h, e)
-
-  pub digits-stop : is_digit (get_or l i 0) ≡ false → are_digits (drop i l) ≡ false
-  digits-stop e = rw (drop-cons l i 0 h, e)
-
-  pub value-turn : (v : ℕ) → value_from v (drop i l) ≡ value_from (10 * v + (get_or l i 0 - 48)) (drop (i + 1) l)
-  value-turn v = rw (add-one i, drop-cons l i 0 h)
-
-pub line-end : (l : List ℕ) (i : ℕ) → length l ≤ i → length (first_line (drop i l)) ≡ 0
-line-end l i h = rw (drop_of_length-le l {i = i} h)
+-- whether all bytes are digits
+pub digits_all : (l : List ℕ) → list_all is_digit l ≡ are_digits l
+digits_all [] = refl
+digits_all (c ∷ t) = rw (digits_all t)
 
 -- the first line, and what stands after it
 take_step : (b : Bool) (c : ℕ) (t f : List ℕ) → take (length f) t ≡ f → take (length (cond b [] (c ∷ f))) (c ∷ t) ≡ cond b [] (c ∷ f)
@@ -91,27 +89,7 @@ lines-from line (c ∷ t) h =
     (lines-from (line ++ (c ∷ [])) t (filled_is line c t))
     ∙ rw (lines_rest (eqb c 10) t (after_line t))
 
--- whether bytes are a number, by their first byte and how many they are
-one-is : (t : List ℕ) → is_empty t ≡ eqb (suc (length t)) 1
-one-is [] = refl
-one-is (c ∷ t) = sym (ne_eqb (suc (length (c ∷ t))) 1 (λ e. omega arith))
-
-pub number_is : (l : List ℕ) → (length l ≡ 0 → ⊥) → is_number l ≡ (are_digits l && (ltb 48 (get_or l 0 0) || eqb (length l) 1))
-number_is [] h = absurd (h refl)
-number_is (c ∷ t) h = rw (one-is t)
-
-pub number-none : (l : List ℕ) → length l ≡ 0 → is_number l ≡ false
-number-none [] h = refl
-number-none (c ∷ t) h = absurd (omega arith)
-
-pub number-no : (l : List ℕ) → are_digits l ≡ false → is_number l ≡ false
-number-no [] h = refl
-number-no (c ∷ t) h = rw h
-
--- a byte after the digits of a number below 23 * 10 ^ i − 22
-pub value-more : (v i d : ℕ) → v + 23 ≤ 23 * 10 ^ i → d ≤ 207 → 10 * v + d + 23 ≤ 23 * 10 ^ (i + 1)
-value-more v i d h k = rw (add-one i, pow-succ' 10 i) (omega arith)
-
+-- a number whose i digits are bytes fits
 pub value-few : (v i : ℕ) → v + 23 ≤ 23 * 10 ^ i → i ≤ 15 → v ≤ 23000000000000000
 value-few v i h k = omega (arith, pow-le-pow_right {n = 10} (omega arith) {i = i} {j = 15} k)
 
@@ -146,25 +124,14 @@ number_digits : (l : List ℕ) → is_number l ≡ true → are_digits l ≡ tru
 number_digits [] e = refl
 number_digits (c ∷ t) e = (both_true (are_digits (c ∷ t)) (ltb 48 c || is_empty t) e).0
 
-present-if : (b : Bool) (v n : ℕ) → present_if b v ≡ present n → (b ≡ true) × (v ≡ n)
+present-if : (b : Bool) (v n : ℕ) → present_if b v ≡ Some n → (b ≡ true) × (v ≡ n)
 present-if true v n e = (refl, cc)
 present-if false v n e = let z : ◌≡◌ {A = ℕ} 0 1 = cc in absurd (omega arith)
 
 -- a number of at most 15 columns is below 10 ^ 15
-pub number_small : (column : List ℕ) (n : ℕ) → length column ≤ 15 → number_in column ≡ present n → n < 1000000000000000
+pub number_small : (column : List ℕ) (n : ℕ) → length column ≤ 15 → number_in column ≡ Some n → n < 1000000000000000
 number_small column n h e =
     let u = unblanked column in
     let p = present-if (is_number u) (value_from 0 u) n e in
     let b = value-below 0 1 u (number_digits u p.0) (omega arith) in
     omega (arith, p.1, pow-le-pow_right {n = 10} (omega arith) {i = length u} {j = 15} (omega (arith, length-unblanked column)))
-
--- a number that passes a test, or not
-module _ (f : ℕ → Bool) (o : Optional ℕ) where
-  pub only_none : absent ≡ o → absent ≡ only_if f o
-  only_none e = ap (only_if f) e
-
-  pub only_yes : (n : ℕ) → present n ≡ o → f n ≡ true → present n ≡ only_if f o
-  only_yes n e t = sym (ap (λ (b : Bool). present_if b n) t) ∙ ap (only_if f) e
-
-  pub only_no : (n : ℕ) → present n ≡ o → f n ≡ false → absent ≡ only_if f o
-  only_no n e t = sym (ap (λ (b : Bool). present_if b n) t) ∙ ap (only_if f) e

@@ -1,101 +1,54 @@
-// Reading the lines of an input: numbers in columns, the piece length and file lines. Relies on `lists`
-// and on the laws of proofs/Reading.antt.
-ghost use Rattle.std.specs.Prelude.{◌≡◌, ◌-◌, ◌≤◌, length, drop};
+// Reading the lines of an input: numbers in columns, the piece length and file lines. Relies on the laws of
+// proofs/Reading.antt.
+ghost use Rattle.std.specs.Prelude.{◌≡◌, ◌≤◌, length, drop};
 ghost use Rattle.lists.specs.Decimal.{value_from};
-ghost use Rattle.listing_input.specs.Form.{unblanked, is_digit, are_digits, is_number, number_in, only_if};
+ghost use Rattle.listing_input.specs.Form.{unblanked, are_digits, is_number, number_in, only_if};
 ghost use Rattle.listing_input.specs.Form.{piece_length_in, are_flags, file_in};
-ghost use Rattle.listing_input.specs.Answers.{first_line, number_says, file_says};
+ghost use Rattle.listing_input.specs.Answers.{first_line, file_says};
 
-// A number, or nothing where none can be read.
+// The size and the flags of a file line, whose path stands from position 19 on.
 #[derive(Drop)]
-pub enum Number {
-    Of(u64),
-    Nothing,
-}
-
-// The size and the flags of a file line, whose path stands from position 19 on, or nothing.
-#[derive(Drop)]
-pub enum FileLine {
-    Of(u64, u64),
-    Nothing,
+pub struct FileLine {
+    pub size: u64,
+    pub flags: u64,
 }
 
 // The length of the line that begins at position `at`: up to a line feed, or to the input's end.
 pub fn line_length(input: &[u8], at: usize) -> usize
     ensures { result ≡ length (first_line (drop at input.now)) }
 {
-    let mut i = at;
-    while i < input.len() {
-        if input[i] == b'\n' {
-            return i - at;
-        }
-        i += 1;
-    }
-    i - at
+    let rest = &input[at.min(input.len())..];
+    rest.iter().position(|c| *c == b'\n').unwrap_or(rest.len())
 }
 
 // A column without the blanks at its start.
 fn unblank(column: &[u8]) -> &[u8]
-    ensures { result.now ≡ unblanked column.now }
+    ensures value { result.now ≡ unblanked column.now }
+    ensures within { length result.now ≤ length column.now }
 {
-    let mut i = 0;
-    while i < column.len() {
-        if column[i] != b' ' {
-            return lists::part(column, i, column.len());
-        }
-        i += 1;
+    let mut rest = column;
+    // Stays: it counts no index, and std's `trim_ascii_start` takes more than blanks.
+    while let [b' ', more @ ..] = rest {
+        rest = more;
     }
-    lists::part(column, i, column.len())
-}
-
-// Whether a byte is a digit.
-fn is_digit(byte: u8) -> bool
-    ensures { result ≡ is_digit byte }
-{
-    if 48 <= byte {
-        return byte <= 57;
-    }
-    false
+    rest
 }
 
 // Whether all bytes are digits.
 fn are_digits(bytes: &[u8]) -> bool
     ensures { result ≡ are_digits bytes.now }
 {
-    let mut i = 0;
-    while i < bytes.len() {
-        if !is_digit(bytes[i]) {
-            return false;
-        }
-        i += 1;
-    }
-    true
+    bytes.iter().all(|c| c.is_ascii_digit())
 }
 
 // Whether bytes are a number: digits, the first of them no zero unless it is the only one.
 fn is_number(bytes: &[u8]) -> bool
     ensures { result ≡ is_number bytes.now }
 {
-    if bytes.len() == 0 {
+    let [first, rest @ ..] = bytes else {
         return false;
-    }
-    if !are_digits(bytes) {
-        return false;
-    }
-    if 48 < bytes[0] {
-        return true;
-    }
-    bytes.len() == 1
-}
-
-// What a digit is worth.
-fn worth(byte: u8) -> u64
-    ensures { result ≡ byte - 48 }
-{
-    if byte < 48 {
-        return 0;
-    }
-    (byte - 48) as u64
+    };
+    are_digits(bytes) && (b'0' < *first || rest.is_empty())
 }
 
 // The number that at most 15 digits stand for.
@@ -104,87 +57,57 @@ fn value_of(digits: &[u8]) -> u64
     ensures { result ≡ value_from 0 digits.now }
 {
     let mut v = 0;
-    let mut i = 0;
-    while i < digits.len() {
-        v = 10 * v + worth(digits[i]);
-        i += 1;
+    for c in digits {
+        v = 10 * v + u64::from(c.saturating_sub(b'0'));
     }
     v
 }
 
 // The number in a column, right-justified.
-fn number_in(column: &[u8]) -> Number
+fn number_in(column: &[u8]) -> Option<u64>
     requires { length column.now ≤ 15 }
-    ensures { number_says result ≡ number_in column.now }
+    ensures { result ≡ number_in column.now }
 {
     let digits = unblank(column);
     if is_number(digits) {
-        return Number::Of(value_of(digits));
+        return Some(value_of(digits));
     }
-    Number::Nothing
+    None
 }
 
 // The piece length in the first line.
-pub fn piece_length_in(line: &[u8]) -> Number
-    ensures { number_says result ≡ piece_length_in line.now }
+pub fn piece_length_in(line: &[u8]) -> Option<u64>
+    ensures { result ≡ piece_length_in line.now }
 {
     if line.len() != 10 {
-        return Number::Nothing;
+        return None;
     }
-    let Number::Of(n) = number_in(line) else {
-        return Number::Nothing;
-    };
-    if n <= 2147483647 {
-        return Number::Of(n);
-    }
-    Number::Nothing
+    number_in(line).filter(|n| *n <= 2147483647)
 }
 
 // Whether a number is a sum of 1, 2, 4 and 16.
 fn are_flags(n: u64) -> bool
     ensures { result ≡ are_flags n }
 {
-    if n < 8 {
-        return true;
-    }
-    if 16 <= n {
-        return n < 24;
-    }
-    false
+    n < 8 || (16 <= n && n < 24)
 }
 
 // The flags in a column.
-fn flags_in(column: &[u8]) -> Number
+fn flags_in(column: &[u8]) -> Option<u64>
     requires { length column.now ≤ 15 }
-    ensures { number_says result ≡ only_if are_flags (number_in column.now) }
+    ensures { result ≡ only_if are_flags (number_in column.now) }
 {
-    let Number::Of(n) = number_in(column) else {
-        return Number::Nothing;
-    };
-    if are_flags(n) {
-        return Number::Of(n);
-    }
-    Number::Nothing
+    number_in(column).filter(|n| are_flags(*n))
 }
 
 // The size and the flags in a file line.
-pub fn file_in(line: &[u8]) -> FileLine
+pub fn file_in(line: &[u8]) -> Option<FileLine>
     ensures { file_says result line.now ≡ file_in line.now }
 {
-    if line.len() < 19 {
-        return FileLine::Nothing;
+    if line.len() < 19 || line[15] != b' ' || line[18] != b' ' {
+        return None;
     }
-    if line[15] != b' ' {
-        return FileLine::Nothing;
-    }
-    if line[18] != b' ' {
-        return FileLine::Nothing;
-    }
-    let Number::Of(size) = number_in(lists::part(line, 0, 15)) else {
-        return FileLine::Nothing;
-    };
-    let Number::Of(flags) = flags_in(lists::part(line, 16, 2)) else {
-        return FileLine::Nothing;
-    };
-    FileLine::Of(size, flags)
+    let size = number_in(&line[..15])?;
+    let flags = flags_in(&line[16..18])?;
+    Some(FileLine { size, flags })
 }

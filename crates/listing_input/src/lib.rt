@@ -1,7 +1,7 @@
 // Reading the input of the listing of document 01: its lines, and the numbers, flags and paths in them.
-// Relies on `lists` for parts of a line; specs/Form.antt says what form a line has.
+// specs/Form.antt says what form a line has.
 #![tactic(auto)]
 
 mod form;
 
-pub use form::{FileLine, Number, file_in, line_length, piece_length_in};
+pub use form::{FileLine, file_in, line_length, piece_length_in};

@@ -1,4 +1,5 @@
 -- Laws of printing: runs of columns and texts are written one after the other, and a path is joined in the rest of a buffer.
+use Rattle.std.specs.Prelude.{Result}
 use Prim.Native.Nat.{ℕ, zero, suc, ◌+◌, ◌-◌, ◌%◌, ◌≤◌, ◌<◌}
 use mathlib.Core.Path.{◌≡◌, refl, sym, ap, ◌∙◌}
 use mathlib.Core.Bool.{Bool, true, false, cond, not, ◌&&◌}
@@ -8,17 +9,15 @@ use lib.Dec.{eqb}
 use native.Mathlib.Numerals.{add-one}
 use lib.ListN.{length, take, drop, set, length-append, length-take, length-drop, drop_of_length-le}
 use lib.Seq.{sets, drop-cons}
-use borrow.Author.Tests.{le-leb, lt-leb}
+use borrow.Author.Tests.{le-leb}
 use Rattle.lists.specs.Lists.{ceiling}
 use Rattle.lists.specs.Decimal.{column}
 use Rattle.lists.proofs.Decimals.{column-length}
 use Rattle.lists.proofs.Runs.{sets-append}
 use Rattle.path.specs.Join.{is_alone, is_empty, is_closed, appended, Joined, joined_if, fits}
-use Rattle.path.proofs.Joins.{refused-is, written_is}
-use Rattle.types.specs.Refusals.{number_of, value, refused, usize_says}
+use Rattle.path.proofs.Joins.{written_is}
+use Rattle.types.specs.Refusals.{value, outcome}
 use Rattle.types.specs.declared.refusal.Refusal.{Refusal}
-use Rattle.types.specs.declared.refusal.UsizeResult.{UsizeResult}
-use Rattle.types.specs.declared.refusal.UsizeResult.TheVariants as usize
 use Rattle.tables.specs.declared.rows.Row.{Row}
 use Rattle.tables.specs.declared.span.Span.{Span}
 use Rattle.tables.specs.Span.{text_at}
@@ -63,25 +62,13 @@ joined-few d n = at (is_alone d) (is_empty n) (is_closed d)
     at false false false = omega (arith, length-append d (47 ∷ n))
 
 -- a join in the rest of a buffer, which has room for it
-module _ (out d n x : List ℕ) (at : ℕ) (r : UsizeResult) (h : at + length (appended d n) ≤ length out)
-    (e : ◌≡◌ {A = Joined} (record { says = usize_says r; buf = x }) (joined_if (fits (appended d n) (take (length out - at) (drop at out))) (appended d n) (take (length out - at) (drop at out)))) where
-  joined : ◌≡◌ {A = Joined} (record { says = usize_says r; buf = x }) (record { says = value (length (appended d n)); buf = sets (take (length out - at) (drop at out)) 0 (appended d n) })
+module _ (out d n x : List ℕ) (at : ℕ) (r : Result ℕ Refusal) (h : at + length (appended d n) ≤ length out)
+    (e : ◌≡◌ {A = Joined} (record { says = outcome r; buf = x }) (joined_if (fits (appended d n) (take (length out - at) (drop at out))) (appended d n) (take (length out - at) (drop at out)))) where
+  joined : ◌≡◌ {A = Joined} (record { says = outcome r; buf = x }) (record { says = value (length (appended d n)); buf = sets (take (length out - at) (drop at out)) 0 (appended d n) })
   joined = e ∙ rw (le-leb (length (appended d n)) (length (take (length out - at) (drop at out))) (omega (arith, length-take (length out - at) (drop at out), length-drop at out)))
-
-  pub joined-value : (k : ℕ) → r ≡ usize.Ok k → at + k ≡ at + length (appended d n)
-  joined-value k q =
-      let s : value k ≡ value (length (appended d n)) = ap usize_says (sym q) ∙ ap (λ (j : Joined). j.says) joined in
-      let z : k ≡ length (appended d n) = cc in
-      omega (arith, z)
 
   pub joined-text : x ≡ sets (take (length out - at) (drop at out)) 0 (appended d n)
   joined-text = ap (λ (j : Joined). j.buf) joined
-
-  pub joined-always : (k : Refusal) → r ≡ usize.Err k → ⊥
-  joined-always k q =
-      let s : refused (number_of k) ≡ value (length (appended d n)) = ap usize_says (sym q) ∙ ap (λ (j : Joined). j.says) joined in
-      let z : ◌≡◌ {A = ℕ} 0 1 = cc in
-      omega arith
 
 -- how long texts are
 pub four-length : (a b c width d last : ℕ) → length (four_columns a b c width d last) ≡ 36 + width
@@ -149,6 +136,10 @@ module _ (fs : FileStorage) (rows dirs text : List ℕ) (i : ℕ) where
   next-length h =
       rw (next-line h, length-append (row_line dirs text i (row_at rows i)) (lines_from fs rows dirs text (i + 1)), row-line-length dirs text i (row_at rows i))
 
+  -- the same, by what was measured of a row that was read
+  pub measured : i < fs.num_files → (n : ℕ) (r : Row) → n ≡ length (row_path dirs text r) → r ≡ row_at rows i → length (lines_from fs rows dirs text i) ≡ 39 + n + length (lines_from fs rows dirs text (i + 1))
+  measured h n r e q = rw (e, q) (next-length h)
+
   pub no_line : fs.num_files ≤ i → lines_from fs rows dirs text i ≡ []
   no_line h = lines_end fs.num_files (file_of (bare fs rows dirs text)) i h
 
@@ -160,9 +151,6 @@ module _ (fs : FileStorage) (rows dirs text : List ℕ) (i : ℕ) where
 
 -- a text that is put where it fits, or refused
 module _ (text out : List ℕ) where
-  pub put-no : length out < length text → ◌≡◌ {A = Joined} (record { says = refused 10; buf = out }) (put_text text out)
-  put-no h = refused-is (fits text out) text out (lt-leb (length text) (length out) h)
-
   pub put-yes : (n : ℕ) (x : List ℕ) → length text ≤ length out → n ≡ length text → x ≡ sets out 0 text → ◌≡◌ {A = Joined} (record { says = value n; buf = x }) (put_text text out)
   put-yes n x h e k = written_is (fits text out) text out n x (le-leb (length text) (length out) h) e k
 

@@ -2,7 +2,7 @@
 // decided first and written after. Relies on `lists`, `path`, `tables` and the laws of proofs/Printed.antt.
 ghost use Rattle.std.specs.Prelude.{◌≡◌, ◌+◌, ◌≤◌, ◌<◌, length};
 ghost use Rattle.std.proofs.lemmas.List.Edits.{sets};
-ghost use Rattle.types.specs.Refusals.{usize_says, number_of};
+ghost use Rattle.types.specs.Refusals.{number_of, outcome};
 ghost use Rattle.path.specs.Join.{Joined, appended};
 ghost use Rattle.listing_output.specs.Output.{printed, listed, stopped};
 ghost use Rattle.listing_output.specs.private.Lines.{four_columns, row_directory, row_path, row_line};
@@ -10,7 +10,7 @@ ghost use Rattle.listing_output.specs.private.Lines.{lines_of, left_in};
 ghost use Rattle.listing_output.specs.Printing.{shown, put_text};
 
 use tables::{FileStorage, Row};
-use types::{Refusal, UsizeResult};
+use types::Refusal;
 
 // Writes numbers in columns of 5, 15, 15 and `width` from position `at` on, and a byte after them.
 fn put_columns(out: &mut [u8], at: usize, a: u64, b: u64, c: u64, width: usize, d: u64, last: u8)
@@ -21,7 +21,7 @@ fn put_columns(out: &mut [u8], at: usize, a: u64, b: u64, c: u64, width: usize, 
     lists::put_column(out, at + 5, 15, b);
     lists::put_column(out, at + 20, 15, c);
     lists::put_column(out, at + 35, width, d);
-    lists::put_byte(out, at + 35 + width, last);
+    lists::put(out, at + 35 + width, last);
 }
 
 // Writes the path of a directory and a name from position `at` on, and gives the position after it. The rest of
@@ -32,13 +32,11 @@ fn put_path(out: &mut [u8], at: usize, dir: &[u8], name: &[u8]) -> usize
     ensures out_after { out.new ≡
         sets out.old at (appended dir.now name.now) }
 {
-    match path::join_path(dir, name, &mut out[at..]) {
-        UsizeResult::Ok(n) => at + n,
-        UsizeResult::Err(_) => at,
-    }
+    at + path::join_path(dir, name, &mut out[at..]).unwrap_or(0)
 }
 
 // The text of a row's directory, of no bytes where the row has none.
+// Stays: its twin is in `lookup`, which this crate does not use; the body is one call.
 fn directory_in<'a>(dirs: &[u64], text: &'a [u8], row: Row) -> &'a [u8]
     ensures { result.now ≡ row_directory dirs.now text.now row }
 {
@@ -78,31 +76,21 @@ fn put_row_line(out: &mut [u8], at: usize, i: usize, dirs: &[u64], text: &[u8], 
         directory_in(dirs, text, row),
         tables::text_at(text, row.name),
     );
-    lists::put_byte(out, end, b'\n');
+    lists::put(out, end, b'\n');
     end + 1
 }
 
-// The number of `room` bytes that the lines of a set's files leave, or refusal 10 where they do not fit. 39 bytes of a
-// line stand beside its path.
-fn room_left(fs: FileStorage, rows: &[u64], dirs: &[u64], text: &[u8], room: usize) -> UsizeResult
-    ensures { usize_says result ≡
-        left_in (length (lines_of fs rows.now dirs.now text.now)) room }
+// The number of `room` bytes that the lines of a set's files leave, if they fit there. 39 bytes of a line stand beside
+// its path.
+fn room_left(fs: FileStorage, rows: &[u64], dirs: &[u64], text: &[u8], room: usize) -> Option<usize>
+    ensures { result ≡ left_in (length (lines_of fs rows.now dirs.now text.now)) room }
 {
     let mut left = room;
-    let mut i = 0;
-    while i < fs.num_files {
+    for i in 0..fs.num_files {
         let n = path_length(dirs, text, tables::row_at(rows, i));
-        if left < 39 {
-            return UsizeResult::Err(Refusal::NoRoom);
-        }
-        left -= 39;
-        if left < n {
-            return UsizeResult::Err(Refusal::NoRoom);
-        }
-        left -= n;
-        i += 1;
+        left = left.checked_sub(39)?.checked_sub(n)?;
     }
-    UsizeResult::Ok(left)
+    Some(left)
 }
 
 // Writes the lines of a set's files to the start of `out`, and gives the position after them.
@@ -113,10 +101,8 @@ fn put_lines(fs: FileStorage, rows: &[u64], dirs: &[u64], text: &[u8], out: &mut
         sets out.old 0 (lines_of fs rows.now dirs.now text.now) }
 {
     let mut at = 0;
-    let mut i = 0;
-    while i < fs.num_files {
+    for i in 0..fs.num_files {
         at = put_row_line(out, at, i, dirs, text, tables::row_at(rows, i));
-        i += 1;
     }
     at
 }
@@ -128,17 +114,15 @@ pub fn put_set(
     dirs: &[u64],
     text: &[u8],
     out: &mut [u8],
-) -> UsizeResult
-    ensures { ◌≡◌ {A = Joined} (record { says = usize_says result; buf = out.new })
+) -> Result<usize, Refusal>
+    ensures { ◌≡◌ {A = Joined} (record { says = outcome result; buf = out.new })
         (put_text
         (printed (listed (shown fs rows.now dirs.now text.now)))
         out.old) }
 {
-    let UsizeResult::Ok(left) = room_left(fs, rows, dirs, text, out.len()) else {
-        return UsizeResult::Err(Refusal::NoRoom);
-    };
+    let left = room_left(fs, rows, dirs, text, out.len()).ok_or(Refusal::NoRoom)?;
     if left < 46 {
-        return UsizeResult::Err(Refusal::NoRoom);
+        return Err(Refusal::NoRoom);
     }
     let at = put_lines(fs, rows, dirs, text, out);
     let files = fs.num_files as u64;
@@ -146,20 +130,19 @@ pub fn put_set(
     let disk = fs.size_on_disk;
     let pieces = lists::div_ceil(total, fs.piece_length);
     put_columns(out, at, files, total, disk, 10, pieces, b'\n');
-    let end = at + 46;
-    UsizeResult::Ok(end)
+    Ok(at + 46)
 }
 
 // Writes what is printed of a refusal at a line to the start of `out`, and gives its length.
-pub fn put_refusal(refusal: Refusal, line: usize, out: &mut [u8]) -> UsizeResult
-    ensures { ◌≡◌ {A = Joined} (record { says = usize_says result; buf = out.new })
+pub fn put_refusal(refusal: Refusal, line: usize, out: &mut [u8]) -> Result<usize, Refusal>
+    ensures { ◌≡◌ {A = Joined} (record { says = outcome result; buf = out.new })
         (put_text (printed (stopped (number_of refusal) line)) out.old) }
 {
     if out.len() < 11 {
-        return UsizeResult::Err(Refusal::NoRoom);
+        return Err(Refusal::NoRoom);
     }
-    lists::put_column(out, 0, 5, types::number(refusal) as u64);
+    lists::put_column(out, 0, 5, u64::from(u32::from(refusal)));
     lists::put_column(out, 5, 5, line as u64);
-    lists::put_byte(out, 10, b'\n');
-    UsizeResult::Ok(11)
+    lists::put(out, 10, b'\n');
+    Ok(11)
 }

@@ -24,10 +24,6 @@ module _ {A : Type 0} where
   drop-clipped (suc n) [] = rw (min-zero (suc n))
   drop-clipped (suc n) (x ∷ xs) = rw (suc-min-suc n (length xs)) (drop-clipped n xs)
 
-  pub part-clipped : (l : List A) (at n : ℕ) → part_of l (min at (length l)) (min n (length l - min at (length l))) ≡ part_of l at n
-  part-clipped l at n =
-      rw (← length-drop (min at (length l)) l, take-clipped n (drop (min at (length l)) l), drop-clipped at l)
-
   -- the first elements of two lists in a row, and what is left of them
   pub take-append : (n : ℕ) (a b : List A) → take n (a ++ b) ≡ take n a ++ take (n - length a) b
   take-append n [] b = rw (sub-zero n, take-nil n)

@@ -5,9 +5,9 @@ use mathlib.Core.List.{List, [], ◌∷◌, ◌++◌, append-nil, append_assoc}
 use Prim.Native.Nat.{ℕ, zero, suc, ◌+◌, ◌-◌, ◌≤◌, ◌<◌, min}
 use native.Mathlib.Nat.{add-zero, zero-add, suc-add, add-suc}
 use native.Mathlib.Omega.{arith}
-use native.Mathlib.Numerals.{add-one}
-use lib.ListN.{length, get_or, set, take, drop, replicate, length-set, length-take, length-drop, take-append-drop, drop_of_length-le}
-use lib.Seq.{sets, sets-eq, length-sets, drop-cons, set_out, set_comm, set-set, take_all, length-take-le, get_or-set_same, get_or-set_other, take-set-le, drop-set-lt}
+use lib.ListN.{length, get_or, set, take, drop, replicate, length-set, length-take, length-drop, length-replicate, take-append-drop, drop_of_length-le}
+use lib.Seq.{sets, sets-eq, length-sets, set_out, set_comm, set-set, take_all, drop-drop, length-take-le, get_or-set_same, get_or-set_other, take-set-le, drop-set-lt}
+use Rattle.std.proofs.lemmas.List.{take-replicate}
 use Rattle.lists.specs.Lists.{part_of}
 use Rattle.lists.proofs.Parts.{drop-take, part-whole, part-append-first, part-append-second}
 
@@ -27,13 +27,6 @@ module _ {A : Type 0} where
   sets-append [] u l i = rw (add-zero i)
   sets-append (x ∷ t) u l i =
       let e : i + suc (length t) ≡ suc i + length t = omega arith in rw e (sets-append t u (set l i x) (suc i))
-
-  -- one element of a copy, and of a fill
-  pub copy-turn : (l s : List A) (j i : ℕ) (d : A) → i < length s → sets (set l j (get_or s i d)) (j + 1) (drop (i + 1) s) ≡ sets l j (drop i s)
-  copy-turn l s j i d h = rw (add-one j, add-one i, drop-cons s i d h)
-
-  pub fill-turn : (l : List A) (j n i : ℕ) (a : A) → i < n → sets (set l j a) (j + 1) (replicate (n - (i + 1)) a) ≡ sets l j (replicate (n - i) a)
-  fill-turn l j n i a h = let e : n - i ≡ suc (n - (i + 1)) = omega arith in rw (add-one j, e)
 
   -- a store, and a run of them, after a first part
   pub set_after : (p l : List A) (i : ℕ) (a : A) → set (p ++ l) (length p + i) a ≡ p ++ set l i a
@@ -72,6 +65,21 @@ module _ {A : Type 0} where
       let e = sets-append (take n t) (drop n t) l i in
       let z = sets-none (drop n t) (sets l i (take n t)) (i + length (take n t)) (omega (arith, length-sets l i (take n t), length-take n t, length-drop n t)) in
       rw (take-append-drop n t) at e ∙ z
+
+  -- a run as a write to a part leaves it: what there is room for, between what stands before and after
+  pub sets-part : (t l : List A) (at n : ℕ) → at ≤ length l → n ≡ min (length l - at) (length t) → take at l ++ (take n t ++ drop n (drop at l)) ≡ sets l at t
+  sets-part t l at n f h =
+      let k : length (take n t) ≡ n = omega (arith, length-take n t) in
+      let e = sets-eq (take n t) l at (omega arith) in
+      let q = sets-append (take n t) (drop n t) l at in
+      let z = sets-none (drop n t) (sets l at (take n t)) (at + length (take n t)) (omega (arith, length-sets l at (take n t), length-drop n t)) in
+      rw drop-drop (sym (rw (take-append-drop n t, z, e, k, append_assoc) at q))
+
+  pub sets-filled : (l : List A) (at m n k : ℕ) (a : A) → at ≤ length l → n ≡ min m (length l - at) → k ≡ n
+      → take at l ++ (replicate k a ++ drop n (drop at l)) ≡ sets l at (replicate m a)
+  sets-filled l at m n k a f h e =
+      let g : n ≤ m = omega arith in
+      rw (e, ← take-replicate n m a g) (sets-part (replicate m a) l at n f (omega (arith, length-replicate m a)))
 
   -- a run that fills the list
   pub sets-whole : (l t : List A) → length t ≡ length l → sets l 0 t ≡ t

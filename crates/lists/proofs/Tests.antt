@@ -1,4 +1,4 @@
--- Laws of `any`, which says whether an element of a list passes a test. They rely on nothing else.
+-- Laws of `any`, which says whether an element of a list passes a test. They rely on the kit's laws of lists.
 use mathlib.Core.Path.{◌≡◌, refl}
 use mathlib.Core.Bool.{Bool, true, false, cond, ◌||◌}
 use mathlib.Core.List.{List, [], ◌∷◌, ◌++◌}
@@ -6,6 +6,7 @@ use Prim.Native.Nat.{ℕ, ◌+◌, ◌≤◌, ◌<◌}
 use native.Mathlib.Numerals.{add-one}
 use lib.ListN.{length, get_or, drop, drop_of_length-le}
 use lib.Seq.{drop-cons}
+use Rattle.std.specs.List.{list_any}
 use Rattle.lists.specs.Lists.{any}
 
 module _ {A : Type 0} (f : A → Bool) where
@@ -26,3 +27,12 @@ module _ {A : Type 0} (f : A → Bool) where
 
   pub any-end : (xs : List A) (i : ℕ) → length xs ≤ i → any f (drop i xs) ≡ false
   any-end xs i h = rw (drop_of_length-le xs {i = i} h)
+
+  -- it is the kit's word for what an iterator's `any` answers
+  or-cond : (a b : Bool) → (a || b) ≡ cond a true b
+  or-cond true b = refl
+  or-cond false b = refl
+
+  pub list-any : (xs : List A) → list_any f xs ≡ any f xs
+  list-any [] = refl
+  list-any (x ∷ xs) = rw (list-any xs) (or-cond (f x) (any f xs))

@@ -4,22 +4,20 @@ ghost use Rattle.std.specs.Prelude.{◌≡◌, ◌+◌, ◌-◌, ◌≤◌, ◌<
 ghost use Rattle.std.proofs.lemmas.List.Edits.{sets};
 ghost use Rattle.lists.specs.Decimal.{decimal, column};
 
-use crate::access::{min_usize, put_byte, saturating_sub_usize};
+use crate::access::put;
 
 // The number of digits of n.
 pub fn digit_count(n: u64) -> usize
     ensures { result ≡ length (decimal n) }
 {
-    let mut k = 1;
     let mut rest = n;
-    while k < 20 {
+    for k in 1..20 {
         if rest < 10 {
             return k;
         }
-        rest = rest / 10;
-        k += 1;
+        rest /= 10;
     }
-    k
+    20
 }
 
 // The character of a digit.
@@ -36,12 +34,10 @@ fn put_digits(target: &mut [u8], at: usize, count: usize, n: u64)
     ensures { target.new
         ≡ sets target.old at (drop (length (decimal n) - count) (decimal n)) }
 {
-    let mut i = count;
     let mut rest = n;
-    while 0 < i {
-        i -= 1;
-        put_byte(target, at + i, glyph(rest % 10));
-        rest = rest / 10;
+    for i in 0..count {
+        put(target, at + (count - 1 - i), glyph(rest % 10));
+        rest /= 10;
     }
 }
 
@@ -61,11 +57,9 @@ pub fn put_decimal(target: &mut [u8], at: usize, n: u64) -> usize
 fn put_blanks(target: &mut [u8], at: usize, count: usize)
     ensures { target.new ≡ sets target.old at (replicate count 32) }
 {
-    let n = min_usize(count, saturating_sub_usize(target.len(), at));
-    let mut i = 0;
-    while i < n {
-        target[at + i] = 32;
-        i += 1;
+    let n = count.min(target.len().saturating_sub(at));
+    if 0 < n {
+        target[at..at + n].fill(32);
     }
 }
 
@@ -74,9 +68,9 @@ pub fn put_column(target: &mut [u8], at: usize, width: usize, n: u64)
     ensures { target.new ≡ sets target.old at (column width n) }
 {
     let k = digit_count(n);
-    let blanks = saturating_sub_usize(width, k);
+    let blanks = width.saturating_sub(k);
     put_blanks(target, at, blanks);
-    if blanks < saturating_sub_usize(target.len(), at) {
-        put_digits(target, at + blanks, min_usize(width, k), n);
+    if blanks < target.len().saturating_sub(at) {
+        put_digits(target, at + blanks, width.min(k), n);
     }
 }

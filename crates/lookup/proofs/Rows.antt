@@ -17,7 +17,9 @@ use Rattle.tables.specs.Rows.{row_at, dir_at, no_path, is_absolute, directory_sp
 use Rattle.tables.specs.Model.{present_if, single, absolute, stored, path_in, Store, directory_text, directory_in, internal_path, tabled}
 use Rattle.tables.proofs.Paths.{path-parts}
 use Rattle.tables.proofs.Tabled.{tabled-same}
-use Rattle.lookup.specs.Lookup.{Entry, own_path, is_held, held_text, covers, ends_with, is_directory, Seen, nothing, file, link, or_here, file_at, is_there, known, is_flagged, entries_of, directories_of, seen_code}
+use Rattle.lookup.specs.Lookup.{Entry, own_path, is_held, held_text, covers, ends_with, is_directory, or_here, file_at, is_there, is_flagged, entries_of, directories_of}
+use Rattle.lookup.specs.declared.set.Seen.{Seen}
+use Rattle.lookup.specs.declared.set.Seen.TheVariants.{Nothing, RegularFile, FlaggedLink}
 use Rattle.lookup.specs.Space.{directory_length}
 use Rattle.lookup.specs.private.Rows.{entry_at, entries_from, directories_from}
 use Rattle.lookup.proofs.Paths.{ends-joined}
@@ -153,9 +155,9 @@ module _ (s : Store) (p : List ℕ) (n i : ℕ) where
 
 -- what stands at p among later files stands there among all
 stays : (x : Seen) (a b : Bool) → is_there x ≡ true → or_here x a b ≡ x
-stays nothing a b h = absurd (false≢true h)
-stays file a b h = refl
-stays link a b h = refl
+stays Nothing a b h = absurd (false≢true h)
+stays RegularFile a b h = refl
+stays FlaggedLink a b h = refl
 
 module _ (s : Store) (p : List ℕ) (n : ℕ) where
   at_row : (j : ℕ) → j < n → file_at (entries_from s (n - j) j) p ≡ or_here (file_at (entries_from s (n - (j + 1)) (j + 1)) p) (equal (own_path (entry_at s j)) p) (entry_at s j).flagged
@@ -170,11 +172,11 @@ module _ (s : Store) (p : List ℕ) (n : ℕ) where
       rw q (up j (omega arith) (ap is_there e ∙ k') ∙ e)
 
   -- the files, from the last on: file j behind which none is at p
-  module _ (i j : ℕ) (q : i ≡ j + 1) (h : j < n) (inv : file_at (entries_from s (n - i) i) p ≡ nothing) where
-    pub back-turn : equal (own_path (entry_at s j)) p ≡ false → file_at (entries_from s (n - j) j) p ≡ nothing
+  module _ (i j : ℕ) (q : i ≡ j + 1) (h : j < n) (inv : file_at (entries_from s (n - i) i) p ≡ Nothing) where
+    pub back-turn : equal (own_path (entry_at s j)) p ≡ false → file_at (entries_from s (n - j) j) p ≡ Nothing
     back-turn e = at_row j h ∙ rw (e, rw q at inv)
 
-    found : equal (own_path (entry_at s j)) p ≡ true → file_at (entries_from s (n - j) j) p ≡ or_here nothing true (entry_at s j).flagged
+    found : equal (own_path (entry_at s j)) p ≡ true → file_at (entries_from s (n - j) j) p ≡ or_here Nothing true (entry_at s j).flagged
     found e = at_row j h ∙ rw (e, rw q at inv)
 
     module _ (m : n ≡ s.fs.num_files) (e : equal (own_path (entry_at s j)) p ≡ true) where
@@ -183,25 +185,18 @@ module _ (s : Store) (p : List ℕ) (n : ℕ) where
           let z : entries_from s n 0 ≡ entries_of s = rw m (entries-all s) in
           sym (ap (λ (l : List Entry). file_at l p) z) ∙ up j (omega arith) k
 
-      pub back-file : (entry_at s j).flagged ≡ false → 1 ≡ seen_code (file_at (entries_of s) p)
+      pub back-file : (entry_at s j).flagged ≡ false → RegularFile ≡ file_at (entries_of s) p
       back-file f =
-          let g : file_at (entries_from s (n - j) j) p ≡ file = found e ∙ ap (or_here nothing true) f in
-          sym (ap seen_code (from_all (ap is_there g) ∙ g))
+          let g : file_at (entries_from s (n - j) j) p ≡ RegularFile = found e ∙ ap (or_here Nothing true) f in
+          sym (from_all (ap is_there g) ∙ g)
 
-      pub back-link : (entry_at s j).flagged ≡ true → 2 ≡ seen_code (file_at (entries_of s) p)
+      pub back-link : (entry_at s j).flagged ≡ true → FlaggedLink ≡ file_at (entries_of s) p
       back-link f =
-          let g : file_at (entries_from s (n - j) j) p ≡ link = found e ∙ ap (or_here nothing true) f in
-          sym (ap seen_code (from_all (ap is_there g) ∙ g))
+          let g : file_at (entries_from s (n - j) j) p ≡ FlaggedLink = found e ∙ ap (or_here Nothing true) f in
+          sym (from_all (ap is_there g) ∙ g)
 
-  pub back_start : file_at (entries_from s (n - n) n) p ≡ nothing
+  pub back_start : file_at (entries_from s (n - n) n) p ≡ Nothing
   back_start = rw (entries_none s n n (omega arith))
 
-  pub back_end : (i : ℕ) → n ≡ s.fs.num_files → i ≡ 0 → file_at (entries_from s (n - i) i) p ≡ nothing → 0 ≡ seen_code (file_at (entries_of s) p)
-  back_end i m z inv = sym (ap (λ (l : List Entry). seen_code (file_at l p)) (sym (entries-start s n m)) ∙ ap seen_code (rw z at inv))
-
--- a file or a directory of the set stands at p
-pub known-file : (fs : List Entry) (ds : List (List ℕ)) (p : List ℕ) → is_there (file_at fs p) ≡ true → true ≡ known fs ds p
-known-file fs ds p h = rw h
-
-pub known-dir : (fs : List Entry) (ds : List (List ℕ)) (p : List ℕ) → is_there (file_at fs p) ≡ false → is_directory ds p ≡ known fs ds p
-known-dir fs ds p h = rw h
+  pub back_end : (i : ℕ) → n ≡ s.fs.num_files → i ≡ 0 → file_at (entries_from s (n - i) i) p ≡ Nothing → Nothing ≡ file_at (entries_of s) p
+  back_end i m z inv = sym (ap (λ (l : List Entry). file_at l p) (sym (entries-start s n m)) ∙ rw z at inv)

@@ -1,12 +1,14 @@
 -- Document 01, 'Links': what stands at a path in a set: a directory, a file, or a flagged link. It relies on the model
 -- of a set in `tables` and on the separator of `path`.
-use Rattle.std.specs.Prelude.{ℕ, ◌-◌, Bool, true, false, cond, List, [], ◌∷◌, eqb, leb, length, drop}
+use Rattle.std.specs.Prelude.{ℕ, ◌-◌, Bool, true, false, cond, List, [], ◌∷◌, eqb, leb, length, drop, Option, Some, None}
 use Rattle.lists.specs.Lists.{equal}
 use Rattle.path.specs.Split.{is_separator}
 use Rattle.tables.specs.declared.storage.FileStorage.{FileStorage}
 use Rattle.tables.specs.Rows.{has, link_held_bit, symlink_bit}
-use Rattle.tables.specs.Model.{Optional, absent, present, Directory, path_in, File, Store, store_of, file_of}
+use Rattle.tables.specs.Model.{Directory, path_in, File, Store, store_of, file_of}
 use Rattle.tables.specs.Model.{directory_text, tabled}
+use Rattle.lookup.specs.declared.set.Seen.{Seen}
+use Rattle.lookup.specs.declared.set.Seen.TheVariants.{Nothing, RegularFile, FlaggedLink}
 
 -- ---- a file
 
@@ -17,13 +19,13 @@ pub record Entry : Type 0 where
   pub flagged : Bool
   pub text : List ℕ
 
-abbrev pub is_held : Optional (List ℕ) → Bool
-is_held absent = false
-is_held (present t) = true
+abbrev pub is_held : Option (List ℕ) → Bool
+is_held None = false
+is_held (Some t) = true
 
-abbrev pub held_text : Optional (List ℕ) → List ℕ
-held_text absent = []
-held_text (present t) = t
+abbrev pub held_text : Option (List ℕ) → List ℕ
+held_text None = []
+held_text (Some t) = t
 
 abbrev pub entry_of : File → Entry
 entry_of f =
@@ -55,34 +57,22 @@ is_directory (d ∷ ds) p = cond (covers d p) true (is_directory ds p)
 abbrev pub ends_with : List ℕ → List ℕ → Bool
 ends_with n p = cond (leb (length n) (length p)) (equal n (drop (length p - length n) p)) false
 
--- nothing, a file, or a flagged link
-pub data Seen : Type 0 where
-  nothing : Seen
-  file : Seen
-  link : Seen
-
--- the same as a number
-abbrev pub seen_code : Seen → ℕ
-seen_code nothing = 0
-seen_code file = 1
-seen_code link = 2
-
 abbrev pub or_here : Seen → Bool → Bool → Seen
-or_here file here l = file
-or_here link here l = link
-or_here nothing true true = link
-or_here nothing true false = file
-or_here nothing false l = nothing
+or_here RegularFile here l = RegularFile
+or_here FlaggedLink here l = FlaggedLink
+or_here Nothing true true = FlaggedLink
+or_here Nothing true false = RegularFile
+or_here Nothing false l = Nothing
 
 -- 'Of files with one internal path the last counts'
 abbrev pub file_at : List Entry → List ℕ → Seen
-file_at [] p = nothing
+file_at [] p = Nothing
 file_at (f ∷ fs) p = or_here (file_at fs p) (equal (own_path f) p) f.flagged
 
 abbrev pub is_there : Seen → Bool
-is_there nothing = false
-is_there file = true
-is_there link = true
+is_there Nothing = false
+is_there RegularFile = true
+is_there FlaggedLink = true
 
 -- whether a file or a directory of the set stands at p
 abbrev pub known : List Entry → List (List ℕ) → List ℕ → Bool

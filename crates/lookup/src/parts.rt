@@ -6,23 +6,19 @@ ghost use Rattle.path.specs.Join.{appended};
 ghost use Rattle.lookup.specs.Lookup.{covers, ends_with};
 
 // Whether p is the directory d, or stands before one of its separators.
+#[tactic(auto, using(crate::proofs::Paths::covers_short))]
 pub(crate) fn is_covered(d: &[u8], p: &[u8]) -> bool
     ensures { result ≡ covers d.now p.now }
 {
     if d.len() < p.len() {
         return false;
     }
-    let mut i = 0;
-    while i < p.len() {
+    for i in 0..p.len() {
         if d[i] != p[i] {
             return false;
         }
-        i += 1;
     }
-    if i < d.len() {
-        return d[i] == b'/';
-    }
-    true
+    d.len() == p.len() || d[p.len()] == b'/'
 }
 
 // Whether `rest` is the name, with a separator before it where the directory lacks one.
@@ -64,9 +60,7 @@ pub(crate) fn ends_with(n: &[u8], p: &[u8]) -> bool
         return false;
     }
     let before = p.len() - n.len();
-    let mut i = n.len();
-    while i > 0 {
-        i -= 1;
+    for i in (0..n.len()).rev() {
         if n[i] != p[before + i] {
             return false;
         }

@@ -5,20 +5,25 @@ ghost use Rattle.lists.specs.Lists.{equal};
 ghost use Rattle.tables.specs.Span.{text_at};
 ghost use Rattle.tables.specs.Rows.{row_at, dir_at, directory_span, has, link_held_bit};
 ghost use Rattle.tables.specs.Model.{internal_path};
-ghost use Rattle.lookup.specs.Lookup.{covers, ends_with, is_directory, file_at, is_flagged, seen_code};
+ghost use Rattle.lookup.specs.Lookup.{covers, ends_with, is_directory, file_at, is_flagged};
 ghost use Rattle.lookup.specs.Lookup.{files_in, dirs_in};
 
 use crate::parts::{ends_with, is_covered, joins_to};
 use tables::{FileStorage, Row, Span};
 
+// What stands at a path: nothing, a file that is no flagged link, or a flagged link.
+#[derive(Clone, Copy, PartialEq, Eq)]
+pub enum Seen {
+    Nothing,
+    RegularFile,
+    FlaggedLink,
+}
+
 // Whether flags are those of a flagged link: the flag is set, and a link text is held.
 pub fn is_flagged(flags: u64) -> bool
     ensures { result ≡ is_flagged flags }
 {
-    if tables::is_symlink(flags) {
-        return tables::holds_link(flags);
-    }
-    false
+    tables::is_symlink(flags) && tables::holds_link(flags)
 }
 
 // Whether file i is a flagged link.
@@ -46,6 +51,7 @@ pub fn link_text(text: &[u8], row: Row) -> &[u8]
 }
 
 // The directory of the file with that row, nothing for a single name and an absolute path.
+// Stays: its twin is in `listing_output`, which does not use this crate; the body is one call.
 pub fn directory_of<'a>(dirs: &[u64], text: &'a [u8], row: Row) -> &'a [u8]
     ensures { result.now ≡ text_at text.now (directory_span dirs.now row) }
 {
@@ -75,12 +81,10 @@ pub fn own_is(rows: &[u64], dirs: &[u64], text: &[u8], i: usize, p: &[u8]) -> bo
 pub fn is_directory(fs: FileStorage, dirs: &[u64], text: &[u8], p: &[u8]) -> bool
     ensures { result ≡ is_directory (dirs_in fs [] dirs.now text.now) p.now }
 {
-    let mut d = 0;
-    while d < fs.num_paths {
+    for d in 0..fs.num_paths {
         if is_covered(tables::text_at(text, tables::dir_at(dirs, d)), p) {
             return true;
         }
-        d += 1;
     }
     false
 }
@@ -95,23 +99,18 @@ pub fn covers_at(dirs: &[u64], text: &[u8], d: usize, path: &[u8], at: usize, e:
     )
 }
 
-// What stands at p: 0 nothing, 1 a file, 2 a flagged link. Of files with one internal path the last counts, so it
-// goes from the last to the first.
-pub fn file_at(fs: FileStorage, rows: &[u64], dirs: &[u64], text: &[u8], p: &[u8]) -> u8
-    ensures { result ≡ seen_code (file_at (files_in fs rows.now dirs.now text.now) p.now) }
+// What stands at p. Of files with one internal path the last counts, so it goes from the last to the first.
+pub fn file_at(fs: FileStorage, rows: &[u64], dirs: &[u64], text: &[u8], p: &[u8]) -> Seen
+    ensures { result ≡ file_at (files_in fs rows.now dirs.now text.now) p.now }
 {
-    let mut k = 0;
-    while k < fs.num_files {
-        k += 1;
-        let i = fs.num_files - k;
-        if ends_with_name(rows, text, i, p) {
-            if own_is(rows, dirs, text, i, p) {
-                if is_link(rows, i) {
-                    return 2;
-                }
-                return 1;
-            }
+    for i in (0..fs.num_files).rev() {
+        if ends_with_name(rows, text, i, p) && own_is(rows, dirs, text, i, p) {
+            return if is_link(rows, i) {
+                Seen::FlaggedLink
+            } else {
+                Seen::RegularFile
+            };
         }
     }
-    0
+    Seen::Nothing
 }

@@ -13,10 +13,8 @@ pub fn count_links(fs: FileStorage, rows: &[u64]) -> usize
     ensures { result ≡ link_count (files_in fs rows.now [] []) }
 {
     let mut n = 0;
-    let mut i = 0;
-    while i < fs.num_files {
+    for i in 0..fs.num_files {
         n += link_count(rows, i);
-        i += 1;
     }
     n
 }
@@ -30,8 +28,8 @@ fn left_after(rows: &[u64], dirs: &[u64], text: &[u8], i: usize, left: usize) ->
         let row = tables::row_at(rows, i);
         let directory = directory_of(dirs, text, row);
         let target = link_text(text, row);
-        let rest = lists::saturating_sub_usize(left, directory.len());
-        return lists::saturating_sub_usize(lists::saturating_sub_usize(rest, target.len()), 2);
+        let rest = left.saturating_sub(directory.len());
+        return rest.saturating_sub(target.len()).saturating_sub(2);
     }
     left
 }
@@ -41,10 +39,8 @@ fn space_left(fs: FileStorage, rows: &[u64], dirs: &[u64], text: &[u8], room: us
     ensures { result ≡ room - space (files_in fs rows.now dirs.now text.now) }
 {
     let mut left = room;
-    let mut i = 0;
-    while i < fs.num_files {
+    for i in 0..fs.num_files {
         left = left_after(rows, dirs, text, i, left);
-        i += 1;
     }
     left
 }
@@ -66,6 +62,6 @@ pub fn lacks_space(
     if marks < count_links(fs, rows) {
         return true;
     }
-    let room = lists::min_usize(scratch, walk_path / 2) + 1;
+    let room = scratch.min(walk_path / 2) + 1;
     space_left(fs, rows, dirs, text, room) == 0
 }

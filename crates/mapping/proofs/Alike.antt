@@ -1,6 +1,7 @@
 -- Document 02 (v): with the window of a true table of the file in which each piece begins, the outcome of `map_block` is the
 -- same whatever the rows before the window hold. It relies on the law of the block's slices in `layout`.
 --     block-mapped-alike     the answer and the table
+use Rattle.types.specs.Refusals.{outcome}
 use mathlib.Core.Path.{◌≡◌, ap, ◌∙◌}
 use mathlib.Core.List.{List, [], ◌∷◌}
 use Prim.Native.Nat.{ℕ, ◌*◌}

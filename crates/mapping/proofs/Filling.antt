@@ -2,12 +2,12 @@
 -- `layout`.
 --     Inv                       what holds between two stores: n slices are in the table and those from a cursor on are to come
 --     begin, more, all          before the first store; after one; after the last
-use mathlib.Core.Path.{◌≡◌, refl, ap, ◌∙◌}
+use mathlib.Core.Path.{◌≡◌, refl, ap}
 use mathlib.Core.List.{List, [], ◌∷◌, map}
 use Prim.Native.Nat.{ℕ, ◌+◌, ◌≤◌}
 use native.Mathlib.Omega.{arith}
 use native.Mathlib.Numerals.{add-one}
-use lib.ListN.{length, set, length-set, length-map}
+use lib.ListN.{length, set, length-map}
 use lib.Seq.{sets}
 use Rattle.types.specs.declared.index.FileSlice.{FileSlice}
 use Rattle.layout.specs.declared.start.Cursor.{Cursor}
@@ -19,12 +19,12 @@ use Rattle.mapping.specs.private.Records.{records_from}
 -- `ys` is the table at entry, and the slices to put into it are `count` from the cursor `from` on
 pub record Inv (rows : List ℕ) (ys : List FileSlice) (count : ℕ) (from : Cursor) (n : ℕ) (l : List FileSlice) (c : Cursor) : Type 0 where
   pub sum : n + length (slices_from rows c) ≡ count
-  pub len : length l ≡ length ys
+  pub room : count ≤ length ys
   pub whole : sets l n (records_from rows c) ≡ sets ys 0 (records_from rows from)
 
 module _ (rows : List ℕ) (ys : List FileSlice) (count : ℕ) (from : Cursor) where
-  pub begin : count ≡ length (slices_from rows from) → Inv rows ys count from 0 ys from
-  begin e = record { sum = omega arith; len = refl; whole = refl }
+  pub begin : count ≡ length (slices_from rows from) → count ≤ length ys → Inv rows ys count from 0 ys from
+  begin e h = record { sum = omega arith; room = h; whole = refl }
 
   module _ (n : ℕ) (l : List FileSlice) (c : Cursor) (i : Inv rows ys count from n l c) where
     pub more : (v : FileSlice) (c' : Cursor) → records_from rows c ≡ v ∷ records_from rows c' → Inv rows ys count from (n + 1) (set l n v) c'
@@ -32,7 +32,7 @@ module _ (rows : List ℕ) (ys : List FileSlice) (count : ℕ) (from : Cursor) w
         let k = ap length e in
         record {
           sum = omega (arith, simp length-map at k);
-          len = length-set l n v ∙ i.len;
+          room = i.room;
           whole = rw (add-one n) (rw e at i.whole);
         }
 

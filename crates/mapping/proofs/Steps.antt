@@ -1,20 +1,17 @@
 -- Laws of one step through the slices of a block, as `next_slice` makes it. They rely on the laws of a turn in `layout`.
---     slice_is                 a slice's numbers as signed ones, which are exact below 2 ^ 63
---     size_low                 a row's size is far below that
+--     size_low                 a row's size is far below 2 ^ 63
 --     some-file, some_bytes    where slices are to come, there is a file and there are bytes
 --     pass                     a file that has no byte of the block is passed over
 --     found, taken             a file that has one gives the next slice
 use mathlib.Core.Path.{◌≡◌, refl, sym, ap, ◌∙◌}
 use mathlib.Core.Bool.{false}
 use mathlib.Core.List.{List, ◌∷◌, map}
-use Prim.Native.Nat.{ℕ, ◌+◌, ◌-◌, ◌%◌, ◌^◌, ◌≤◌, ◌<◌, min}
-use native.Mathlib.Nat.{mod-eq_of_lt, mod-lt, lt_of_not-le}
+use Prim.Native.Nat.{ℕ, ◌+◌, ◌-◌, ◌^◌, ◌≤◌, ◌<◌, min}
+use native.Mathlib.Nat.{mod-lt, lt_of_not-le}
 use native.Mathlib.Omega.{arith}
 use lib.Dec.{eqb}
 use borrow.Author.Tests.{ne_eqb}
-use lib.IntN.{ℤ, pos}
 use lib.ListN.{length}
-use Rattle.types.specs.declared.index.FileIndex.{FileIndex}
 use Rattle.types.specs.declared.index.FileSlice.{FileSlice}
 use Rattle.tables.specs.Rows.{row_at}
 use Rattle.layout.specs.Mapping.{Slice, walk}
@@ -23,13 +20,6 @@ use Rattle.layout.specs.Start.{slices_from}
 use Rattle.mapping.specs.Table.{record_of}
 use Rattle.mapping.specs.private.Records.{records_from}
 use Rattle.layout.proofs.Slices.{walk_none, walk_end, walk_turn}
-
-pub slice_is : (file offset size : ℕ) {i : FileIndex} {o s : ℤ} → offset < 2 ^ 63 → size < 2 ^ 63
-    → i.0 ≡ pos (file % 2 ^ 31) → o ≡ pos (offset % 2 ^ 63) → s ≡ pos (size % 2 ^ 63)
-    → ◌≡◌ {A = FileSlice} (record { file_index = i; offset = o; size = s }) (record_of (record { file = file; offset = offset; size = size }))
-slice_is file offset size {i} ho hs ei eo es =
-    let f : i ≡ record { 0 = pos (file % 2 ^ 31) } = ap (λ (z : ℤ). record { 0 = z }) ei in
-    rw (f, eo, es, mod-eq_of_lt ho, mod-eq_of_lt hs)
 
 pub size_low : (rows : List ℕ) (k : ℕ) → (row_at rows k).size < 2 ^ 48
 size_low rows k = mod-lt _ (omega arith)

@@ -2,15 +2,15 @@
 // `FileSlice`. `layout` plans the block; the code here makes one slice after another and stores it.
 #![tactic(auto)]
 
-ghost use Rattle.std.specs.Prelude.{◌≡◌, ◌∷◌, ◌+◌, ◌-◌, ◌<◌, ◌^◌, min, length, set};
-ghost use Rattle.types.specs.Refusals.{usize_says};
+ghost use Rattle.std.specs.Prelude.{◌≡◌, ◌∷◌, ◌+◌, ◌-◌, ◌<◌, ◌^◌, min, length};
+ghost use Rattle.types.specs.Refusals.{outcome};
 ghost use Rattle.layout.specs.Start.{slices_from};
 ghost use Rattle.mapping.specs.Table.{record_of, Filled, block_mapped};
 ghost use Rattle.mapping.specs.private.Records.{records_from};
 
 use layout::{Cursor, Window};
 use tables::FileStorage;
-use types::{FileIndex, FileSlice, PieceIndex, UsizeResult};
+use types::{FileIndex, FileSlice, PieceIndex, Refusal};
 
 // A slice, and where the bytes after it begin.
 #[derive(Drop)]
@@ -37,24 +37,14 @@ fn step_in(file: usize, files: usize, skip: u64, here: u64, left: u64) -> Step
     ensures slice_value { result.slice ≡ record_of (record { file = file; offset = skip; size = min here left }) }
     ensures rest_value { result.rest ≡ record { file = file + 1; files = files; skip = 0; left = left - here } }
 {
-    if here < left {
-        return Step {
-            slice: slice_of(file, skip, here),
-            rest: Cursor {
-                file: file + 1,
-                files,
-                skip: 0,
-                left: left - here,
-            },
-        };
-    }
+    let size = here.min(left);
     Step {
-        slice: slice_of(file, skip, left),
+        slice: slice_of(file, skip, size),
         rest: Cursor {
             file: file + 1,
             files,
             skip: 0,
-            left: 0,
+            left: left - size,
         },
     }
 }
@@ -66,6 +56,7 @@ fn next_slice(rows: &[u64], at: Cursor) -> Step
 {
     let mut file = at.file;
     let mut skip = at.skip;
+    // Stays: a `for` over the files would want an answer behind the last one, which no call comes to.
     loop {
         let size = tables::size_at(rows, file);
         if skip < size {
@@ -74,14 +65,6 @@ fn next_slice(rows: &[u64], at: Cursor) -> Step
         skip -= size;
         file += 1;
     }
-}
-
-// Stores a slice at place i of the table.
-fn store(out: &mut [FileSlice], i: usize, slice: FileSlice)
-    requires { i < length out.old }
-    ensures { out.new ≡ set out.old i slice }
-{
-    out[i] = slice;
 }
 
 // The slices of a block of a piece, put into the table's first places. The search for the first file begins with a
@@ -94,19 +77,18 @@ pub fn map_block(
     offset: i64,
     size: i64,
     out: &mut [FileSlice],
-) -> UsizeResult
+) -> Result<usize, Refusal>
     ensures { ◌≡◌ {A = Filled}
-        (record { says = usize_says result; table = out.new })
+        (record { says = outcome result; table = out.new })
         (block_mapped fs rows.now window piece.0 offset size out.old) }
 {
-    let plan = layout::plan_block(fs, rows, window, piece, offset, size, out.len());
+    let plan = layout::plan_block(fs, rows, window, piece, offset, size, out.len())?;
     let mut at = plan.from;
-    let mut n = 0;
-    while n < plan.count {
+    // Stays: the slices are made one from another; `iter_mut` over the table would need its end beside them.
+    for n in 0..plan.count {
         let step = next_slice(rows, at);
-        store(out, n, step.slice);
+        out[n] = step.slice;
         at = step.rest;
-        n += 1;
     }
-    plan.answer
+    Ok(plan.count)
 }

@@ -3,12 +3,13 @@
 #![tactic(auto)]
 
 ghost use Rattle.std.specs.Prelude.{◌≡◌, ◌≤◌};
-ghost use Rattle.types.specs.Refusals.{usize_says};
+ghost use Rattle.types.specs.Refusals.{outcome};
 ghost use Rattle.merkle.specs.Width.{width_of, num_leafs, first_node};
 
-use types::{Refusal, UsizeResult};
+use types::Refusal;
 
 // The tree width of an accepted count, from the leading zeros of the count less one.
+// Stays: document 01 asks for the width by leading zeros, not by the library's `next_power_of_two`.
 fn width(count: usize) -> usize
     requires { (1 ≤ count) × (count ≤ 1073741823) }
     ensures { result ≡ width_of count }
@@ -18,24 +19,19 @@ fn width(count: usize) -> usize
 }
 
 // The width of the tree over `blocks` blocks or pieces, or refusal 16.
-pub fn merkle_num_leafs(blocks: usize) -> UsizeResult
-    ensures { usize_says result ≡ num_leafs blocks }
+pub fn merkle_num_leafs(blocks: usize) -> Result<usize, Refusal>
+    ensures { outcome result ≡ num_leafs blocks }
 {
-    if blocks < 1 {
-        return UsizeResult::Err(Refusal::NoTree);
+    if blocks < 1 || blocks > 1073741823 {
+        return Err(Refusal::NoTree);
     }
-    if blocks > 1073741823 {
-        return UsizeResult::Err(Refusal::NoTree);
-    }
-    UsizeResult::Ok(width(blocks))
+    Ok(width(blocks))
 }
 
 // The first node of the layer of `blocks` blocks or pieces, numbered from the root as 0, or refusal 16.
-pub fn merkle_first_node(blocks: usize) -> UsizeResult
-    ensures { usize_says result ≡ first_node blocks }
+pub fn merkle_first_node(blocks: usize) -> Result<usize, Refusal>
+    ensures { outcome result ≡ first_node blocks }
 {
-    match merkle_num_leafs(blocks) {
-        UsizeResult::Ok(w) => UsizeResult::Ok(w - 1),
-        UsizeResult::Err(refusal) => UsizeResult::Err(refusal),
-    }
+    let w = merkle_num_leafs(blocks)?;
+    Ok(w - 1)
 }

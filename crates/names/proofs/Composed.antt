@@ -1,21 +1,16 @@
 -- Laws of `appended`: a path whose first part is kept only grows, by lengths that are known from the parts, and parts
 -- that are written one behind the other are the composed text. They rely on the laws of runs of stores of `lists`.
 use Prim.Native.Nat.{ℕ, ◌+◌, ◌-◌, ◌≤◌, ◌<◌}
-use mathlib.Core.Path.{◌≡◌, refl, sym, ap, ◌∙◌}
+use mathlib.Core.Path.{◌≡◌, refl, sym, ◌∙◌}
 use mathlib.Core.Bool.{Bool, true, false, cond, true≢false}
 use mathlib.Core.List.{List, [], ◌∷◌, ◌++◌}
 use native.Mathlib.Omega.{arith}
 use lib.Dec.{eqb}
-use borrow.Author.Tests.{le-leb}
 use lib.ListN.{length, take, length-append}
 use lib.Seq.{sets, length-sets}
 use Rattle.lists.specs.Lists.{equal}
 use Rattle.lists.proofs.Runs.{part-sets, sets_over}
-use Rattle.path.specs.Join.{Joined, is_alone, is_empty, closed_from, is_closed, glued, appended, joined_if, fits, append_into}
-use Rattle.types.specs.Refusals.{number_of, value, refused, usize_says}
-use Rattle.types.specs.declared.refusal.Refusal.{Refusal}
-use Rattle.types.specs.declared.refusal.UsizeResult.{UsizeResult}
-use Rattle.types.specs.declared.refusal.UsizeResult.TheVariants as usize
+use Rattle.path.specs.Join.{Joined, is_alone, is_empty, closed_from, is_closed, glued, appended, joined_if, fits}
 
 -- a part that stands alone is dropped
 pub dropped : (a b : List ℕ) → is_alone a ≡ true → appended a b ≡ b
@@ -66,6 +61,11 @@ kept-appended a (c ∷ t) e = rw e (kept-long (glued a (c ∷ t)) (long (is_clos
     long true = omega (arith, length-append a (c ∷ t), kept-some a e)
     long false = omega (arith, length-append a (47 ∷ c ∷ t), kept-some a e)
 
+-- the whole of four parts has a byte
+pub composed_some : (a b c d : List ℕ) → is_alone a ≡ false → 0 < length (appended (appended (appended a b) c) d)
+composed_some a b c d e =
+    kept-some (appended (appended (appended a b) c) d) (kept-appended (appended (appended a b) c) d (kept-appended (appended a b) c (kept-appended a b e)))
+
 -- whether it ends in a separator
 closed-behind : (x : ℕ) (a : List ℕ) (c : ℕ) (t : List ℕ) → closed_from x (a ++ (c ∷ t)) ≡ closed_from c t
 closed-behind x [] c t = refl
@@ -95,40 +95,27 @@ module _ (a b : List ℕ) (k : Bool) (kept : is_alone a ≡ false) (e : k ≡ is
   pub closed_is : (r : Bool) → r ≡ cond (is_empty b) k (is_closed b) → r ≡ is_closed (appended a b)
   closed_is r h = h ∙ rw e (sym (closed-appended a b kept))
 
+-- a path stands at the start of `held`: its n bytes are written over the first of `buf`
+pub record Stands (buf path : List ℕ) (n : ℕ) (held : List ℕ) : Type 0 where
+  pub count : n ≡ length path
+  pub text : held ≡ sets buf 0 path
+
 -- a part appended to a path that stands at the start of the buffer
-module _ (a b buf held : List ℕ) (used : ℕ) (kept : is_alone a ≡ false) (u : used ≡ length a) (w : held ≡ sets buf 0 a) (h : length (appended a b) ≤ length buf) where
+module _ (a b buf held : List ℕ) (used : ℕ) (kept : is_alone a ≡ false) (s : Stands buf a used held) (h : length (appended a b) ≤ length buf) where
   there : take used held ≡ a
-  there = rw (u, w) (part-sets a buf 0 (omega (arith, longer a b kept)))
+  there = rw (s.count, s.text) (part-sets a buf 0 (omega (arith, longer a b kept)))
 
   as_long : length held ≡ length buf
-  as_long = rw w (length-sets buf 0 a)
+  as_long = rw s.text (length-sets buf 0 a)
 
   pub fits-there : (used ≤ length held) × (length (appended (take used held) b) ≤ length held)
-  fits-there = (rw as_long (omega (arith, longer a b kept)), rw (there, as_long) h)
+  fits-there = (rw as_long (omega (arith, s.count, longer a b kept)), rw (there, as_long) h)
 
-  pub length-there : (r : ℕ) → r ≡ length (appended (take used held) b) → r ≡ length (appended a b)
-  length-there r q = q ∙ rw there
-
-  pub text-there : (x : List ℕ) → x ≡ sets held 0 (appended (take used held) b) → x ≡ sets buf 0 (appended a b)
-  text-there x q = q ∙ rw (there, w) (sets_over a (appended a b) buf 0 (longer a b kept))
-
--- an append for which there is room gives the length and the text
-module _ (buf part : List ℕ) (used : ℕ) (x : List ℕ) (d : UsizeResult) (h : used ≤ length buf) (f : length (appended (take used buf) part) ≤ length buf)
-    (e : ◌≡◌ {A = Joined} (record { says = usize_says d; buf = x }) (append_into buf used part)) where
-  written : ◌≡◌ {A = Joined} (record { says = usize_says d; buf = x }) (joined_if true (appended (take used buf) part) buf)
-  written = e ∙ rw (le-leb used (length buf) h, le-leb (length (appended (take used buf) part)) (length buf) f)
-
-  pub grown-value : (n : ℕ) → d ≡ usize.Ok n → n ≡ length (appended (take used buf) part)
-  grown-value n q = let s : value n ≡ value (length (appended (take used buf) part)) = ap usize_says (sym q) ∙ ap (λ (j : Joined). j.says) written in cc
-
-  pub grown-text : x ≡ sets buf 0 (appended (take used buf) part)
-  grown-text = ap (λ (j : Joined). j.buf) written
-
-  pub grown-refused : (r : Refusal) → d ≡ usize.Err r → ⊥
-  grown-refused r q =
-      let s : refused (number_of r) ≡ value (length (appended (take used buf) part)) = ap usize_says (sym q) ∙ ap (λ (j : Joined). j.says) written in
-      let z : ◌≡◌ {A = ℕ} 0 1 = cc in
-      omega arith
+  pub appended-there : (r : ℕ) (x : List ℕ) → r ≡ length (appended (take used held) b) → x ≡ sets held 0 (appended (take used held) b) → Stands buf (appended a b) r x
+  appended-there r x e f = record {
+    count = e ∙ rw there;
+    text = f ∙ rw (there, s.text) (sets_over a (appended a b) buf 0 (longer a b kept));
+  }
 
 -- a text said in other words
 pub retold : (j : Joined) (t u buf : List ℕ) → j ≡ joined_if (fits t buf) t buf → t ≡ u → j ≡ joined_if (fits u buf) u buf

@@ -40,11 +40,6 @@ module _ (text save name : List ℕ) (set dir : Span) where
   hashed-if false false false =
       sym (append_assoc (led save ++ (text_at text set ++ (47 ∷ []))) (led (text_at text dir)) name ∙ append_assoc (led save) (text_at text set ++ (47 ∷ [])) (led (text_at text dir) ++ name))
 
--- nothing, either way
-none-if : (b : Bool) → ◌≡◌ {A = List ℕ} (cond b [] []) []
-none-if true = refl
-none-if false = refl
-
 module _ (fs : FileStorage) (dirs text : List ℕ) (r : Row) where
   -- the spans of the set's name and of the directory, where they lead the path
   abbrev pub set_span : Span
@@ -56,18 +51,10 @@ module _ (fs : FileStorage) (dirs text : List ℕ) (r : Row) where
   path-is : (save : List ℕ) → appended (appended (appended (cond (is_absolute r) [] save) (text_at text set_span)) (text_at text dir_span)) (name_of text r) ≡ file_path fs dirs text save r
   path-is save = path-if text save (name_of text r) fs.name (dir_at dirs r.path_index) (is_absolute r) (is_single r) (has r.flags 32)
 
-  -- without a save path, two parts lead the name
-  path-unsaved : appended (appended (text_at text set_span) (text_at text dir_span)) (name_of text r) ≡ file_path fs dirs text [] r
-  path-unsaved = ap (λ (l : List ℕ). appended (appended (appended l (text_at text set_span)) (text_at text dir_span)) (name_of text r)) (sym (none-if (is_absolute r))) ∙ path-is []
-
   -- a path of parts that were read one by one
   pub path-from : {save set dir name : List ℕ} {u v : Span} (given : List ℕ) → save ≡ cond (is_absolute r) [] given → set ≡ text_at text u → u ≡ set_span → dir ≡ text_at text v → v ≡ dir_span → name ≡ name_of text r
       → appended (appended (appended save set) dir) name ≡ file_path fs dirs text given r
   path-from given e f g h i j = rw (e, f, g, h, i, j) (path-is given)
-
-  pub unsaved-from : {set dir name : List ℕ} {u v : Span} → set ≡ text_at text u → u ≡ set_span → dir ≡ text_at text v → v ≡ dir_span → name ≡ name_of text r
-      → appended (appended set dir) name ≡ file_path fs dirs text [] r
-  unsaved-from f g h i j = rw (f, g, h, i, j) path-unsaved
 
   pub hashed-is : (save : List ℕ) → led (cond (is_absolute r) [] save) ++ (cond (is_inside r && not (has r.flags 32)) (text_at text fs.name ++ (47 ∷ [])) [] ++ (led (text_at text dir_span) ++ name_of text r)) ≡ hashed_path fs dirs text save r
   hashed-is save = hashed-if text save (name_of text r) fs.name (dir_at dirs r.path_index) (is_absolute r) (is_single r) (has r.flags 32)

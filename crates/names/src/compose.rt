@@ -7,16 +7,17 @@ ghost use Rattle.path.specs.Join.{is_alone, is_empty, is_closed, appended};
 ghost use Rattle.names.specs.Paths.{composed_of, path_written, written_into};
 
 use path::{is_alone, is_closed};
-use types::{Refusal, UsizeResult};
+use types::Refusal;
 
 // Whether a path ends in a separator after `part` is appended to it; `closed` says whether it did before.
 fn is_closed_after(closed: bool, part: &[u8]) -> bool
     ensures { result ≡ cond (is_empty part.now) closed (is_closed part.now) }
 {
-    if part.len() == 0 {
-        return closed;
+    if part.is_empty() {
+        closed
+    } else {
+        is_closed(part)
     }
-    is_closed(part)
 }
 
 // What is left of `left` bytes after `part` is appended, 0 where they are too few; `closed` says whether the path
@@ -26,14 +27,11 @@ fn left_after(left: usize, closed: bool, part: &[u8]) -> usize
         - cond (is_empty part.now) 0
         (cond closed (length part.now) (length part.now + 1)) }
 {
-    if part.len() == 0 {
+    if part.is_empty() {
         return left;
     }
-    let rest = lists::saturating_sub_usize(left, part.len());
-    if closed {
-        return rest;
-    }
-    lists::saturating_sub_usize(rest, 1)
+    let rest = left.saturating_sub(part.len());
+    if closed { rest } else { rest.saturating_sub(1) }
 }
 
 // The room from the last byte of the composed path on, 0 where it doesn't fit.
@@ -46,25 +44,24 @@ fn room_left(first: &[u8], second: &[u8], third: &[u8], last: &[u8], room: usize
     let closed1 = is_closed(first);
     let closed2 = is_closed_after(closed1, second);
     let closed3 = is_closed_after(closed2, third);
-    let left1 = lists::saturating_sub_usize(room, lists::saturating_sub_usize(first.len(), 1));
+    let left1 = room.saturating_sub(first.len().saturating_sub(1));
     let left2 = left_after(left1, closed1, second);
     let left3 = left_after(left2, closed2, third);
     left_after(left3, closed3, last)
 }
 
 // Appends `part`, for which there is room, to the path in the first `used` bytes, and gives the new length.
+// Stays: the length of the path so far stands beside the lent buffer, since no function here has a heap.
 fn grown(buf: &mut [u8], used: usize, part: &[u8]) -> usize
     requires { (used ≤ length buf.old) × (length (appended (take used buf.old) part.now) ≤ length buf.old) }
     ensures value { result ≡ length (appended (take used buf.old) part.now) }
     ensures buf_after { buf.new ≡ sets buf.old 0 (appended (take used buf.old) part.now) }
 {
-    match path::append_path(buf, used, part) {
-        UsizeResult::Ok(n) => n,
-        UsizeResult::Err(_) => used,
-    }
+    path::append_path(buf, used, part).unwrap_or(used)
 }
 
 // Writes the composed path, whose first part is kept and for which there is room, and gives its length.
+// Stays: the path goes into a lent buffer, since no function here has a heap.
 fn put_kept(first: &[u8], second: &[u8], third: &[u8], last: &[u8], buf: &mut [u8]) -> usize
     requires { (is_alone first.now ≡ false)
         × (length (composed_of first.now second.now third.now last.now) ≤ length buf.old) }
@@ -86,16 +83,16 @@ fn compose_kept(
     third: &[u8],
     last: &[u8],
     buf: &mut [u8],
-) -> UsizeResult
+) -> Result<usize, Refusal>
     requires { is_alone first.now ≡ false }
     ensures { path_written result buf.new
         ≡ written_into (composed_of first.now second.now third.now last.now)
         buf.old }
 {
     if room_left(first, second, third, last, buf.len()) == 0 {
-        return UsizeResult::Err(Refusal::NoRoom);
+        return Err(Refusal::NoRoom);
     }
-    UsizeResult::Ok(put_kept(first, second, third, last, buf))
+    Ok(put_kept(first, second, third, last, buf))
 }
 
 // Writes the path of four parts, each appended to those before it, to the start of `buf`, and gives its
@@ -106,7 +103,7 @@ pub fn compose_path(
     third: &[u8],
     last: &[u8],
     buf: &mut [u8],
-) -> UsizeResult
+) -> Result<usize, Refusal>
     ensures { path_written result buf.new
         ≡ written_into (composed_of first.now second.now third.now last.now)
         buf.old }

@@ -1,50 +1,49 @@
 // What a question about a file's names decides first, and the parts that lead a file's name: the set's name
 // and the file's directory. Relies on `rules` for the refusals and on `tables` for the spans.
 ghost use Rattle.std.specs.Prelude.{◌≡◌, cond, ◌&&◌, ◌/◌, leb};
-ghost use Rattle.types.specs.Refusals.{usize_says};
+ghost use Rattle.types.specs.Refusals.{outcome};
 ghost use Rattle.rules.specs.Questions.{file_answer, rows_are_held};
 ghost use Rattle.names.specs.Paths.{set_leads};
 
-use rules::{are_both, is_held};
+use rules::is_held;
 use tables::{FileStorage, Row, Span};
-use types::{FileIndex, UsizeResult};
+use types::{FileIndex, Refusal};
 
 // Whether `words` words of directories and `bytes` bytes of text hold the set's directories and texts.
 pub fn are_held(fs: FileStorage, words: usize, bytes: usize) -> bool
     ensures { result ≡ (leb fs.num_paths (words / 2) && leb fs.text_len bytes) }
 {
-    if words / 2 < fs.num_paths {
-        return false;
-    }
-    fs.text_len <= bytes
+    fs.num_paths <= words / 2 && fs.text_len <= bytes
 }
 
 // The number of the file that a question is about, or why the question isn't answered; `held` says whether
 // the other tables hold what the set counts.
-pub fn file_in(fs: FileStorage, rows: &[u64], index: FileIndex, held: bool) -> UsizeResult
-    ensures { usize_says result ≡ file_answer fs index.0 (rows_are_held fs rows.now && held) (λ k. k) }
+pub fn file_in(
+    fs: FileStorage,
+    rows: &[u64],
+    index: FileIndex,
+    held: bool,
+) -> Result<usize, Refusal>
+    ensures { outcome result ≡ file_answer fs index.0 (rows_are_held fs rows.now && held) (λ k. k) }
 {
     let rows_held = is_held(fs.num_files, rows.len() / 8);
-    rules::file_in(fs, index, are_both(rows_held, held))
+    rules::file_in(fs, index, rows_held && held)
 }
 
 // Whether the set's name leads a file's path.
 pub(crate) fn is_led(row: Row) -> bool
     ensures { result ≡ set_leads row }
 {
-    if tables::is_inside(row.path_index) {
-        return !tables::is_outside(row.flags);
-    }
-    false
+    tables::is_inside(row.path_index) && !tables::is_outside(row.flags)
 }
 
 // The span of the set's name where it leads the file's path, else the span of no bytes at 0.
 pub fn set_span(fs: FileStorage, row: Row) -> Span
     ensures { result ≡ cond (set_leads row) fs.name (record { at = 0; len = 0 }) }
 {
-    let name = fs.name;
     if is_led(row) {
-        return name;
+        fs.name
+    } else {
+        Span { at: 0, len: 0 }
     }
-    Span { at: 0, len: 0 }
 }

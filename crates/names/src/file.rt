@@ -1,31 +1,32 @@
 // A file's whole path, composed into a lent buffer, and its hash, taken part by part without one. Relies on
 // decide.rt, compose.rt and `crc32c`, and on the laws of proofs/Paths.antt.
 ghost use Rattle.std.specs.Prelude.{◌≡◌, cond, [], ◌∷◌, ◌++◌, map, eqb};
+ghost use Rattle.types.specs.Refusals.{outcome};
 ghost use Rattle.crc32c.specs.Crc.{crc_from, lower};
 ghost use Rattle.tables.specs.Rows.{path_is_absolute};
 ghost use Rattle.tables.specs.Span.{text_at};
 ghost use Rattle.rules.specs.Composed.{composed_if};
-ghost use Rattle.rules.specs.Results.{u32_says};
 ghost use Rattle.names.specs.Paths.{path_written, set_leads, file_path, led, hashed_path, hash_of, file_path_into};
 ghost use Rattle.names.specs.Paths.{file_path_hash};
 
 use crate::compose::compose_path;
 use crate::decide::{are_held, file_in, is_led, set_span};
-use rules::U32Result;
 use tables::{FileStorage, Row, directory_span};
-use types::{FileIndex, UsizeResult};
+use types::{FileIndex, Refusal};
 
 // The save path, or nothing for a file that was added by an absolute path.
 fn save_of(save_path: &[u8], path_index: u64) -> &[u8]
     ensures { result.now ≡ cond (eqb path_index path_is_absolute) [] save_path.now }
 {
     if path_index == tables::PATH_IS_ABSOLUTE {
-        return lists::part(save_path, 0, 0);
+        b""
+    } else {
+        save_path
     }
-    save_path
 }
 
 // Writes the whole path of the file of `row`.
+// Stays: the path goes into a lent buffer, since no function here has a heap.
 fn put_path(
     fs: FileStorage,
     dirs: &[u64],
@@ -33,7 +34,7 @@ fn put_path(
     row: Row,
     save_path: &[u8],
     buf: &mut [u8],
-) -> UsizeResult
+) -> Result<usize, Refusal>
     ensures { path_written result buf.new
         ≡ composed_if 0 (file_path fs dirs.now text.now save_path.now row)
         buf.old }
@@ -57,10 +58,11 @@ fn hash_closed(crc: u32, part: &[u8]) -> u32
 pub fn hash_led(crc: u32, part: &[u8]) -> u32
     ensures { result ≡ crc_from crc (map lower (led part.now)) }
 {
-    if part.len() == 0 {
-        return crc;
+    if part.is_empty() {
+        crc
+    } else {
+        hash_closed(crc, part)
     }
-    hash_closed(crc, part)
 }
 
 // The hash `crc` of the bytes so far, continued with the set's name and a separator where the name leads the path.
@@ -68,9 +70,10 @@ fn hash_set(crc: u32, fs: FileStorage, text: &[u8], row: Row) -> u32
     ensures { result ≡ crc_from crc (map lower (cond (set_leads row) (text_at text.now fs.name ++ (47 ∷ [])) [])) }
 {
     if is_led(row) {
-        return hash_closed(crc, tables::text_at(text, fs.name));
+        hash_closed(crc, tables::text_at(text, fs.name))
+    } else {
+        crc
     }
-    crc
 }
 
 // The hash of the whole path of the file of `row`.
@@ -95,16 +98,14 @@ pub fn file_path(
     index: FileIndex,
     save_path: &[u8],
     buf: &mut [u8],
-) -> UsizeResult
+) -> Result<usize, Refusal>
     ensures { path_written result buf.new
         ≡ file_path_into fs rows.now dirs.now text.now index.0
         save_path.now buf.old }
 {
     let held = are_held(fs, dirs.len(), text.len());
-    match file_in(fs, rows, index, held) {
-        UsizeResult::Ok(k) => put_path(fs, dirs, text, tables::row_at(rows, k), save_path, buf),
-        UsizeResult::Err(e) => UsizeResult::Err(e),
-    }
+    let k = file_in(fs, rows, index, held)?;
+    put_path(fs, dirs, text, tables::row_at(rows, k), save_path, buf)
 }
 
 // The hash of a file's whole path, after `save_path`.
@@ -115,19 +116,11 @@ pub fn file_path_hash(
     text: &[u8],
     index: FileIndex,
     save_path: &[u8],
-) -> U32Result
-    ensures { u32_says result ≡ file_path_hash fs rows.now dirs.now text.now index.0
+) -> Result<u32, Refusal>
+    ensures { outcome result ≡ file_path_hash fs rows.now dirs.now text.now index.0
         save_path.now }
 {
     let held = are_held(fs, dirs.len(), text.len());
-    match file_in(fs, rows, index, held) {
-        UsizeResult::Ok(k) => U32Result::Ok(hash_path(
-            fs,
-            dirs,
-            text,
-            tables::row_at(rows, k),
-            save_path,
-        )),
-        UsizeResult::Err(e) => U32Result::Err(e),
-    }
+    let k = file_in(fs, rows, index, held)?;
+    Ok(hash_path(fs, dirs, text, tables::row_at(rows, k), save_path))
 }

@@ -1,4 +1,4 @@
--- Laws of a path's two ends: the last byte, which is trimmed where it passes a test, and the position after the first. They
+-- Laws of a path's two ends: the last byte, which is trimmed where it passes a test, and a part to the end. They
 -- rely on the kit's laws of lists.
 use Prim.Native.Nat.{ℕ, ◌-◌, ◌≤◌}
 use mathlib.Core.Path.{◌≡◌, refl, sym, ap, ◌∙◌}
@@ -9,7 +9,7 @@ use lib.ListN.{length, get_or, take, drop, length-drop}
 use lib.Seq.{take_all, take-length}
 use borrow.Author.Tests.{eq-eqb, ne_eqb}
 use Rattle.lists.specs.Lists.{part_of}
-use Rattle.path.specs.Split.{is_separator, trimmed_from, trimmed, position_in}
+use Rattle.path.specs.Split.{is_separator, trimmed_from, trimmed}
 use Rattle.path.specs.Join.{closed_from, is_closed}
 
 -- a path without its last byte, where that passes a test that 0 fails
@@ -62,10 +62,6 @@ closed-from c (d ∷ t) = closed-from d t
 pub closed_is : (p : List ℕ) (k : ℕ) → k ≡ length p - 1 → is_separator (get_or p k 0) ≡ is_closed p
 closed_is [] k e = refl
 closed_is (c ∷ t) k e = let q : k ≡ length t = omega arith in rw q (closed-from c t)
-
--- place 0 stays 0 where a leading separator is skipped
-pub place-zero : (p : List ℕ) → position_in p 0 ≡ 0
-place-zero p = omega arith
 
 -- a part that is asked for to the end
 pub part-rest : (p : List ℕ) (k : ℕ) → part_of p k (length p) ≡ drop k p

@@ -5,14 +5,19 @@ use mathlib.Core.Path.{◌≡◌, refl, sym, ◌∙◌}
 use mathlib.Core.Bool.{Bool, true, false, cond}
 use mathlib.Core.List.{List, [], ◌∷◌}
 use native.Mathlib.Omega.{arith}
-use lib.Dec.{leb}
+use borrow.Author.Tests.{ne_eqb}
+use lib.Dec.{eqb, leb}
 use lib.ListN.{length, length-append}
 use lib.Seq.{sets}
 use Rattle.lists.proofs.Runs.{sets-append}
 use Rattle.types.specs.Refusals.{value, refused}
-use Rattle.path.specs.Join.{is_alone, is_empty, is_closed, glued, appended, Joined, joined_if, fits}
+use Rattle.path.specs.Join.{is_empty, is_closed, glued, Joined, joined_if, fits}
 
--- a leaf of no bytes, and one of some
+-- whether there are no bytes, as a test of the length and by its two answers
+pub empty-is : (l : List ℕ) → eqb (length l) 0 ≡ is_empty l
+empty-is [] = refl
+empty-is (c ∷ t) = ne_eqb (length (c ∷ t)) 0 (λ e. omega arith)
+
 pub no_bytes : (l : List ℕ) → length l ≡ 0 → is_empty l ≡ true
 no_bytes [] e = refl
 no_bytes (c ∷ t) e = absurd (omega arith)
@@ -20,14 +25,6 @@ no_bytes (c ∷ t) e = absurd (omega arith)
 pub some_bytes : (l : List ℕ) → (length l ≡ 0 → ⊥) → is_empty l ≡ false
 some_bytes [] h = absurd (h refl)
 some_bytes (c ∷ t) h = refl
-
--- a join's length where the branch or the leaf stands alone
-module _ (branch leaf : List ℕ) where
-  pub length-alone : is_alone branch ≡ true → length leaf ≡ length (appended branch leaf)
-  length-alone e = rw e
-
-  pub length-bare : is_alone branch ≡ false → length leaf ≡ 0 → length branch ≡ length (appended branch leaf)
-  length-bare e h = rw (e, no_bytes leaf h)
 
 -- the text where it fits, or 10 and the buffer as it was
 module _ (fit : Bool) (text buf : List ℕ) where
@@ -46,10 +43,6 @@ module _ (branch leaf : List ℕ) (n : ℕ) (closed : Bool) (e : n ≡ length br
 
   length-glued : n + cond closed (length leaf) (length leaf + 1) ≡ length (glued branch leaf)
   length-glued = rw (e, h, length-append, length-tail (is_closed branch))
-
-  -- the same of a branch and a leaf that are both there
-  pub length-joined : is_alone branch ≡ false → (length leaf ≡ 0 → ⊥) → n + cond closed (length leaf) (length leaf + 1) ≡ length (appended branch leaf)
-  length-joined a s = rw (a, some_bytes leaf s) length-glued
 
   sets-glued : (buf : List ℕ) → sets (sets buf 0 branch) n (cond closed leaf (47 ∷ leaf)) ≡ sets buf 0 (glued branch leaf)
   sets-glued buf =

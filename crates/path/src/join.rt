@@ -2,20 +2,17 @@
 // rest is lent to the writer of the next part. Relies on `lists::copy_after` and the laws of proofs/Joins.antt.
 ghost use Rattle.std.specs.Prelude.{◌≡◌, cond, ◌∷◌, ◌+◌, ◌≤◌, leb, length};
 ghost use Rattle.std.proofs.lemmas.List.Edits.{sets};
-ghost use Rattle.types.specs.Refusals.{usize_says};
+ghost use Rattle.types.specs.Refusals.{outcome};
 ghost use Rattle.path.specs.Join.{Joined, is_alone, appended, joined_if, fits, append_into, combine_into};
 
 use crate::split::is_closed;
-use types::{Refusal, UsizeResult};
+use types::Refusal;
 
 // Whether a path is empty or `.`, which leaves the other part of a join alone.
 pub fn is_alone(path: &[u8]) -> bool
     ensures { result ≡ is_alone path.now }
 {
-    if path.len() == 0 {
-        return true;
-    }
-    lists::same(path, b".")
+    path.is_empty() || lists::same(path, b".")
 }
 
 // The length of a branch and a leaf joined as by `append_path`. Slices of bytes are shorter than 2 ^ 63, so
@@ -26,7 +23,7 @@ pub fn joined_length(branch: &[u8], leaf: &[u8]) -> usize
     if is_alone(branch) {
         return leaf.len();
     }
-    if leaf.len() == 0 {
+    if leaf.is_empty() {
         return branch.len();
     }
     if is_closed(branch) {
@@ -66,42 +63,42 @@ fn put_after(buf: &mut [u8], used: usize, closed: bool, leaf: &[u8]) -> usize
 }
 
 // Writes a text to the start of `buf`, and gives its length.
-fn put_alone(buf: &mut [u8], text: &[u8]) -> UsizeResult
-    ensures { ◌≡◌ {A = Joined} (record { says = usize_says result; buf = buf.new })
+fn put_alone(buf: &mut [u8], text: &[u8]) -> Result<usize, Refusal>
+    ensures { ◌≡◌ {A = Joined} (record { says = outcome result; buf = buf.new })
         (joined_if (fits text.now buf.old) text.now buf.old) }
 {
     if buf.len() < text.len() {
-        return UsizeResult::Err(Refusal::NoRoom);
+        return Err(Refusal::NoRoom);
     }
     lists::copy_after(buf, 0, text);
-    UsizeResult::Ok(text.len())
+    Ok(text.len())
 }
 
 // Appends `leaf` to the branch that stands in the first `used` bytes of `buf`, and gives the length
 // of the joined path.
-pub fn append_path(buf: &mut [u8], used: usize, leaf: &[u8]) -> UsizeResult
-    ensures { ◌≡◌ {A = Joined} (record { says = usize_says result; buf = buf.new })
+pub fn append_path(buf: &mut [u8], used: usize, leaf: &[u8]) -> Result<usize, Refusal>
+    ensures { ◌≡◌ {A = Joined} (record { says = outcome result; buf = buf.new })
         (append_into buf.old used leaf.now) }
 {
     if buf.len() < used {
-        return UsizeResult::Err(Refusal::NoRoom);
+        return Err(Refusal::NoRoom);
     }
     if is_alone(&buf[..used]) {
         return put_alone(buf, leaf);
     }
-    if leaf.len() == 0 {
-        return UsizeResult::Ok(used);
+    if leaf.is_empty() {
+        return Ok(used);
     }
     let closed = is_closed(&buf[..used]);
     if !has_room(buf.len(), used, closed, leaf.len()) {
-        return UsizeResult::Err(Refusal::NoRoom);
+        return Err(Refusal::NoRoom);
     }
-    UsizeResult::Ok(put_after(buf, used, closed, leaf))
+    Ok(put_after(buf, used, closed, leaf))
 }
 
 // Writes the path of `left` and `right` to the start of `buf`, and gives its length.
-pub fn combine_path(left: &[u8], right: &[u8], buf: &mut [u8]) -> UsizeResult
-    ensures { ◌≡◌ {A = Joined} (record { says = usize_says result; buf = buf.new })
+pub fn combine_path(left: &[u8], right: &[u8], buf: &mut [u8]) -> Result<usize, Refusal>
+    ensures { ◌≡◌ {A = Joined} (record { says = outcome result; buf = buf.new })
         (combine_into left.now right.now buf.old) }
 {
     if is_alone(left) {
@@ -112,16 +109,16 @@ pub fn combine_path(left: &[u8], right: &[u8], buf: &mut [u8]) -> UsizeResult
     }
     let closed = is_closed(left);
     if !has_room(buf.len(), left.len(), closed, right.len()) {
-        return UsizeResult::Err(Refusal::NoRoom);
+        return Err(Refusal::NoRoom);
     }
     lists::copy_after(buf, 0, left);
-    UsizeResult::Ok(put_after(buf, left.len(), closed, right))
+    Ok(put_after(buf, left.len(), closed, right))
 }
 
 // Writes `leaf` appended to `branch` to the start of `buf`, and gives its length: `append_path` where
 // the branch doesn't stand in the buffer yet.
-pub fn join_path(branch: &[u8], leaf: &[u8], buf: &mut [u8]) -> UsizeResult
-    ensures { ◌≡◌ {A = Joined} (record { says = usize_says result; buf = buf.new })
+pub fn join_path(branch: &[u8], leaf: &[u8], buf: &mut [u8]) -> Result<usize, Refusal>
+    ensures { ◌≡◌ {A = Joined} (record { says = outcome result; buf = buf.new })
         (joined_if (fits (appended branch.now leaf.now) buf.old)
         (appended branch.now leaf.now)
         buf.old) }
@@ -129,13 +126,13 @@ pub fn join_path(branch: &[u8], leaf: &[u8], buf: &mut [u8]) -> UsizeResult
     if is_alone(branch) {
         return put_alone(buf, leaf);
     }
-    if leaf.len() == 0 {
+    if leaf.is_empty() {
         return put_alone(buf, branch);
     }
     let closed = is_closed(branch);
     if !has_room(buf.len(), branch.len(), closed, leaf.len()) {
-        return UsizeResult::Err(Refusal::NoRoom);
+        return Err(Refusal::NoRoom);
     }
     lists::copy_after(buf, 0, branch);
-    UsizeResult::Ok(put_after(buf, branch.len(), closed, leaf))
+    Ok(put_after(buf, branch.len(), closed, leaf))
 }

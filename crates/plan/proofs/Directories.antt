@@ -1,6 +1,6 @@
 -- Laws of the search for a directory: the last index of a text among others, whether it is there, and both once one more
 -- is stored.
-use Rattle.std.proofs.Common.{◌≡◌, ℕ, zero, suc, ◌+◌, ◌-◌, ◌*◌, ◌/◌, ◌<◌, ◌≤◌, min, Bool, true, false, cond, ◌&&◌, ◌||◌, eqb, List, [], ◌∷◌, ◌++◌, length, sym, refl, ap, ◌∙◌, true≢false, arith, length-append}
+use Rattle.std.proofs.Common.{◌≡◌, ℕ, zero, suc, ◌+◌, ◌-◌, ◌*◌, ◌/◌, ◌<◌, ◌≤◌, min, Bool, true, false, cond, ◌&&◌, ◌||◌, eqb, List, [], ◌∷◌, ◌++◌, length, sym, refl, ap, ◌∙◌, true≢false, arith, length-append, eq-eqb, ne_eqb}
 use mathlib.Core.Bool.{false≢true}
 use lib.ListN.{get_or-eq_default}
 use Rattle.lists.specs.Lists.{equal, any}
@@ -12,13 +12,12 @@ use Rattle.tables.specs.Span.{text_at}
 use Rattle.tables.specs.Rows.{dir_at}
 use Rattle.tables.specs.Model.{tabled, stored}
 use Rattle.tables.proofs.Tabled.{length-tabled, tabled-more}
-use Rattle.plan.specs.declared.dirs.DirPlan.{DirPlan}
 use Rattle.additions.specs.Addition.{is_among, pad_directory_name}
 use Rattle.plan.specs.Write.{directory_index_from, directory_index}
-use Rattle.plan.specs.private.Steps.{dir_texts, dir_plan_of, dirs_with, count_with, pad_dir_plan_of}
+use Rattle.plan.specs.private.Steps.{dir_texts, dir_plan_of, dirs_with, count_with, pad_dir_plan_of, known_at, added_at}
 
 -- one more text, at the end
-pub index-more : (d : List ℕ) (xs : List (List ℕ)) (x : List ℕ) (found i : ℕ)
+index-more : (d : List ℕ) (xs : List (List ℕ)) (x : List ℕ) (found i : ℕ)
     → directory_index_from found i d (xs ++ (x ∷ [])) ≡ cond (equal d x) (i + length xs) (directory_index_from found i d xs)
 unfolding directory_index_from
 index-more d [] x found i = let e : i + 0 ≡ i = omega arith in rw e
@@ -31,14 +30,14 @@ either-false : (a b : Bool) → cond a true b ≡ false → (a ≡ false) × (b 
 either-false true b e = absurd (true≢false e)
 either-false false b e = (refl, e)
 
-pub index-none : (d : List ℕ) (xs : List (List ℕ)) (found i : ℕ) → is_among d xs ≡ false → directory_index_from found i d xs ≡ found
+index-none : (d : List ℕ) (xs : List (List ℕ)) (found i : ℕ) → is_among d xs ≡ false → directory_index_from found i d xs ≡ found
 unfolding directory_index_from
 index-none d [] found i e = refl
 index-none d (x ∷ xs) found i e =
     let p = either-false (equal d x) (any (equal d) xs) e in
     rw p.0 (index-none d xs found (i + 1) p.1)
 
-pub index_in : (d : List ℕ) (xs : List (List ℕ)) (found i : ℕ) → is_among d xs ≡ true → directory_index_from found i d xs < i + length xs
+index_in : (d : List ℕ) (xs : List (List ℕ)) (found i : ℕ) → is_among d xs ≡ true → directory_index_from found i d xs < i + length xs
 unfolding directory_index_from
 index_in d [] found i e = absurd (false≢true e)
 index_in d (x ∷ xs) found i e = at (equal d x) (any (equal d) xs) refl e (index_in d xs) (index-none d xs)
@@ -51,7 +50,7 @@ index_in d (x ∷ xs) found i e = at (equal d x) (any (equal d) xs) refl e (inde
     at true false q e f g = omega (arith, g i (i + 1) q)
     at false false q e f g = absurd (false≢true e)
 
-pub index_same : (d : List ℕ) (xs : List (List ℕ)) (a b i : ℕ) → is_among d xs ≡ true → directory_index_from a i d xs ≡ directory_index_from b i d xs
+index_same : (d : List ℕ) (xs : List (List ℕ)) (a b i : ℕ) → is_among d xs ≡ true → directory_index_from a i d xs ≡ directory_index_from b i d xs
 unfolding directory_index_from
 index_same d [] a b i e = absurd (false≢true e)
 index_same d (x ∷ xs) a b i e = at (equal d x) e (index_same d xs a b (i + 1))
@@ -64,14 +63,14 @@ index_same d (x ∷ xs) a b i e = at (equal d x) e (index_same d xs a b (i + 1))
 
 -- the index says whether the text is there
 module _ (d : List ℕ) (xs : List (List ℕ)) where
-  pub there : directory_index d xs < length xs → is_among d xs ≡ true
+  there : directory_index d xs < length xs → is_among d xs ≡ true
   there h = at (is_among d xs) refl
     where
       at : (t : Bool) → is_among d xs ≡ t → t ≡ true
       at true q = refl
       at false q = absurd (omega (arith, index-none d xs (length xs) 0 q))
 
-  pub not_there : length xs ≤ directory_index d xs → is_among d xs ≡ false
+  not_there : length xs ≤ directory_index d xs → is_among d xs ≡ false
   not_there h = at (is_among d xs) refl
     where
       at : (t : Bool) → is_among d xs ≡ t → t ≡ false
@@ -141,25 +140,27 @@ module _ (dirs text d : List ℕ) where
       ∙ ap (λ (i : ℕ). directory_index_from n 0 d (dir_texts dirs text i)) k
       ∙ search_is (row_text dirs text) d n
 
--- plans of a directory by what the search found
+-- the plan of a directory that the search found, and of one that it did not
 module _ (d : List ℕ) (xs : List (List ℕ)) (n : ℕ) (l : length xs ≡ n) where
-  pub old-is : (k : ℕ) → k ≡ directory_index d xs → is_among d xs ≡ true → ◌≡◌ {A = DirPlan} (record { index = k; new = false; len = 0; count = n }) (dir_plan_of (stored d false) xs)
-  old-is k e h = rw (h, ← e, l)
+  old-is : (k m : ℕ) → k ≡ directory_index d xs → is_among d xs ≡ true → m ≡ n → known_at k m ≡ dir_plan_of (stored d false) xs
+  old-is k m e h f = rw (h, ← e, f, l)
 
-  pub new_is : is_among d xs ≡ false → ◌≡◌ {A = DirPlan} (record { index = n; new = true; len = length d; count = n + 1 }) (dir_plan_of (stored d false) xs)
-  new_is h =
+  new_is : (m : ℕ) → is_among d xs ≡ false → m ≡ n → added_at m (length d) ≡ dir_plan_of (stored d false) xs
+  new_is m h f =
       let p : directory_index d xs ≡ n = index-none d xs (length xs) 0 h ∙ l in
-      rw (h, p, length-append xs (d ∷ []), l)
+      rw (h, p, f, length-append xs (d ∷ []), l)
 
-pub pad-is : (pad : ℕ) (xs : List (List ℕ)) → eqb pad 0 ≡ false → dir_plan_of (stored pad_directory_name false) xs ≡ pad_dir_plan_of pad xs
+  pub found : (k : ℕ) → k < n → k ≡ directory_index d xs → known_at k n ≡ dir_plan_of (stored d false) xs
+  found k h e = old-is k n e (there d xs (omega arith)) refl
+
+  pub missing : n ≡ directory_index d xs → added_at n (length d) ≡ dir_plan_of (stored d false) xs
+  missing e = new_is n (not_there d xs (omega arith)) refl
+
+pad-is : (pad : ℕ) (xs : List (List ℕ)) → eqb pad 0 ≡ false → dir_plan_of (stored pad_directory_name false) xs ≡ pad_dir_plan_of pad xs
 pad-is pad xs e = rw e
 
-pub no-pad-is : (pad n : ℕ) (xs : List (List ℕ)) → length xs ≡ n → eqb pad 0 ≡ true
-    → ◌≡◌ {A = DirPlan} (record { index = 0; new = false; len = 0; count = n }) (pad_dir_plan_of pad xs)
-no-pad-is pad n xs l e = rw (e, l)
-
 -- the same once a file's directory is stored, where that is new
-pub with-length : (new : Bool) (d : List ℕ) (xs : List (List ℕ)) (n : ℕ) → length xs ≡ n → length (dirs_with new d xs) ≡ count_with new n
+with-length : (new : Bool) (d : List ℕ) (xs : List (List ℕ)) (n : ℕ) → length xs ≡ n → length (dirs_with new d xs) ≡ count_with new n
 with-length true d xs n l = length-append xs (d ∷ []) ∙ omega arith
 with-length false d xs n l = omega arith
 
@@ -167,7 +168,7 @@ module _ (p : List ℕ) (d : List ℕ) (xs : List (List ℕ)) where
   among-with : (t u : Bool) → any (equal p) xs ≡ t → equal p d ≡ u → is_among p (xs ++ (d ∷ [])) ≡ (t || cond u true false)
   among-with t u a b = any_append (equal p) xs (d ∷ []) ∙ rw (a, b)
 
-  pub own-there : (new : Bool) → (new && equal p d) ≡ true → is_among p (dirs_with new d xs) ≡ true
+  own-there : (new : Bool) → (new && equal p d) ≡ true → is_among p (dirs_with new d xs) ≡ true
   own-there true e = at (any (equal p) xs) refl
     where
       at : (t : Bool) → any (equal p) xs ≡ t → is_among p (xs ++ (d ∷ [])) ≡ true
@@ -175,26 +176,56 @@ module _ (p : List ℕ) (d : List ℕ) (xs : List (List ℕ)) where
       at false q = among-with false true q e
   own-there false e = absurd (false≢true e)
 
-  pub own-index : (new : Bool) → (new && equal p d) ≡ true → length xs ≡ directory_index p (dirs_with new d xs)
+  own-index : (new : Bool) → (new && equal p d) ≡ true → length xs ≡ directory_index p (dirs_with new d xs)
   own-index true e =
       let z : 0 + length xs ≡ length xs = omega arith in
       sym (index-more p xs d (length (xs ++ (d ∷ []))) 0 ∙ rw (e, z))
   own-index false e = absurd (false≢true e)
 
   module _ (a : is_among p xs ≡ true) where
-    pub old-there : (new : Bool) → (new && equal p d) ≡ false → is_among p (dirs_with new d xs) ≡ true
+    old-there : (new : Bool) → (new && equal p d) ≡ false → is_among p (dirs_with new d xs) ≡ true
     old-there true e = among-with true false a e
     old-there false e = a
 
-    pub old-index : (new : Bool) → (new && equal p d) ≡ false → directory_index p xs ≡ directory_index p (dirs_with new d xs)
+    old-index : (new : Bool) → (new && equal p d) ≡ false → directory_index p xs ≡ directory_index p (dirs_with new d xs)
     old-index true e =
         index_same p xs (length xs) (length (xs ++ (d ∷ []))) 0 a ∙ sym (index-more p xs d (length (xs ++ (d ∷ []))) 0 ∙ rw e)
     old-index false e = refl
 
-  pub new-there : (new : Bool) → (new && equal p d) ≡ false → is_among p xs ≡ false → is_among p (dirs_with new d xs) ≡ false
+  new-there : (new : Bool) → (new && equal p d) ≡ false → is_among p xs ≡ false → is_among p (dirs_with new d xs) ≡ false
   new-there true e a = among-with false false a e
   new-there false e a = a
 
-pub count-le : (new : Bool) (n : ℕ) → count_with new n ≤ n + 1
-count-le true n = omega arith
-count-le false n = omega arith
+-- the plan of a pad's directory, where a file's own is new or not
+module _ (pad : ℕ) (new : Bool) (d : List ℕ) (xs : List (List ℕ)) (n count : ℕ) (l : length xs ≡ n) (c : count ≡ count_with new n) where
+  abbrev ds : List (List ℕ)
+  ds = dirs_with new d xs
+
+  together : length ds ≡ count
+  together = with-length new d xs n l ∙ sym c
+
+  pub pad-none : pad ≡ 0 → known_at 0 count ≡ pad_dir_plan_of pad ds
+  pad-none z = rw (eq-eqb pad 0 z, together)
+
+  module _ (some : pad ≡ 0 → ⊥) where
+    pub pad-own : (new && equal pad_directory_name d) ≡ true → known_at n count ≡ pad_dir_plan_of pad ds
+    pad-own e =
+        old-is pad_directory_name ds count together n count (sym l ∙ own-index pad_directory_name d xs new e) (own-there pad_directory_name d xs new e) refl
+        ∙ pad-is pad ds (ne_eqb pad 0 some)
+
+    pub pad-found : (k : ℕ) → (new && equal pad_directory_name d) ≡ false → k < n → k ≡ directory_index pad_directory_name xs
+        → known_at k count ≡ pad_dir_plan_of pad ds
+    pad-found k e h f =
+        let t = there pad_directory_name xs (omega (arith, l, f)) in
+        old-is pad_directory_name ds count together k count (f ∙ old-index pad_directory_name d xs t new e) (old-there pad_directory_name d xs t new e) refl
+        ∙ pad-is pad ds (ne_eqb pad 0 some)
+
+    pub pad-missing : (new && equal pad_directory_name d) ≡ false → n ≡ directory_index pad_directory_name xs → added_at count 4 ≡ pad_dir_plan_of pad ds
+    pad-missing e f =
+        let t = not_there pad_directory_name xs (omega (arith, l, f)) in
+        new_is pad_directory_name ds count together count (new-there pad_directory_name d xs new e t) refl
+        ∙ pad-is pad ds (ne_eqb pad 0 some)
+
+-- the rows of a table have as many texts
+pub counted : (dirs text : List ℕ) (n : ℕ) → length (dir_texts dirs text n) ≡ n
+counted dirs text n = length-tabled n (row_text dirs text)

@@ -1,12 +1,13 @@
 -- The plan of an addition, made on numbers and searches, is the one that the public definitions give on the model that the
 -- tables mean. They rely on the laws of rules and of directories.
+use Rattle.std.specs.Prelude.{Option}
 use Rattle.std.proofs.Common.{◌≡◌, ℕ, suc, ◌+◌, ◌≤◌, Bool, true, false, cond, not, ◌||◌, eqb, ltb, List, [], ◌∷◌, ◌++◌, length, sym, refl, ap, ◌∙◌, arith, length-append}
 use mathlib.Core.Bool.{or_assoc}
 use borrow.Author.Tests.{not-false}
-use Rattle.lists.specs.Lists.{any, equal}
+use Rattle.lists.specs.Lists.{equal}
 use Rattle.path.specs.Split.{has_parent_path, rsplit_branch, rsplit_leaf, is_complete, lsplit_first, lsplit_rest}
 use Rattle.path.specs.Join.{is_empty}
-use Rattle.types.specs.Refusals.{number_of, Outcome, refused}
+use Rattle.types.specs.Refusals.{number_of, Outcome, value, refused}
 use Rattle.types.specs.Signed.{zigzag}
 use Rattle.types.specs.declared.refusal.Refusal.{Refusal}
 use Rattle.types.proofs.Refusals.{numbered}
@@ -14,32 +15,34 @@ use Rattle.tables.specs.declared.storage.FileStorage.{FileStorage}
 use Rattle.tables.specs.declared.rows.Presence.{Presence}
 use Rattle.tables.specs.declared.rows.Presence.TheVariants.{Absent, Present}
 use Rattle.tables.specs.Span.{text_at}
-use Rattle.tables.specs.Model.{Optional, Directory, single, absolute, stored, File, Model, Store, tabled, file_of, view_of}
+use Rattle.tables.specs.Model.{Directory, single, absolute, stored, File, Model, Store, tabled, file_of, view_of}
 use Rattle.tables.proofs.Tabled.{length-tabled}
 use Rattle.rules.specs.Rules.{Rule, when, first_of, outcome_of}
-use Rattle.rules.specs.Bounds.{is_negative, bad_length}
-use Rattle.rules.proofs.Rules.{or_else, first-append, outcome-refused, either-false, passed}
+use Rattle.rules.specs.Bounds.{is_negative, limit}
+use Rattle.rules.proofs.Rules.{or_else, first-append, outcome-value, outcome-refused, either-false, passed}
 use Rattle.change.specs.declared.rooms.Rooms.{Rooms}
 use Rattle.change.specs.Rooms.{rooms_of, holds, files_room, dirs_room}
 use Rattle.change.proofs.Held.{Held, held}
 use Rattle.additions.specs.declared.checks.Sizes.{Sizes}
+use Rattle.additions.specs.declared.info.FileInfo.{FileInfo}
 use Rattle.additions.specs.declared.parts.PathKind.{PathKind}
 use Rattle.additions.specs.declared.parts.PathKind.TheVariants.{Single, Absolute, Inside, Outside}
 use Rattle.additions.specs.declared.parts.PathParts.{PathParts}
-use Rattle.additions.specs.Addition.{Addition, optional_of, is_present, name_after, without_leading, directory_for, stored_name, bad_name, decides, is_left_open, keeps, is_v2, with_directory_of, pad_added, directory_added, added, lacks, size_rules, name_rules, version_rules, pad_rules, adding_rules, files_of, pad_of, file_added, size_added}
-use Rattle.additions.specs.private.Texts.{is_here, name_from, link_text_of, set_text_of, text_under, directory_at, outside_kind}
+use Rattle.additions.specs.Addition.{Addition, addition_of, link_is_kept, optional_of, is_present, name_after, without_leading, directory_for, stored_name, bad_name, decides, is_left_open, keeps, is_v2, with_directory_of, pad_added, directory_added, added, lacks, size_rules, name_rules, version_rules, pad_rules, adding_rules, files_of, pad_of, file_added, size_added}
+use Rattle.additions.specs.private.Texts.{is_here, name_from, link_text_of, set_text_of, text_under, directory_at, outside_kind, PartsWithin}
 use Rattle.additions.specs.Parts.{kind_for, name_span, parts_of}
 use Rattle.additions.specs.private.Checks.{limited_length, sizes_for, number_rules}
-use Rattle.additions.proofs.Texts.{set-read, directory-read, name-read, name-is, limited-is, bad-is}
+use Rattle.additions.proofs.Rules.{sum-in}
+use Rattle.additions.proofs.Texts.{set-read, directory-read, name-read, name-is, limited-is, bad-is, parts_within}
 use Rattle.plan.specs.declared.dirs.DirPlan.{DirPlan}
 use Rattle.plan.specs.declared.counts.Counts.{Counts}
 use Rattle.plan.specs.declared.counts.FileFacts.{FileFacts}
 use Rattle.plan.specs.declared.plan.TextSpans.{TextSpans}
 use Rattle.plan.specs.declared.plan.TextLengths.{TextLengths}
 use Rattle.plan.specs.declared.plan.AddPlan.{AddPlan}
-use Rattle.plan.specs.Write.{set_text, name_text, link_new, is_new_directory, is_outside, text_after}
+use Rattle.plan.specs.Write.{set_text, name_text, link_new, is_outside, text_after}
 use Rattle.plan.specs.Outcomes.{lacks_places, adding_number}
-use Rattle.plan.specs.private.Steps.{dir_plan_of, dirs_with, pad_dir_plan_of, counts_of, short_of, places_lack, text_spans_for, dir_texts, planned_beside, TextsOf}
+use Rattle.plan.specs.private.Steps.{dir_plan_of, pad_dir_plan_of, counts_of, short_of, places_lack, text_spans_for, dir_texts, facts_of, lengths_of, planned_beside, TextsOf}
 use Rattle.plan.specs.Plan.{plan_of, planned_for}
 
 -- ---- the texts
@@ -82,7 +85,7 @@ texts-of s a given filename p eg ep =
       name-is =
           ap (λ (q : PathParts). name_from given filename (text_at a.path q.name)) ep
           ∙ name-is given filename a.path (text_at a.path (name_span a.path)) (name-read a.path)
-          ∙ ap (λ (g : Optional (List ℕ)). stored_name g a.path) (sym eg);
+          ∙ ap (λ (g : Option (List ℕ)). stored_name g a.path) (sym eg);
       link-is = refl;
     }
   where
@@ -105,21 +108,6 @@ seen fs name files directories =
       on_disk = fs.size_on_disk;
       trimmed = fs.trimmed;
     }
-
--- the directories with a file's own
-pub with-directory : (kind : PathKind) (d : List ℕ) (ds : List (List ℕ)) → dirs_with (is_new_directory (directory_at kind d) ds) d ds ≡ with_directory_of (directory_at kind d) ds
-with-directory Single d ds = refl
-with-directory Absolute d ds = refl
-with-directory Inside d ds = at (any (equal d) ds)
-  where
-    at : (t : Bool) → cond (not t) (ds ++ (d ∷ [])) ds ≡ cond t ds (ds ++ (d ∷ []))
-    at true = refl
-    at false = refl
-with-directory Outside d ds = at (any (equal d) ds)
-  where
-    at : (t : Bool) → cond (not t) (ds ++ (d ∷ [])) ds ≡ cond t ds (ds ++ (d ∷ []))
-    at true = refl
-    at false = refl
 
 room : (r : Rooms) (n n' k : ℕ) (x : Bool) → n ≡ n' → (ltb (files_room r) n || (ltb (dirs_room r) k || x)) ≡ (short_of r n' k || x)
 room r n n' k x p = rw p (at (ltb (files_room r) n') (ltb (dirs_room r) k))
@@ -195,7 +183,7 @@ module _ (fs : FileStorage) (name : List ℕ) (files : List File) (ds : List (Li
 
 -- ---- the same on the model that the tables mean
 
-pub here-is : (p : Presence) (xs : List ℕ) → is_here p ≡ is_present (optional_of p xs)
+here-is : (p : Presence) (xs : List ℕ) → is_here p ≡ is_present (optional_of p xs)
 here-is Absent xs = refl
 here-is Present xs = refl
 
@@ -219,7 +207,7 @@ module _ (s : Store) (a : Addition) where
   result = planned_for s a
 
   -- the tables do not hold what the set counts, or the table of first files is too short
-  abbrev pub full : Bool
+  abbrev full : Bool
   full = not (holds s) || lacks_places s (view_of s) a
 
   abbrev lacking : Bool
@@ -244,27 +232,19 @@ module _ (s : Store) (a : Addition) where
       omega arith
 
   -- a rule before that of room stops
-  pub add-stopped : {A : Type 0} (x : Refusal) (z : A) → refused (number_of x) ≡ outcome_of before z → refused (number_of x) ≡ result
+  add-stopped : {A : Type 0} (x : Refusal) (z : A) → refused (number_of x) ≡ outcome_of before z → refused (number_of x) ≡ result
   add-stopped x z h =
       let k : before ≡ number_of x = outcome-refused before (number_of x) z h in
       rw (number_is, k, numbered x, numbered x)
 
   -- the test of the code, by the sizes that it decided
-  pub full_is : (z : Sizes) → z ≡ sizes_for s.fs a.size a.link (is_present a.root)
+  full_is : (z : Sizes) → z ≡ sizes_for s.fs a.size a.link (is_present a.root)
       → (not (holds s) || places_lack s.fs (length s.firsts) (s.fs.total_size + z.size + z.pad)) ≡ full
   full_is z e =
       ap (λ (v : Sizes). not (holds s) || places_lack s.fs (length s.firsts) (s.fs.total_size + v.size + v.pad))
       (e ∙ sizes-are s.fs (text_at s.text s.fs.name) (tabled s.fs.num_files (file_of s)) dirs count a)
 
-  pub full-not : full ≡ false → holds s ≡ true
-  full-not h = not-false (holds s) (either-false (not (holds s)) (lacks_places s (view_of s) a) h).0
-
   module _ (p : before ≡ 0) where
-    -- the piece length is in range
-    pub add-length : bad_length s.fs.piece_length ≡ false
-    add-length =
-        (passed (number_rules s.fs a.given (parts_of s.fs.num_files (view_of s).name a.path) a.size a.link (is_present a.root)) refl (sym p)).0
-
     -- the test of room alone decides
     number_by_lem : (t : Bool) → full ≡ t → adding_number s (view_of s) a ≡ cond (t || lacking) 10 0
     number_by_lem t h =
@@ -274,7 +254,7 @@ module _ (s : Store) (a : Addition) where
         ∙ ap (λ (b : Bool). cond (b || lacking) 10 0) h
 
     -- the tables do not hold what the set counts, or the table of first files lacks places
-    pub add-full : full ≡ true → refused 10 ≡ result
+    add-full : full ≡ true → refused 10 ≡ result
     add-full h = rw (number_by_lem true h)
 
     module _ (h : full ≡ false) where
@@ -307,7 +287,7 @@ module _ (s : Store) (a : Addition) where
           (sym (room-is s.fs (text_at s.text s.fs.name) (tabled s.fs.num_files (file_of s)) dirs count a (rooms_of s)))
           ∙ ap (λ (n : ℕ). outcome_of n (plan_of s.fs (view_of s) a)) (sym number-held)
 
-      pub add-planned : (z : Sizes) (f : FileFacts) (kind : PathKind) (x dir name link : List ℕ) (p : PathParts)
+      add-planned : (z : Sizes) (f : FileFacts) (kind : PathKind) (x dir name link : List ℕ) (p : PathParts)
           → z ≡ sizes_for s.fs a.size a.link (is_present a.root) → f ≡ facts_seen → p ≡ parts_seen
           → TextsOf (view_of s) a x kind dir name link
           → decided z f (outside_kind kind) (directory_at kind dir) (lengths_for x name link) p ≡ result
@@ -322,3 +302,55 @@ module _ (s : Store) (a : Addition) where
           ∙ ap (λ (v : List ℕ). decided sizes_seen facts_seen (is_outside directory) directory (lengths_for (set_text (view_of s) a) v link) parts_seen) t.name-is
           ∙ ap (λ (v : List ℕ). decided sizes_seen facts_seen (is_outside directory) directory (lengths_for (set_text (view_of s) a) (name_text (view_of s) a) v) parts_seen) t.link-is
           ∙ decided-is
+
+-- ---- the same by what a call brings and the parts of its path
+
+module _ (s : Store) (file : FileInfo) (filename path link : List ℕ) (p : PathParts) (e : p ≡ parts_of s.fs.num_files (view_of s).name path) where
+  abbrev call : Addition
+  call = addition_of file filename path link
+
+  -- what the tests on numbers and on the path say
+  abbrev said : Outcome Sizes
+  said =
+      outcome_of (first_of (number_rules s.fs (optional_of file.given filename) p file.size link (is_here file.rooted)))
+      (sizes_for s.fs file.size link (is_here file.rooted))
+
+  said-is : said ≡ outcome_of (before s call) (sizes_for s.fs file.size link (is_present call.root))
+  said-is = rw (e, here-is file.rooted file.root.bytes)
+
+  pub plan-stopped : (x : Refusal) → refused (number_of x) ≡ said → refused (number_of x) ≡ planned_for s call
+  plan-stopped x h = add-stopped s call x (sizes_for s.fs file.size link (is_present call.root)) (h ∙ said-is)
+
+  pub plan-within : PartsWithin (length path) p
+  plan-within = rw e (parts_within s.fs.num_files (view_of s).name path)
+
+  module _ (z : Sizes) (h : value z ≡ said) where
+    settled : (before s call ≡ 0) × (z ≡ sizes_for s.fs file.size link (is_present call.root))
+    settled = outcome-value (before s call) z (sizes_for s.fs file.size link (is_present call.root)) (h ∙ said-is)
+
+    pub plan-sum : s.fs.total_size + z.size + z.pad ≤ limit
+    plan-sum = sum-in s.fs call.given (parts_of s.fs.num_files (view_of s).name path) file.size link (is_present call.root) z settled.1 settled.0
+
+    abbrev test : Bool
+    test = not (holds s) || places_lack s.fs (length s.firsts) (s.fs.total_size + z.size + z.pad)
+
+    pub plan-full : test ≡ true → refused 10 ≡ planned_for s call
+    plan-full t = add-full s call settled.0 (sym (full_is s call z settled.1) ∙ t)
+
+    pub plan-whole : test ≡ false
+        → planned_beside s.fs (rooms_of s) (dir_texts s.dirs s.text s.fs.num_paths) z (facts_of s.fs file link)
+        (outside_kind p.kind) (directory_at p.kind (text_at path p.directory))
+        (lengths_of s.fs.num_symlinks file.given filename path p link) p
+        ≡ planned_for s call
+    plan-whole t =
+        add-planned s call settled.0 (sym (full_is s call z settled.1) ∙ t) z (facts_of s.fs file link) p.kind
+        (text_at path p.set_name)
+        (text_at path p.directory)
+        (name_from file.given filename (text_at path p.name))
+        (link_text_of s.fs.num_symlinks link)
+        p settled.1 facts-are e
+        (texts-of s call file.given filename p refl e)
+      where
+        facts-are : facts_of s.fs file link
+            ≡ record { flags = file.flags; keeps_link = link_is_kept s.fs.num_symlinks link; has_root = is_present call.root; time = zigzag file.mtime }
+        facts-are = rw (here-is file.rooted file.root.bytes)

@@ -1,6 +1,7 @@
 -- What an addition's plan is, by the definitions of Write.antt and Outcomes.antt on what the tables mean.
 use Rattle.std.specs.Prelude.{◌+◌, cond, length, ◌==◌}
-use Rattle.types.specs.Refusals.{number_of, Outcome, value, refused}
+use Rattle.std.specs.Bool.{then_some}
+use Rattle.types.specs.Refusals.{Outcome}
 use Rattle.tables.specs.declared.storage.FileStorage.{FileStorage}
 use Rattle.tables.specs.Rows.{made_pad_flags}
 use Rattle.tables.specs.Model.{Model, Store, view_of}
@@ -8,15 +9,9 @@ use Rattle.rules.specs.Rules.{outcome_of}
 use Rattle.additions.specs.Addition.{Addition, pad_directory_name, with_directory_of, size_added, pad_of, directory_added}
 use Rattle.additions.specs.Parts.{parts_of}
 use Rattle.plan.specs.declared.plan.AddPlan.{AddPlan}
-use Rattle.plan.specs.declared.plan.PlanResult.{PlanResult}
-use Rattle.plan.specs.declared.plan.PlanResult.TheVariants.{Ok, Err}
 use Rattle.plan.specs.Write.{directory_index, is_new_directory, is_new_pad, directory_new, pad_text, old_name, text_kept}
 use Rattle.plan.specs.Write.{directory_start, pad_directory_start, pad_name_start, text_after, storage_added, row_added}
 use Rattle.plan.specs.Outcomes.{adding_number}
-
-abbrev pub plan_says : PlanResult → Outcome AddPlan
-plan_says (Ok p) = value p
-plan_says (Err e) = refused (number_of e)
 
 -- the plan by the public definitions; without a pad, its row has path index 0
 abbrev pub plan_of : FileStorage → Model → Addition → AddPlan
@@ -36,16 +31,18 @@ plan_of fs m a =
         flags = made_pad_flags;
         time = 0;
       };
-      dir = record {
-        new = is_new_directory (directory_added m a) m.directories;
-        slot = fs.num_paths;
-        text = record { at = directory_start fs m a; len = length (directory_new m a) };
-      };
-      pad_dir = record {
-        new = is_new_pad m a;
-        slot = length (with_directory_of (directory_added m a) m.directories);
-        text = record { at = pad_directory_start fs m a; len = 4 };
-      };
+      dir =
+          then_some (is_new_directory (directory_added m a) m.directories)
+          (record {
+            slot = fs.num_paths;
+            text = record { at = directory_start fs m a; len = length (directory_new m a) };
+          });
+      pad_dir =
+          then_some (is_new_pad m a)
+          (record {
+            slot = length (with_directory_of (directory_added m a) m.directories);
+            text = record { at = pad_directory_start fs m a; len = 4 };
+          });
       old = old_name fs;
       start = text_kept fs;
       parts = parts_of fs.num_files m.name a.path;

@@ -1,6 +1,6 @@
 -- What an addition writes: the tables after it, word by word, for tables of any content. The decisions are
 -- those of Addition.antt on what the tables mean (`view_of`); here stands where each text and row goes.
-use Rattle.std.specs.Prelude.{ℕ, ◌+◌, ◌-◌, ◌%◌, ◌^◌, Bool, false, cond, not, ◌&&◌, List, [], ◌∷◌, ◌++◌, length, take, replicate, ◌==◌}
+use Rattle.std.specs.Prelude.{ℕ, ◌+◌, ◌-◌, ◌%◌, ◌^◌, Bool, false, cond, not, ◌&&◌, List, [], ◌∷◌, ◌++◌, length, take, replicate, ◌==◌, Option, Some, None}
 use Rattle.std.proofs.lemmas.List.Edits.{sets}
 use Rattle.lists.specs.Lists.{equal}
 use Rattle.lists.specs.Decimal.{decimal}
@@ -11,7 +11,7 @@ use Rattle.tables.specs.declared.storage.FileStorage.{FileStorage}
 use Rattle.tables.specs.Span.{clip, slid}
 use Rattle.tables.specs.Rows.{put_row, put_dir, no_path, path_is_absolute, put_root, dirs_lowered}
 use Rattle.tables.specs.Rows.{link_held_bit, outside_bit, root_bit, made_pad_flags}
-use Rattle.tables.specs.Model.{Optional, absent, present, Directory, single, absolute, stored, is_pad, Model, Store}
+use Rattle.tables.specs.Model.{Directory, single, absolute, stored, is_pad, Model, Store}
 use Rattle.rules.specs.Questions.{num_pieces}
 use Rattle.additions.specs.Addition.{Addition, files_of, size_added, keeps, is_v2, pad_of, directory_added, stored_name}
 use Rattle.additions.specs.Addition.{set_name_of, flags_kept, pad_directory_name, is_among}
@@ -197,9 +197,9 @@ rows_added s m a =
     (s.fs.num_files + 1)
     (row_of_pad s.fs m a))
 
-abbrev pub roots_added : List ℕ → ℕ → Optional (List ℕ) → List ℕ
-roots_added roots i absent = roots
-roots_added roots i (present root) = put_root roots i root
+abbrev pub roots_added : List ℕ → ℕ → Option (List ℕ) → List ℕ
+roots_added roots i None = roots
+roots_added roots i (Some root) = put_root roots i root
 
 -- the size on disk with what an addition adds, held in 64 bits; on tables in order the sum itself
 abbrev pub on_disk_added : ℕ → ℕ → ℕ

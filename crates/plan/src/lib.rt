@@ -6,4 +6,4 @@ mod counts;
 mod dirs;
 mod plan;
 
-pub use plan::{AddPlan, NewDir, PlanResult, plan_add};
+pub use plan::{AddPlan, NewDir, plan_add};

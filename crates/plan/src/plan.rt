@@ -2,6 +2,7 @@
 // on what the caller lends, before anything is written. Relies on `additions`, dirs.rt, counts.rt and the laws of
 // proofs/Plans.antt.
 ghost use Rattle.std.specs.Prelude.{◌≡◌, ◌+◌, ◌<◌, ◌≤◌, true, length, if◌then◌else◌, nat_eq};
+ghost use Rattle.types.specs.Refusals.{outcome};
 ghost use Rattle.tables.specs.Span.{text_at};
 ghost use Rattle.tables.specs.Model.{store_of};
 ghost use Rattle.rules.specs.Bounds.{limit, max_links};
@@ -10,12 +11,12 @@ ghost use Rattle.additions.specs.Addition.{addition_of};
 ghost use Rattle.additions.specs.private.Texts.{outside_kind, directory_at, PartsWithin};
 ghost use Rattle.plan.specs.Write.{pad_digits, old_name};
 ghost use Rattle.plan.specs.private.Steps.{dir_texts, facts_of, lengths_of, text_spans_of};
-ghost use Rattle.plan.specs.private.Steps.{text_spans_says, spans_within, plan_from, planned_in, planned_beside};
-ghost use Rattle.plan.specs.Plan.{plan_says, planned_for};
+ghost use Rattle.plan.specs.private.Steps.{spans_within, plan_from, planned_in, planned_beside};
+ghost use Rattle.plan.specs.Plan.{planned_for};
 
 use crate::counts::{Counts, FileFacts, RowFacts, counts_after, is_full, is_short, row_facts};
-use crate::dirs::{DirPlan, plan_dir, plan_pad_dir};
-use additions::{FileInfo, PathParts, Sizes, SizesResult};
+use crate::dirs::{DirPlan, Stored};
+use additions::{FileInfo, PathParts, Sizes};
 use change::Rooms;
 use tables::{FileStorage, MADE_BIT, PAD_BIT, Presence, Row, Span};
 use types::Refusal;
@@ -35,32 +36,24 @@ pub(crate) struct TextSpans {
     pub end: usize,
 }
 
-// Spans, or that the text area is too short.
-#[derive(Drop)]
-pub(crate) enum TextSpansResult {
-    Ok(TextSpans),
-    Full,
-}
-
-// A directory row to be written, if it is new.
+// A directory row to be written, and its number.
 #[derive(Clone, Copy)]
 pub struct NewDir {
-    pub new: bool,
     pub slot: usize,
     pub text: Span,
 }
 
 // What an addition writes: the set's record before and after it, the file's row, the pad's row, which has size 0 where
-// no pad follows, both directories, the set's old name, which is removed, the position where the new texts begin, and
-// the parts of the path, in which they stand.
+// no pad follows, both directories where they are new, the set's old name, which is removed, the position where the new
+// texts begin, and the parts of the path, in which they stand.
 #[derive(Clone, Copy)]
 pub struct AddPlan {
     pub before: FileStorage,
     pub after: FileStorage,
     pub row: Row,
     pub pad_row: Row,
-    pub dir: NewDir,
-    pub pad_dir: NewDir,
+    pub dir: Option<NewDir>,
+    pub pad_dir: Option<NewDir>,
     pub old: Span,
     pub start: usize,
     pub parts: PathParts,
@@ -72,13 +65,6 @@ pub(crate) struct TextLengths {
     pub set_name: usize,
     pub name: usize,
     pub link: usize,
-}
-
-// A plan, or why there is none.
-#[derive(Drop)]
-pub enum PlanResult {
-    Ok(AddPlan),
-    Err(Refusal),
 }
 
 // How many digits name a pad, by its size; 0 for none.
@@ -101,34 +87,19 @@ fn text_spans(
     link: usize,
     pad_dir: usize,
     pad: usize,
-) -> TextSpansResult
-    requires { start ≤ room }
-    ensures { text_spans_says result ≡ spans_within room (text_spans_of start set dir name link pad_dir pad) }
+) -> Option<TextSpans>
+    ensures { result ≡ spans_within room (text_spans_of start set dir name link pad_dir pad) }
 {
-    if room - start < set {
-        return TextSpansResult::Full;
+    let at_dir = start.checked_add(set)?;
+    let at_name = at_dir.checked_add(dir)?;
+    let at_link = at_name.checked_add(name)?;
+    let at_pad_dir = at_link.checked_add(link)?;
+    let at_pad = at_pad_dir.checked_add(pad_dir)?;
+    let end = at_pad.checked_add(pad)?;
+    if room < end {
+        return None;
     }
-    let at_dir = start + set;
-    if room - at_dir < dir {
-        return TextSpansResult::Full;
-    }
-    let at_name = at_dir + dir;
-    if room - at_name < name {
-        return TextSpansResult::Full;
-    }
-    let at_link = at_name + name;
-    if room - at_link < link {
-        return TextSpansResult::Full;
-    }
-    let at_pad_dir = at_link + link;
-    if room - at_pad_dir < pad_dir {
-        return TextSpansResult::Full;
-    }
-    let at_pad = at_pad_dir + pad_dir;
-    if room - at_pad < pad {
-        return TextSpansResult::Full;
-    }
-    TextSpansResult::Ok(TextSpans {
+    Some(TextSpans {
         set: Span {
             at: start,
             len: set,
@@ -150,7 +121,7 @@ fn text_spans(
             at: at_pad,
             len: pad,
         },
-        end: at_pad + pad,
+        end,
     })
 }
 
@@ -159,8 +130,7 @@ fn old_name(fs: FileStorage) -> Span
     ensures { result ≡ old_name fs }
 {
     if fs.num_files == 0 {
-        let name = fs.name;
-        return tables::clipped(fs.text_len, name);
+        return tables::clipped(fs.text_len, fs.name);
     }
     Span { at: 0, len: 0 }
 }
@@ -189,11 +159,6 @@ fn make_plan(
 ) -> AddPlan
     ensures { result ≡ plan_from fs sizes counts file first second spans old parts }
 {
-    let set = spans.set;
-    let directory = spans.directory;
-    let name = spans.name;
-    let link = spans.link;
-    let pad_name = spans.pad_name;
     AddPlan {
         before: fs,
         after: FileStorage {
@@ -202,7 +167,7 @@ fn make_plan(
             num_files: counts.num_files,
             num_paths: second.count,
             num_symlinks: counts.num_symlinks,
-            name: name_after(fs, set),
+            name: name_after(fs, spans.set),
             text_len: spans.end,
             total_size: counts.total_size,
             size_on_disk: counts.size_on_disk,
@@ -212,8 +177,8 @@ fn make_plan(
         row: Row {
             offset: fs.total_size,
             size: sizes.size,
-            name,
-            link,
+            name: spans.name,
+            link: spans.link,
             path_index: first.index,
             flags: file.flags,
             time: file.time,
@@ -221,7 +186,7 @@ fn make_plan(
         pad_row: Row {
             offset: counts.file_end,
             size: sizes.pad,
-            name: pad_name,
+            name: spans.pad_name,
             link: Span {
                 at: spans.end,
                 len: 0,
@@ -230,21 +195,19 @@ fn make_plan(
             flags: MADE_PAD_FLAGS,
             time: 0,
         },
-        dir: NewDir {
-            new: first.new,
+        dir: first.new.then_some(NewDir {
             slot: fs.num_paths,
-            text: directory,
-        },
-        pad_dir: NewDir {
-            new: second.new,
+            text: spans.directory,
+        }),
+        pad_dir: second.new.then_some(NewDir {
             slot: first.count,
             text: Span {
                 at: spans.pad_directory,
                 len: 4,
             },
-        },
+        }),
         old,
-        start: set.at,
+        start: spans.set.at,
         parts,
     }
 }
@@ -260,16 +223,15 @@ fn plan_numbers(
     second: DirPlan,
     lengths: TextLengths,
     parts: PathParts,
-) -> PlanResult
-    requires { fs.text_len ≤ rooms.text }
-    ensures { plan_says result ≡ planned_in fs rooms sizes counts file first second lengths parts }
+) -> Result<AddPlan, Refusal>
+    ensures { outcome result ≡ planned_in fs rooms sizes counts file first second lengths parts }
 {
     if is_short(rooms, counts.num_files, second.count) {
-        return PlanResult::Err(Refusal::NoRoom);
+        return Err(Refusal::NoRoom);
     }
     let old = old_name(fs);
-    let laid = text_spans(
-        lists::saturating_sub_usize(fs.text_len, old.len),
+    let spans = text_spans(
+        fs.text_len.saturating_sub(old.len),
         rooms.text,
         lengths.set_name,
         first.len,
@@ -277,11 +239,9 @@ fn plan_numbers(
         lengths.link,
         second.len,
         pad_length(sizes.pad),
-    );
-    let TextSpansResult::Ok(spans) = laid else {
-        return PlanResult::Err(Refusal::NoRoom);
-    };
-    PlanResult::Ok(make_plan(fs, sizes, counts, file, first, second, spans, old, parts))
+    )
+    .ok_or(Refusal::NoRoom)?;
+    Ok(make_plan(fs, sizes, counts, file, first, second, spans, old, parts))
 }
 
 // The plan of an addition whose sizes are decided, to a set that its tables hold: `dir` is the text of its directory,
@@ -296,18 +256,23 @@ fn plan_dirs(
     dir: &[u8],
     lengths: TextLengths,
     parts: PathParts,
-) -> PlanResult
+) -> Result<AddPlan, Refusal>
     requires rooms_value { holds_in fs rooms ≡ true }
     requires pad_bound { fs.total_size + sizes.size + sizes.pad ≤ limit }
     requires num_symlinks_bound { facts.keeps_link ≡ true → fs.num_symlinks < max_links }
-    ensures { plan_says result
+    ensures { outcome result
         ≡ planned_beside fs rooms (dir_texts dirs.now text.now fs.num_paths) sizes facts
         (outside_kind parts.kind) (directory_at parts.kind dir.now) lengths parts }
 {
     let kind = parts.kind;
-    let first = plan_dir(kind, dirs, text, fs.num_paths, dir);
+    let stored = Stored {
+        dirs,
+        text,
+        count: fs.num_paths,
+    };
+    let first = stored.plan(kind, dir);
     let file = row_facts(facts, additions::is_outside(kind));
-    let second = plan_pad_dir(sizes.pad, first.new, dirs, text, fs.num_paths, dir);
+    let second = stored.plan_pad(sizes.pad, first.new, dir);
     let counts = counts_after(fs, sizes, facts);
     plan_numbers(
         fs, rooms, sizes, counts, file, first, second, lengths, parts,
@@ -318,23 +283,12 @@ fn plan_dirs(
 fn facts_of(fs: FileStorage, file: FileInfo, link: &[u8]) -> FileFacts
     ensures { result ≡ facts_of fs file link.now }
 {
-    let rooted = file.rooted;
     FileFacts {
         flags: file.flags as u64,
         keeps_link: additions::keeps_link(fs.num_symlinks, link),
-        has_root: additions::is_here(rooted),
+        has_root: additions::is_here(file.rooted),
         time: types::zigzag64(file.mtime),
     }
-}
-
-// The bytes of a path that a span within it covers.
-fn part_of(path: &[u8], s: Span) -> &[u8]
-    requires { s.at + s.len ≤ length path.now }
-    ensures { result.now ≡ text_at path.now s }
-{
-    let at = s.at;
-    let to = at + s.len;
-    &path[at..to]
 }
 
 // The lengths of an addition's texts, where `links` link texts are held.
@@ -349,15 +303,10 @@ fn lengths_of(
     requires { PartsWithin (length path.now) parts }
     ensures { result ≡ lengths_of links given filename.now path.now parts link.now }
 {
-    let set_span = parts.set_name;
-    let name_span = parts.name;
-    let set_name = part_of(path, set_span);
-    let own = part_of(path, name_span);
-    let kept = additions::link_text(links, link);
     TextLengths {
-        set_name: set_name.len(),
-        name: additions::name_length(given, filename, own),
-        link: kept.len(),
+        set_name: tables::text_at(path, parts.set_name).len(),
+        name: additions::stored_name(given, filename, tables::text_at(path, parts.name)).len(),
+        link: additions::link_text(links, link).len(),
     }
 }
 
@@ -373,11 +322,11 @@ fn plan_texts(
     path: &[u8],
     parts: PathParts,
     symlink_path: &[u8],
-) -> PlanResult
+) -> Result<AddPlan, Refusal>
     requires rooms_value { holds_in fs rooms ≡ true }
     requires pad_bound { fs.total_size + sizes.size + sizes.pad ≤ limit }
     requires parts_within { PartsWithin (length path.now) parts }
-    ensures { plan_says result
+    ensures { outcome result
         ≡ planned_beside fs rooms (dir_texts dirs.now text.now fs.num_paths) sizes
         (facts_of fs file symlink_path.now)
         (outside_kind parts.kind)
@@ -387,10 +336,15 @@ fn plan_texts(
         parts }
 {
     let facts = facts_of(fs, file, symlink_path);
-    let given = file.given;
-    let lengths = lengths_of(fs.num_symlinks, given, filename, path, parts, symlink_path);
-    let directory = parts.directory;
-    let dir = part_of(path, directory);
+    let lengths = lengths_of(
+        fs.num_symlinks,
+        file.given,
+        filename,
+        path,
+        parts,
+        symlink_path,
+    );
+    let dir = tables::text_at(path, parts.directory);
     plan_dirs(fs, rooms, dirs, text, sizes, facts, dir, lengths, parts)
 }
 
@@ -406,33 +360,29 @@ pub fn plan_add(
     filename: &[u8],
     path: &[u8],
     symlink_path: &[u8],
-) -> PlanResult
-    ensures { plan_says result
+) -> Result<AddPlan, Refusal>
+    ensures { outcome result
         ≡ planned_for
         (store_of fs
         rows.now roots.now firsts.now dirs.now text.now)
         (addition_of file filename.now path.now symlink_path.now) }
 {
     let parts = additions::parts_of(fs, text, path);
-    match additions::decide_sizes(fs, file, filename, parts, symlink_path) {
-        SizesResult::Err(e) => PlanResult::Err(e),
-        SizesResult::Ok(sizes) => {
-            let rooms = change::rooms_in(rows.len(), roots.len(), dirs.len(), text.len());
-            if is_full(fs, rooms, firsts.len(), sizes) {
-                return PlanResult::Err(Refusal::NoRoom);
-            }
-            plan_texts(
-                fs,
-                rooms,
-                dirs,
-                text,
-                sizes,
-                file,
-                filename,
-                path,
-                parts,
-                symlink_path,
-            )
-        }
+    let sizes = additions::decide_sizes(fs, file, filename, parts, symlink_path)?;
+    let rooms = change::rooms_in(rows.len(), roots.len(), dirs.len(), text.len());
+    if is_full(fs, rooms, firsts.len(), sizes) {
+        return Err(Refusal::NoRoom);
     }
+    plan_texts(
+        fs,
+        rooms,
+        dirs,
+        text,
+        sizes,
+        file,
+        filename,
+        path,
+        parts,
+        symlink_path,
+    )
 }

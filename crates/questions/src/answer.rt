@@ -7,6 +7,22 @@ use std::io;
 use std::io::Stdout;
 use tables::FileStorage;
 
+// A set and its renames, as a question is lent them: their records, their parts of the tables, and how many places an
+// answer has.
+#[derive(Clone, Copy)]
+pub(crate) struct Asked<'a> {
+    pub fs: FileStorage,
+    pub rows: &'a [u64],
+    pub roots: &'a [u8],
+    pub firsts: &'a [u16],
+    pub dirs: &'a [u64],
+    pub text: &'a [u8],
+    pub held: RenamedFiles,
+    pub entries: &'a [u64],
+    pub area: &'a [u8],
+    pub lent: Lent,
+}
+
 // Answers a question on a set, or on none; `entries` and `area` are the tables of the set's renames, and an answer is
 // lent as many places as `lent` says.
 pub fn on_set(
@@ -23,30 +39,24 @@ pub fn on_set(
     area: &[u8],
     lent: Lent,
 ) -> io::Result<()> {
-    if whole_set::answer(out, line, fs, firsts, dirs, text)? {
-        return Ok(());
-    }
-    if file_rows::answer(out, line, fs, rows, roots, dirs, text, lent.output)? {
-        return Ok(());
-    }
-    if layouts::answer(out, line, fs, rows, roots, firsts, lent.slices)? {
-        return Ok(());
-    }
-    if file_paths::answer(out, line, fs, rows, dirs, text, lent)? {
-        return Ok(());
-    }
-    if renamed_files::answer(
-        out,
-        line,
+    let set = Asked {
         fs,
         rows,
+        roots,
+        firsts,
         dirs,
         text,
         held,
         entries,
         area,
-        lent.output,
-    )? {
+        lent,
+    };
+    if whole_set::answer(out, line, set)?
+        || file_rows::answer(out, line, set)?
+        || layouts::answer(out, line, set)?
+        || file_paths::answer(out, line, set)?
+        || renamed_files::answer(out, line, set)?
+    {
         return Ok(());
     }
     on_no_set(out, line)

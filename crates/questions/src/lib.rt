@@ -38,8 +38,8 @@ pub(crate) fn room() -> [u8; 262144] {
     [0u8; 262144]
 }
 
-// The first n bytes of a table, or as many as there are.
-pub(crate) fn first_bytes(table: &mut [u8], n: usize) -> &mut [u8] {
-    let to = lists::min_usize(n, table.len());
-    &mut table[0..to]
+// The first n places of a table, or as many as there are.
+pub(crate) fn first<T>(table: &mut [T], n: usize) -> &mut [T] {
+    let to = n.min(table.len());
+    &mut table[..to]
 }

@@ -1,59 +1,48 @@
 // Questions on a set as a whole. Relies on `answers` and `layout`, on `script` and on `replies`.
+use crate::answer::Asked;
 use std::io;
 use std::io::Stdout;
-use tables::FileStorage;
 
 // Answers a line that has one of this module's forms, and says whether it has.
-pub(crate) fn answer(
-    out: Stdout,
-    line: &[u8],
-    fs: FileStorage,
-    firsts: &[u16],
-    dirs: &[u64],
-    text: &[u8],
-) -> io::Result<bool> {
-    if on_pieces(out, line, fs, firsts)? {
-        return Ok(true);
-    }
-    on_files(out, line, fs, dirs, text)
+pub(crate) fn answer(out: Stdout, line: &[u8], set: Asked<'_>) -> io::Result<bool> {
+    Ok(on_pieces(out, line, set)? || on_files(out, line, set)?)
 }
 
 // Answers a question on pieces and ranges; an arm stands for each form, in their order.
-fn on_pieces(out: Stdout, line: &[u8], fs: FileStorage, firsts: &[u16]) -> io::Result<bool> {
+fn on_pieces(out: Stdout, line: &[u8], set: Asked<'_>) -> io::Result<bool> {
     let forms =
         b"piece_length, num_pieces, last_piece, piece_range, file_range, blocks_per_piece, v2, first_files";
+    let fs = set.fs;
+    // Stays: the forms stand in one text, numbered by their order; an enum would need a second list in that order.
     match script::form_of(forms, line) {
-        0 => replies::short(out, answers::piece_length(fs))?,
-        1 => replies::short(out, layout::num_pieces(fs))?,
-        2 => replies::piece(out, layout::last_piece(fs))?,
-        3 => replies::pieces(out, layout::piece_range(fs))?,
-        4 => replies::files(out, layout::file_range(fs))?,
-        5 => replies::short(out, layout::blocks_per_piece(fs))?,
-        6 => replies::boolean(out, answers::v2(fs))?,
-        7 => replies::first_files(out, fs, firsts)?,
+        Some(0) => replies::answer(out, answers::piece_length(fs))?,
+        Some(1) => replies::answer(out, layout::num_pieces(fs))?,
+        Some(2) => replies::answer(out, layout::last_piece(fs))?,
+        Some(3) => replies::answer(out, layout::piece_range(fs))?,
+        Some(4) => replies::answer(out, layout::file_range(fs))?,
+        Some(5) => replies::answer(out, layout::blocks_per_piece(fs))?,
+        Some(6) => replies::answer(out, answers::v2(fs))?,
+        Some(7) => replies::first_files(out, fs, set.firsts)?,
         _ => return Ok(false),
     }
     Ok(true)
 }
 
 // Answers a question on files, directories and text; an arm stands for each form, in their order.
-fn on_files(
-    out: Stdout,
-    line: &[u8],
-    fs: FileStorage,
-    dirs: &[u64],
-    text: &[u8],
-) -> io::Result<bool> {
+fn on_files(out: Stdout, line: &[u8], set: Asked<'_>) -> io::Result<bool> {
+    let fs = set.fs;
+    let text = set.text;
+    // Stays: the forms stand in one text, numbered by their order; an enum would need a second list in that order.
     match script::form_of(
         b"name, num_files, total_size, size_on_disk, text_bytes, dirs",
         line,
     ) {
-        0 => replies::text(out, answers::name(fs, text), text)?,
-        1 => replies::short(out, answers::num_files(fs))?,
-        2 => replies::long(out, answers::total_size(fs))?,
-        3 => replies::long(out, answers::size_on_disk(fs))?,
-        4 => replies::value(out, fs.text_len as u64)?,
-        5 => replies::directories(out, fs, dirs, text)?,
+        Some(0) => replies::text(out, answers::name(fs, text), text)?,
+        Some(1) => replies::answer(out, answers::num_files(fs))?,
+        Some(2) => replies::answer(out, answers::total_size(fs))?,
+        Some(3) => replies::answer(out, answers::size_on_disk(fs))?,
+        Some(4) => replies::value(out, fs.text_len)?,
+        Some(5) => replies::directories(out, fs, set.dirs, text)?,
         _ => return Ok(false),
     }
     Ok(true)

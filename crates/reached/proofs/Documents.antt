@@ -1,5 +1,6 @@
 -- What BEP 3, 47 and 52 say of a set holds of every set that opening, additions, trims and cleanings lead to. It relies on what
 -- the search for a tail pad finds, and on what a cleaning keeps of each file.
+use Rattle.std.specs.Prelude.{Option, Some, None}
 use mathlib.Core.Path.{◌≡◌, refl, sym, ap, subst, ◌∙◌}
 use mathlib.Core.Bool.{Bool, true, false, cond, false≢true, ◌&&◌, ◌||◌}
 use mathlib.Core.List.{List, [], ◌∷◌, ◌++◌, map, map-append, map-map}
@@ -13,7 +14,7 @@ use borrow.Author.Tests.{eqb-true, eqb-false, eq-eqb}
 use Rattle.lists.specs.Lists.{sum}
 use Rattle.lists.specs.Decimal.{decimal}
 use Rattle.lists.proofs.Sums.{sum-append}
-use Rattle.tables.specs.Model.{Optional, absent, present, present_if, File, is_pad, Model}
+use Rattle.tables.specs.Model.{present_if, File, is_pad, Model}
 use Rattle.additions.specs.Addition.{Addition, added, file_added, pad_added, pad_of, size_added, flags_kept, keeps, is_present, files_of, is_v2, is_left_open, decides, pad_to, pad_after}
 use Rattle.trim.specs.Trim.{tail_pad, size_at, beginning_at, without_file, trimmed_if}
 use Rattle.links.specs.Clean.{cleaned_of}
@@ -122,9 +123,9 @@ ends (opened n h k) = record { laid = done; total = refl }
 ends (addition {m} r rooms a p) = ends-added m a (ends r)
 ends (trim {m} r) = at (tail_pad m.files) refl (ends r)
   where
-    at : (o : Optional ℕ) → tail_pad m.files ≡ o → Ends m → Ends (trimmed_if o m)
-    at absent q e = e
-    at (present f) q e = ends-without m f (tail-pad m.files f q).last e
+    at : (o : Option ℕ) → tail_pad m.files ≡ o → Ends m → Ends (trimmed_if o m)
+    at None q e = e
+    at (Some f) q e = ends-without m f (tail-pad m.files f q).last e
 ends (cleaning {m} r) = ends-cleaned m (ends r)
 
 pub end_to_end_lem : {m : Model} → Reached m → EndToEnd m
@@ -177,9 +178,9 @@ on-disk (opened n h k) = refl
 on-disk (addition {m} r rooms a p) = disk-added m a (on-disk r)
 on-disk (trim {m} r) = at (tail_pad m.files) refl (on-disk r)
   where
-    at : (o : Optional ℕ) → tail_pad m.files ≡ o → OnDisk m → OnDisk (trimmed_if o m)
-    at absent q e = e
-    at (present f) q e = disk-without m f (tail-pad m.files f q) e
+    at : (o : Option ℕ) → tail_pad m.files ≡ o → OnDisk m → OnDisk (trimmed_if o m)
+    at None q e = e
+    at (Some f) q e = disk-without m f (tail-pad m.files f q) e
 on-disk (cleaning {m} r) = on-disk r ∙ ap sum (sym (clean-map-same m disk_size_of (λ l f. refl)))
 
 pad-marked : (o n : ℕ) → Each Marked (pad_added o n)
@@ -203,9 +204,9 @@ marked (addition {m} r rooms a p) =
     each_append (marked r) (more (λ made. absurd (false≢true made)) (pad-marked (m.total + size_added a) (pad_of m a)))
 marked (trim {m} r) = at (tail_pad m.files) (marked r)
   where
-    at : (o : Optional ℕ) → Each Marked m.files → Each Marked (trimmed_if o m).files
-    at absent e = e
-    at (present f) e =
+    at : (o : Option ℕ) → Each Marked m.files → Each Marked (trimmed_if o m).files
+    at None e = e
+    at (Some f) e =
         let o = m.total - size_at f m.files in
         each_append (each_take f e) (each_map (beginning_at o) (begin-marked o) (each-drop (f + 1) e))
 marked (cleaning {m} r) = each_map (cleaned_in m) (clean-marked m) (marked r)
@@ -266,9 +267,9 @@ long (opened n h k) = h
 long (addition r rooms a p) = long r
 long (trim {m} r) = at (tail_pad m.files) (long r)
   where
-    at : (o : Optional ℕ) → 1 ≤ m.piece_length → 1 ≤ (trimmed_if o m).piece_length
-    at absent h = h
-    at (present f) h = h
+    at : (o : Option ℕ) → 1 ≤ m.piece_length → 1 ≤ (trimmed_if o m).piece_length
+    at None h = h
+    at (Some f) h = h
 long (cleaning r) = long r
 
 pub pads-made : {m : Model} → Reached m → Each (MadePad m.piece_length) m.files
@@ -278,9 +279,9 @@ pads-made (addition {m} r rooms a p) =
     (more (λ made. absurd (false≢true made)) (pad-made m.piece_length (is_v2 m a) (m.total + size_added a) (long r)))
 pads-made (trim {m} r) = at (tail_pad m.files) refl (pads-made r)
   where
-    at : (o : Optional ℕ) → tail_pad m.files ≡ o → Each (MadePad m.piece_length) m.files → Each (MadePad (trimmed_if o m).piece_length) (trimmed_if o m).files
-    at absent q e = e
-    at (present f) q e =
+    at : (o : Option ℕ) → tail_pad m.files ≡ o → Each (MadePad m.piece_length) m.files → Each (MadePad (trimmed_if o m).piece_length) (trimmed_if o m).files
+    at None q e = e
+    at (Some f) q e =
         let o = m.total - size_at f m.files in
         each_append (each_take f e)
         (begin-made m.piece_length o (drop (f + 1) m.files) (rest-none m.files f (tail-pad m.files f q).last) (each-drop (f + 1) e))
@@ -298,9 +299,9 @@ linked fs = sum (map link_one fs)
 linked-append : (fs gs : List File) → linked (fs ++ gs) ≡ linked fs + linked gs
 linked-append fs gs = rw (map-append link_one fs gs) (sum-append (map link_one fs) (map link_one gs))
 
-link-at-most : (o : Optional (List ℕ)) → cond (is_present o) 1 0 ≤ 1
-link-at-most absent = omega arith
-link-at-most (present l) = omega arith
+link-at-most : (o : Option (List ℕ)) → cond (is_present o) 1 0 ≤ 1
+link-at-most None = omega arith
+link-at-most (Some l) = omega arith
 
 linked-at-most : (fs : List File) → linked fs ≤ length fs
 linked-at-most [] = omega arith
@@ -310,9 +311,9 @@ linked-at-most (f ∷ fs) = omega (arith, link-at-most f.link, linked-at-most fs
 link-size : (f : File) → LinkEmpty f → link_one f ≡ 1 → f.size ≡ 0
 link-size f p h = p (held f.link h)
   where
-    held : (o : Optional (List ℕ)) → ◌≡◌ {A = ℕ} (cond (is_present o) 1 0) 1 → is_present o ≡ true
-    held absent q = absurd (omega arith)
-    held (present l) q = refl
+    held : (o : Option (List ℕ)) → ◌≡◌ {A = ℕ} (cond (is_present o) 1 0) 1 → is_present o ≡ true
+    held None q = absurd (omega arith)
+    held (Some l) q = refl
 
 all-linked : (fs : List File) → Each LinkEmpty fs → linked fs ≡ length fs → sum (sizes_of fs) ≡ 0
 all-linked [] p h = refl
@@ -409,9 +410,9 @@ pieces (addition {m} r rooms a p) t l =
     pieces-added m a (ends r).total q (pieces r t q)
 pieces (trim {m} r) t l = at (tail_pad m.files) t l (λ t₁ l₁. pieces r t₁ l₁)
   where
-    at : (o : Optional ℕ) → (trimmed_if o m).trimmed ≡ false → Each LinkEmpty (trimmed_if o m).files → (m.trimmed ≡ false → Each LinkEmpty m.files → Pieces m) → Pieces (trimmed_if o m)
-    at absent t l ih = ih t l
-    at (present f) t l ih = absurd (false≢true (sym t))
+    at : (o : Option ℕ) → (trimmed_if o m).trimmed ≡ false → Each LinkEmpty (trimmed_if o m).files → (m.trimmed ≡ false → Each LinkEmpty m.files → Pieces m) → Pieces (trimmed_if o m)
+    at None t l ih = ih t l
+    at (Some f) t l ih = absurd (false≢true (sym t))
 pieces (cleaning {m} r) t l =
     pieces-cleaned m (pieces r t (each-unmap (cleaned_in m) (uncleaned-empty m) m.files l))
 

@@ -1,5 +1,6 @@
 -- Laws of the questions through the renames: what a rename that was found tells, a leaf's place, and what the name's place reads as
 -- in the list of renames. They rely on the laws of `renames` about renames that are read back.
+use Rattle.std.specs.Prelude.{Option, Some, None}
 use Prim.Native.Nat.{ℕ, ◌+◌, ◌-◌, ◌≤◌}
 use mathlib.Core.Path.{◌≡◌, refl, sym, ap, ◌∙◌}
 use mathlib.Core.Bool.{Bool, true, false, cond, not, ◌&&◌}
@@ -14,24 +15,19 @@ use Rattle.lists.proofs.Parts.{drop-take, part-part-within, part_length}
 use Rattle.path.specs.Split.{is_separator, trimmed, before_last, after_last, rsplit_leaf}
 use Rattle.path.proofs.Ends.{trim-yes, trim-no}
 use Rattle.path.proofs.Splits.{last-parts, leaf-all}
-use Rattle.types.specs.Refusals.{number_of, value, refused}
-use Rattle.types.specs.declared.refusal.Refusal.{Refusal}
+use Rattle.types.specs.Refusals.{value, refused}
 use Rattle.tables.specs.declared.storage.FileStorage.{FileStorage}
 use Rattle.tables.specs.declared.span.Span.{Span}
 use Rattle.tables.specs.Span.{text_at}
 use Rattle.tables.specs.Rows.{row_at}
-use Rattle.tables.specs.Model.{Optional, absent, present}
 use Rattle.rules.specs.Rules.{outcome_of}
 use Rattle.rules.specs.Bounds.{bad_length, clamped_of, is_below}
 use Rattle.rules.specs.Questions.{few_entries, file_answer, rows_are_held, text_held}
 use Rattle.renames.specs.declared.rename.Rename.{Rename}
 use Rattle.renames.specs.declared.rename.RenamedFiles.{RenamedFiles}
-use Rattle.renames.specs.declared.rename.FindResult.{FindResult}
-use Rattle.renames.specs.declared.rename.FindResult.TheVariants as find
 use Rattle.renames.specs.Renames.{Renamed, renames_of, in_order}
-use Rattle.renames.specs.Results.{find_says}
 use Rattle.renames.specs.Finding.{rename_for, rename_found, find_given}
-use Rattle.renames.proofs.Finding.{read_rename, read_found, renamed-found, read_as, read-if}
+use Rattle.renames.proofs.Finding.{read_found, renamed-found, read_as, read-if}
 use Rattle.renamed.specs.Questions.{renamed_name, NameSpan, in_set, in_renames, leaf_span, name_span, name_given}
 
 -- ---- what a rename that was found tells
@@ -45,27 +41,16 @@ module _ {A : Type 0} (a : A) where
   untold true m e = absurd (let z : ◌≡◌ {A = ℕ} 0 1 = cc in omega arith)
   untold false m e = (refl, cc)
 
-module _ (rf : RenamedFiles) (e t : List ℕ) (k : ℕ) (d : FindResult) (p : find_says d ≡ find_given rf e (length t) k) where
-  pub found-renamed : (r : Rename) → d ≡ find.Renamed r → (in_order rf e t ≡ true) × (rename_found rf e k ≡ present r)
-  found-renamed r q =
-      let w = told (rename_found rf e k) (in_order rf e t) (present r) (ap find_says (sym q) ∙ p) in
-      (w.0, sym w.1)
+module _ (rf : RenamedFiles) (e t : List ℕ) (k : ℕ) where
+  pub found-value : (x : Option Rename) → value x ≡ find_given rf e (length t) k → (in_order rf e t ≡ true) × (rename_found rf e k ≡ x)
+  found-value x p = let w = told (rename_found rf e k) (in_order rf e t) x p in (w.0, sym w.1)
 
-  pub found-own : d ≡ find.Own → (in_order rf e t ≡ true) × (rename_found rf e k ≡ absent)
-  found-own q =
-      let w = told (rename_found rf e k) (in_order rf e t) absent (ap find_says (sym q) ∙ p) in
-      (w.0, sym w.1)
+  pub found-refused : (m : ℕ) → refused m ≡ find_given rf e (length t) k → (in_order rf e t ≡ false) × (m ≡ 10)
+  found-refused m p = untold (rename_found rf e k) (in_order rf e t) m p
 
-  pub found-refused : (x : Refusal) → d ≡ find.Err x → (in_order rf e t ≡ false) × (number_of x ≡ 10)
-  found-refused x q = untold (rename_found rf e k) (in_order rf e t) (number_of x) (ap find_says (sym q) ∙ p)
-
--- the rename in the list
-module _ (rf : RenamedFiles) (e t : List ℕ) (k : ℕ) (o : in_order rf e t ≡ true) where
-  pub listed-renamed : (r : Rename) → rename_found rf e k ≡ present r → rename_for k (renames_of rf e t) ≡ present (read_rename t r)
-  listed-renamed r q = renamed-found rf e t k o ∙ ap (read_found t) q
-
-  pub listed-own : rename_found rf e k ≡ absent → rename_for k (renames_of rf e t) ≡ absent
-  listed-own q = renamed-found rf e t k o ∙ ap (read_found t) q
+  -- the rename in the list
+  pub listed : in_order rf e t ≡ true → (x : Option Rename) → rename_found rf e k ≡ x → rename_for k (renames_of rf e t) ≡ read_found t x
+  listed o x q = renamed-found rf e t k o ∙ ap (read_found t) q
 
 -- ---- a leaf's place
 
@@ -136,9 +121,9 @@ abbrev pub read_name : List ℕ → List ℕ → NameSpan → List ℕ
 read_name text names (in_set s) = text_at text s
 read_name text names (in_renames s) = text_at names s
 
-name-if : (text t : List ℕ) (own : Span) (o : Optional Rename) → read_name text t (name_span t own o) ≡ renamed_name (read_found t o) (text_at text own)
-name-if text t own absent = refl
-name-if text t own (present r) = leaf-text t r.name
+name-if : (text t : List ℕ) (own : Span) (o : Option Rename) → read_name text t (name_span t own o) ≡ renamed_name (read_found t o) (text_at text own)
+name-if text t own None = refl
+name-if text t own (Some r) = leaf-text t r.name
 
 -- a value that is known only in order
 in-order-only : {A : Type 0} (bad missing held o few : Bool) (x y : A) → (o ≡ true → x ≡ y)
@@ -165,4 +150,4 @@ name-said fs rows text rf e names z =
     let m : ℕ = cond (bad_length fs.piece_length) 1 (cond (not (is_below fs.num_files z)) 11 (cond (not ((held && o) && few_entries fs)) 10 0)) in
     read-if (read_name text names) (eqb m 0) m (name_span names own f)
     ∙ in-order-only (bad_length fs.piece_length) (not (is_below fs.num_files z)) held o (few_entries fs) (read_name text names (name_span names own f)) (renamed_name (rename_for k (renames_of rf e names)) (text_at text own))
-    (λ q. name-if text names own f ∙ ap (λ (x : Optional Renamed). renamed_name x (text_at text own)) (sym (renamed-found rf e names k q)))
+    (λ q. name-if text names own f ∙ ap (λ (x : Option Renamed). renamed_name x (text_at text own)) (sym (renamed-found rf e names k q)))

@@ -1,6 +1,6 @@
 -- Document 01, 'Names': what a set's names are through its renames. Refusals 1, 11, 10: 'a question on one past
 -- the end is 11, but the export gives it'. It relies on the renames of `renames` and on the questions of `rules`.
-use Rattle.std.specs.Prelude.{ℕ, ◌+◌, ◌-◌, Bool, true, false, ◌&&◌, List, ℤ, length}
+use Rattle.std.specs.Prelude.{ℕ, ◌+◌, ◌-◌, Bool, true, false, ◌&&◌, List, ℤ, length, Option, Some, None}
 use Rattle.types.specs.Refusals.{Outcome}
 use Rattle.path.specs.Split.{is_separator, trimmed, rsplit_leaf}
 use Rattle.path.specs.Join.{Joined, appended}
@@ -8,7 +8,6 @@ use Rattle.tables.specs.declared.storage.FileStorage.{FileStorage}
 use Rattle.tables.specs.declared.span.Span.{Span}
 use Rattle.tables.specs.Span.{text_at}
 use Rattle.tables.specs.Rows.{row_at, is_absolute}
-use Rattle.tables.specs.Model.{Optional, absent, present}
 use Rattle.rules.specs.Questions.{file_answer, rows_are_held, text_held}
 use Rattle.rules.specs.Composed.{composed_file}
 use Rattle.names.specs.Paths.{file_path, names_held}
@@ -25,14 +24,14 @@ path_by FullPath save set_name name = appended (appended save set_name) name
 path_by NoRootPath save set_name name = appended save name
 path_by AbsolutePath save set_name name = name
 
-abbrev pub renamed_path : Optional Renamed → List ℕ → List ℕ → List ℕ → List ℕ
-renamed_path absent own save set_name = own
-renamed_path (present r) own save set_name = path_by r.mode save set_name r.name
+abbrev pub renamed_path : Option Renamed → List ℕ → List ℕ → List ℕ → List ℕ
+renamed_path None own save set_name = own
+renamed_path (Some r) own save set_name = path_by r.mode save set_name r.name
 
 -- `file_name` as a text: the leaf of the rename, or the set's own name
-abbrev pub renamed_name : Optional Renamed → List ℕ → List ℕ
-renamed_name absent own = own
-renamed_name (present r) own = rsplit_leaf r.name
+abbrev pub renamed_name : Option Renamed → List ℕ → List ℕ
+renamed_name None own = own
+renamed_name (Some r) own = rsplit_leaf r.name
 
 -- the span of a file's name: in the set's text area, or in that of the renames
 pub data NameSpan : Type 0 where
@@ -48,9 +47,9 @@ leaf_span rename_text s =
     }
 
 -- `file_name` as a span: that of the leaf of the rename, or the set's own
-abbrev pub name_span : List ℕ → Span → Optional Rename → NameSpan
-name_span rename_text own absent = in_set own
-name_span rename_text own (present r) = in_renames (leaf_span rename_text r.name)
+abbrev pub name_span : List ℕ → Span → Option Rename → NameSpan
+name_span rename_text own None = in_set own
+name_span rename_text own (Some r) = in_renames (leaf_span rename_text r.name)
 
 -- `file_absolute_path`
 abbrev pub is_by_itself : RenameMode → Bool
@@ -58,9 +57,9 @@ is_by_itself FullPath = false
 is_by_itself NoRootPath = false
 is_by_itself AbsolutePath = true
 
-abbrev pub renamed_absolute : Optional Renamed → Bool → Bool
-renamed_absolute absent own = own
-renamed_absolute (present r) own = is_by_itself r.mode
+abbrev pub renamed_absolute : Option Renamed → Bool → Bool
+renamed_absolute None own = own
+renamed_absolute (Some r) own = is_by_itself r.mode
 
 -- the path of a file in a lent buffer, refusals 1, 11, 10
 abbrev pub path_into : FileStorage → List ℕ → List ℕ → List ℕ → RenamedFiles → List ℕ → List ℕ → ℤ → List ℕ → List ℕ

@@ -1,18 +1,18 @@
 // A file's whole path through its rename, composed into a lent buffer. Relies on `renames` for the rename, on
 // `names` and `path` for joins and on the laws of proofs/Paths.antt.
 ghost use Rattle.std.specs.Prelude.{◌&&◌, ◌≡◌};
+ghost use Rattle.types.specs.Refusals.{outcome};
 ghost use Rattle.rules.specs.Questions.{file_answer};
 ghost use Rattle.rules.specs.Composed.{composed_if};
 ghost use Rattle.names.specs.Paths.{path_written, names_held};
 ghost use Rattle.renames.specs.Renames.{in_order};
-ghost use Rattle.renames.specs.Results.{find_says};
 ghost use Rattle.renames.specs.Finding.{rename_found};
 ghost use Rattle.renamed.specs.Questions.{path_by, path_into};
 
 use names::are_held;
-use renames::{FindResult, RenameMode, RenamedFiles, find_rename};
+use renames::{Rename, RenameMode, RenamedFiles, find_rename};
 use tables::FileStorage;
-use types::{FileIndex, UsizeResult};
+use types::{FileIndex, Refusal};
 
 // The rename of a file, if it has one, or why a question about the file's path isn't answered.
 fn find_through(
@@ -24,27 +24,26 @@ fn find_through(
     rename_entries: &[u64],
     rename_text: &[u8],
     index: FileIndex,
-) -> FindResult
-    ensures { find_says result ≡ file_answer fs index.0
+) -> Result<Option<Rename>, Refusal>
+    ensures { outcome result ≡ file_answer fs index.0
         (names_held fs rows.now dirs.now text.now
         && in_order renames rename_entries.now rename_text.now)
         (rename_found renames rename_entries.now) }
 {
     let held = are_held(fs, dirs.len(), text.len());
-    match names::file_in(fs, rows, index, held) {
-        UsizeResult::Ok(k) => find_rename(renames, rename_entries, rename_text.len(), k as u64),
-        UsizeResult::Err(e) => FindResult::Err(e),
-    }
+    let k = names::file_in(fs, rows, index, held)?;
+    find_rename(renames, rename_entries, rename_text.len(), k as u64)
 }
 
 // Writes the path that a rename's text `name` is read as by its mode; `set` is the set's name.
+// Stays: a match says which mode is read how; a closure for each mode would be no plainer.
 fn put_renamed(
     mode: RenameMode,
     save_path: &[u8],
     set: &[u8],
     name: &[u8],
     buf: &mut [u8],
-) -> UsizeResult
+) -> Result<usize, Refusal>
     ensures { path_written result buf.new
         ≡ composed_if 0 (path_by mode save_path.now set.now name.now)
         buf.old }
@@ -68,7 +67,7 @@ pub fn file_path(
     index: FileIndex,
     save_path: &[u8],
     buf: &mut [u8],
-) -> UsizeResult
+) -> Result<usize, Refusal>
     ensures { path_written result buf.new
         ≡ path_into fs rows.now dirs.now text.now renames
         rename_entries.now rename_text.now index.0 save_path.now
@@ -83,15 +82,13 @@ pub fn file_path(
         rename_entries,
         rename_text,
         index,
-    );
+    )?;
     match found {
-        FindResult::Renamed(rename) => {
-            let mode = rename.mode;
+        Some(rename) => {
             let set = tables::text_at(text, fs.name);
             let name = tables::text_at(rename_text, rename.name);
-            put_renamed(mode, save_path, set, name, buf)
+            put_renamed(rename.mode, save_path, set, name, buf)
         }
-        FindResult::Own => names::file_path(fs, rows, dirs, text, index, save_path, buf),
-        FindResult::Err(e) => UsizeResult::Err(e),
+        None => names::file_path(fs, rows, dirs, text, index, save_path, buf),
     }
 }

@@ -8,4 +8,4 @@ mod result;
 
 pub use compose::file_path;
 pub use question::{file_absolute_path, file_name};
-pub use result::FileNameResult;
+pub use result::FileName;

@@ -15,7 +15,7 @@ use Rattle.renames.specs.Renames.{Renamed, mode_word, renames_from, ordered_from
 use Rattle.renames.specs.Finding.{bytes_from}
 use Rattle.renames.specs.private.Slots.{slot_of, spliced}
 use Rattle.renames.proofs.Ordered.{order-mode, order-bytes}
-use Rattle.renames.proofs.Slots.{below-le, same-le, same-one, bytes-slot, bytes-first}
+use Rattle.renames.proofs.Slots.{below-le, same-le, same-one, bytes-slot, bytes_first}
 use Rattle.renames.proofs.Readings.{length-renames, texts-back, words_back, words_append, texts-append, with-rename}
 use Rattle.renames.proofs.Splices.{sets-own}
 
@@ -41,8 +41,8 @@ module _ (n u file : ℕ) (e : List ℕ) (ordered : ordered_from n 0 0 u e ≡ t
   slot-text = omega (arith, slot-bytes)
 
   -- the same of a slot x that is known to be the file's
-  pub slot-in : (x : Slot) → x ≡ slot_of n file e → (x.entry + x.same ≤ n) × (x.same ≤ 1) × (x.at + x.old ≤ u)
-  slot-in x h = rw h (slot-entry, slot-one, slot-text)
+  pub slot_in : (x : Slot) → x ≡ slot_of n file e → (x.entry + x.same ≤ n) × (x.same ≤ 1) × (x.at + x.old ≤ u)
+  slot_in x h = rw h (slot-entry, slot-one, slot-text)
 
 -- the list with a rename more, and what it makes of the tables
 module _ (n u : ℕ) (r : Renamed) (e t : List ℕ) (ordered : ordered_from n 0 0 u e ≡ true) (held : n * 3 ≤ length e) (room : u ≤ length t) where
@@ -70,7 +70,7 @@ module _ (n u : ℕ) (r : Renamed) (e t : List ℕ) (ordered : ordered_from n 0 
   words-before =
       let k = slot-entry n u r.file e ordered in
       words_back q.entry 0 e t (λ j a b. order-mode n 0 0 u e ordered j (omega arith) (omega arith)) (omega arith)
-      (omega (arith, bytes-first q.entry n e (below-le n 0 r.file e), order-bytes n 0 0 u e ordered))
+      (omega (arith, bytes_first q.entry n e (below-le n 0 r.file e), order-bytes n 0 0 u e ordered))
 
   words-behind : words_of behind ≡ drop (q.entry * 3 + q.same * 3) (take (n * 3) e)
   words-behind =

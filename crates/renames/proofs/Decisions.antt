@@ -1,61 +1,31 @@
 -- Deciding before a change: the order of the refusals, what is known once none stops the call, and that the decision on numbers is
 -- that of the change. These laws rely on those of proofs/Changes.antt.
-use Prim.Native.Nat.{ℕ, ◌+◌, ◌-◌, ◌*◌, ◌/◌, ◌≤◌, ◌<◌}
+use Prim.Native.Nat.{ℕ, ◌+◌, ◌-◌, ◌*◌, ◌/◌, ◌≤◌}
 use mathlib.Core.Path.{◌≡◌, refl}
 use mathlib.Core.Bool.{Bool, true, false, cond, not, ◌&&◌}
-use mathlib.Core.Logic.{◌⊎◌, inl, inr}
 use mathlib.Core.List.{List, [], ◌∷◌}
 use native.Mathlib.Omega.{arith}
-use borrow.Author.Tests.{leb-true, ltb-false, lt-ltb, le-ltb, not-false}
+use borrow.Author.Tests.{leb-true, ltb-false, not-false}
 use lib.Dec.{eqb, ltb, leb}
 use lib.IntN.{ℤ}
 use lib.ListN.{length}
 use lib.Seq.{sets}
-use Rattle.lists.proofs.Orders.{le-or-lt}
 use Rattle.types.specs.Refusals.{value, refused}
 use Rattle.tables.specs.declared.storage.FileStorage.{FileStorage}
 use Rattle.rules.specs.Rules.{when, first_of, outcome_of}
 use Rattle.rules.specs.Bounds.{bad_length, clamped_of, is_below}
 use Rattle.rules.proofs.Rules.{either-false, both_true}
-use Rattle.rules.specs.Questions.{few_entries, file_answer}
+use Rattle.rules.specs.Questions.{few_entries}
 use Rattle.rules.proofs.Deciding.{allowed, denied}
-use Rattle.renames.proofs.Deciding.{passes, asked-good, asked-there, asked-few, asked-own}
+use Rattle.renames.proofs.Deciding.{passes}
 use Rattle.renames.specs.declared.rename.RenamedFiles.{RenamedFiles}
 use Rattle.renames.specs.declared.slot.Slot.{Slot}
 use Rattle.renames.specs.Renames.{Renamed, RenamesChanged, ordered_from, renames_of, renamed_to, lacks_room, in_order, state_of, words_of, texts_of, rename_file_answer}
 use Rattle.renames.specs.private.Slots.{slot_of}
 use Rattle.renames.specs.Renames.{in_order_in}
 use Rattle.renames.specs.private.Changing.{is_short, slot_number, slot_given, rename_of}
+use Rattle.renames.proofs.Ordered.{order-bytes}
 use Rattle.renames.proofs.Changes.{count-after, bytes_after}
-
--- ---- what follows the set's refusals
-
-stops : {A : Type 0} (a b k : Bool) (m i r : ℕ) (x : A) → refused m ≡ outcome_of (cond a 1 (cond b 11 (cond k 10 0))) i → refused m ≡ outcome_of (cond a 1 (cond b 11 (cond k 10 r))) x
-stops true b k m i r x e = cc
-stops false true k m i r x e = cc
-stops false false true m i r x e = cc
-stops false false false m i r x e = absurd (let z : ◌≡◌ {A = ℕ} 0 1 = cc in omega arith)
-
-module _ (fs : FileStorage) (rf : RenamedFiles) (e : List ℕ) (room : ℕ) (z : ℤ) (len : ℕ) where
-  abbrev own : Slot
-  own = slot_of rf.num_renames (clamped_of z) e
-
-  abbrev tests : Bool → Bool → ℕ
-  tests o s = cond (not o) 10 (cond s 10 0)
-
-  pub slot-number : (k : ℕ) → value k ≡ file_answer fs z true (λ k. k) → k ≡ clamped_of z
-  slot-number k h = asked-own fs z true (λ k. k) k h
-
-  pub slot-goes : (k : ℕ) → value k ≡ file_answer fs z true (λ k. k) → (o s : Bool) → in_order_in rf e room ≡ o → is_short rf own (length e) room len ≡ s
-      → outcome_of (tests o s) own ≡ slot_given fs rf e room z len
-  slot-goes k h o s p q = rw (asked-good fs z true (λ k. k) k h, asked-there fs z true (λ k. k) k h, asked-few fs z true (λ k. k) k h, p, q)
-
-  pub slot-disorder : (k : ℕ) → value k ≡ file_answer fs z true (λ k. k) → in_order_in rf e room ≡ false → refused 10 ≡ slot_given fs rf e room z len
-  slot-disorder k h p = slot-goes k h false (is_short rf own (length e) room len) p refl
-
-  pub slot-stops : (m : ℕ) → refused m ≡ file_answer fs z true (λ k. k) → refused m ≡ slot_given fs rf e room z len
-  slot-stops m h =
-      stops (bad_length fs.piece_length) (not (is_below fs.num_files z)) (not (few_entries fs)) m (clamped_of z) (tests (in_order_in rf e room) (is_short rf own (length e) room len)) own h
 
 -- what tables in order hold
 pub order-in : (rf : RenamedFiles) (e : List ℕ) (room : ℕ) → in_order_in rf e room ≡ true
@@ -64,6 +34,9 @@ order-in rf e room h =
     let a = both_true (leb rf.num_renames (length e / 3)) (leb rf.text_len room && ordered_from rf.num_renames 0 0 rf.text_len e) h in
     let b = both_true (leb rf.text_len room) (ordered_from rf.num_renames 0 0 rf.text_len e) a.1 in
     (leb-true _ _ a.0, leb-true _ _ b.0, b.1)
+
+-- with the bytes of the texts
+pub ruleset orders = (order-in, order-bytes)
 
 -- ---- refusals in a row
 
@@ -79,14 +52,6 @@ five-passed a b l o s p q h =
 pub same_test : (o x y : Bool) → (o ≡ true → x ≡ y) → ◌≡◌ {A = ℕ} (cond (not o) 10 (cond x 10 0)) (cond (not o) 10 (cond y 10 0))
 same_test true x y h = rw (h refl)
 same_test false x y h = refl
-
--- room that is left once what stays is taken off
-pub left_is : (room stays len : ℕ) → stays ≤ room → ltb (room - stays) len ≡ ltb room (stays + len)
-left_is room stays len h = at (le-or-lt len (room - stays))
-  where
-    at : (len ≤ room - stays) ⊎ (room - stays < len) → ltb (room - stays) len ≡ ltb room (stays + len)
-    at (inl g) = rw (le-ltb (room - stays) len g, le-ltb room (stays + len) (omega arith))
-    at (inr g) = rw (lt-ltb (room - stays) len g, lt-ltb room (stays + len) (omega arith))
 
 -- ---- the decision is that of the change
 

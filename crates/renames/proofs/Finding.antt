@@ -1,5 +1,6 @@
 -- Laws of a rename read back: where the search for a file's rename stops, there it is or nowhere; rename i is one of the list. They
 -- rely on the laws of proofs/Ordered.antt, proofs/Readings.antt and proofs/Decisions.antt.
+use Rattle.std.specs.Prelude.{Option, Some, None}
 use Prim.Native.Nat.{ℕ, zero, suc, ◌+◌, ◌-◌, ◌*◌, ◌%◌, ◌^◌, ◌≤◌, ◌<◌}
 use mathlib.Core.Path.{◌≡◌, refl, sym, ap, ◌∙◌}
 use mathlib.Core.Bool.{Bool, true, false, cond, not, false≢true, ◌&&◌}
@@ -15,7 +16,6 @@ use lib.Seq.{drop-drop}
 use Rattle.lists.proofs.Orders.{le-or-lt}
 use Rattle.types.specs.Refusals.{Outcome, value, refused}
 use Rattle.tables.specs.Span.{text_at}
-use Rattle.tables.specs.Model.{Optional, absent, present}
 use Rattle.rules.specs.Rules.{when, first_of, outcome_of}
 use Rattle.rules.specs.Bounds.{clamped_of}
 use Rattle.renames.specs.declared.rename.RenameMode.{RenameMode}
@@ -43,7 +43,7 @@ rename_at j e t =
     }
 
 -- a number below all others is not there
-pub rename-none : (n i least left k : ℕ) (e t : List ℕ) → ordered_from n i least left e ≡ true → k < least → rename_for k (renames_from n i e t) ≡ absent
+pub rename-none : (n i least left k : ℕ) (e t : List ℕ) → ordered_from n i least left e ≡ true → k < least → rename_for k (renames_from n i e t) ≡ None
 unfolding renames_from
 rename-none zero i least left k e t h g = refl
 rename-none (suc n) i least left k e t h g =
@@ -54,7 +54,7 @@ rename-none (suc n) i least left k e t h g =
 
 abbrev Found : ℕ → ℕ → ℕ → List ℕ → List ℕ → ℕ → Type 0
 Found n i k e t j =
-    rename_for k (renames_from n i e t) ≡ cond (is_named_from n k i j e) (present (rename_at (i + j) e (drop (bytes_from j i e) t))) absent
+    rename_for k (renames_from n i e t) ≡ cond (is_named_from n k i j e) (Some (rename_at (i + j) e (drop (bytes_from j i e) t))) None
 
 -- where the search stops, there the rename is, or nowhere
 rename-found : (n i least left k : ℕ) (e t : List ℕ) → ordered_from n i least left e ≡ true → Found n i k e t (below_from n i k e)
@@ -87,13 +87,13 @@ rename-found (suc n) i least left k e t h =
 abbrev pub read_rename : List ℕ → Rename → Renamed
 read_rename names r = record { file = clamped_of r.file_index.0; mode = r.mode; name = text_at names r.name }
 
-abbrev pub read_found : List ℕ → Optional Rename → Optional Renamed
-read_found names absent = absent
-read_found names (present r) = present (read_rename names r)
+abbrev pub read_found : List ℕ → Option Rename → Option Renamed
+read_found names None = None
+read_found names (Some r) = Some (read_rename names r)
 
 -- the entry that was found is the rename in the list
 found-if : (b : Bool) (e t : List ℕ) (j : ℕ)
-    → cond b (present (rename_at j e (drop (bytes_from j 0 e) t))) absent ≡ read_found t (cond b (present (rename_in e j)) absent)
+    → cond b (Some (rename_at j e (drop (bytes_from j 0 e) t))) None ≡ read_found t (cond b (Some (rename_in e j)) None)
 found-if true e t j = refl
 found-if false e t j = refl
 
@@ -119,10 +119,6 @@ rename-is n u i e ordered b r f m a l =
 
 -- ---- a file's rename by its slot
 
-there : (b : Bool) → ◌≡◌ {A = ℕ} (cond b 1 0) 0 → b ≡ false
-there true h = absurd (omega arith)
-there false h = refl
-
 gone : (b : Bool) → (◌≡◌ {A = ℕ} (cond b 1 0) 0 → ⊥) → b ≡ true
 gone true h = refl
 gone false h = absurd (h refl)
@@ -139,26 +135,20 @@ module _ (rf : RenamedFiles) (k : ℕ) (e : List ℕ) (ordered : ordered_from rf
   abbrev j : ℕ
   j = below_from n 0 k e
 
-  pub slot-own : p.same ≡ 0 → absent ≡ rename_found rf e k
-  slot-own h = let b = there (entry_is_named n k j e) (sym (ap (λ (x : Slot). x.same) is) ∙ h) in rw b
-
   named : (p.same ≡ 0 → ⊥) → entry_is_named n k j e ≡ true
   named h = gone (entry_is_named n k j e) (λ q. h (ap (λ (x : Slot). x.same) is ∙ q))
 
   below : (p.same ≡ 0 → ⊥) → j < n
   below h = ltb-true j n (among (ltb j n) (eqb (get_or e (j * 3) 0) k) (named h))
 
-  pub slot-below : (p.same ≡ 0 → ⊥) → p.entry < n
-  slot-below h = rw is (below h)
-
   pub slot-renamed : (p.same ≡ 0 → ⊥) → (r : Rename) → r.file_index.0 ≡ pos (get_or e (p.entry * 3) 0 % 2 ^ 31)
-      → r.mode ≡ mode_of (get_or e (p.entry * 3 + 1) 0) → r.name.at ≡ p.at → r.name.len ≡ get_or e (p.entry * 3 + 2) 0 → present r ≡ rename_found rf e k
+      → r.mode ≡ mode_of (get_or e (p.entry * 3 + 1) 0) → r.name.at ≡ p.at → r.name.len ≡ get_or e (p.entry * 3 + 2) 0 → Some r ≡ rename_found rf e k
   slot-renamed h r f m a l =
       let b = named h in
       let x : p.entry ≡ j = ap (λ (y : Slot). y.entry) is in
       let w = rename-is n rf.text_len j e ordered (below h) r (f ∙ ap (λ (i : ℕ). pos (get_or e (i * 3) 0 % 2 ^ 31)) x)
       (m ∙ ap (λ (i : ℕ). mode_of (get_or e (i * 3 + 1) 0)) x) (a ∙ ap (λ (y : Slot). y.at) is) (l ∙ ap (λ (i : ℕ). get_or e (i * 3 + 2) 0) x) in
-      rw b (ap present w)
+      rw b (ap Some w)
 
 -- ---- what an answer reads as
 

@@ -103,8 +103,8 @@ bytes-slot n k i e h =
     ap (λ (m : ℕ). bytes_from m 0 e) p ∙ rw z at a ∙ (rw (rw y at b, same_old n k i e))
 
 -- the bytes of the first entries
-pub bytes-first : (i n : ℕ) (e : List ℕ) → i ≤ n → bytes_from i 0 e ≤ bytes_from n 0 e
-bytes-first i n e h =
+pub bytes_first : (i n : ℕ) (e : List ℕ) → i ≤ n → bytes_from i 0 e ≤ bytes_from n 0 e
+bytes_first i n e h =
     let p : n ≡ i + (n - i) = omega arith in
     let a : bytes_from n 0 e ≡ bytes_from (i + (n - i)) 0 e = ap (λ (m : ℕ). bytes_from m 0 e) p in
     omega (arith, bytes-split i (n - i) 0 e)

@@ -1,8 +1,7 @@
 -- A rename read back: of a file, in the list of renames and in the entries, and rename i. It relies on the renames of
 -- Renames.antt and on the entries' three words as it reads them.
-use Rattle.std.specs.Prelude.{ℕ, zero, suc, ◌+◌, ◌*◌, Bool, cond, not, ◌&&◌, List, [], ◌∷◌, eqb, ltb, leb, pos, get_or}
+use Rattle.std.specs.Prelude.{ℕ, zero, suc, ◌+◌, ◌*◌, Bool, cond, not, ◌&&◌, List, [], ◌∷◌, eqb, ltb, leb, pos, get_or, Option, Some, None}
 use Rattle.types.specs.Refusals.{Outcome}
-use Rattle.tables.specs.Model.{Optional, absent, present}
 use Rattle.rules.specs.Rules.{when, first_of, outcome_of}
 use Rattle.rules.specs.Questions.{short}
 use Rattle.renames.specs.declared.rename.Rename.{Rename}
@@ -35,19 +34,19 @@ rename_in entries i =
     }
 
 -- the rename of file k, where there is one
-abbrev pub rename_for : ℕ → List Renamed → Optional Renamed
-rename_for k [] = absent
-rename_for k (r ∷ rs) = cond (eqb r.file k) (present r) (rename_for k rs)
+abbrev pub rename_for : ℕ → List Renamed → Option Renamed
+rename_for k [] = None
+rename_for k (r ∷ rs) = cond (eqb r.file k) (Some r) (rename_for k rs)
 
 -- its entry
-abbrev pub rename_found : RenamedFiles → List ℕ → ℕ → Optional Rename
+abbrev pub rename_found : RenamedFiles → List ℕ → ℕ → Option Rename
 rename_found rf entries k =
     cond (entry_is_named rf.num_renames k (below_from rf.num_renames 0 k entries) entries)
-    (present (rename_in entries (below_from rf.num_renames 0 k entries)))
-    absent
+    (Some (rename_in entries (below_from rf.num_renames 0 k entries)))
+    None
 
 -- `find_rename`: refusal 10, the text area being of `room` bytes
-abbrev pub find_given : RenamedFiles → List ℕ → ℕ → ℕ → Outcome (Optional Rename)
+abbrev pub find_given : RenamedFiles → List ℕ → ℕ → ℕ → Outcome (Option Rename)
 find_given rf entries room k = outcome_of (first_of (short (in_order_in rf entries room) ∷ [])) (rename_found rf entries k)
 
 -- `export_filenames`, one rename at a time, ascending: rename i, 11 where there is none

@@ -1,5 +1,4 @@
 -- The definitions that the contracts of `renames` cite. They rely on those of `path`, `tables` and `rules`.
 pub mod Renames
-pub mod Results
 pub mod Finding
 pub mod private

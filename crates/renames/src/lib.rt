@@ -12,6 +12,5 @@ mod splice;
 pub use change::rename_file;
 pub use check::is_in_order;
 pub use find::{export_filename, find_rename};
-pub use rename::{FindResult, Rename, RenameMode, RenameResult, RenamedFiles, RenamesResult};
+pub use rename::{Rename, RenameMode, RenamedFiles};
 pub use slot::is_named;
-pub use splice::{move_up, move_words, put_three};

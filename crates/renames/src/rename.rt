@@ -1,17 +1,46 @@
-// A set's renames: the record, an entry, and the answers that hold them. It relies on `types` and `tables`.
+// A set's renames: the record, an entry, and how an entry's text is read. It relies on `types` and `tables`.
+ghost use Rattle.std.specs.Prelude.{◌≡◌};
+ghost use Rattle.renames.specs.Renames.{mode_word, mode_of};
+
 use tables::Span;
-use types::{FileIndex, Refusal};
+use types::FileIndex;
 
 // How a rename's text is to be read: after the save path and the set's name, after the save path, or alone.
-#[derive(Drop)]
+#[derive(Clone, Copy, PartialEq, Eq)]
 pub enum RenameMode {
     FullPath,
     NoRootPath,
     AbsolutePath,
 }
 
+// The word of a mode.
+impl From<RenameMode> for u64 {
+    ghost from_gives = { λ mode word. word ≡ mode_word mode };
+
+    fn from(mode: RenameMode) -> u64 {
+        match mode {
+            RenameMode::FullPath => 0,
+            RenameMode::NoRootPath => 1,
+            RenameMode::AbsolutePath => 2,
+        }
+    }
+}
+
+// The mode of a word.
+impl From<u64> for RenameMode {
+    ghost from_gives = { λ word mode. mode ≡ mode_of word };
+
+    fn from(word: u64) -> RenameMode {
+        match word {
+            0 => RenameMode::FullPath,
+            1 => RenameMode::NoRootPath,
+            _ => RenameMode::AbsolutePath,
+        }
+    }
+}
+
 // A rename: its file, its mode, and the span of its text in the renames' text area.
-#[derive(Drop)]
+#[derive(Clone, Copy)]
 pub struct Rename {
     pub file_index: FileIndex,
     pub mode: RenameMode,
@@ -24,26 +53,4 @@ pub struct Rename {
 pub struct RenamedFiles {
     pub num_renames: usize,
     pub text_len: usize,
-}
-
-// The renames after a change, or why there is none.
-#[derive(Drop)]
-pub enum RenamesResult {
-    Ok(RenamedFiles),
-    Err(Refusal),
-}
-
-// A rename, or why there is none.
-#[derive(Drop)]
-pub enum RenameResult {
-    Ok(Rename),
-    Err(Refusal),
-}
-
-// The rename of a file, or none where the file goes by its own path, or why that is not said.
-#[derive(Drop)]
-pub enum FindResult {
-    Renamed(Rename),
-    Own,
-    Err(Refusal),
 }

@@ -4,10 +4,9 @@ ghost use Rattle.std.specs.Prelude.{◌≡◌, ◌*◌, ◌≤◌, ◌<◌, ◌^
 ghost use Rattle.renames.specs.Finding.{below_from, bytes_from, entry_is_named};
 ghost use Rattle.renames.specs.private.Slots.{slot_at, slot_of};
 
-use types::Refusal;
-
 // The entry of a rename, the number of entries that it has already (one or none), the position of its text, and the
 // bytes of text that it has already.
+// Stays: `same` is a count that the sums take; an `Option` of the old bytes would be unwrapped in each of them.
 #[derive(Clone, Copy)]
 pub(crate) struct Slot {
     pub entry: usize,
@@ -16,26 +15,18 @@ pub(crate) struct Slot {
     pub old: usize,
 }
 
-// The slot of a rename, or why there is none.
-#[derive(Drop)]
-pub(crate) enum SlotResult {
-    At(Slot),
-    Err(Refusal),
-}
-
 // The number of the first n entries that stand before the first whose number is `file` or above.
+// Stays: the entries in use are the first n of a longer table that the caller lends, here and below.
 fn entries_below(entries: &[u64], n: usize, file: u64) -> usize
     requires { n * 3 ≤ length entries.now }
     ensures { result ≡ below_from n 0 file entries.now }
 {
-    let mut i = 0;
-    while i < n {
-        if file <= lists::word(entries, i * 3) {
+    for i in 0..n {
+        if file <= entries[i * 3] {
             return i;
         }
-        i += 1;
     }
-    i
+    n
 }
 
 // The bytes of text that the first n entries have together.
@@ -43,11 +34,9 @@ pub(crate) fn bytes_of(entries: &[u64], n: usize) -> usize
     requires { (n * 3 ≤ length entries.now) × (bytes_from n 0 entries.now < 2 ^ 64) }
     ensures { result ≡ bytes_from n 0 entries.now }
 {
-    let mut i = 0;
     let mut sum: usize = 0;
-    while i < n {
-        sum += lists::word(entries, i * 3 + 2) as usize;
-        i += 1;
+    for i in 0..n {
+        sum += entries[i * 3 + 2] as usize;
     }
     sum
 }
@@ -56,20 +45,18 @@ pub(crate) fn bytes_of(entries: &[u64], n: usize) -> usize
 fn number_at(entries: &[u64], i: usize) -> u64
     ensures { result ≡ get_or entries.now (i * 3) 0 }
 {
-    if entries.len() <= i {
-        return 0;
+    if i < entries.len() {
+        lists::item_or(entries, i * 3, 0)
+    } else {
+        0
     }
-    lists::word(entries, i * 3)
 }
 
 // Whether entry i is one of n, and has the number `file`.
 pub fn is_named(entries: &[u64], n: usize, file: u64, i: usize) -> bool
     ensures { result ≡ entry_is_named n file i entries.now }
 {
-    if i < n {
-        return number_at(entries, i) == file;
-    }
-    false
+    i < n && number_at(entries, i) == file
 }
 
 // The slot of a file whose rename stands at entry i, or would stand there.
@@ -79,18 +66,19 @@ fn slot_at(entries: &[u64], n: usize, file: u64, i: usize) -> Slot
 {
     let at = bytes_of(entries, i);
     if is_named(entries, n, file, i) {
-        return Slot {
+        Slot {
             entry: i,
             same: 1,
             at,
-            old: lists::word(entries, i * 3 + 2) as usize,
-        };
-    }
-    Slot {
-        entry: i,
-        same: 0,
-        at,
-        old: 0,
+            old: entries[i * 3 + 2] as usize,
+        }
+    } else {
+        Slot {
+            entry: i,
+            same: 0,
+            at,
+            old: 0,
+        }
     }
 }
 
@@ -99,6 +87,5 @@ pub(crate) fn slot_of(entries: &[u64], n: usize, file: u64) -> Slot
     requires { (n * 3 ≤ length entries.now) × (bytes_from n 0 entries.now < 2 ^ 64) }
     ensures { result ≡ slot_of n file entries.now }
 {
-    let i = entries_below(entries, n, file);
-    slot_at(entries, n, file, i)
+    slot_at(entries, n, file, entries_below(entries, n, file))
 }

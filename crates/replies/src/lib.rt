@@ -1,16 +1,13 @@
 // Answers to a script of calls, as lines of standard output: `ok` and the values after it, a refusal, or `badcall`.
 // No contract can say what reaches standard output, so the public functions return only whether the line was written,
 // and are lent nothing to change: there is nothing to promise but that they are safe and end. Relies on std's standard
-// output, and on the libraries' result types.
+// output, and on the records that the libraries answer with.
 #![tactic(auto)]
 
-mod output;
+mod reply;
 mod rows;
 mod values;
 
-pub use output::{bad_call, done, refused};
+pub use reply::{bad_call, done, refused};
 pub use rows::{directories, export, first_files, hashes, slices};
-pub use values::{
-    boolean, composed, count, file, files, hash, long, piece, pieces, range, request, root, short,
-    small, string, text, truth, two_strings, value,
-};
+pub use values::{ByteString, answer, composed, text, value};

@@ -1,164 +1,89 @@
 // Answers of many values: the slices of a block, first files, hashes, directories and renames, each put by a loop.
-// Relies on output.rt, on `rules` for the count of pieces, and on `answers` and `renames` for the values that a table
+// Relies on values.rt, on `rules` for the count of pieces, and on `answers` and `renames` for the values that a table
 // holds.
-use crate::output;
-use crate::output::Reply;
-use renames::{Rename, RenameResult, RenamedFiles};
-use rules::{I32Result, SpanResult};
+use crate::reply::{Reply, refused};
+use crate::values::{ByteString, Shown};
+use renames::RenamedFiles;
 use std::io;
-use std::io::Stdout;
+use std::io::{Stdout, Write};
 use tables::FileStorage;
-use types::UsizeResult;
+use types::Refusal;
 
-// The number of slices of a block, and the slices, which stand at the start of three columns.
+// The number of slices of a block, and the slices, which stand at the start of three columns: `file:offset:size`.
 pub fn slices(
     out: Stdout,
-    res: UsizeResult,
+    res: Result<usize, Refusal>,
     files: &[u64],
     offsets: &[u64],
     sizes: &[u64],
 ) -> io::Result<()> {
-    match res {
-        UsizeResult::Ok(n) => {
-            let count = output::number(output::ok(out), n as u64);
-            output::end(each_slice(count, n, files, offsets, sizes))
-        }
-        UsizeResult::Err(refusal) => output::refused(out, refusal),
+    let n = match res {
+        Ok(n) => n,
+        Err(refusal) => return refused(out, refusal),
+    };
+    let mut reply = Reply::ok(out)?;
+    n.put(&mut reply)?;
+    for ((file, offset), size) in files.iter().zip(offsets).zip(sizes).take(n) {
+        write!(reply, " {file}:{offset}:{size}")?;
     }
+    reply.end()
 }
 
-// Puts the first n slices.
-fn each_slice(before: Reply, n: usize, files: &[u64], offsets: &[u64], sizes: &[u64]) -> Reply {
-    let mut reply = before;
-    for i in 0..n {
-        reply = output::slice(
-            reply,
-            lists::word(files, i),
-            lists::word(offsets, i),
-            lists::word(sizes, i),
-        );
+// The values of a row.
+fn row<T: Shown + Copy>(out: Stdout, values: &[T]) -> io::Result<()> {
+    let mut reply = Reply::ok(out)?;
+    for value in values {
+        value.put(&mut reply)?;
     }
-    reply
+    reply.end()
 }
 
 // The file in which each piece begins, of a set that keeps a table of them; else that there is none.
 pub fn first_files(out: Stdout, fs: FileStorage, firsts: &[u16]) -> io::Result<()> {
     if !fs.indexed {
-        return output::end(output::none(output::ok(out)));
+        let mut out = out;
+        return out.write_all(b"ok -\n");
     }
-    let n = lists::min(rules::count_pieces(fs), firsts.len() as u64);
-    output::end(each_first(output::ok(out), firsts, n as usize))
-}
-
-// Puts the first n files of a table.
-fn each_first(before: Reply, firsts: &[u16], n: usize) -> Reply {
-    let mut reply = before;
-    for i in 0..n {
-        reply = output::number(reply, first_at(firsts, i));
-    }
-    reply
-}
-
-// The file at a place, 0 past the end.
-fn first_at(firsts: &[u16], i: usize) -> u64 {
-    if i < firsts.len() {
-        return widened(firsts[i]);
-    }
-    0
-}
-
-// A file's number as one of 64 bits.
-fn widened(file: u16) -> u64 {
-    file as u64
+    let n = rules::count_pieces(fs).min(firsts.len() as u64);
+    row(out, &firsts[..n as usize])
 }
 
 // The hashes at the start of a table.
-pub fn hashes(out: Stdout, res: UsizeResult, table: &[u32]) -> io::Result<()> {
+pub fn hashes(out: Stdout, res: Result<usize, Refusal>, table: &[u32]) -> io::Result<()> {
     match res {
-        UsizeResult::Ok(n) => output::end(each_hash(output::ok(out), table, n)),
-        UsizeResult::Err(refusal) => output::refused(out, refusal),
+        Ok(n) => row(out, &table[..n.min(table.len())]),
+        Err(refusal) => refused(out, refusal),
     }
 }
 
-// Puts the first n hashes.
-fn each_hash(before: Reply, table: &[u32], n: usize) -> Reply {
-    let mut reply = before;
-    for i in 0..n {
-        reply = output::number(reply, hash_at(table, i));
-    }
-    reply
-}
-
-// The hash at a place, 0 past the end.
-fn hash_at(table: &[u32], i: usize) -> u64 {
-    if i < table.len() {
-        return wide(table[i]);
-    }
-    0
-}
-
-// A hash as a number of 64 bits.
-fn wide(hash: u32) -> u64 {
-    hash as u64
-}
-
-// The texts of all directories of a set.
+// The texts of all directories of a set; a refusal, which no directory of a set gives, is left out.
 pub fn directories(out: Stdout, fs: FileStorage, dirs: &[u64], text: &[u8]) -> io::Result<()> {
-    match answers::num_paths(fs) {
-        I32Result::Ok(n) => output::end(each_directory(output::ok(out), fs, dirs, text, n)),
-        I32Result::Err(refusal) => output::refused(out, refusal),
+    let n = match answers::num_paths(fs) {
+        Ok(n) => types::FileIndex(n).get(),
+        Err(refusal) => return refused(out, refusal),
+    };
+    let mut reply = Reply::ok(out)?;
+    // Stays: the library gives directories by number.
+    for i in 0..n {
+        if let Ok(place) = answers::path_at(fs, dirs, text, i) {
+            ByteString(tables::text_at(text, place)).put(&mut reply)?;
+        }
     }
+    reply.end()
 }
 
-// Puts the texts of the first n directories.
-fn each_directory(before: Reply, fs: FileStorage, dirs: &[u64], text: &[u8], n: i32) -> Reply {
-    let count = types::FileIndex(n).get();
-    let mut reply = before;
-    for i in 0..count {
-        reply = directory(reply, answers::path_at(fs, dirs, text, i), text);
-    }
-    reply
-}
-
-// Puts the text of a directory; a refusal, which no directory of a set gives, is left out.
-fn directory(reply: Reply, res: SpanResult, text: &[u8]) -> Reply {
-    match res {
-        SpanResult::Ok(place) => output::string(reply, tables::text_at(text, place)),
-        SpanResult::Err(_) => reply,
-    }
-}
-
-// All renames of a set, as pairs of number and name.
+// All renames of a set, as pairs of number and name; a refusal, which no rename of a set gives, is left out.
 pub fn export(out: Stdout, held: RenamedFiles, entries: &[u64], area: &[u8]) -> io::Result<()> {
-    output::end(each_rename(output::ok(out), held, entries, area))
-}
-
-// Puts all renames.
-fn each_rename(before: Reply, held: RenamedFiles, entries: &[u64], area: &[u8]) -> Reply {
-    let count = held.num_renames;
-    let mut reply = before;
-    for i in 0..count {
-        reply = exported(
-            reply,
-            renames::export_filename(held, entries, area, i),
-            area,
-        );
+    let mut reply = Reply::ok(out)?;
+    // Stays: the library gives renames by number.
+    for i in 0..held.num_renames {
+        if let Ok(rename) = renames::export_filename(held, entries, area, i) {
+            (
+                rename.file_index,
+                ByteString(tables::text_at(area, rename.name)),
+            )
+                .put(&mut reply)?;
+        }
     }
-    reply
-}
-
-// Puts a rename; a refusal, which no rename of a set gives, is left out.
-fn exported(reply: Reply, res: RenameResult, area: &[u8]) -> Reply {
-    match res {
-        RenameResult::Ok(rename) => put_rename(reply, rename, area),
-        RenameResult::Err(_) => reply,
-    }
-}
-
-// Puts a rename's file and its text.
-fn put_rename(reply: Reply, rename: Rename, area: &[u8]) -> Reply {
-    output::string(
-        output::short(reply, rename.file_index.0),
-        tables::text_at(area, rename.name),
-    )
+    reply.end()
 }

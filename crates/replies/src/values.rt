@@ -1,170 +1,172 @@
-// What the libraries answer, as a line: one value or two after `ok`, or the refusal. Relies on output.rt and on the
-// libraries' result types.
-use crate::output;
-use rules::{
-    BoolResult, FileRangeResult, FileResult, I32RangeResult, I32Result, I64Result,
-    PieceRangeResult, PieceResult, RequestResult, RootResult, SpanResult, U8Result, U32Result,
-    UnitResult,
-};
+// What the libraries answer, as a line: the values after `ok`, or the refusal. Relies on reply.rt and on the records
+// that the libraries answer with.
+use crate::reply::{Reply, refused};
 use std::io;
-use std::io::Stdout;
-use types::UsizeResult;
+use std::io::{Stdout, Write};
+use tables::{Sha256Hash, Span};
+use types::{
+    FileIndex, FileIndexRange, I32Range, PeerRequest, PieceIndex, PieceIndexRange, Refusal,
+};
 
-// Writes a number.
-pub fn value(out: Stdout, n: u64) -> io::Result<()> {
-    output::end(output::number(output::ok(out), n))
+// What an answer holds; each part of it is put after a blank.
+pub trait Shown: Drop {
+    fn put(self, reply: &mut Reply) -> io::Result<()>;
 }
 
-// Writes an `i32`.
-fn short_value(out: Stdout, n: i32) -> io::Result<()> {
-    output::end(output::short(output::ok(out), n))
-}
-
-// Writes where a range begins and ends.
-fn two_values(out: Stdout, begin: i32, end: i32) -> io::Result<()> {
-    output::end(output::short(output::short(output::ok(out), begin), end))
-}
-
-// Writes a truth value.
-pub fn truth(out: Stdout, is_so: bool) -> io::Result<()> {
-    if is_so {
-        return value(out, 1);
+impl Shown for u64 {
+    fn put(self, reply: &mut Reply) -> io::Result<()> {
+        write!(reply, " {self}")
     }
-    value(out, 0)
 }
 
-// Writes a byte string.
-pub fn string(out: Stdout, bytes: &[u8]) -> io::Result<()> {
-    output::end(output::string(output::ok(out), bytes))
+impl Shown for i64 {
+    fn put(self, reply: &mut Reply) -> io::Result<()> {
+        write!(reply, " {self}")
+    }
 }
 
-// Writes two byte strings.
-pub fn two_strings(out: Stdout, a: &[u8], b: &[u8]) -> io::Result<()> {
-    output::end(output::string(output::string(output::ok(out), a), b))
+// Stays: each type of number needs its own; one impl for all that print would meet those of the records.
+impl Shown for u8 {
+    fn put(self, reply: &mut Reply) -> io::Result<()> {
+        u64::from(self).put(reply)
+    }
+}
+
+// Stays: each type of number needs its own; one impl for all that print would meet those of the records.
+impl Shown for u16 {
+    fn put(self, reply: &mut Reply) -> io::Result<()> {
+        u64::from(self).put(reply)
+    }
+}
+
+// Stays: each type of number needs its own; one impl for all that print would meet those of the records.
+impl Shown for u32 {
+    fn put(self, reply: &mut Reply) -> io::Result<()> {
+        u64::from(self).put(reply)
+    }
+}
+
+// Stays: each type of number needs its own; one impl for all that print would meet those of the records.
+impl Shown for usize {
+    fn put(self, reply: &mut Reply) -> io::Result<()> {
+        (self as u64).put(reply)
+    }
+}
+
+// Stays: each type of number needs its own; one impl for all that print would meet those of the records.
+impl Shown for i32 {
+    fn put(self, reply: &mut Reply) -> io::Result<()> {
+        i64::from(self).put(reply)
+    }
+}
+
+// A truth value is 1 or 0.
+impl Shown for bool {
+    fn put(self, reply: &mut Reply) -> io::Result<()> {
+        u8::from(self).put(reply)
+    }
+}
+
+impl Shown for PieceIndex {
+    fn put(self, reply: &mut Reply) -> io::Result<()> {
+        self.0.put(reply)
+    }
+}
+
+impl Shown for FileIndex {
+    fn put(self, reply: &mut Reply) -> io::Result<()> {
+        self.0.put(reply)
+    }
+}
+
+// Stays: document 01 asks for a plain record for each kind of range.
+impl Shown for PieceIndexRange {
+    fn put(self, reply: &mut Reply) -> io::Result<()> {
+        (self.begin, self.end).put(reply)
+    }
+}
+
+// Stays: document 01 asks for a plain record for each kind of range.
+impl Shown for FileIndexRange {
+    fn put(self, reply: &mut Reply) -> io::Result<()> {
+        (self.begin, self.end).put(reply)
+    }
+}
+
+// Stays: document 01 asks for a plain record for each kind of range.
+impl Shown for I32Range {
+    fn put(self, reply: &mut Reply) -> io::Result<()> {
+        (self.begin, self.end).put(reply)
+    }
+}
+
+impl Shown for PeerRequest {
+    fn put(self, reply: &mut Reply) -> io::Result<()> {
+        (self.piece, (self.start, self.length)).put(reply)
+    }
+}
+
+// A root is put in lower-case hex.
+impl Shown for Sha256Hash {
+    fn put(self, reply: &mut Reply) -> io::Result<()> {
+        reply.write_all(b" ")?;
+        for byte in &self.bytes {
+            write!(reply, "{byte:02x}")?;
+        }
+        Ok(())
+    }
+}
+
+// A byte string: `:` and its bytes, plainly or as `%XX`.
+#[derive(Clone, Copy)]
+pub struct ByteString<'a>(pub &'a [u8]);
+
+impl Shown for ByteString<'_> {
+    fn put(self, reply: &mut Reply) -> io::Result<()> {
+        reply.write_all(b" :")?;
+        for byte in self.0 {
+            if script::is_plain(*byte) {
+                reply.write_all(&[*byte])?;
+            } else {
+                write!(reply, "%{byte:02X}")?;
+            }
+        }
+        Ok(())
+    }
+}
+
+impl<A: Shown, B: Shown> Shown for (A, B) {
+    fn put(self, reply: &mut Reply) -> io::Result<()> {
+        let (a, b) = self;
+        a.put(reply)?;
+        b.put(reply)
+    }
+}
+
+// Answers with a value.
+pub fn value<T: Shown>(out: Stdout, value: T) -> io::Result<()> {
+    let mut reply = Reply::ok(out)?;
+    value.put(&mut reply)?;
+    reply.end()
+}
+
+// Answers with a value, or with the refusal.
+pub fn answer<T: Shown>(out: Stdout, res: Result<T, Refusal>) -> io::Result<()> {
+    match res {
+        Ok(found) => value(out, found),
+        Err(refusal) => refused(out, refusal),
+    }
 }
 
 // A text that was composed at the start of a buffer, by its length.
-pub fn composed(out: Stdout, res: UsizeResult, buffer: &[u8]) -> io::Result<()> {
-    match res {
-        UsizeResult::Ok(n) => string(out, lists::part(buffer, 0, n)),
-        UsizeResult::Err(refusal) => output::refused(out, refusal),
-    }
+pub fn composed(out: Stdout, res: Result<usize, Refusal>, buffer: &[u8]) -> io::Result<()> {
+    answer(out, res.map(|n| ByteString(lists::part(buffer, 0, n))))
 }
 
 // A text by its place.
-pub fn text(out: Stdout, res: SpanResult, text: &[u8]) -> io::Result<()> {
-    match res {
-        SpanResult::Ok(place) => string(out, tables::text_at(text, place)),
-        SpanResult::Err(refusal) => output::refused(out, refusal),
-    }
-}
-
-// An `i32`.
-pub fn short(out: Stdout, res: I32Result) -> io::Result<()> {
-    match res {
-        I32Result::Ok(n) => short_value(out, n),
-        I32Result::Err(refusal) => output::refused(out, refusal),
-    }
-}
-
-// An `i64`.
-pub fn long(out: Stdout, res: I64Result) -> io::Result<()> {
-    match res {
-        I64Result::Ok(n) => output::end(output::long(output::ok(out), n)),
-        I64Result::Err(refusal) => output::refused(out, refusal),
-    }
-}
-
-// A `usize`.
-pub fn count(out: Stdout, res: UsizeResult) -> io::Result<()> {
-    match res {
-        UsizeResult::Ok(n) => value(out, n as u64),
-        UsizeResult::Err(refusal) => output::refused(out, refusal),
-    }
-}
-
-// A byte as a number.
-pub fn small(out: Stdout, res: U8Result) -> io::Result<()> {
-    match res {
-        U8Result::Ok(n) => value(out, n as u64),
-        U8Result::Err(refusal) => output::refused(out, refusal),
-    }
-}
-
-// A hash as a number.
-pub fn hash(out: Stdout, res: U32Result) -> io::Result<()> {
-    match res {
-        U32Result::Ok(n) => value(out, n as u64),
-        U32Result::Err(refusal) => output::refused(out, refusal),
-    }
-}
-
-// A truth value.
-pub fn boolean(out: Stdout, res: BoolResult) -> io::Result<()> {
-    match res {
-        BoolResult::Ok(is_so) => truth(out, is_so),
-        BoolResult::Err(refusal) => output::refused(out, refusal),
-    }
-}
-
-// A piece.
-pub fn piece(out: Stdout, res: PieceResult) -> io::Result<()> {
-    match res {
-        PieceResult::Ok(piece) => short_value(out, piece.0),
-        PieceResult::Err(refusal) => output::refused(out, refusal),
-    }
-}
-
-// A file.
-pub fn file(out: Stdout, res: FileResult) -> io::Result<()> {
-    match res {
-        FileResult::Ok(file) => short_value(out, file.0),
-        FileResult::Err(refusal) => output::refused(out, refusal),
-    }
-}
-
-// A range of pieces.
-pub fn pieces(out: Stdout, res: PieceRangeResult) -> io::Result<()> {
-    match res {
-        PieceRangeResult::Ok(range) => two_values(out, range.begin.0, range.end.0),
-        PieceRangeResult::Err(refusal) => output::refused(out, refusal),
-    }
-}
-
-// A range of files.
-pub fn files(out: Stdout, res: FileRangeResult) -> io::Result<()> {
-    match res {
-        FileRangeResult::Ok(range) => two_values(out, range.begin.0, range.end.0),
-        FileRangeResult::Err(refusal) => output::refused(out, refusal),
-    }
-}
-
-// A range of numbers.
-pub fn range(out: Stdout, res: I32RangeResult) -> io::Result<()> {
-    match res {
-        I32RangeResult::Ok(range) => two_values(out, range.begin, range.end),
-        I32RangeResult::Err(refusal) => output::refused(out, refusal),
-    }
-}
-
-// A piece, a start and a length.
-pub fn request(out: Stdout, res: RequestResult) -> io::Result<()> {
-    match res {
-        RequestResult::Ok(request) => {
-            let piece = output::short(output::ok(out), request.piece.0);
-            output::end(output::short(output::short(piece, request.start), request.length))
-        }
-        RequestResult::Err(refusal) => output::refused(out, refusal),
-    }
-}
-
-// A root, in hex.
-pub fn root(out: Stdout, res: RootResult) -> io::Result<()> {
-    let answer = res.answer;
-    let root = res.root;
-    let bytes = root.bytes;
-    match answer {
-        UnitResult::Ok => output::end(output::hex(output::ok(out), &bytes)),
-        UnitResult::Err(refusal) => output::refused(out, refusal),
-    }
+pub fn text(out: Stdout, res: Result<Span, Refusal>, text: &[u8]) -> io::Result<()> {
+    answer(
+        out,
+        res.map(|place| ByteString(tables::text_at(text, place))),
+    )
 }

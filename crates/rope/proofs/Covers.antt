@@ -1,13 +1,12 @@
 -- Laws of a directory and a part of a path: the directory's end is looked at first, and then the bytes before it. They
 -- rely on the kit's laws of lists.
-use Prim.Native.Nat.{ℕ, ◌≤◌, ◌<◌}
+use Prim.Native.Nat.{ℕ, ◌≤◌}
 use mathlib.Core.Path.{◌≡◌, refl, sym, ◌∙◌}
 use mathlib.Core.Bool.{Bool, true, false, cond}
 use mathlib.Core.List.{List, [], ◌∷◌}
 use native.Mathlib.Omega.{arith}
 use lib.Dec.{eqb}
-use lib.ListN.{length, get_or, take, drop, drop_of_length-le}
-use lib.Seq.{drop-cons}
+use lib.ListN.{length, take, drop}
 use Rattle.lists.specs.Lists.{equal}
 use Rattle.lookup.specs.Lookup.{covers}
 
@@ -25,13 +24,6 @@ covers-parts (x ∷ d) (y ∷ p) h = at (eqb x y) (covers (drop (length p) d) []
     at true u k = k
     at false true k = refl
     at false false k = refl
-
-module _ (d : List ℕ) (e : ℕ) where
-  pub end_mark : e < length d → eqb (get_or d e 0) 47 ≡ covers (drop e d) []
-  end_mark h = rw (drop-cons d e 0 h)
-
-  pub end-past : length d ≤ e → true ≡ covers (drop e d) []
-  end-past h = rw (drop_of_length-le d {i = e} h)
 
 -- a part of e bytes
 module _ (d p : List ℕ) (e : ℕ) (n : length p ≡ e) (h : e ≤ length d) where

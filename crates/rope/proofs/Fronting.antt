@@ -10,12 +10,12 @@ use native.Mathlib.Omega.{arith}
 use lib.Dec.{eqb}
 use lib.ListN.{length, take, drop, length-take}
 use lib.Seq.{length-take-le}
-use borrow.Author.Tests.{eq-eqb, ne_eqb, eqb-true, eqb-false, le-leb, lt-leb}
+use borrow.Author.Tests.{eq-eqb, eqb-true, eqb-false, le-leb, lt-leb}
 use Rattle.lists.specs.Lists.{equal}
 use Rattle.lists.proofs.Orders.{le-or-lt}
 use Rattle.lists.proofs.Equality.{equal-length}
 use Rattle.lookup.specs.Lookup.{covers}
-use Rattle.lookup.proofs.Paths.{covers-short}
+use Rattle.lookup.proofs.Paths.{covers_short}
 use Rattle.rope.specs.Rope.{is_front, covers_front}
 use Rattle.rope.proofs.Covers.{covers-on, covers-off}
 
@@ -25,9 +25,6 @@ module _ (t p : List ℕ) (e : ℕ) where
   -- a list of e bytes, and one of another length
   pub front_long : length t ≡ e → equal t (take e p) ≡ is_front t p e
   front_long h = rw (eq-eqb (length t) e h)
-
-  pub front-other : (length t ≡ e → ⊥) → false ≡ is_front t p e
-  front-other h = rw (ne_eqb (length t) e h)
 
   -- a path that ends before, and one of e bytes
   pub front-short : length p < e → is_front t p e ≡ false
@@ -56,7 +53,7 @@ module _ (d p : List ℕ) (e : ℕ) where
   -- a directory of fewer bytes
   pub cover-short : length d < e → false ≡ covers_front d p e
   cover-short l =
-      ⊎_elim (λ (h : e ≤ length p). sym (covers-front h ∙ covers-short d (take e p) (omega (arith, length-take-le e p h))))
+      ⊎_elim (λ (h : e ≤ length p). covers_short d (take e p) (omega (arith, length-take-le e p h)) ∙ sym (covers-front h))
       (λ (h : length p < e). sym (covers-past h))
       (le-or-lt e (length p))
 

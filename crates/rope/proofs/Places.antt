@@ -3,10 +3,9 @@
 use Prim.Native.Nat.{ℕ, ◌+◌, ◌<◌, ◌≤◌}
 use mathlib.Core.Path.{◌≡◌, sym, ap, ◌∙◌}
 use mathlib.Core.List.{List}
-use mathlib.Core.Bool.{true}
 use native.Mathlib.Omega.{arith}
 use native.Mathlib.Numerals.{add-one}
-use lib.ListN.{length, get_or, drop, length-drop, drop_of_length-le}
+use lib.ListN.{length, get_or, drop, length-drop}
 use lib.Seq.{drop-cons, drop-drop, get_or-drop}
 use borrow.Author.Tests.{eq-eqb}
 use Rattle.lists.specs.Lists.{equal}
@@ -32,6 +31,3 @@ module _ (x y : List ℕ) (a b : ℕ) (h : drop a x ≡ drop b y) where
 -- a comparison from the front: one byte more, and the end
 pub equal-turn : (a b : List ℕ) (i : ℕ) → i < length a → i < length b → get_or a i 0 ≡ get_or b i 0 → equal (drop (i + 1) a) (drop (i + 1) b) ≡ equal (drop i a) (drop i b)
 equal-turn a b i h k e = rw (drop-cons a i 0 h, drop-cons b i 0 k, eq-eqb _ _ e, add-one)
-
-pub equal-end : (a b : List ℕ) (i : ℕ) → length a ≤ i → length b ≤ i → true ≡ equal (drop i a) (drop i b)
-equal-end a b i h k = rw (drop_of_length-le a {i = i} h, drop_of_length-le b {i = i} k)

@@ -7,28 +7,18 @@ use crate::lead::{lead_byte, lead_length};
 // The words of a frame.
 pub const FRAME_WIDTH: usize = 3;
 
-// Word i, 0 past the end.
-fn word_in(frames: &[u32], i: usize) -> u32
-    ensures { result ≡ get_or frames.now i 0 }
-{
-    if i < frames.len() {
-        return frames[i];
-    }
-    0
-}
-
 // The number of the text of frame k.
 fn lead_in(frames: &[u32], k: u32) -> u32
     ensures { result ≡ kind frames.now k / 2 }
 {
-    word_in(frames, k as usize * FRAME_WIDTH) / 2
+    lists::item_or(frames, k as usize * FRAME_WIDTH, 0) / 2
 }
 
 // The number of separators after the text of frame k: 0 or 1.
 pub fn tail_in(frames: &[u32], k: u32) -> usize
     ensures { result ≡ kind frames.now k % 2 }
 {
-    (word_in(frames, k as usize * FRAME_WIDTH) % 2) as usize
+    (lists::item_or(frames, k as usize * FRAME_WIDTH, 0) % 2) as usize
 }
 
 // Where the unused part of frame k's text begins.
@@ -36,8 +26,8 @@ pub fn start_in(frames: &[u32], k: u32) -> usize
     ensures { result ≡ start frames.now k }
 {
     let i = k as usize * FRAME_WIDTH;
-    let low = word_in(frames, i + 1);
-    let high = word_in(frames, i + 2);
+    let low = lists::item_or(frames, i + 1, 0);
+    let high = lists::item_or(frames, i + 2, 0);
     low as usize + high as usize * 4294967296
 }
 
@@ -48,7 +38,7 @@ pub fn text_left(rows: &[u64], dirs: &[u64], text: &[u8], frames: &[u32], k: u32
     ensures result_bound { start frames.now k + result < 2 ^ 64 }
 {
     let n = lead_length(rows, dirs, text, lead_in(frames, k));
-    lists::saturating_sub_usize(n, start_in(frames, k))
+    n.saturating_sub(start_in(frames, k))
 }
 
 // Byte j of what is left of frame k's text.
@@ -65,10 +55,7 @@ fn text_byte(rows: &[u64], dirs: &[u64], text: &[u8], frames: &[u32], k: u32, j:
 pub fn is_in(j: usize, n: usize, t: usize) -> bool
     ensures { result ≡ ltb j (n + t) }
 {
-    if j < n {
-        return true;
-    }
-    j - n < t
+    j < n || j - n < t
 }
 
 // Byte j of frame k, whose text has n bytes left: of the text, or the separator after it.

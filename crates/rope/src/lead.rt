@@ -11,25 +11,26 @@ pub(crate) fn joined_byte(d: &[u8], n: &[u8], j: usize) -> u8
     ensures { result ≡ get_or (appended d.now n.now) j 0 }
 {
     if path::is_alone(d) {
-        return lists::byte(n, j);
+        return lists::item_or(n, j, 0);
     }
     if n.len() == 0 {
-        return lists::byte(d, j);
+        return lists::item_or(d, j, 0);
     }
     if j < d.len() {
-        return lists::byte(d, j);
+        return lists::item_or(d, j, 0);
     }
     let k = j - d.len();
     if path::is_closed(d) {
-        return lists::byte(n, k);
+        return lists::item_or(n, k, 0);
     }
     if k == 0 {
         return b'/';
     }
-    lists::byte(n, k - 1)
+    lists::item_or(n, k - 1, 0)
 }
 
 // The link text of file i.
+// Stays: only the form is that of `lookup::directory_of`, which reads a directory.
 fn text_of<'a>(rows: &[u64], text: &'a [u8], i: usize) -> &'a [u8]
     ensures { result.now ≡ row_text rows.now text.now i }
 {
@@ -70,7 +71,7 @@ pub fn lead_byte(rows: &[u64], dirs: &[u64], text: &[u8], v: u32, j: usize) -> u
     let i = (v / 4) as usize;
     let t = text_of(rows, text, i);
     if v % 4 < 2 {
-        return lists::byte(t, j);
+        return lists::item_or(t, j, 0);
     }
     joined_byte(branch_of(rows, dirs, text, i), t, j)
 }

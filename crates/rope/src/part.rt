@@ -28,10 +28,9 @@ fn joins_in(
     if path::joined_length(d, n) != e {
         return false;
     }
-    let mut i = 0;
     let mut k = depth;
     let mut at = 0;
-    while i < e {
+    for i in 0..e {
         let p = seek(rows, dirs, text, frames, k, at);
         if !has_byte(rows, dirs, text, frames, p.k, p.at) {
             return false;
@@ -42,7 +41,6 @@ fn joins_in(
         }
         k = p.k;
         at = p.at + 1;
-        i += 1;
     }
     true
 }
@@ -51,10 +49,7 @@ fn joins_in(
 fn is_end(d: &[u8], e: usize) -> bool
     ensures { result ≡ covers (drop e d.now) [] }
 {
-    if e < d.len() {
-        return d[e] == b'/';
-    }
-    true
+    d.len() <= e || d[e] == b'/'
 }
 
 // Whether the path has e bytes and the directory d covers them.

@@ -15,10 +15,8 @@ pub fn path_byte(
 ) -> u8
     ensures { result ≡ get_or (held_path rows.now dirs.now text.now frames.now depth) j 0 }
 {
-    let mut k = depth;
     let mut at = j;
-    while 0 < k {
-        k -= 1;
+    for k in (0..depth).rev() {
         let n = text_left(rows, dirs, text, frames, k);
         let t = tail_in(frames, k);
         if is_in(at, n, t) {
@@ -41,10 +39,8 @@ pub fn has_byte(
     ensures { result ≡ ltb j
         (length (held_path rows.now dirs.now text.now frames.now depth)) }
 {
-    let mut k = depth;
     let mut at = j;
-    while 0 < k {
-        k -= 1;
+    for k in (0..depth).rev() {
         let n = text_left(rows, dirs, text, frames, k);
         let t = tail_in(frames, k);
         if is_in(at, n, t) {
@@ -56,7 +52,7 @@ pub fn has_byte(
 }
 
 // A place in a path: the number of frames that are left there, and of their bytes that are passed.
-#[derive(Drop)]
+#[derive(Clone, Copy)]
 pub struct Place {
     pub k: u32,
     pub at: usize,
@@ -72,16 +68,14 @@ pub fn seek(rows: &[u64], dirs: &[u64], text: &[u8], frames: &[u32], depth: u32,
         × (result ≡ place_in (leads rows.now dirs.now text.now) frames.now depth
         j) }
 {
-    let mut k = depth;
     let mut at = j;
-    while 0 < k {
-        let n = text_left(rows, dirs, text, frames, k - 1);
-        let t = tail_in(frames, k - 1);
+    for k in (0..depth).rev() {
+        let n = text_left(rows, dirs, text, frames, k);
+        let t = tail_in(frames, k);
         if is_in(at, n, t) {
-            return Place { k: k, at: at };
+            return Place { k: k + 1, at };
         }
         at = at - n - t;
-        k -= 1;
     }
-    Place { k: 0, at: at }
+    Place { k: 0, at }
 }

@@ -2,46 +2,39 @@
 -- or that number. Stated once for every list of rules; they rely on the definitions of specs/Questions.antt.
 --     allowed, denied                     what the outcome of a number says of it
 --     go, stop                            the answer after a decision
---     set_value, set-refused              an answer about the set
---     directory-value, directory-refused  an answer about a directory
 --     file-value, file-refused            an answer about a file
---     link-value, link-refused            an answer about a file's link text
 --     composed-value, composed-refused    a text composed into a lent buffer
---     below-yes, below-no                 what `within` says of a number
---     below-not, below_as, index-low      what its sign says of it
+--     below-value, below-refused          what `within` says of a number
+--     below-is, index-low                 how large that number is
 --     over-is                             whether there are more than k pieces, by a product
---     gone                                after `Go` no rule's test holds
---     length-good, set-length-good, low-i32   what that says of the piece length, and of a number that an i32 holds
---     held-few, few-low, set-few  and of the tables and what the set counts
+--     gone                                after `Ok` no rule's test holds
+--     length-good, low-i32                what that says of the piece length, and of a number that an i32 holds
+use Rattle.std.specs.Prelude.{Err, Ok, Result}
 use Prim.Native.Nat.{ℕ, ◌*◌, ◌%◌, ◌^◌, ◌≤◌, ◌<◌}
 use mathlib.Core.Path.{◌≡◌, refl, sym, ap, ◌∙◌}
-use mathlib.Core.Bool.{Bool, true, false, cond, true≢false, ◌&&◌, ◌||◌}
+use mathlib.Core.Bool.{Bool, true, false, cond, true≢false, ◌&&◌}
 use mathlib.Core.List.{List, [], ◌∷◌}
 use native.Mathlib.Omega.{arith}
-use lib.Dec.{eqb, ltb, leb}
+use lib.Dec.{eqb, ltb}
 use lib.IntN.{ℤ, pos, negsuc}
 use mir.Syntax.{w32}
 use mir.Val.{SFits}
-use borrow.Author.Tests.{lt-ltb, le-ltb, ltb-true, ltb-false, leb-true, not-false}
+use borrow.Author.Tests.{lt-ltb, le-ltb, ltb-true, ltb-false}
 use Rattle.lists.specs.Lists.{ceiling}
 use Rattle.lists.proofs.Quotients.{ceiling-above, ceiling-le}
-use Rattle.types.specs.Refusals.{number_of, value, refused, usize_says}
+use Rattle.types.specs.Refusals.{number_of, value, refused, outcome}
 use Rattle.types.specs.Signed.{below_or}
 use Rattle.types.specs.declared.refusal.Refusal.{Refusal}
-use Rattle.types.specs.declared.refusal.UsizeResult.{UsizeResult}
-use Rattle.types.specs.declared.refusal.UsizeResult.TheVariants as usize
 use Rattle.types.proofs.Boundary.{low}
 use Rattle.types.proofs.Refusals.{numbered}
-use Rattle.path.specs.Join.{appended, Joined, joined_if, fits}
+use Rattle.path.specs.Join.{Joined}
 use Rattle.tables.specs.declared.storage.FileStorage.{FileStorage}
-use Rattle.rules.specs.declared.decide.Check.{Check}
-use Rattle.rules.specs.declared.decide.Check.TheVariants.{Go, Stop}
-use Rattle.rules.specs.Rules.{Rule, when, first_of, outcome_of}
-use Rattle.rules.specs.Bounds.{bad_length, is_negative, is_below, clamped_of, limit}
+use Rattle.rules.specs.Rules.{Rule, first_of, outcome_of}
+use Rattle.rules.specs.Bounds.{bad_length, is_below, clamped_of}
 use Rattle.rules.specs.Results.{check_number}
-use Rattle.rules.specs.Questions.{answered, bad_piece_length, no_file, no_directory, no_link, bad_range, short, few_entries, held_answer, directory_answer, file_answer, link_answer}
+use Rattle.rules.specs.Questions.{bad_piece_length, no_file, no_link, short, few_entries, file_answer}
 use Rattle.rules.specs.Composed.{composed_if, composed_file}
-use Rattle.rules.proofs.Rules.{Numbered, Passed, passed, either-false, both_true}
+use Rattle.rules.proofs.Rules.{Numbered, Passed, passed, either-false}
 
 -- two tests, each known in other words
 pub both_is : {r x y a b : Bool} → r ≡ (x && y) → x ≡ a → y ≡ b → r ≡ (a && b)
@@ -72,47 +65,23 @@ module _ {A B : Type 0} (n : ℕ) (a : A) (f : A → B) where
   also-refused m e = let t = is-refused n a m e in rw (t.0, t.1)
 
 -- an answer that follows a decision `d` of the same number
-module _ {A : Type 0} (n i : ℕ) (a : ℕ → A) (d : UsizeResult) (p : usize_says d ≡ outcome_of n i) where
-  found-value : (k : ℕ) → d ≡ usize.Ok k → (x : A) → x ≡ a k → value x ≡ outcome_of n (a i)
-  found-value k e x h = ap value h ∙ also-value n i a k (ap usize_says (sym e) ∙ p)
+module _ {A : Type 0} (n i : ℕ) (a : ℕ → A) (d : Result ℕ Refusal) (p : outcome d ≡ outcome_of n i) where
+  found-value : (k : ℕ) → d ≡ Ok k → (x : A) → x ≡ a k → value x ≡ outcome_of n (a i)
+  found-value k e x h = ap value h ∙ also-value n i a k (ap outcome (sym e) ∙ p)
 
-  found-refused : (x : Refusal) → d ≡ usize.Err x → refused (number_of x) ≡ outcome_of n (a i)
-  found-refused x e = also-refused n i a (number_of x) (ap usize_says (sym e) ∙ p)
+  found-refused : (x : Refusal) → d ≡ Err x → refused (number_of x) ≡ outcome_of n (a i)
+  found-refused x e = also-refused n i a (number_of x) (ap outcome (sym e) ∙ p)
 
 -- the answer after a decision d that says n
-module _ {A : Type 0} (a : A) {n : ℕ} {d : Check} (p : check_number d ≡ n) where
-  pub go : d ≡ Go → (x : A) → x ≡ a → value x ≡ outcome_of n a
+module _ {A U : Type 0} (a : A) {n : ℕ} {d : Result U Refusal} (p : check_number d ≡ n) where
+  pub go : {u : U} → d ≡ Ok u → (x : A) → x ≡ a → value x ≡ outcome_of n a
   go e x h = let z : n ≡ 0 = sym p ∙ ap check_number e in rw (h, z)
 
-  pub stop : (e : Refusal) → d ≡ Stop e → refused (number_of e) ≡ outcome_of n a
+  pub stop : (e : Refusal) → d ≡ Err e → refused (number_of e) ≡ outcome_of n a
   stop e q =
       let z : n ≡ number_of e = sym p ∙ ap check_number q in
       let k : eqb (number_of e) 0 ≡ false = numbered e in
       rw (z, k)
-
--- an answer after a decision by rules that the tests are another reading of
-module _ {A : Type 0} (a : A) (rules : Bool → List Rule) (held test : Bool) (d : Check) (p : check_number d ≡ first_of (rules held)) (q : held ≡ test) where
-  held-value : d ≡ Go → (x : A) → x ≡ a → value x ≡ answered (rules test) a
-  held-value = go a (rw q at p)
-
-  held-refused : (x : Refusal) → d ≡ Stop x → refused (number_of x) ≡ answered (rules test) a
-  held-refused = stop a (rw q at p)
-
--- an answer about the set
-module _ {A : Type 0} (fs : FileStorage) (a : A) (held test : Bool) (d : Check) (p : check_number d ≡ first_of (bad_piece_length fs ∷ short (held && few_entries fs) ∷ [])) (q : held ≡ test) where
-  pub set_value : d ≡ Go → (x : A) → x ≡ a → value x ≡ held_answer fs test a
-  set_value = held-value a (λ t. bad_piece_length fs ∷ short (t && few_entries fs) ∷ []) held test d p q
-
-  pub set-refused : (x : Refusal) → d ≡ Stop x → refused (number_of x) ≡ held_answer fs test a
-  set-refused = held-refused a (λ t. bad_piece_length fs ∷ short (t && few_entries fs) ∷ []) held test d p q
-
--- an answer about directory i
-module _ {A : Type 0} (fs : FileStorage) (i : ℕ) (a : A) (held test : Bool) (d : Check) (p : check_number d ≡ first_of (bad_piece_length fs ∷ no_directory fs i ∷ short (held && few_entries fs) ∷ [])) (q : held ≡ test) where
-  pub directory-value : d ≡ Go → (x : A) → x ≡ a → value x ≡ directory_answer fs i test a
-  directory-value = held-value a (λ t. bad_piece_length fs ∷ no_directory fs i ∷ short (t && few_entries fs) ∷ []) held test d p q
-
-  pub directory-refused : (x : Refusal) → d ≡ Stop x → refused (number_of x) ≡ directory_answer fs i test a
-  directory-refused = held-refused a (λ t. bad_piece_length fs ∷ no_directory fs i ∷ short (t && few_entries fs) ∷ []) held test d p q
 
 -- the number of the first refusal of a question about a file or its link text, 0 for none
 abbrev pub file_number : FileStorage → ℤ → Bool → ℕ
@@ -123,59 +92,29 @@ link_number fs z there linked held =
     first_of (bad_piece_length fs ∷ no_file fs z ∷ no_link (there (clamped_of z)) (linked (clamped_of z)) ∷ short (held && few_entries fs) ∷ [])
 
 -- an answer about a file
-module _ {A : Type 0} (fs : FileStorage) (z : ℤ) (a : ℕ → A) (held test : Bool) (d : UsizeResult) (p : usize_says d ≡ file_answer fs z held (λ k. k)) (q : held ≡ test) where
-  pub file-value : (k : ℕ) → d ≡ usize.Ok k → (x : A) → x ≡ a k → value x ≡ file_answer fs z test a
+module _ {A : Type 0} (fs : FileStorage) (z : ℤ) (a : ℕ → A) (held test : Bool) (d : Result ℕ Refusal) (p : outcome d ≡ file_answer fs z held (λ k. k)) (q : held ≡ test) where
+  pub file-value : (k : ℕ) → d ≡ Ok k → (x : A) → x ≡ a k → value x ≡ file_answer fs z test a
   file-value = found-value (file_number fs z test) (clamped_of z) a d (rw q at p)
 
-  pub file-refused : (x : Refusal) → d ≡ usize.Err x → refused (number_of x) ≡ file_answer fs z test a
+  pub file-refused : (x : Refusal) → d ≡ Err x → refused (number_of x) ≡ file_answer fs z test a
   file-refused = found-refused (file_number fs z test) (clamped_of z) a d (rw q at p)
 
--- an answer about the link text of a file
-module _ {A : Type 0} (fs : FileStorage) (z : ℤ) (there linked : ℕ → Bool) (a : ℕ → A) (held test : Bool) (d : UsizeResult) (p : usize_says d ≡ link_answer fs z there linked held (λ k. k)) (q : held ≡ test) where
-  pub link-value : (k : ℕ) → d ≡ usize.Ok k → (x : A) → x ≡ a k → value x ≡ link_answer fs z there linked test a
-  link-value = found-value (link_number fs z there linked test) (clamped_of z) a d (rw q at p)
-
-  pub link-refused : (x : Refusal) → d ≡ usize.Err x → refused (number_of x) ≡ link_answer fs z there linked test a
-  link-refused = found-refused (link_number fs z there linked test) (clamped_of z) a d (rw q at p)
-
--- a join is a text composed
-pub joined_is : (j : Joined) (branch leaf text buf : List ℕ) → j ≡ joined_if (fits (appended branch leaf) buf) (appended branch leaf) buf
-    → appended branch leaf ≡ text → j ≡ composed_if 0 text buf
-joined_is j branch leaf text buf e h = e ∙ rw h
-
 -- a text about a file, composed into a lent buffer
-module _ (fs : FileStorage) (z : ℤ) (t : ℕ → List ℕ) (buf : List ℕ) (held test : Bool) (d : UsizeResult) (p : usize_says d ≡ file_answer fs z held (λ k. k)) (q : held ≡ test) where
-  pub composed-value : (k : ℕ) → d ≡ usize.Ok k → (j : Joined) (text : List ℕ) → j ≡ composed_if 0 text buf → text ≡ t k → j ≡ composed_file fs z test t buf
+module _ (fs : FileStorage) (z : ℤ) (t : ℕ → List ℕ) (buf : List ℕ) (held test : Bool) (d : Result ℕ Refusal) (p : outcome d ≡ file_answer fs z held (λ k. k)) (q : held ≡ test) where
+  pub composed-value : (k : ℕ) → d ≡ Ok k → (j : Joined) (text : List ℕ) → j ≡ composed_if 0 text buf → text ≡ t k → j ≡ composed_file fs z test t buf
   composed-value k e j text h w =
-      let v = is-value (file_number fs z test) (clamped_of z) k (ap usize_says (sym e) ∙ (rw q at p)) in
+      let v = is-value (file_number fs z test) (clamped_of z) k (ap outcome (sym e) ∙ (rw q at p)) in
       h ∙ rw (w, v.0, v.1)
 
-  pub composed-refused : (x : Refusal) → d ≡ usize.Err x → ◌≡◌ {A = Joined} (record { says = refused (number_of x); buf = buf }) (composed_file fs z test t buf)
+  pub composed-refused : (x : Refusal) → d ≡ Err x → ◌≡◌ {A = Joined} (record { says = refused (number_of x); buf = buf }) (composed_file fs z test t buf)
   composed-refused x e =
-      let v = is-refused (file_number fs z test) (clamped_of z) (number_of x) (ap usize_says (sym e) ∙ (rw q at p)) in
+      let v = is-refused (file_number fs z test) (clamped_of z) (number_of x) (ap outcome (sym e) ∙ (rw q at p)) in
       rw (v.0, v.1)
 
 -- ---- what is known once no rule stopped a question
 
 -- a number from 0 to count − 1
 module _ (r count : ℕ) where
-  low-side : (b : Bool) (n k : ℕ) → value k ≡ cond b (value n) (refused r) → b ≡ true
-  low-side true n k e = refl
-  low-side false n k e = absurd (let z : ◌≡◌ {A = ℕ} 0 1 = cc in omega arith)
-
-  high-side : (b : Bool) (n m : ℕ) → refused m ≡ cond b (value n) (refused r) → b ≡ false
-  high-side true n m e = absurd (let z : ◌≡◌ {A = ℕ} 0 1 = cc in omega arith)
-  high-side false n m e = refl
-
-  pub below-yes : (z : ℤ) (k : ℕ) → value k ≡ below_or r count z → is_below count z ≡ true
-  below-yes (pos n) k e = low-side (ltb n count) n k e
-  below-yes (negsuc n) k e = absurd (let z : ◌≡◌ {A = ℕ} 0 1 = cc in omega arith)
-
-  pub below-no : (z : ℤ) (m : ℕ) → refused m ≡ below_or r count z → is_below count z ≡ false
-  below-no (pos n) m e = high-side (ltb n count) n m e
-  below-no (negsuc n) m e = refl
-
-  -- the same, with the number itself
   pub below-value : (z : ℤ) (k : ℕ) → value k ≡ below_or r count z → (is_below count z ≡ true) × (k ≡ clamped_of z)
   below-value (pos n) k e = allowed r n (ltb n count) k e
   below-value (negsuc n) k e = absurd (let z : ◌≡◌ {A = ℕ} 0 1 = cc in omega arith)
@@ -187,14 +126,6 @@ module _ (r count : ℕ) where
 pub below-is : (count : ℕ) (z : ℤ) → is_below count z ≡ true → clamped_of z < count
 below-is count (pos n) e = ltb-true n count e
 below-is count (negsuc n) e = absurd (true≢false (sym e))
-
-pub below-not : (count : ℕ) (z : ℤ) → is_negative z ≡ true → is_below count z ≡ false
-below-not count (pos n) e = absurd (true≢false (sym e))
-below-not count (negsuc n) e = refl
-
-pub below_as : (count : ℕ) (z : ℤ) → is_negative z ≡ false → is_below count z ≡ ltb (clamped_of z) count
-below_as count (pos n) e = refl
-below_as count (negsuc n) e = absurd (true≢false e)
 
 pub index-low : (z : ℤ) → SFits w32 z → clamped_of z < 2147483648
 index-low (pos n) f = f.sfits
@@ -208,45 +139,16 @@ over-is t n k p = by (ltb (k * n) t) refl
     by true e = sym (lt-ltb k (ceiling t n) (ceiling-above t n p k (ltb-true (k * n) t e)))
     by false e = sym (le-ltb k (ceiling t n) (ceiling-le t n p k (ltb-false (k * n) t e)))
 
--- no rule's test holds after `Go`
-pub gone : (rs : List Rule) {d : Check} → Numbered rs → check_number d ≡ first_of rs → d ≡ Go → Passed rs
+-- no rule's test holds after `Ok tt`
+pub gone : {U : Type 0} (rs : List Rule) {d : Result U Refusal} {u : U} → Numbered rs → check_number d ≡ first_of rs → d ≡ Ok u → Passed rs
 gone rs h p e = passed rs h (sym (ap check_number e) ∙ p)
 
--- what the tests mean where they fail
-pub offset-low : (o n : ℤ) → (bad_range o n).test ≡ false → clamped_of o ≤ limit
-offset-low o n e =
-    let q = (either-false (is_negative o) (is_negative n || ltb limit (clamped_of o)) e).1 in
-    ltb-false limit (clamped_of o) (either-false (is_negative n) (ltb limit (clamped_of o)) q).1
-
+-- a piece length in range
 pub length-good : (n : ℕ) → bad_length n ≡ false → (0 < n) × (n ≤ 2147483647)
 length-good n e =
     let p = either-false (ltb n 1) (ltb 2147483647 n) e in
     (omega (arith, ltb-false n 1 p.0), ltb-false 2147483647 n p.1)
 
-pub set-length-good : (fs : FileStorage) (bad held : Bool) {d : Check} → check_number d ≡ first_of (bad_piece_length fs ∷ when bad 14 ∷ short held ∷ []) → d ≡ Go
-    → fs.piece_length ≤ 2147483647
-set-length-good fs bad held p e = (length-good fs.piece_length (gone (bad_piece_length fs ∷ when bad 14 ∷ short held ∷ []) refl p e).0).1
-
--- the lent tables are long enough, and the set has no more files and directories than it may
-pub held-few : (fs : FileStorage) (held : Bool) → (short (held && few_entries fs)).test ≡ false → (held ≡ true) × (few_entries fs ≡ true)
-held-few fs held e = both_true held (few_entries fs) (not-false (held && few_entries fs) e)
-
--- how many those are
-pub few-low : (fs : FileStorage) → few_entries fs ≡ true → (fs.num_files ≤ 65535) × (fs.num_paths ≤ 65535)
-few-low fs e =
-    let p = both_true (leb fs.num_files 65535) (leb fs.num_paths 65535) e in
-    (leb-true fs.num_files 65535 p.0, leb-true fs.num_paths 65535 p.1)
-
-pub set-few : (fs : FileStorage) (bad held : Bool) {d : Check} → check_number d ≡ first_of (bad_piece_length fs ∷ when bad 14 ∷ short (held && few_entries fs) ∷ []) → d ≡ Go
-    → (fs.num_files ≤ 65535) × (fs.num_paths ≤ 65535)
-set-few fs bad held p e =
-    few-low fs (held-few fs held (gone (bad_piece_length fs ∷ when bad 14 ∷ short (held && few_entries fs) ∷ []) refl p e).1.1.0).1
-
 -- an i32 that is not negative is its own low 31 bits
 pub low-i32 : (n : ℕ) → n ≤ 2147483647 → pos (n % 2 ^ 31) ≡ pos n
 low-i32 n h = low 31 n (omega arith)
-
--- two tests of one refusal
-pub either-rule : (o f s : Rule) (a b : Bool) → first_of (o ∷ f ∷ when (a || b) 16 ∷ s ∷ []) ≡ first_of (o ∷ f ∷ when a 16 ∷ when b 16 ∷ s ∷ [])
-either-rule o f s true b = refl
-either-rule o f s false b = refl

@@ -1,7 +1,7 @@
 // What is decided before an answer: document 01's refusals of a question, in its order. It relies on the tests of
 // test.rt and on the laws of proofs/Deciding.antt.
 ghost use Rattle.std.specs.Prelude.{◌≡◌, ◌&&◌, [], ◌∷◌, leb};
-ghost use Rattle.types.specs.Refusals.{usize_says};
+ghost use Rattle.types.specs.Refusals.{outcome};
 ghost use Rattle.rules.specs.Rules.{when, first_of};
 ghost use Rattle.rules.specs.Results.{check_number};
 ghost use Rattle.rules.specs.Questions.{bad_piece_length, no_file, no_directory, many_pieces, no_piece};
@@ -12,14 +12,7 @@ use crate::test::{
     are_held, has_few_entries, has_many, is_bad_length, is_held, is_no_file, is_no_piece,
 };
 use tables::FileStorage;
-use types::{FileIndex, PieceIndex, Refusal, UsizeResult};
-
-// Whether a call goes on, or why not.
-#[derive(Drop)]
-pub enum Check {
-    Go,
-    Stop(Refusal),
-}
+use types::{FileIndex, PieceIndex, Refusal};
 
 // The first refusal whose test holds.
 pub fn first_refusal(
@@ -30,7 +23,7 @@ pub fn first_refusal(
     bad_range: bool,
     no_tree: bool,
     held: bool,
-) -> Check
+) -> Result<(), Refusal>
     ensures { check_number result
         ≡ first_of
         (when bad_length 1 ∷
@@ -43,31 +36,31 @@ pub fn first_refusal(
         []) }
 {
     if bad_length {
-        return Check::Stop(Refusal::InvalidPieceLength);
+        return Err(Refusal::InvalidPieceLength);
     }
     if no_file {
-        return Check::Stop(Refusal::NoSuchFile);
+        return Err(Refusal::NoSuchFile);
     }
     if many {
-        return Check::Stop(Refusal::TooManyPieces);
+        return Err(Refusal::TooManyPieces);
     }
     if no_piece {
-        return Check::Stop(Refusal::NoSuchPiece);
+        return Err(Refusal::NoSuchPiece);
     }
     if bad_range {
-        return Check::Stop(Refusal::OutOfRange);
+        return Err(Refusal::OutOfRange);
     }
     if no_tree {
-        return Check::Stop(Refusal::NoTree);
+        return Err(Refusal::NoTree);
     }
     if held {
-        return Check::Go;
+        return Ok(());
     }
-    Check::Stop(Refusal::NoRoom)
+    Err(Refusal::NoRoom)
 }
 
 // Decides a question about the set as a whole, or about an offset in it.
-pub fn ask_set(fs: FileStorage, bad_range: bool, held: bool) -> Check
+pub fn ask_set(fs: FileStorage, bad_range: bool, held: bool) -> Result<(), Refusal>
     ensures { check_number result
         ≡ first_of (bad_piece_length fs ∷ when bad_range 14 ∷ short (held && few_entries fs) ∷ []) }
 {
@@ -83,7 +76,7 @@ pub fn ask_set(fs: FileStorage, bad_range: bool, held: bool) -> Check
 }
 
 // Decides a question about directory i.
-pub fn ask_directory(fs: FileStorage, i: usize, held: bool) -> Check
+pub fn ask_directory(fs: FileStorage, i: usize, held: bool) -> Result<(), Refusal>
     ensures { check_number result
         ≡ first_of (bad_piece_length fs ∷ no_directory fs i ∷ short (held && few_entries fs) ∷ []) }
 {
@@ -99,7 +92,7 @@ pub fn ask_directory(fs: FileStorage, i: usize, held: bool) -> Check
 }
 
 // Decides a question about the set's pieces.
-pub fn ask_pieces(fs: FileStorage) -> Check
+pub fn ask_pieces(fs: FileStorage) -> Result<(), Refusal>
     ensures { check_number result ≡ first_of (bad_piece_length fs ∷ many_pieces fs ∷ short (few_entries fs) ∷ []) }
 {
     first_refusal(
@@ -114,7 +107,12 @@ pub fn ask_pieces(fs: FileStorage) -> Check
 }
 
 // Decides a question about a piece.
-pub fn ask_piece(fs: FileStorage, piece: PieceIndex, bad_range: bool, held: bool) -> Check
+pub fn ask_piece(
+    fs: FileStorage,
+    piece: PieceIndex,
+    bad_range: bool,
+    held: bool,
+) -> Result<(), Refusal>
     ensures { check_number result
         ≡ first_of
         (bad_piece_length fs ∷
@@ -143,7 +141,7 @@ pub fn ask_file(
     bad_range: bool,
     no_tree: bool,
     room: usize,
-) -> Check
+) -> Result<(), Refusal>
     ensures { check_number result
         ≡ first_of
         (bad_piece_length fs ∷
@@ -166,20 +164,15 @@ pub fn ask_file(
 }
 
 // The number of the file that a question is about, or its refusal; `held` says whether the lent tables are long enough.
-pub fn file_in(fs: FileStorage, index: FileIndex, held: bool) -> UsizeResult
-    ensures { usize_says result ≡ file_answer fs index.0 held (λ k. k) }
+pub fn file_in(fs: FileStorage, index: FileIndex, held: bool) -> Result<usize, Refusal>
+    ensures { outcome result ≡ file_answer fs index.0 held (λ k. k) }
 {
     if is_bad_length(fs.piece_length) {
-        return UsizeResult::Err(Refusal::InvalidPieceLength);
+        return Err(Refusal::InvalidPieceLength);
     }
-    match index.within(fs.num_files) {
-        UsizeResult::Ok(k) => {
-            if are_held(fs, held) {
-                UsizeResult::Ok(k)
-            } else {
-                UsizeResult::Err(Refusal::NoRoom)
-            }
-        }
-        UsizeResult::Err(e) => UsizeResult::Err(e),
+    let k = index.within(fs.num_files)?;
+    if are_held(fs, held) {
+        return Ok(k);
     }
+    Err(Refusal::NoRoom)
 }

@@ -6,7 +6,7 @@ ghost use Rattle.rules.specs.Bounds.{bad_length, is_negative, is_below, clamped_
 ghost use Rattle.rules.specs.Questions.{num_pieces, no_tree, bad_offset, few_entries, row_there};
 
 use tables::{FileStorage, ROW_WIDTH};
-use types::{FileIndex, PieceIndex, UsizeResult, clamped64, is_negative32, is_negative64};
+use types::{FileIndex, PieceIndex, clamped, is_negative};
 
 // The largest offset, the largest piece length, the most pieces, and the bytes of a block.
 const MAX_FILE_OFFSET: u64 = 281474976710655;
@@ -24,10 +24,7 @@ pub const MAX_ENTRIES: usize = 65535;
 pub fn is_bad_length(piece_length: u64) -> bool
     ensures { result ≡ bad_length piece_length }
 {
-    if piece_length < 1 {
-        return true;
-    }
-    MAX_PIECE_LENGTH < piece_length
+    piece_length < 1 || MAX_PIECE_LENGTH < piece_length
 }
 
 // Whether a table with `room` places holds `count`.
@@ -41,17 +38,14 @@ pub fn is_held(count: usize, room: usize) -> bool
 pub fn has_few_entries(fs: FileStorage) -> bool
     ensures { result ≡ few_entries fs }
 {
-    are_both(fs.num_files <= MAX_ENTRIES, fs.num_paths <= MAX_ENTRIES)
+    fs.num_files <= MAX_ENTRIES && fs.num_paths <= MAX_ENTRIES
 }
 
 // Whether lent tables are long enough, which `held` says, and the set has no more files and directories than it may.
 pub fn are_held(fs: FileStorage, held: bool) -> bool
     ensures { result ≡ (held && few_entries fs) }
 {
-    if held {
-        return has_few_entries(fs);
-    }
-    false
+    held && has_few_entries(fs)
 }
 
 // Whether row i is there.
@@ -59,26 +53,6 @@ pub fn is_there(rows: &[u64], i: usize) -> bool
     ensures { result ≡ row_there rows.now i }
 {
     i < rows.len() / ROW_WIDTH
-}
-
-// Whether both tests hold.
-pub fn are_both(a: bool, b: bool) -> bool
-    ensures { result ≡ (a && b) }
-{
-    if a {
-        return b;
-    }
-    false
-}
-
-// Whether one of the tests holds.
-pub fn is_either(a: bool, b: bool) -> bool
-    ensures { result ≡ (a || b) }
-{
-    if a {
-        return true;
-    }
-    b
 }
 
 // How many pieces the set has.
@@ -111,57 +85,35 @@ pub fn has_many(fs: FileStorage) -> bool
 pub fn is_no_file(fs: FileStorage, index: FileIndex) -> bool
     ensures { result ≡ not (is_below fs.num_files index.0) }
 {
-    match index.within(fs.num_files) {
-        UsizeResult::Ok(_) => false,
-        UsizeResult::Err(_) => true,
-    }
+    index.within(fs.num_files).is_err()
 }
 
 // Whether the set has no piece of that number.
 pub(crate) fn is_no_piece(fs: FileStorage, piece: PieceIndex) -> bool
     ensures { result ≡ not (is_below (num_pieces fs) piece.0) }
 {
-    if is_negative32(piece.0) {
-        return true;
-    }
-    !has_over(fs, piece.get() as u64)
+    is_negative(i64::from(piece.0)) || !has_over(fs, piece.get() as u64)
 }
 
 // Whether an offset is negative or past the limit, or its size is negative, which `negative` says.
 pub fn is_bad_range(offset: i64, negative: bool) -> bool
     ensures { result ≡ (is_negative offset || (negative || ltb limit (clamped_of offset))) }
 {
-    if is_negative64(offset) {
-        return true;
-    }
-    if negative {
-        return true;
-    }
-    MAX_FILE_OFFSET < clamped64(offset)
+    is_negative(offset) || negative || MAX_FILE_OFFSET < clamped(offset)
 }
 
 // Whether an offset is negative, past the limit or not below the total.
 pub fn is_bad_offset(fs: FileStorage, offset: i64) -> bool
     ensures { result ≡ (bad_offset fs offset).test }
 {
-    if is_negative64(offset) {
-        return true;
-    }
-    if MAX_FILE_OFFSET < clamped64(offset) {
-        return true;
-    }
-    fs.total_size <= clamped64(offset)
+    is_negative(offset) || MAX_FILE_OFFSET < clamped(offset) || fs.total_size <= clamped(offset)
 }
 
 // Whether file k has no tree: it is a nonempty pad, or a nonempty file off a piece start.
 pub fn is_no_tree(fs: FileStorage, rows: &[u64], k: usize) -> bool
     ensures { result ≡ (no_tree fs (row_at rows.now k)).test }
 {
-    if tables::size_at(rows, k) == 0 {
-        return false;
-    }
-    if tables::is_pad(tables::flags_at(rows, k)) {
-        return true;
-    }
-    lists::rem(tables::offset_at(rows, k), fs.piece_length) != 0
+    tables::size_at(rows, k) != 0
+        && (tables::is_pad(tables::flags_at(rows, k))
+            || lists::rem(tables::offset_at(rows, k), fs.piece_length) != 0)
 }

@@ -1,4 +1,3 @@
--- The laws by which the functions of `script` are proved.
+-- The laws and invariants by which the functions of `script` are proved.
 pub mod Scans
-pub mod Digits
 pub mod Units

@@ -1,13 +1,6 @@
 -- docs/CALLS.md: 'A byte string is `:` and its bytes, all but graphic ASCII (33 to 126) and `%` itself as `%XX` in
--- upper-case hex; `:` alone is the empty string.' 37 is `%`, 58 is `:`, 48 to 57 are the digits, 65 to 70 `A` to `F`.
-use Rattle.std.specs.Prelude.{ℕ, ◌+◌, ◌-◌, ◌*◌, Bool, true, false, not, cond, ◌&&◌, List, [], ◌∷◌, eqb, ltb, leb, length}
-use Rattle.std.proofs.Math.Option.{Option, none, some}
-use Rattle.script.specs.declared.strings.Decoded.{Decoded}
-use Rattle.script.specs.declared.strings.Decoded.TheVariants as decoded
-
-abbrev pub decoded_says : Decoded → Option ℕ
-decoded_says (decoded.Bytes n) = some n
-decoded_says decoded.Malformed = none
+-- upper-case hex; `:` alone is the empty string.' 37 is `%`, 58 is `:`, 48 to 57 are the digits, 65 is `A`.
+use Rattle.std.specs.Prelude.{ℕ, ◌+◌, ◌-◌, ◌*◌, Bool, true, false, not, cond, ◌&&◌, List, [], ◌∷◌, eqb, ltb, leb, length, Option, None, Some}
 
 -- the bytes that a text stands for, up to its end or to the first fault, and whether it has none
 pub record Text : Type 0 where
@@ -23,17 +16,28 @@ fault = record { bytes = []; is_formed = false }
 abbrev pub led : ℕ → Text → Text
 led b t = record { bytes = b ∷ t.bytes; is_formed = t.is_formed }
 
+-- a byte, where there is one, before a text
+abbrev pub led_by : Option ℕ → Text → Text
+led_by None t = fault
+led_by (Some b) t = led b t
+
 -- a byte that stands for itself
 abbrev pub is_plain : ℕ → Bool
 is_plain c = cond (ltb c 33) false (cond (ltb 126 c) false (not (eqb c 37)))
 
--- what an upper-case hex digit is worth; 16 for any other character
-abbrev pub hex_of : ℕ → ℕ
-hex_of c = cond (ltb c 48) 16 (cond (leb c 57) (c - 48) (cond (ltb c 65) 16 (cond (leb c 70) (c - 55) 16)))
+-- what a hex digit is worth whose letters begin with `ten`
+abbrev pub hex_from : ℕ → ℕ → Option ℕ
+hex_from ten c =
+    cond (leb 48 c && leb c 57) (Some (c - 48)) (cond (leb ten c && leb c (ten + 5)) (Some (c - ten + 10)) None)
 
--- whether two values are those of hex digits
-abbrev pub are_digits : ℕ → ℕ → Bool
-are_digits h l = ltb h 16 && ltb l 16
+abbrev pub hex_of : ℕ → Option ℕ
+hex_of c = hex_from 65 c
+
+-- the byte of two hex digits, by their values
+abbrev pub byte_of : Option ℕ → Option ℕ → Option ℕ
+byte_of None l = None
+byte_of (Some h) None = None
+byte_of (Some h) (Some l) = Some (h * 16 + l)
 
 abbrev mutual
   -- characters, each plain or `%XX`
@@ -49,7 +53,7 @@ abbrev mutual
   -- what follows `%` and a character
   pub low_in : List ℕ → ℕ → Text
   low_in [] h = fault
-  low_in (l ∷ t) h = cond (are_digits (hex_of h) (hex_of l)) (led (hex_of h * 16 + hex_of l) (text_in t)) fault
+  low_in (l ∷ t) h = led_by (byte_of (hex_of h) (hex_of l)) (text_in t)
 
 abbrev pub string_of : List ℕ → Text
 string_of [] = fault
@@ -58,8 +62,4 @@ string_of (c ∷ t) = cond (eqb c 58) (text_in t) fault
 -- where the bytes end that stand after `used` others, in a buffer of a length
 abbrev pub end_of : Text → ℕ → ℕ → Option ℕ
 end_of text used n =
-    cond (text.is_formed && leb (used + length text.bytes) n) (some (used + length text.bytes)) none
-
--- a byte and what stands for it, before the rest of a text
-abbrev pub unit_then : ℕ → ℕ → Text → Text
-unit_then b width rest = cond (eqb width 0) fault (led b rest)
+    cond (text.is_formed && leb (used + length text.bytes) n) (Some (used + length text.bytes)) None

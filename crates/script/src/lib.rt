@@ -1,5 +1,5 @@
 // What stands in a line of a script of calls: words, the form of a call, numbers, byte strings and roots. Relies on
-// the accessors of `lists`, and on `types` for signed numbers; specs/ says what a line holds.
+// `lists` to compare words; specs/ says what a line holds.
 #![tactic(auto)]
 
 mod forms;
@@ -10,8 +10,8 @@ mod strings;
 mod words;
 
 pub use forms::form_of;
-pub use numbers::{I32Word, I64Word, U64Word, to_i32, to_i64, to_u64};
-pub use roots::{RootWord, to_root};
+pub use numbers::{to_i32, to_i64, to_u64};
+pub use roots::to_root;
 pub use scan::before_first;
-pub use strings::{Decoded, decode, is_plain};
+pub use strings::{decode, is_plain};
 pub use words::{after, word};

@@ -7,7 +7,6 @@ ghost use Rattle.std.specs.Prelude.{◌≤◌, length, IfOk};
 
 use std::io;
 use std::io::{Read, Stdin, Stdout};
-use types::UsizeResult;
 
 // Reads until the buffer is full or the input ends, and gives how many bytes stand at the buffer's start.
 fn read_full(from: Stdin, buffer: &mut [u8]) -> io::Result<usize>
@@ -15,6 +14,7 @@ fn read_full(from: Stdin, buffer: &mut [u8]) -> io::Result<usize>
 {
     let mut input = from;
     let mut done = 0;
+    // Stays: no method of std fills a buffer and stops where the input ends.
     while done < buffer.len() {
         let n = input.read(&mut buffer[done..])?;
         if n == 0 {
@@ -27,7 +27,7 @@ fn read_full(from: Stdin, buffer: &mut [u8]) -> io::Result<usize>
 
 // Writes the listing of an input, which is made in `room`, or nothing where it does not fit there.
 fn write_listing(to: Stdout, input: &[u8], room: &mut [u8]) -> io::Result<()> {
-    let UsizeResult::Ok(n) = listing::list(input, room) else {
+    let Ok(n) = listing::list(input, room) else {
         return Ok(());
     };
     to.write_all(lists::part(room, 0, n))

@@ -9,6 +9,7 @@ pub mod SetName
 pub mod Stages
 pub mod Places
 pub mod Whole
+use Rattle.std.specs.Prelude.{Option, Some, None}
 use mathlib.Core.Path.{◌≡◌, refl, sym, ap, ◌∙◌}
 use mathlib.Core.Bool.{Bool, true, false, cond, not, ◌&&◌}
 use mathlib.Core.List.{List, [], ◌∷◌, ◌++◌, append_assoc}
@@ -24,7 +25,7 @@ use Rattle.types.proofs.Zigzag.{zigzag-back}
 use Rattle.tables.specs.declared.span.Span.{Span}
 use Rattle.tables.specs.Span.{slid}
 use Rattle.tables.specs.Rows.{has, root_at, dir_words, dirs_lowered}
-use Rattle.tables.specs.Model.{Optional, absent, present, present_if, Directory, single, absolute, stored, is_pad, File, Model, Store, file_of, directory_text, view_of}
+use Rattle.tables.specs.Model.{present_if, Directory, single, absolute, stored, is_pad, File, Model, Store, file_of, directory_text, view_of}
 use Rattle.tables.proofs.Spans.{clip-same, length-slid}
 use Rattle.tables.proofs.Tabled.{length-tabled}
 use Rattle.additions.specs.Addition.{Addition, added, files_of, size_added, keeps, pad_of, new_name, directory_added, file_added, pad_added, pad_directory_name, flags_kept, is_among, with_directory, with_directory_of, directories_after, is_present}
@@ -88,15 +89,15 @@ link-there : (b : Bool) (l : List ℕ) → present_if b (cond b l []) ≡ presen
 link-there true l = refl
 link-there false l = refl
 
-abbrev file : ℕ → ℕ → List ℕ → Directory → ℕ → ℤ → Optional (List ℕ) → Optional (List ℕ) → Bool → File
+abbrev file : ℕ → ℕ → List ℕ → Directory → ℕ → ℤ → Option (List ℕ) → Option (List ℕ) → Bool → File
 file o z t d g h l r k =
     record { offset = o; size = z; name = t; directory = d; flags = g; time = h; link = l; root = r; made = k }
 
-same-file : {o o' z g g' : ℕ} {t t' : List ℕ} {d d' : Directory} {h h' : ℤ} {l l' r r' : Optional (List ℕ)} {k k' : Bool} → o ≡ o' → t ≡ t' → d ≡ d' → g ≡ g' → h ≡ h' → l ≡ l' → r ≡ r' → k ≡ k' → file o z t d g h l r k ≡ file o' z t' d' g' h' l' r' k'
+same-file : {o o' z g g' : ℕ} {t t' : List ℕ} {d d' : Directory} {h h' : ℤ} {l l' r r' : Option (List ℕ)} {k k' : Bool} → o ≡ o' → t ≡ t' → d ≡ d' → g ≡ g' → h ≡ h' → l ≡ l' → r ≡ r' → k ≡ k' → file o z t d g h l r k ≡ file o' z t' d' g' h' l' r' k'
 same-file eo et ed eg eh el er ek = cc
 
 abbrev pad_file : ℕ → ℕ → File
-pad_file o k = file o k (decimal k) (stored pad_directory_name false) 1 (pos 0) absent absent true
+pad_file o k = file o k (decimal k) (stored pad_directory_name false) 1 (pos 0) None None true
 
 pad-there : (o k : ℕ) (x : File) → (eqb k 0 ≡ false → x ≡ pad_file o k) → cond (eqb k 0) [] (x ∷ []) ≡ pad_added o k
 pad-there o k x e = at (eqb k 0) e
@@ -125,7 +126,7 @@ pub disk-plain : (s : Store) (a : Addition) → Sound s → s.fs.total_size + si
     ≡ s.fs.size_on_disk + cond (is_pad a.flags) 0 (size_added a)
 disk-plain s a ok h = disk-held (is_pad a.flags) s.fs.size_on_disk (size_added a) (omega (arith, ok.on-disk))
 
-module _ (s : Store) (m : Model) (a : Addition) (ok : Sound s) (is : view_of s ≡ m) (fit : Fits s m a) (rooted : (r : List ℕ) → a.root ≡ present r → length r ≡ 32) where
+module _ (s : Store) (m : Model) (a : Addition) (ok : Sound s) (is : view_of s ≡ m) (fit : Fits s m a) (rooted : (r : List ℕ) → a.root ≡ Some r → length r ≡ 32) where
   abbrev n : ℕ
   n = s.fs.num_files
 
@@ -392,7 +393,7 @@ module _ (s : Store) (m : Model) (a : Addition) (ok : Sound s) (is : view_of s �
 
 -- ---- the laws
 
-module _ (s : Store) (a : Addition) (ok : Sound s) (zero : adding_number s (view_of s) a ≡ 0) (rooted : (r : List ℕ) → a.root ≡ present r → length r ≡ 32) where
+module _ (s : Store) (a : Addition) (ok : Sound s) (zero : adding_number s (view_of s) a ≡ 0) (rooted : (r : List ℕ) → a.root ≡ Some r → length r ≡ 32) where
   pub view-added : view_of (store_added s (view_of s) a) ≡ added (view_of s) a
   view-added = view-whole s (view_of s) a ok refl (fits s (view_of s) a zero) rooted
 

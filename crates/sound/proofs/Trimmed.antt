@@ -4,6 +4,7 @@ pub mod Tail
 pub mod Spans
 pub mod Texts
 pub mod View
+use Rattle.std.specs.Prelude.{Option, Some, None}
 use mathlib.Core.Path.{◌≡◌, refl, sym, ap, ◌∙◌}
 use mathlib.Core.Bool.{true, false, cond}
 use mathlib.Core.Logic.{◌⊎◌, inl, inr}
@@ -16,7 +17,7 @@ use Rattle.lists.proofs.Orders.{le-or-lt}
 use Rattle.tables.specs.declared.rows.Row.{Row}
 use Rattle.tables.specs.Span.{low, slid}
 use Rattle.tables.specs.Rows.{row_at, has, skip, dirs_lowered}
-use Rattle.tables.specs.Model.{Optional, absent, present, File, Store, file_of, view_of}
+use Rattle.tables.specs.Model.{File, Store, file_of, view_of}
 use Rattle.tables.proofs.Spans.{length-slid}
 use Rattle.tables.proofs.Moves.{length-lowered, length_without}
 use Rattle.tables.proofs.Tabled.{length-tabled}
@@ -171,15 +172,15 @@ sound-after s f ok p =
 pub view-trimmed : (s : Store) → Sound s → view_of (trimmed_by (tail_pad (view_of s).files) s) ≡ trimmed_of (view_of s)
 view-trimmed s ok = at (tail_pad (view_of s).files) refl
   where
-    at : (o : Optional ℕ) → tail_pad (view_of s).files ≡ o → view_of (trimmed_by o s) ≡ trimmed_if o (view_of s)
-    at absent e = refl
-    at (present f) e =
+    at : (o : Option ℕ) → tail_pad (view_of s).files ≡ o → view_of (trimmed_by o s) ≡ trimmed_if o (view_of s)
+    at None e = refl
+    at (Some f) e =
         let h = there s f (tail-pad (view_of s).files f e) in
         ap view_of (removed-is s f h ok) ∙ view-after s f h ok
 
 pub sound-trimmed : (s : Store) → Sound s → Sound (trimmed_by (tail_pad (view_of s).files) s)
 sound-trimmed s ok = at (tail_pad (view_of s).files) refl
   where
-    at : (o : Optional ℕ) → tail_pad (view_of s).files ≡ o → Sound (trimmed_by o s)
-    at absent e = ok
-    at (present f) e = sound-after s f ok (tail-pad (view_of s).files f e)
+    at : (o : Option ℕ) → tail_pad (view_of s).files ≡ o → Sound (trimmed_by o s)
+    at None e = ok
+    at (Some f) e = sound-after s f ok (tail-pad (view_of s).files f e)

@@ -1,25 +1,26 @@
 -- What an addition writes by its plan is what the public definitions say is written, table by table.
 use Prim.Native.Nat.{ℕ, ◌+◌}
-use mathlib.Core.Path.{◌≡◌, refl, sym, subst, ◌∙◌}
+use mathlib.Core.Path.{◌≡◌, refl, sym, subst, ◌∙◌, ap}
 use mathlib.Core.Bool.{Bool, true, false, cond, not, ◌&&◌}
 use mathlib.Core.List.{List, []}
 use lib.Dec.{eqb}
+use lib.ListN.{length}
 use lib.Seq.{sets}
+use Rattle.std.specs.Bool.{then_some}
 use Rattle.lists.specs.Decimal.{decimal}
-use Rattle.types.specs.Refusals.{value, refused}
 use Rattle.tables.specs.declared.storage.FileStorage.{FileStorage}
 use Rattle.tables.specs.Rows.{put_row}
 use Rattle.tables.specs.Model.{Directory, Model, Store}
-use Rattle.change.specs.Changes.{changed_of, answering, changed_if}
 use Rattle.additions.specs.declared.parts.PathKind.{PathKind}
 use Rattle.additions.specs.declared.parts.PathKind.TheVariants.{Single, Absolute, Inside, Outside}
 use Rattle.additions.specs.Addition.{Addition, pad_directory_name, pad_of, is_among, directory_added, with_directory_of}
 use Rattle.additions.specs.private.Texts.{directory_at}
-use Rattle.plan.specs.Write.{new_text_of, is_new_directory, new_texts, directory_new, pad_directory_new, pad_text, old_name, text_kept, directory_start, name_start, link_start, pad_directory_start, pad_name_start, is_new_pad, row_added, row_of_pad, text_added, rows_added, firsts_added, dirs_added}
+use Rattle.plan.specs.Write.{new_text_of, is_new_directory, new_texts, directory_new, pad_directory_new, pad_text, old_name, text_kept, directory_start, put_dir_if, name_start, link_start, pad_directory_start, pad_name_start, is_new_pad, row_added, row_of_pad, text_added, rows_added, dirs_added}
+use Rattle.plan.specs.declared.plan.NewDir.{NewDir}
 use Rattle.plan.specs.private.Steps.{TextsOf}
 use Rattle.plan.specs.Plan.{plan_of}
 use Rattle.plan.proofs.Joined.{sets-joined}
-use Rattle.storage.specs.private.Written.{renamed, text_before_pad, text_written, dirs_before_pad, dirs_written, rows_written, firsts_written}
+use Rattle.storage.specs.private.Written.{renamed, dirs_renamed, dir_text_written, dir_written, text_before_pad, text_written, dirs_before_pad, dirs_written, rows_written}
 
 -- ---- the text area
 
@@ -37,31 +38,58 @@ new-pad : (t u : Bool) (d : List ℕ) → cond (not t && not u) d [] ≡ cond t 
 new-pad true u d = refl
 new-pad false u d = new-text u d
 
--- where there is no pad, none of its texts and rows has bytes
-pad-texts : (t u : Bool) (l d e : List ℕ) (i j : ℕ)
-    → cond t l (sets (sets l i (cond (not t && not u) d [])) j (cond t [] e)) ≡ sets (sets l i (cond (not t && not u) d [])) j (cond t [] e)
-pad-texts true u l d e i j = refl
-pad-texts false u l d e i j = refl
+-- a directory's text and row, where that is new
+dir-text : (t : Bool) (d : NewDir) (text x : List ℕ) → dir_text_written (then_some t d) text x ≡ sets text d.text.at (cond t x [])
+dir-text true d text x = refl
+dir-text false d text x = refl
 
-pad-dirs : (t u : Bool) (l d : List ℕ) → cond t l (cond (not t && not u) d l) ≡ cond (not t && not u) d l
-pad-dirs true u l d = refl
-pad-dirs false u l d = refl
+dir-row : (t : Bool) (d : NewDir) (dirs : List ℕ) → dir_written (then_some t d) dirs ≡ put_dir_if t dirs d.slot d.text
+dir-row true d dirs = refl
+dir-row false d dirs = refl
+
+-- where there is no pad, none of its texts and rows has bytes
+pad-texts : (t u : Bool) (d : NewDir) (l x e : List ℕ) (j : ℕ)
+    → cond t l (sets (dir_text_written (then_some (not t && not u) d) l x) j (cond t [] e)) ≡ sets (sets l d.text.at (cond (not t && not u) x [])) j (cond t [] e)
+pad-texts true u d l x e j = refl
+pad-texts false u d l x e j = ap (λ (m : List ℕ). sets m j e) (dir-text (not u) d l x)
+
+pad-dirs : (t u : Bool) (d : NewDir) (l : List ℕ)
+    → cond t l (dir_written (then_some (not t && not u) d) l) ≡ put_dir_if (not t && not u) l d.slot d.text
+pad-dirs true u d l = refl
+pad-dirs false u d l = dir-row (not u) d l
 
 module _ (s : Store) (m : Model) (a : Addition) where
   abbrev fs : FileStorage
   fs = s.fs
 
+  abbrev own : NewDir
+  own = record { slot = fs.num_paths; text = record { at = directory_start fs m a; len = length (directory_new m a) } }
+
+  abbrev pads : NewDir
+  pads = record { slot = length (with_directory_of (directory_added m a) m.directories); text = record { at = pad_directory_start fs m a; len = 4 } }
+
+  abbrev new : Bool
+  new = is_new_directory (directory_added m a) m.directories
+
+  abbrev pad_there : Bool
+  pad_there = is_among pad_directory_name (with_directory_of (directory_added m a) m.directories)
+
+  abbrev area : List ℕ
+  area = renamed fs.num_files (old_name fs) fs.text_len s.text
+
   pub text-is : (x dir name link : List ℕ) (kind : PathKind) → TextsOf m a x kind dir name link
       → text_written fs.num_files fs.text_len (plan_of fs m a) s.text x dir name link ≡ text_added s m a
   text-is x dir name link kind t =
-      let d : cond (is_new_directory (directory_added m a) m.directories) dir [] ≡ directory_new m a =
+      let d : cond new dir [] ≡ directory_new m a =
       subst (λ (p : Directory). cond (is_new_directory p m.directories) dir [] ≡ new_text_of p m.directories) t.dir-is (new-dir kind dir m.directories) in
-      let p : cond (is_new_pad m a) pad_directory_name [] ≡ pad_directory_new m a = new-pad (eqb (pad_of m a) 0) (is_among pad_directory_name (with_directory_of (directory_added m a) m.directories)) pad_directory_name in
-      pad-texts (eqb (pad_of m a) 0) (is_among pad_directory_name (with_directory_of (directory_added m a) m.directories))
+      let p : cond (is_new_pad m a) pad_directory_name [] ≡ pad_directory_new m a = new-pad (eqb (pad_of m a) 0) pad_there pad_directory_name in
+      pad-texts (eqb (pad_of m a) 0) pad_there pads
       (text_before_pad fs.num_files fs.text_len (plan_of fs m a) s.text x dir name link)
-      pad_directory_name (decimal (pad_of m a)) (pad_directory_start fs m a) (pad_name_start fs m a)
-      ∙ all (renamed fs.num_files (old_name fs) fs.text_len s.text) t.set_is d t.name-is t.link-is p
-      ∙ sym (sets-joined (renamed fs.num_files (old_name fs) fs.text_len s.text) (text_kept fs) (new_texts m a))
+      pad_directory_name (decimal (pad_of m a)) (pad_name_start fs m a)
+      ∙ ap (λ (l : List ℕ). sets (sets (sets (sets l (name_start fs m a) name) (link_start fs m a) link) (pad_directory_start fs m a) (cond (is_new_pad m a) pad_directory_name [])) (pad_name_start fs m a) (pad_text m a))
+      (dir-text new own (sets area (text_kept fs) x) dir)
+      ∙ all area t.set_is d t.name-is t.link-is p
+      ∙ sym (sets-joined area (text_kept fs) (new_texts m a))
     where
       all : (t : List ℕ) {c d n l p c' d' n' l' p' : List ℕ} → c ≡ c' → d ≡ d' → n ≡ n' → l ≡ l' → p ≡ p'
           → sets (sets (sets (sets (sets (sets t (text_kept fs) c) (directory_start fs m a) d) (name_start fs m a) n) (link_start fs m a) l) (pad_directory_start fs m a) p) (pad_name_start fs m a) (pad_text m a)
@@ -92,21 +120,5 @@ module _ (s : Store) (m : Model) (a : Addition) where
 
   pub dirs-are : dirs_written fs.num_files fs.num_paths (plan_of fs m a) s.dirs ≡ dirs_added s m a
   dirs-are =
-      pad-dirs (eqb (pad_of m a) 0) (is_among pad_directory_name (with_directory_of (directory_added m a) m.directories))
-      (dirs_before_pad fs.num_files fs.num_paths (plan_of fs m a) s.dirs)
-      _
-
-  -- ---- the table of first files
-
-  pub firsts-are : firsts_written fs (plan_of fs m a).after s.firsts ≡ firsts_added s m a
-  firsts-are = refl
-
--- ---- the answer and all tables
-
-pub kept-all : (n k : ℕ) (s t : Store) → n ≡ k → eqb k 0 ≡ false → answering (refused k) s ≡ changed_if n s t
-kept-all n k s t e h = rw (e, h)
-
-pub wrote-all : (n : ℕ) (s t : Store) (fs : FileStorage) (rows roots firsts dirs text : List ℕ) → n ≡ 0
-    → fs ≡ t.fs → rows ≡ t.rows → roots ≡ t.roots → firsts ≡ t.firsts → dirs ≡ t.dirs → text ≡ t.text
-    → changed_of (value fs) rows roots firsts dirs text ≡ changed_if n s t
-wrote-all n s t fs rows roots firsts dirs text e a b c d f g = rw (e, a, b, c, d, f, g)
+      pad-dirs (eqb (pad_of m a) 0) pad_there pads (dirs_before_pad fs.num_files fs.num_paths (plan_of fs m a) s.dirs)
+      ∙ ap (λ (l : List ℕ). put_dir_if (is_new_pad m a) l pads.slot pads.text) (dir-row new own (dirs_renamed fs.num_files (old_name fs) fs.num_paths s.dirs))

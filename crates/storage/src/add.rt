@@ -1,16 +1,17 @@
-// Additions: planned first, and written after. Relies on the plan of `plan` and the writers of write.rt and firsts.rt.
+// Additions: planned first, and written after. Relies on the plan of `plan`, the writers of write.rt and firsts.rt, and
+// the laws of proofs/Added.antt.
 ghost use Rattle.std.specs.Prelude.{◌≡◌};
+ghost use Rattle.types.specs.Refusals.{outcome};
 ghost use Rattle.tables.specs.Model.{store_of};
-ghost use Rattle.change.specs.Changes.{changed_of, storage_says};
+ghost use Rattle.change.specs.Changes.{changed_of};
 ghost use Rattle.additions.specs.Addition.{addition_of};
 ghost use Rattle.plan.specs.Outcomes.{add_stored};
 
 use crate::firsts::write_firsts;
 use crate::write::write_all;
 use additions::FileInfo;
-use change::StorageResult;
-use plan::PlanResult;
 use tables::FileStorage;
+use types::Refusal;
 
 // Adds a file, whose texts are its given name, its path and its link text. In a v2 set a pad follows where the total is
 // no multiple of the piece length. `firsts` is the table of first files; a set that keeps none has it left as it is.
@@ -25,15 +26,15 @@ pub fn add_file(
     filename: &[u8],
     path: &[u8],
     symlink_path: &[u8],
-) -> StorageResult
-    ensures { changed_of (storage_says result)
+) -> Result<FileStorage, Refusal>
+    ensures { changed_of (outcome result)
         rows.new roots.new firsts.new dirs.new text.new
         ≡ add_stored
         (store_of fs
         rows.old roots.old firsts.old dirs.old text.old)
         (addition_of file filename.now path.now symlink_path.now) }
 {
-    let planned = plan::plan_add(
+    let plan = plan::plan_add(
         fs,
         rows,
         roots,
@@ -44,25 +45,18 @@ pub fn add_file(
         filename,
         path,
         symlink_path,
+    )?;
+    write_all(
+        rows,
+        roots,
+        dirs,
+        text,
+        plan,
+        file,
+        filename,
+        path,
+        symlink_path,
     );
-    match planned {
-        PlanResult::Err(e) => StorageResult::Err(e),
-        PlanResult::Ok(plan) => {
-            write_all(
-                rows,
-                roots,
-                dirs,
-                text,
-                plan,
-                file,
-                filename,
-                path,
-                symlink_path,
-            );
-            let before = plan.before;
-            let after = plan.after;
-            write_firsts(firsts, before, after);
-            StorageResult::Ok(after)
-        }
-    }
+    write_firsts(firsts, plan.before, plan.after);
+    Ok(plan.after)
 }

@@ -1,81 +1,71 @@
 // The table of first files: an addition writes the number of its file for each piece that begins in it. Relies on
 // `lists` and on the laws of proofs/OneValue.antt.
-ghost use Rattle.std.specs.Prelude.{◌≡◌, ◌+◌, ◌-◌, ◌≤◌, ◌<◌, ◌^◌, min, length, replicate};
+ghost use Rattle.std.specs.Prelude.{◌≡◌, ◌-◌, ◌≤◌, ◌<◌, ◌^◌, min, length, replicate};
 ghost use Rattle.std.proofs.lemmas.List.Edits.{sets};
 ghost use Rattle.lists.specs.Lists.{ceiling};
 ghost use Rattle.rules.specs.Bounds.{max_entries};
 ghost use Rattle.storage.specs.private.Written.{firsts_written};
 
-use lists::min_usize;
 use tables::FileStorage;
 
-// Writes a file's number at four places.
-fn put_four(firsts: &mut [u16], at: usize, file: u16)
-    requires { at + 4 ≤ length firsts.old }
-    ensures { firsts.new ≡ sets firsts.old at (replicate 4 file) }
-{
-    firsts[at] = file;
-    firsts[at + 1] = file;
-    firsts[at + 2] = file;
-    firsts[at + 3] = file;
-}
-
 // Writes a file's number at one to three places: the first, the one in the middle and the last.
-fn put_few(firsts: &mut [u16], from: usize, to: usize, file: u16)
-    requires { (from < to) × (to < from + 4) × (to ≤ length firsts.old) }
-    ensures { firsts.new ≡ sets firsts.old from (replicate (to - from) file) }
+fn fill_few(run: &mut [u16], file: u16)
+    requires { (0 < length run.old) × (length run.old < 4) }
+    ensures { run.new ≡ replicate (length run.old) file }
 {
-    firsts[from] = file;
-    firsts[from + (to - from) / 2] = file;
-    firsts[to - 1] = file;
+    let n = run.len();
+    run[0] = file;
+    run[n / 2] = file;
+    run[n - 1] = file;
 }
 
-// Writes a file's number at the four places from p on, or at the last four before `to`.
-fn put_next(firsts: &mut [u16], p: usize, to: usize, file: u16)
-    requires { (4 ≤ to) × (to ≤ length firsts.old) }
-    ensures { firsts.new ≡ sets firsts.old (min p (to - 4)) (replicate 4 file) }
+// Writes a file's number at the four places from p on, or at the last four.
+fn fill_next(run: &mut [u16], p: usize, file: u16)
+    requires { 4 ≤ length run.old }
+    ensures { run.new ≡ sets run.old (min p (length run.old - 4)) (replicate 4 file) }
 {
-    put_four(firsts, min_usize(p, to - 4), file);
+    let at = p.min(run.len() - 4);
+    run[at..at + 4].fill(file);
 }
 
 // Writes a file's number at the first sixteen of four places or more, or at as many as there are, without a branch.
-fn put_begin(firsts: &mut [u16], from: usize, to: usize, file: u16)
-    requires { (from + 4 ≤ to) × (to ≤ length firsts.old) }
-    ensures { firsts.new ≡ sets firsts.old from (replicate (min (from + 16) to - from) file) }
+fn fill_begin(run: &mut [u16], file: u16)
+    requires { 4 ≤ length run.old }
+    ensures { run.new ≡ sets run.old 0 (replicate (min 16 (length run.old)) file) }
 {
-    put_four(firsts, from, file);
-    put_next(firsts, from + 4, to, file);
-    put_next(firsts, from + 8, to, file);
-    put_next(firsts, from + 12, to, file);
+    fill_next(run, 0, file);
+    fill_next(run, 4, file);
+    fill_next(run, 8, file);
+    fill_next(run, 12, file);
 }
 
 // Writes a file's number at four places or more, four at a time: how many pieces begin in a file is hard to foretell,
 // and a loop over them one by one would take the wrong turn at most additions.
-fn put_many(firsts: &mut [u16], from: usize, to: usize, file: u16)
-    requires { (from + 4 ≤ to) × (to ≤ length firsts.old) }
-    ensures { firsts.new ≡ sets firsts.old from (replicate (to - from) file) }
+// Stays: `run.fill(file)` was tried; for runs of up to 64 places, as most files have, it took up to twice the time.
+fn fill_many(run: &mut [u16], file: u16)
+    requires { 4 ≤ length run.old }
+    ensures { run.new ≡ replicate (length run.old) file }
 {
-    put_begin(firsts, from, to, file);
-    let mut p = from + 16;
-    while p < to {
-        put_next(firsts, p, to, file);
-        p += 4;
+    fill_begin(run, file);
+    for p in (16..run.len()).step_by(4) {
+        fill_next(run, p, file);
     }
 }
 
 // Writes a file's number at the places from one up to another, as far as there are any.
-fn put_firsts(firsts: &mut [u16], from: usize, to: usize, file: u16)
+fn fill_places(firsts: &mut [u16], from: usize, to: usize, file: u16)
     ensures { firsts.new ≡ sets firsts.old from (replicate (to - from) file) }
 {
-    let end = min_usize(to, firsts.len());
+    let end = to.min(firsts.len());
     if end <= from {
         return;
     }
-    if end - from < 4 {
-        put_few(firsts, from, end, file);
-        return;
+    let run = &mut firsts[from..end];
+    if run.len() < 4 {
+        fill_few(run, file);
+    } else {
+        fill_many(run, file);
     }
-    put_many(firsts, from, end, file);
 }
 
 // How many pieces of 2 to the power `bits` bytes a total has.
@@ -122,7 +112,7 @@ pub(crate) fn write_firsts(firsts: &mut [u16], before: FileStorage, after: FileS
 {
     if before.indexed {
         let places = pieces_of(before.total_size, after.total_size, before.piece_length);
-        put_firsts(
+        fill_places(
             firsts,
             places.from as usize,
             places.to as usize,

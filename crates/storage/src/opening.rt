@@ -1,24 +1,21 @@
 // Opening. Whether a set keeps the first file of each piece in a table is decided here, and stands in its record.
 ghost use Rattle.std.specs.Prelude.{◌≡◌, true, false};
-ghost use Rattle.change.specs.Changes.{storage_says};
+ghost use Rattle.types.specs.Refusals.{outcome};
 ghost use Rattle.storage.specs.Opening.{opened};
 
-use change::StorageResult;
 use tables::{FileStorage, Span};
 use types::Refusal;
 
 // A set without files, with that piece length; below 1 it is refusal 1.
-fn open_with(piece_length: i32, indexed: bool) -> StorageResult
-    ensures { storage_says result ≡ opened piece_length indexed }
+fn open_with(piece_length: i32, indexed: bool) -> Result<FileStorage, Refusal>
+    ensures { outcome result ≡ opened piece_length indexed }
 {
-    let types::Unsigned::Of(n) = types::unsigned32(piece_length) else {
-        return StorageResult::Err(Refusal::InvalidPieceLength);
-    };
-    if n < 1 {
-        return StorageResult::Err(Refusal::InvalidPieceLength);
+    let piece_length = types::clamped(i64::from(piece_length));
+    if piece_length == 0 {
+        return Err(Refusal::InvalidPieceLength);
     }
-    StorageResult::Ok(FileStorage {
-        piece_length: n,
+    Ok(FileStorage {
+        piece_length,
         v2: false,
         num_files: 0,
         num_paths: 0,
@@ -33,15 +30,15 @@ fn open_with(piece_length: i32, indexed: bool) -> StorageResult
 }
 
 // A set without files, with that piece length. It keeps no table of first files.
-pub fn open(piece_length: i32) -> StorageResult
-    ensures { storage_says result ≡ opened piece_length false }
+pub fn open(piece_length: i32) -> Result<FileStorage, Refusal>
+    ensures { outcome result ≡ opened piece_length false }
 {
     open_with(piece_length, false)
 }
 
 // The same of a set that keeps the first file of each piece in a table, which its additions are lent.
-pub fn open_indexed(piece_length: i32) -> StorageResult
-    ensures { storage_says result ≡ opened piece_length true }
+pub fn open_indexed(piece_length: i32) -> Result<FileStorage, Refusal>
+    ensures { outcome result ≡ opened piece_length true }
 {
     open_with(piece_length, true)
 }

@@ -1,12 +1,12 @@
--- Laws of single rows, directory rows and roots: each is what its words are, so a row past the end is zeros, a row that is
--- written reads back, and every other row stays. They rely on `lists` for the laws of runs.
+-- Laws of single rows, directory rows and roots: each is what its words are, so a row that is written reads back, and
+-- every other row stays. They rely on `lists` for the laws of runs.
 use mathlib.Core.Path.{◌≡◌, refl, sym, ◌∙◌}
 use mathlib.Core.Logic.{◌⊎◌, inl, inr, ⊎_elim}
 use mathlib.Core.List.{List, [], ◌∷◌, ◌++◌}
 use Prim.Native.Nat.{ℕ, zero, suc, ◌+◌, ◌*◌, ◌/◌, ◌%◌, ◌^◌, ◌≤◌, ◌<◌}
 use native.Mathlib.Nat.{mul-le-mul_right, mod-eq_of_lt, mod-lt}
 use native.Mathlib.Omega.{arith}
-use lib.ListN.{length, get_or, set, drop, replicate, length-append, length-take, get_or-eq_default}
+use lib.ListN.{length, get_or, set, drop, replicate, length-append, length-take}
 use lib.Seq.{sets, length-sets, ext_get_or, get_or-take, get_or-drop}
 use Rattle.lists.proofs.Orders.{le-or-lt}
 use Rattle.lists.proofs.Runs.{get_or-sets, get_or-sets-below, get_or-sets-above}
@@ -97,15 +97,6 @@ module _ (rows : List ℕ) (i : ℕ) (r : Row) where
 pub row-above : (rows rows₀ : List ℕ) (m : ℕ) → drop (m * 8) rows ≡ drop (m * 8) rows₀ → (k : ℕ) → m ≤ k → row_at rows k ≡ row_at rows₀ k
 row-above rows rows₀ m e k h = row-ext rows rows₀ k k (λ j b. get_or-above rows rows₀ (m * 8) e (k * 8 + j) 0 (omega arith))
 
-abbrev pub no_span : Span
-no_span = record { at = 0; len = 0 }
-
-abbrev pub no_row : Row
-no_row = record { offset = 0; size = 0; name = no_span; link = no_span; path_index = 0; flags = 0; time = 0 }
-
-pub row-past : (rows : List ℕ) (i : ℕ) → length rows ≤ i * 8 → row_at rows i ≡ no_row
-row-past rows i h = row-ext rows [] i 0 (λ j b. get_or-eq_default rows 0 (omega arith))
-
 -- directory rows
 pub dir-ext : (a b : List ℕ) (i k : ℕ) → ((j : ℕ) → j < 2 → get_or a (i * 2 + j) 0 ≡ get_or b (k * 2 + j) 0) → dir_at a i ≡ dir_at b k
 dir-ext a b i k e =
@@ -129,9 +120,6 @@ module _ (dirs : List ℕ) (i : ℕ) (s : Span) where
 
 pub dir-above : (dirs dirs₀ : List ℕ) (m : ℕ) → drop (m * 2) dirs ≡ drop (m * 2) dirs₀ → (k : ℕ) → m ≤ k → dir_at dirs k ≡ dir_at dirs₀ k
 dir-above dirs dirs₀ m e k h = dir-ext dirs dirs₀ k k (λ j b. get_or-above dirs dirs₀ (m * 2) e (k * 2 + j) 0 (omega arith))
-
-pub dir-past : (dirs : List ℕ) (i : ℕ) → length dirs ≤ i * 2 → dir_at dirs i ≡ no_span
-dir-past dirs i h = dir-ext dirs [] i 0 (λ j b. get_or-eq_default dirs 0 (omega arith))
 
 -- roots
 zeros : (n k : ℕ) → get_or {A = ℕ} (replicate n 0) k 0 ≡ 0

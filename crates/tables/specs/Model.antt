@@ -6,7 +6,7 @@
 -- where b is larger. A text is its bytes, and `text_at` reads the bytes that a span (position, length) covers. `row_at`
 -- and `dir_at` read a row of a table, `root_at` a root; `has flags bit` tests a bit; `unzigzag` is the signed number that
 -- a word holds. `appended` puts a name after a directory, one separator between them.
-use Rattle.std.specs.Prelude.{ℕ, zero, suc, ◌%◌, Bool, true, false, cond, List, [], ◌∷◌, eqb, ℤ}
+use Rattle.std.specs.Prelude.{ℕ, zero, suc, ◌%◌, Bool, true, false, cond, List, [], ◌∷◌, eqb, ℤ, Option, Some, None}
 use Rattle.types.specs.Signed.{unzigzag}
 use Rattle.path.specs.Join.{appended}
 use Rattle.tables.specs.declared.rows.Row.{Row}
@@ -15,13 +15,9 @@ use Rattle.tables.specs.Span.{text_at}
 use Rattle.tables.specs.Rows.{row_at, dir_at, no_path, is_absolute, root_at, has}
 use Rattle.tables.specs.Rows.{link_held_bit, outside_bit, made_bit, root_bit}
 
-pub data Optional (A : Type 0) : Type 0 where
-  absent : Optional A
-  present : A → Optional A
-
-abbrev pub present_if : {A : Type 0} → Bool → A → Optional A
-present_if true a = present a
-present_if false a = absent
+abbrev pub present_if : {A : Type 0} → Bool → A → Option A
+present_if true a = Some a
+present_if false a = None
 
 -- where a file lies: a single name has no directory, an absolute path has none either; else a stored directory, and
 -- whether that stands outside the set's name
@@ -46,8 +42,8 @@ pub record File : Type 0 where
   pub directory : Directory
   pub flags : ℕ
   pub time : ℤ
-  pub link : Optional (List ℕ)
-  pub root : Optional (List ℕ)
+  pub link : Option (List ℕ)
+  pub root : Option (List ℕ)
   pub made : Bool
 
 -- `links` counts link texts, a trimmed pad's too

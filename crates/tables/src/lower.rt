@@ -6,7 +6,6 @@ ghost use Rattle.tables.specs.Rows.{row_at, put_row, dir_at, put_dir, dirs_lower
 
 use crate::rows::{DIR_WIDTH, ROW_WIDTH, Row, dir_at, put_dir, put_row, row_at};
 use crate::span::{Span, low_span};
-use lists::min_usize;
 
 // Lowers the span of directory row i once the bytes of the span `c` are removed.
 fn lower_dir(dirs: &mut [u64], i: usize, c: Span)
@@ -18,14 +17,13 @@ fn lower_dir(dirs: &mut [u64], i: usize, c: Span)
 
 // Lowers the spans of the first n directory rows, or of as many as there are, once the bytes of the
 // span `c` are removed.
+// Stays: its twin of rows in `texts` calls another function in the same loop; with a closure the contract would be longer than both.
 pub fn lower_dirs(dirs: &mut [u64], n: usize, c: Span)
     ensures { dirs.new ≡ dirs_lowered dirs.old n c }
 {
-    let m = min_usize(n, dirs.len() / DIR_WIDTH);
-    let mut i = 0;
-    while i < m {
+    let m = n.min(dirs.len() / DIR_WIDTH);
+    for i in 0..m {
         lower_dir(dirs, i, c);
-        i += 1;
     }
 }
 
@@ -50,12 +48,9 @@ fn moved(f: usize, total: u64, c: Span, d: Span, i: usize, row: Row) -> Row
 {
     Row {
         offset: offset_moved(f, i, row.offset, total),
-        size: row.size,
         name: low_span(d, low_span(c, row.name)),
         link: low_span(d, low_span(c, row.link)),
-        path_index: row.path_index,
-        flags: row.flags,
-        time: row.time,
+        ..row
     }
 }
 
@@ -74,10 +69,8 @@ fn move_row(rows: &mut [u64], f: usize, total: u64, c: Span, d: Span, i: usize)
 pub fn remove_row(rows: &mut [u64], n: usize, f: usize, total: u64, c: Span, d: Span)
     ensures { rows.new ≡ rows_without rows.old n f total c d }
 {
-    let m = min_usize(n, rows.len() / ROW_WIDTH);
-    let mut i = 0;
-    while i < m {
+    let m = n.min(rows.len() / ROW_WIDTH);
+    for i in 0..m {
         move_row(rows, f, total, c, d, i);
-        i += 1;
     }
 }

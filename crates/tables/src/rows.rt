@@ -1,10 +1,10 @@
 // File rows, roots and directory rows, read and written whole. Relies on `lists` and the laws of proofs/Words.antt.
-ghost use Rattle.std.specs.Prelude.{◌≡◌, [], ◌∷◌, ◌+◌, ◌<◌, ◌^◌, replicate};
+ghost use Rattle.std.specs.Prelude.{◌≡◌, [], ◌∷◌, ◌+◌, ◌*◌, ◌<◌, ◌^◌, get_or, replicate};
 ghost use Rattle.std.proofs.lemmas.List.Edits.{sets};
-ghost use Rattle.tables.specs.Rows.{row_at, packed, put_row, dir_at, put_dir, is_stored, directory_span};
+ghost use Rattle.tables.specs.Rows.{row_width, row_at, packed, put_row, dir_at, put_dir, is_stored, directory_span};
 ghost use Rattle.tables.specs.Rows.{root_at, put_root, has};
 ghost use Rattle.tables.specs.Rows.{pad_bit, symlink_bit, link_held_bit, outside_bit, root_bit};
-ghost use Rattle.tables.specs.Entry.{entry_at, rows_with, roots_with};
+ghost use Rattle.tables.specs.Entry.{presence_if, entry_at, rows_with, roots_with};
 
 use crate::span::Span;
 
@@ -64,6 +64,7 @@ impl Sha256Hash {
 }
 
 // Whether something that may be missing is there.
+// Stays: document 01 prescribes the root's bytes with its presence beside them, where other Rust has an `Option`.
 #[derive(Clone, Copy)]
 pub enum Presence {
     Absent,
@@ -84,6 +85,7 @@ pub struct Row {
 }
 
 // A file: its row, and its root beside the root's presence.
+// Stays: document 01 asks for the root's bytes beside an enum of presence in a file's record.
 #[derive(Drop)]
 pub struct FileEntry {
     pub row: Row,
@@ -107,62 +109,61 @@ pub fn row_at(rows: &[u64], i: usize) -> Row
         };
     }
     let base = i * ROW_WIDTH;
-    let packed = lists::word(rows, base + 1);
+    let packed = lists::item_or(rows, base + 1, 0);
     Row {
-        offset: lists::word(rows, base) % SIZE_RANGE,
+        offset: lists::item_or(rows, base, 0) % SIZE_RANGE,
         size: packed % SIZE_RANGE,
         name: Span {
-            at: lists::word(rows, base + 2) as usize,
-            len: lists::word(rows, base + 3) as usize,
+            at: lists::item_or(rows, base + 2, 0) as usize,
+            len: lists::item_or(rows, base + 3, 0) as usize,
         },
         link: Span {
-            at: lists::word(rows, base + 4) as usize,
-            len: lists::word(rows, base + 5) as usize,
+            at: lists::item_or(rows, base + 4, 0) as usize,
+            len: lists::item_or(rows, base + 5, 0) as usize,
         },
-        path_index: lists::word(rows, base + 6),
+        path_index: lists::item_or(rows, base + 6, 0),
         flags: packed / SIZE_RANGE % FLAGS_RANGE,
-        time: lists::word(rows, base + 7),
+        time: lists::item_or(rows, base + 7, 0),
     }
+}
+
+// Word k of row i, 0 past the end.
+fn word_at(rows: &[u64], i: usize, k: usize) -> u64
+    requires { k < 8 }
+    ensures { result ≡ get_or rows.now (i * row_width + k) 0 }
+{
+    if rows.len() <= i {
+        return 0;
+    }
+    lists::item_or(rows, i * ROW_WIDTH + k, 0)
 }
 
 // The offset of row i.
 pub fn offset_at(rows: &[u64], i: usize) -> u64
     ensures { result ≡ (row_at rows.now i).offset }
 {
-    if rows.len() <= i {
-        return 0;
-    }
-    lists::word(rows, i * ROW_WIDTH) % SIZE_RANGE
+    word_at(rows, i, 0) % SIZE_RANGE
 }
 
 // The size of row i.
 pub fn size_at(rows: &[u64], i: usize) -> u64
     ensures { result ≡ (row_at rows.now i).size }
 {
-    if rows.len() <= i {
-        return 0;
-    }
-    lists::word(rows, i * ROW_WIDTH + 1) % SIZE_RANGE
+    word_at(rows, i, 1) % SIZE_RANGE
 }
 
 // The flags of row i.
 pub fn flags_at(rows: &[u64], i: usize) -> u64
     ensures { result ≡ (row_at rows.now i).flags }
 {
-    if rows.len() <= i {
-        return 0;
-    }
-    lists::word(rows, i * ROW_WIDTH + 1) / SIZE_RANGE % FLAGS_RANGE
+    word_at(rows, i, 1) / SIZE_RANGE % FLAGS_RANGE
 }
 
 // The time of row i, as the table holds it.
 pub fn time_at(rows: &[u64], i: usize) -> u64
     ensures { result ≡ (row_at rows.now i).time }
 {
-    if rows.len() <= i {
-        return 0;
-    }
-    lists::word(rows, i * ROW_WIDTH + 7)
+    word_at(rows, i, 7)
 }
 
 // A size and flags in one word.
@@ -184,10 +185,10 @@ fn put_four(words: &mut [u64], at: usize, w0: u64, w1: u64, w2: u64, w3: u64)
         words[at + 3] = w3;
         return;
     }
-    lists::put_word(words, at, w0);
-    lists::put_word(words, at + 1, w1);
-    lists::put_word(words, at + 2, w2);
-    lists::put_word(words, at + 3, w3);
+    lists::put(words, at, w0);
+    lists::put(words, at + 1, w1);
+    lists::put(words, at + 2, w2);
+    lists::put(words, at + 3, w3);
 }
 
 // Writes row i, nothing past the end.
@@ -230,7 +231,7 @@ pub fn dir_at(dirs: &[u64], i: usize) -> Span
         return Span { at: 0, len: 0 };
     }
     Span {
-        at: lists::word(dirs, i * DIR_WIDTH) as usize,
+        at: lists::item_or(dirs, i * DIR_WIDTH, 0) as usize,
         len: 0,
     }
 }
@@ -242,18 +243,15 @@ pub fn put_dir(dirs: &mut [u64], i: usize, s: Span)
     if dirs.len() <= i {
         return;
     }
-    lists::put_word(dirs, i * DIR_WIDTH, s.at as u64);
-    lists::put_word(dirs, i * DIR_WIDTH + 1, s.len as u64);
+    lists::put(dirs, i * DIR_WIDTH, s.at as u64);
+    lists::put(dirs, i * DIR_WIDTH + 1, s.len as u64);
 }
 
 // Whether a path index is that of a stored directory.
 pub fn is_inside(path_index: u64) -> bool
     ensures { result ≡ is_stored path_index }
 {
-    if path_index == NO_PATH {
-        return false;
-    }
-    path_index != PATH_IS_ABSOLUTE
+    path_index != NO_PATH && path_index != PATH_IS_ABSOLUTE
 }
 
 // Where the text of a file's directory lies; a span of no bytes for a single name and an absolute path.
@@ -289,39 +287,58 @@ pub fn put_root(roots: &mut [u8], i: usize, root: Sha256Hash)
     lists::copy_after(roots, i * ROOT_WIDTH, &bytes);
 }
 
+// Whether a row's flags have a bit, which is given by its value.
+fn has(flags: u64, bit: u64) -> bool
+    requires { 0 < bit }
+    ensures { result ≡ has flags bit }
+{
+    flags / bit % 2 == 1
+}
+
 // Whether a row's flags have pad.
 pub fn is_pad(flags: u64) -> bool
     ensures { result ≡ has flags pad_bit }
 {
-    flags % 2 == 1
+    has(flags, PAD_BIT)
 }
 
 // Whether a row's flags have symlink.
 pub fn is_symlink(flags: u64) -> bool
     ensures { result ≡ has flags symlink_bit }
 {
-    flags / SYMLINK_BIT % 2 == 1
+    has(flags, SYMLINK_BIT)
 }
 
 // Whether a row holds a link text.
 pub fn holds_link(flags: u64) -> bool
     ensures { result ≡ has flags link_held_bit }
 {
-    flags / LINK_HELD_BIT % 2 == 1
+    has(flags, LINK_HELD_BIT)
 }
 
 // Whether a row's directory stands outside the set's name.
 pub fn is_outside(flags: u64) -> bool
     ensures { result ≡ has flags outside_bit }
 {
-    flags / OUTSIDE_BIT % 2 == 1
+    has(flags, OUTSIDE_BIT)
 }
 
 // Whether a row has a root.
 pub fn has_root(flags: u64) -> bool
     ensures { result ≡ has flags root_bit }
 {
-    flags / ROOT_BIT % 2 == 1
+    has(flags, ROOT_BIT)
+}
+
+// The presence that a test tells.
+fn presence_if(there: bool) -> Presence
+    ensures { result ≡ presence_if there }
+{
+    if there {
+        Presence::Present
+    } else {
+        Presence::Absent
+    }
 }
 
 // File i, its row and its root.
@@ -329,18 +346,10 @@ pub fn entry_at(rows: &[u64], roots: &[u8], i: usize) -> FileEntry
     ensures { result ≡ entry_at rows.now roots.now i }
 {
     let row = row_at(rows, i);
-    let root = root_at(roots, i);
-    if has_root(row.flags) {
-        return FileEntry {
-            row,
-            presence: Presence::Present,
-            root,
-        };
-    }
     FileEntry {
         row,
-        presence: Presence::Absent,
-        root,
+        presence: presence_if(has_root(row.flags)),
+        root: root_at(roots, i),
     }
 }
 
@@ -349,14 +358,8 @@ pub fn put_entry(rows: &mut [u64], roots: &mut [u8], i: usize, entry: FileEntry)
     ensures rows_after { rows.new ≡ rows_with rows.old i entry }
     ensures roots_after { roots.new ≡ roots_with roots.old i entry }
 {
-    let row = entry.row;
-    put_row(rows, i, row);
-    let presence = entry.presence;
-    match presence {
-        Presence::Present => {
-            let root = entry.root;
-            put_root(roots, i, root)
-        }
-        Presence::Absent => {}
+    put_row(rows, i, entry.row);
+    if let Presence::Present = entry.presence {
+        put_root(roots, i, entry.root);
     }
 }

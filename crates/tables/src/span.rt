@@ -1,9 +1,7 @@
 // Spans of the text area: what they read, where they lie once another is removed, and the removal.
 // Relies on `lists`; the laws of spans for the crates above are in proofs/Spans.antt.
-ghost use Rattle.std.specs.Prelude.{◌≡◌, ◌≤◌, length};
-ghost use Rattle.tables.specs.Span.{end_of, text_at, lower, low, clip, slid};
-
-use lists::{min_usize, saturating_sub_usize};
+ghost use Rattle.std.specs.Prelude.{◌≡◌};
+ghost use Rattle.tables.specs.Span.{text_at, lower, low, clip, slid};
 
 // Where a text lies in the text area.
 #[derive(Clone, Copy)]
@@ -23,7 +21,7 @@ pub fn text_at(text: &[u8], s: Span) -> &[u8]
 pub fn lowered(c: Span, p: usize) -> usize
     ensures { result ≡ lower c p }
 {
-    saturating_sub_usize(p, min_usize(c.len, saturating_sub_usize(p, c.at)))
+    p.saturating_sub(c.len.min(p.saturating_sub(c.at)))
 }
 
 // Where a span lies once the bytes of the span `c` are removed.
@@ -41,21 +39,8 @@ pub fn clipped(used: usize, s: Span) -> Span
     ensures { result ≡ clip used s }
 {
     Span {
-        at: min_usize(s.at, used),
-        len: min_usize(s.len, saturating_sub_usize(used, s.at)),
-    }
-}
-
-// Moves the bytes from the end of a span up to `used` down to its start, front to back.
-fn slide(text: &mut [u8], used: usize, c: Span)
-    requires { (end_of c ≤ used) × (used ≤ length text.old) }
-    ensures { text.new ≡ slid c used text.old }
-{
-    let n = c.len;
-    let mut i = c.at + n;
-    while i < used {
-        text[i - n] = text[i];
-        i += 1;
+        at: s.at.min(used),
+        len: s.len.min(used.saturating_sub(s.at)),
     }
 }
 
@@ -63,9 +48,9 @@ fn slide(text: &mut [u8], used: usize, c: Span)
 pub fn remove_text(text: &mut [u8], used: usize, c: Span)
     ensures { text.new ≡ slid c used text.old }
 {
-    let end = min_usize(used, text.len());
-    if saturating_sub_usize(end, c.at) <= c.len {
+    let end = used.min(text.len());
+    if end.saturating_sub(c.at) <= c.len {
         return;
     }
-    slide(text, end, c);
+    text.copy_within(c.at + c.len..end, c.at);
 }

@@ -2,6 +2,7 @@
 use crate::span::Span;
 
 // What a set is besides its tables.
+// Stays: its flags are facts of the set, and no value is there or missing by one of them.
 #[derive(Clone, Copy)]
 pub struct FileStorage {
     // From 1 to 2147483647; anything else is refusal 1.

@@ -2,4 +2,3 @@
 pub mod NewTexts
 pub mod OneLink
 pub mod Placed
-pub mod Stores

@@ -1,5 +1,5 @@
 -- Laws of the parts of a link's new text: a join by its parts, and where they lie. They rely on the laws of lists and `path`.
-use Prim.Native.Nat.{ℕ, suc, ◌+◌, ◌≤◌}
+use Prim.Native.Nat.{ℕ, suc, ◌+◌}
 use mathlib.Core.Path.{◌≡◌, refl, sym, ap, ◌∙◌}
 use mathlib.Core.Bool.{Bool, true, false, cond, not}
 use mathlib.Core.List.{List, [], ◌∷◌, ◌++◌, append-nil, append_assoc}
@@ -43,17 +43,6 @@ module _ (d : List ℕ) (n : ℕ) where
 
   pub prefix-parted : is_alone d ≡ false → is_parted d n ≡ true → prefix_of d n ≡ d ++ (47 ∷ [])
   prefix-parted e h = rw (e, h)
-
-  pub prefix-plain : is_alone d ≡ false → is_parted d n ≡ false → prefix_of d n ≡ d
-  prefix-plain e h = rw (e, h)
-
-  -- it has no less bytes than the branch where that does not stand alone
-  pub prefix-long : is_alone d ≡ false → length d ≤ length (prefix_of d n)
-  prefix-long e = rw e (at (is_parted d n))
-    where
-      at : (parted : Bool) → length d ≤ length (cond parted (d ++ (47 ∷ [])) d)
-      at true = omega (arith, length-append d (47 ∷ []))
-      at false = omega arith
 
 -- ---- places
 

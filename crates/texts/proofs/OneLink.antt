@@ -15,12 +15,11 @@ use Rattle.types.specs.Refusals.{value, refused}
 use Rattle.path.specs.Join.{appended, Joined, joined_if, fits}
 use Rattle.tables.specs.declared.span.Span.{Span}
 use Rattle.tables.specs.declared.rows.Row.{Row}
-use Rattle.tables.specs.Span.{end_of, text_at}
+use Rattle.tables.specs.Span.{text_at}
 use Rattle.tables.specs.Rows.{row_at, directory_span}
 use Rattle.tables.specs.Model.{Store}
 use Rattle.texts.specs.Texts.{gone_at, linked, relinked, is_within, own_fits, beside_fits, with_own, with_beside, staged_beside, link_span}
 use Rattle.texts.proofs.NewTexts.{own-parts, beside-parts}
-use Rattle.rules.proofs.Rules.{both_true}
 
 -- a choice where the test is known
 pub cond_yes : {A : Type 0} (b : Bool) (x y : A) → b ≡ true → x ≡ cond b x y
@@ -52,19 +51,6 @@ module _ (s : Store) (i : ℕ) (r : Row) (b : Span) (row : r ≡ row_at s.rows i
       ap (λ (x : Span). cond (is_within used x && (is_within used r.name && leb (length (appended (text_at s.text x) (text_at s.text r.name))) (length s.text - used))) (linked s i (appended (text_at s.text x) (text_at s.text r.name))) s) branch
       ∙ ap (λ (x : Row). cond (is_within used (directory_span s.dirs x) && (is_within used x.name && leb (length (appended (text_at s.text (directory_span s.dirs x)) (text_at s.text x.name))) (length s.text - used))) (linked s i (appended (text_at s.text (directory_span s.dirs x)) (text_at s.text x.name))) s) row
       ∙ ap (λ (t : List ℕ). cond (own_fits s i t) (linked s i t) s) (sym (own-parts s i))
-
-  pub own-kept : own_fit ≡ false → s ≡ with_own s i
-  own-kept e = cond_no own_fit (linked s i own_of) s e ∙ own-step
-
-  pub own-written : own_fit ≡ true → (u : Store) → u ≡ linked s i own_of → u ≡ with_own s i
-  own-written e u h = h ∙ cond_yes own_fit (linked s i own_of) s e ∙ own-step
-
-  -- the places that such a path has
-  pub own-places : own_fit ≡ true → (end_of b ≤ used) × (end_of r.name ≤ used) × (length own_of ≤ length s.text - used)
-  own-places e =
-      let p = both_true (is_within used b) (is_within used r.name && leb (length own_of) (length s.text - used)) e in
-      let q = both_true (is_within used r.name) (leb (length own_of) (length s.text - used)) p.1 in
-      (leb-true (end_of b) used p.0, leb-true (end_of r.name) used q.0, leb-true (length own_of) (length s.text - used) q.1)
 
 -- ---- the text from a link's directory
 

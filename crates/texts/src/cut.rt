@@ -1,11 +1,9 @@
-// A text is cut out of the text area, and every span after it is lowered. Relies on the writers of
-// `tables` and the laws of proofs/Stores.antt.
+// A text is cut out of the text area, and every span after it is lowered. Relies on the writers of `tables`.
 ghost use Rattle.std.specs.Prelude.{◌≡◌};
 ghost use Rattle.tables.specs.Rows.{row_at, put_row};
 ghost use Rattle.lookup.specs.Lookup.{lent};
 ghost use Rattle.texts.specs.Texts.{storage_with, row_with, row_lowered, rows_lowered, cut_out};
 
-use lists::{min_usize, saturating_sub_usize};
 use tables::{FileStorage, Row, Span};
 
 // A set's record with its name at another span and `used` bytes of text.
@@ -13,17 +11,9 @@ pub(crate) fn storage_with(fs: FileStorage, name: Span, used: usize) -> FileStor
     ensures { result ≡ storage_with fs name used }
 {
     FileStorage {
-        piece_length: fs.piece_length,
-        v2: fs.v2,
-        num_files: fs.num_files,
-        num_paths: fs.num_paths,
-        num_symlinks: fs.num_symlinks,
         name,
         text_len: used,
-        total_size: fs.total_size,
-        size_on_disk: fs.size_on_disk,
-        trimmed: fs.trimmed,
-        indexed: fs.indexed,
+        ..fs
     }
 }
 
@@ -31,15 +21,7 @@ pub(crate) fn storage_with(fs: FileStorage, name: Span, used: usize) -> FileStor
 pub(crate) fn row_with(row: Row, name: Span, link: Span) -> Row
     ensures { result ≡ row_with row name link }
 {
-    Row {
-        offset: row.offset,
-        size: row.size,
-        name,
-        link,
-        path_index: row.path_index,
-        flags: row.flags,
-        time: row.time,
-    }
+    Row { name, link, ..row }
 }
 
 // Lowers the spans of row i as the removal of span `c` asks.
@@ -53,14 +35,13 @@ fn lower_row(rows: &mut [u64], i: usize, c: Span)
 }
 
 // Lowers the spans of the first n rows, or of as many as there are, as the removal of span `c` asks.
+// Stays: its twin of directories in `tables` calls another function in the same loop; with a closure the contract would be longer than both.
 fn lower_rows(rows: &mut [u64], n: usize, c: Span)
     ensures { rows.new ≡ rows_lowered rows.old n c }
 {
-    let m = min_usize(n, rows.len() / 8);
-    let mut i = 0;
-    while i < m {
+    let m = n.min(rows.len() / 8);
+    for i in 0..m {
         lower_row(rows, i, c);
-        i += 1;
     }
 }
 
@@ -79,5 +60,5 @@ pub(crate) fn cut_out(
     tables::lower_dirs(dirs, fs.num_paths, c);
     tables::remove_text(text, fs.text_len, c);
     let name = tables::low_span(c, fs.name);
-    storage_with(fs, name, saturating_sub_usize(fs.text_len, c.len))
+    storage_with(fs, name, fs.text_len.saturating_sub(c.len))
 }

@@ -10,10 +10,7 @@ use tables::{Row, Span};
 pub(crate) fn is_parted(branch: &[u8], n: usize) -> bool
     ensures { result ≡ is_parted branch.now n }
 {
-    if n == 0 {
-        return false;
-    }
-    !path::is_closed(branch)
+    n != 0 && !path::is_closed(branch)
 }
 
 // The span of a link's text: one of no bytes where it holds none.
@@ -30,8 +27,5 @@ pub fn link_span(row: Row) -> Span
 pub(crate) fn is_within(used: usize, s: Span) -> bool
     ensures { result ≡ is_within used s }
 {
-    if used < s.at {
-        return false;
-    }
-    s.len <= used - s.at
+    s.at <= used && s.len <= used - s.at
 }

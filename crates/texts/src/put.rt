@@ -2,7 +2,6 @@
 // from the scratch space. Relies on cut.rt, parts.rt, the joins of `path` and the laws of proofs/Placed.antt.
 ghost use Rattle.std.specs.Prelude.{◌&&◌, ◌≡◌, [], ◌+◌, ◌-◌, ◌^◌, ◌<◌, ◌≤◌, leb, length};
 ghost use Rattle.std.proofs.lemmas.List.Edits.{sets};
-ghost use Rattle.lists.specs.Lists.{part_of};
 ghost use Rattle.path.specs.Join.{appended};
 ghost use Rattle.tables.specs.Span.{end_of, text_at};
 ghost use Rattle.tables.specs.Rows.{row_at, put_row, directory_span};
@@ -13,21 +12,8 @@ ghost use Rattle.texts.specs.private.Parts.{prefix_of, scratch_joined, joined_in
 
 use crate::cut::{cut_out, row_with, storage_with};
 use crate::parts::{is_parted, is_within, link_span};
-use lists::saturating_sub_usize;
 use tables::{FileStorage, Row, Span};
-use types::UsizeResult;
-
-// Copies the n bytes at `from` to `to`, which is after them.
-fn copy_within(text: &mut [u8], from: usize, n: usize, to: usize)
-    requires { (from + n ≤ to) × (n ≤ length text.old - to) }
-    ensures { text.new ≡ sets text.old to (part_of text.old from n) }
-{
-    let mut j = 0;
-    while j < n {
-        text[to + j] = text[from + j];
-        j += 1;
-    }
-}
+use types::Refusal;
 
 // Copies the text of a span to `to`, which is after it, and gives its length.
 fn copy_span(text: &mut [u8], s: Span, to: usize) -> usize
@@ -35,9 +21,10 @@ fn copy_span(text: &mut [u8], s: Span, to: usize) -> usize
     ensures value { result ≡ length (text_at text.old s) }
     ensures text_after { text.new ≡ sets text.old to (text_at text.old s) }
 {
-    let part = tables::text_at(text, s);
-    let n = part.len();
-    copy_within(text, s.at, n, to);
+    let n = tables::text_at(text, s).len();
+    if 0 < n {
+        text.copy_within(s.at..s.at + n, to);
+    }
     n
 }
 
@@ -54,7 +41,7 @@ fn put_prefix(text: &mut [u8], branch: Span, n: usize, to: usize) -> usize
     let parted = is_parted(part, n);
     let k = copy_span(text, branch, to);
     if parted {
-        lists::put_byte(text, to + k, b'/');
+        lists::put(text, to + k, b'/');
         return k + 1;
     }
     k
@@ -131,7 +118,7 @@ fn own_fits(text: &[u8], used: usize, branch: Span, name: Span) -> bool
     }
     let directory = tables::text_at(text, branch);
     let leaf = tables::text_at(text, name);
-    path::joined_length(directory, leaf) <= saturating_sub_usize(text.len(), used)
+    path::joined_length(directory, leaf) <= text.len().saturating_sub(used)
 }
 
 // Writes the own path of link i, whose text was removed, as its text, where it fits.
@@ -156,7 +143,7 @@ pub fn write_own(
 }
 
 // Puts the text of the link of `row` from its directory into the scratch space, and gives its length.
-fn stage_text(dirs: &[u64], text: &[u8], row: Row, scratch: &mut [u8]) -> UsizeResult
+fn stage_text(dirs: &[u64], text: &[u8], row: Row, scratch: &mut [u8]) -> Result<usize, Refusal>
     ensures { scratch_joined result scratch.new
         ≡ joined_into (text_at text.now (directory_span dirs.now row))
         (text_at text.now (link_span row)) scratch.old }
@@ -184,8 +171,10 @@ pub fn write_beside(
 {
     let row = tables::row_at(rows, i);
     let gone = tables::clipped(fs.text_len, row.link);
-    let room = saturating_sub_usize(text.len(), saturating_sub_usize(fs.text_len, gone.len));
-    let UsizeResult::Ok(n) = stage_text(dirs, text, row, scratch) else {
+    let room = text
+        .len()
+        .saturating_sub(fs.text_len.saturating_sub(gone.len));
+    let Ok(n) = stage_text(dirs, text, row, scratch) else {
         return fs;
     };
     if room < n {

@@ -1,12 +1,12 @@
 -- What a trim writes and answers, for tables of any content and length. The search is that of Trim.antt on what the
 -- tables mean (`view_of`); here stands what the removal of a row leaves.
-use Rattle.std.specs.Prelude.{ℕ, ◌-◌, ◌*◌, true, not, [], ◌∷◌}
+use Rattle.std.specs.Prelude.{ℕ, ◌-◌, ◌*◌, true, not, [], ◌∷◌, Option, Some, None}
 use Rattle.tables.specs.declared.span.Span.{Span}
 use Rattle.tables.specs.declared.rows.Row.{Row}
 use Rattle.tables.specs.declared.storage.FileStorage.{FileStorage}
 use Rattle.tables.specs.Span.{clip, slid, low}
 use Rattle.tables.specs.Rows.{row_at, dirs_lowered, rows_without, root_width}
-use Rattle.tables.specs.Model.{Optional, absent, present, Store, view_of}
+use Rattle.tables.specs.Model.{Store, view_of}
 use Rattle.rules.specs.Rules.{when, first_of}
 use Rattle.rules.specs.Bounds.{bad_length}
 use Rattle.change.specs.Changes.{Changed, changed_if}
@@ -59,9 +59,9 @@ store_trimmed s f =
 -- ---- the answer
 
 -- the tables without the pad that was found; as they were where none was
-abbrev pub trimmed_by : Optional ℕ → Store → Store
-trimmed_by absent s = s
-trimmed_by (present f) s = store_trimmed s f
+abbrev pub trimmed_by : Option ℕ → Store → Store
+trimmed_by None s = s
+trimmed_by (Some f) s = store_trimmed s f
 
 -- what `remove_tail_padding` answers and writes: it 'removes at most one pad'
 abbrev pub trim_stored : Store → Changed

@@ -1,55 +1,27 @@
 // The search for the pad, and what its removal writes. Relies on the writers of `tables` and the laws of
 // proofs/Trims.antt.
-ghost use Rattle.std.specs.Prelude.{◌≡◌, List, ℕ, ◌-◌, ◌*◌, ◌<◌, ◌≤◌};
-ghost use Rattle.tables.specs.Span.{slid};
-ghost use Rattle.tables.specs.Rows.{has, dirs_lowered, pad_bit, root_width};
-ghost use Rattle.tables.specs.Model.{present_if, store_of};
+ghost use Rattle.std.specs.Prelude.{◌≡◌, List, ℕ, ◌<◌, ◌≤◌};
+ghost use Rattle.types.specs.Refusals.{outcome};
+ghost use Rattle.tables.specs.Model.{store_of};
 ghost use Rattle.rules.specs.Bounds.{max_entries};
 ghost use Rattle.trim.specs.Removal.{first_gone, second_gone, storage_without, store_trimmed, trim_stored};
-ghost use Rattle.change.specs.Changes.{changed_of, storage_says};
-ghost use Rattle.trim.specs.private.Search.{found_says, tail_pad_in};
+ghost use Rattle.change.specs.Changes.{changed_of};
+ghost use Rattle.trim.specs.private.Search.{tail_pad_in};
 
-use change::StorageResult;
-use lists::saturating_sub_usize;
 use tables::{FileStorage, ROOT_WIDTH, Row, Span};
 use types::Refusal;
 
-// The row of a pad, if there is one.
-#[derive(Drop)]
-pub(crate) enum Found {
-    Nothing,
-    At(usize),
-}
-
-// Row f, where its flags have pad.
-fn pad_at(flags: u64, f: usize) -> Found
-    ensures { found_says result ≡ present_if (has flags pad_bit) f }
-{
-    if tables::is_pad(flags) {
-        return Found::At(f);
-    }
-    Found::Nothing
-}
-
 // The last of the first n rows that is not empty, where it is a pad.
-fn find_tail_pad(rows: &[u64], n: usize) -> Found
-    ensures { found_says result ≡ tail_pad_in rows.now n }
+// Stays: the table is lent, and the set's record counts its rows.
+fn find_tail_pad(rows: &[u64], n: usize) -> Option<usize>
+    ensures { result ≡ tail_pad_in rows.now n }
 {
-    let mut i = n;
-    while 0 < i {
-        i -= 1;
+    for i in (0..n).rev() {
         if 0 < tables::size_at(rows, i) {
-            return pad_at(tables::flags_at(rows, i), i);
+            return tables::is_pad(tables::flags_at(rows, i)).then_some(i);
         }
     }
-    Found::Nothing
-}
-
-// A total less a size, or 0.
-fn total_less(total: u64, size: u64) -> u64
-    ensures { result ≡ total - size }
-{
-    if total < size { 0 } else { total - size }
+    None
 }
 
 // The bytes of a row's name within the used part of the text area.
@@ -65,7 +37,7 @@ fn second_gone(fs: FileStorage, row: Row) -> Span
 {
     let c = first_gone(fs, row);
     tables::clipped(
-        saturating_sub_usize(fs.text_len, c.len),
+        fs.text_len.saturating_sub(c.len),
         tables::low_span(c, row.link),
     )
 }
@@ -75,50 +47,13 @@ fn storage_without(fs: FileStorage, row: Row, c: Span, d: Span) -> FileStorage
     ensures { result ≡ storage_without fs row c d }
 {
     FileStorage {
-        piece_length: fs.piece_length,
-        v2: fs.v2,
-        num_files: saturating_sub_usize(fs.num_files, 1),
-        num_paths: fs.num_paths,
-        num_symlinks: fs.num_symlinks,
+        num_files: fs.num_files.saturating_sub(1),
         name: tables::low_span(d, tables::low_span(c, fs.name)),
-        text_len: saturating_sub_usize(saturating_sub_usize(fs.text_len, c.len), d.len),
-        total_size: total_less(fs.total_size, row.size),
-        size_on_disk: fs.size_on_disk,
+        text_len: fs.text_len.saturating_sub(c.len).saturating_sub(d.len),
+        total_size: fs.total_size.saturating_sub(row.size),
         trimmed: true,
-        indexed: fs.indexed,
+        ..fs
     }
-}
-
-// Removes the bytes of the spans `c` and then `d` from the first `used` bytes.
-fn remove_texts(text: &mut [u8], used: usize, c: Span, d: Span)
-    ensures { text.new ≡ slid d (used - c.len) (slid c used text.old) }
-{
-    tables::remove_text(text, used, c);
-    tables::remove_text(text, saturating_sub_usize(used, c.len), d);
-}
-
-// Lowers the spans of the first n directory rows for the removed spans `c` and then `d`.
-fn lower_spans(dirs: &mut [u64], n: usize, c: Span, d: Span)
-    ensures { dirs.new ≡ dirs_lowered (dirs_lowered dirs.old n c) n d }
-{
-    tables::lower_dirs(dirs, n, c);
-    tables::lower_dirs(dirs, n, d);
-}
-
-// Removes root f of n.
-fn remove_root(roots: &mut [u8], n: usize, f: usize)
-    requires { (f < n) × (n ≤ max_entries) }
-    ensures { roots.new
-        ≡ slid (record { at = f * root_width; len = root_width }) (n * root_width) roots.old }
-{
-    tables::remove_text(
-        roots,
-        n * ROOT_WIDTH,
-        Span {
-            at: f * ROOT_WIDTH,
-            len: ROOT_WIDTH,
-        },
-    );
 }
 
 // Removes file f from the tables, and gives the set's record after it.
@@ -141,9 +76,18 @@ fn remove_file(
     let d = second_gone(fs, row);
     let left = storage_without(fs, row, c, d);
     tables::remove_row(rows, left.num_files, f, left.total_size, c, d);
-    remove_root(roots, fs.num_files, f);
-    lower_spans(dirs, fs.num_paths, c, d);
-    remove_texts(text, fs.text_len, c, d);
+    tables::remove_text(
+        roots,
+        fs.num_files * ROOT_WIDTH,
+        Span {
+            at: f * ROOT_WIDTH,
+            len: ROOT_WIDTH,
+        },
+    );
+    tables::lower_dirs(dirs, fs.num_paths, c);
+    tables::lower_dirs(dirs, fs.num_paths, d);
+    tables::remove_text(text, fs.text_len, c);
+    tables::remove_text(text, fs.text_len.saturating_sub(c.len), d);
     left
 }
 
@@ -155,23 +99,23 @@ pub fn remove_tail_padding(
     roots: &mut [u8],
     dirs: &mut [u64],
     text: &mut [u8],
-) -> StorageResult
+) -> Result<FileStorage, Refusal>
     ensures { (firsts : List ℕ)
-        → changed_of (storage_says result)
+        → changed_of (outcome result)
         rows.new roots.new firsts dirs.new text.new
         ≡ trim_stored
         (store_of fs
         rows.old roots.old firsts dirs.old text.old) }
 {
     if rules::is_bad_length(fs.piece_length) {
-        return StorageResult::Err(Refusal::InvalidPieceLength);
+        return Err(Refusal::InvalidPieceLength);
     }
     let rooms = change::rooms_in(rows.len(), roots.len(), dirs.len(), text.len());
     if !change::holds(fs, rooms) {
-        return StorageResult::Err(Refusal::NoRoom);
+        return Err(Refusal::NoRoom);
     }
-    let Found::At(f) = find_tail_pad(rows, fs.num_files) else {
-        return StorageResult::Ok(fs);
-    };
-    StorageResult::Ok(remove_file(fs, rows, roots, dirs, text, f))
+    match find_tail_pad(rows, fs.num_files) {
+        Some(f) => Ok(remove_file(fs, rows, roots, dirs, text, f)),
+        None => Ok(fs),
+    }
 }

@@ -1,4 +1,4 @@
--- Laws of signed numbers at the boundary, of their words by zigzag, and of the numbers of refusals.
+-- Laws of low bits, of words by zigzag, and of the numbers of refusals.
 pub mod Boundary
 pub mod Refusals
 pub mod Zigzag

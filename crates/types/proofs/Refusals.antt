@@ -1,6 +1,7 @@
 -- A refusal is known by its number.
 --     numbered             no refusal has the number 0
 --     number-injective     two refusals with one number are one refusal
+--     exit                 what the exit of a `?` says
 -- Assumes nothing.
 use Prim.Native.Nat.{ℕ}
 use mathlib.Core.Path.{◌≡◌, refl, sym, ap, ◌∙◌}
@@ -8,7 +9,8 @@ use mathlib.Core.Bool.{false}
 use mathlib.Core.List.{List, [], ◌∷◌}
 use lib.Dec.{eqb}
 use lib.ListN.{get_or}
-use Rattle.types.specs.Refusals.{number_of}
+use Rattle.std.specs.Prelude.{Result, Ok, Err, IsErrAnd}
+use Rattle.types.specs.Refusals.{number_of, refused, outcome}
 use Rattle.types.specs.declared.refusal.Refusal.{Refusal}
 use Rattle.types.specs.declared.refusal.Refusal.TheVariants.{InvalidPieceLength, NegativeSize, FileTooLarge, TorrentInvalidLength, FilenameTooLong, InvalidName, MissingParentPath, TorrentMissingPiecesRoot, TorrentInconsistentFiles, NoRoom, NoSuchFile, NoSuchPiece, TooManyPieces, OutOfRange, NotASymlink, NoTree, ParseFailed}
 
@@ -64,3 +66,8 @@ numbered ParseFailed = refl
 
 pub number-injective : (a b : Refusal) → number_of a ≡ number_of b → a ≡ b
 number-injective a b e = sym (again a) ∙ ap refusal_of e ∙ again b
+
+-- what the exit of a `?` says: the refusal that it was given
+pub exit : {A : Type 0} (r : Result A Refusal) (e : Refusal) → IsErrAnd r (λ x. x ≡ e) → outcome r ≡ refused (number_of e)
+exit (Ok a) e h = absurd h
+exit (Err x) e h = ap (λ y. refused (number_of y)) h

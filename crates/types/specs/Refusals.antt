@@ -1,7 +1,7 @@
 -- Document 01, 'Refusals, by place': the number of each refusal, and what an answer says: its value, or the number of
 -- its refusal and no other value. Every promise about an answer that is an enum is stated through such a reading.
 -- It relies on the enums of src/refusal.rt.
-use Rattle.std.specs.Prelude.{ℕ}
+use Rattle.std.specs.Prelude.{ℕ, Result, Ok, Err}
 use Rattle.types.specs.declared.refusal.Refusal.{Refusal}
 use Rattle.types.specs.declared.refusal.Refusal.TheVariants.{InvalidPieceLength, NegativeSize, FileTooLarge}
 use Rattle.types.specs.declared.refusal.Refusal.TheVariants.{TorrentInvalidLength, FilenameTooLong, InvalidName}
@@ -9,8 +9,6 @@ use Rattle.types.specs.declared.refusal.Refusal.TheVariants.{MissingParentPath, 
 use Rattle.types.specs.declared.refusal.Refusal.TheVariants.{TorrentInconsistentFiles, NoRoom, NoSuchFile}
 use Rattle.types.specs.declared.refusal.Refusal.TheVariants.{NoSuchPiece, TooManyPieces, OutOfRange}
 use Rattle.types.specs.declared.refusal.Refusal.TheVariants.{NotASymlink, NoTree, ParseFailed}
-use Rattle.types.specs.declared.refusal.UsizeResult.{UsizeResult}
-use Rattle.types.specs.declared.refusal.UsizeResult.TheVariants.{Ok, Err}
 
 abbrev pub number_of : Refusal → ℕ
 number_of InvalidPieceLength = 1
@@ -36,6 +34,6 @@ pub data Outcome (A : Type 0) : Type 0 where
   value : A → Outcome A
   refused : ℕ → Outcome A
 
-abbrev pub usize_says : UsizeResult → Outcome ℕ
-usize_says (Ok n) = value n
-usize_says (Err e) = refused (number_of e)
+abbrev pub outcome : {A : Type 0} → Result A Refusal → Outcome A
+outcome (Ok a) = value a
+outcome (Err e) = refused (number_of e)

@@ -11,6 +11,7 @@ pub struct PieceIndex(pub i32);
 pub struct FileIndex(pub i32);
 
 // The pieces from `begin` up to, and without, `end`.
+// Stays: document 01 asks for plain records, one for each type used, in place of the Rust's generic `IndexRange`.
 #[derive(Drop)]
 pub struct PieceIndexRange {
     pub begin: PieceIndex,
@@ -18,6 +19,7 @@ pub struct PieceIndexRange {
 }
 
 // The files from `begin` up to, and without, `end`.
+// Stays: document 01 asks for plain records, one for each type used.
 #[derive(Drop)]
 pub struct FileIndexRange {
     pub begin: FileIndex,
@@ -25,6 +27,7 @@ pub struct FileIndexRange {
 }
 
 // The numbers from `begin` up to, and without, `end`: pieces counted within one file.
+// Stays: document 01 asks for plain records, one for each type used.
 #[derive(Drop)]
 pub struct I32Range {
     pub begin: i32,

@@ -10,8 +10,5 @@ mod signed;
 pub use index::{
     FileIndex, FileIndexRange, FileSlice, I32Range, PeerRequest, PieceIndex, PieceIndexRange,
 };
-pub use refusal::{Refusal, UsizeResult, number};
-pub use signed::{
-    Unsigned, clamped32, clamped64, is_negative32, is_negative64, signed32, signed64, unsigned32,
-    unsigned64, unzigzag64, zigzag64,
-};
+pub use refusal::Refusal;
+pub use signed::{clamped, is_negative, signed32, signed64, unsigned, unzigzag64, zigzag64};

@@ -1,80 +1,34 @@
-// Signed numbers at the boundary: unsigned inside, signed in the Rust's signatures. It relies on the laws of
-// proofs/Boundary.antt and proofs/Zigzag.antt.
+// Signed numbers at the boundary: unsigned inside, signed in the Rust's signatures. It relies on std only.
 ghost use Rattle.std.specs.Prelude.{◌≡◌, ◌%◌, ◌^◌, pos, negsuc};
-ghost use Rattle.types.specs.Refusals.{number_of, usize_says};
+ghost use Rattle.types.specs.Refusals.{number_of, outcome};
 ghost use Rattle.types.specs.Signed.{unsigned_of, is_negative, clamped_of, below_or, zigzag, unzigzag};
 
 use crate::index::{FileIndex, PieceIndex};
-use crate::refusal::{Refusal, UsizeResult};
+use crate::refusal::Refusal;
 
 // A signed number as an unsigned one, where it is not negative.
-#[derive(Drop)]
-pub enum Unsigned {
-    Of(u64),
-    Negative,
-}
-
-// An `i64` as an unsigned number.
-pub fn unsigned64(x: i64) -> Unsigned
+pub fn unsigned(x: i64) -> Option<u64>
     ensures { result ≡ unsigned_of x }
 {
-    if x < 0 {
-        return Unsigned::Negative;
-    }
-    Unsigned::Of(x as u64)
+    u64::try_from(x).ok()
 }
 
-// An `i32` as an unsigned number.
-pub fn unsigned32(x: i32) -> Unsigned
-    ensures { result ≡ unsigned_of x }
-{
-    if x < 0 {
-        return Unsigned::Negative;
-    }
-    Unsigned::Of(x as u64)
-}
-
-// Whether an `i64` is negative.
-pub fn is_negative64(x: i64) -> bool
-    ensures { result ≡ is_negative x }
-{
-    match unsigned64(x) {
-        Unsigned::Of(_) => false,
-        Unsigned::Negative => true,
-    }
-}
-
-// Whether an `i32` is negative.
-pub fn is_negative32(x: i32) -> bool
-    ensures { result ≡ is_negative x }
-{
-    match unsigned32(x) {
-        Unsigned::Of(_) => false,
-        Unsigned::Negative => true,
-    }
-}
-
-// An `i64` as an unsigned number, 0 where it is negative.
-pub fn clamped64(x: i64) -> u64
+// A signed number as an unsigned one, 0 where it is negative.
+pub fn clamped(x: i64) -> u64
     ensures { result ≡ clamped_of x }
 {
-    match unsigned64(x) {
-        Unsigned::Of(n) => n,
-        Unsigned::Negative => 0,
-    }
+    unsigned(x).unwrap_or(0)
 }
 
-// An `i32` as an unsigned number, 0 where it is negative.
-pub fn clamped32(x: i32) -> u64
-    ensures { result ≡ clamped_of x }
+// Whether a signed number is negative.
+pub fn is_negative(x: i64) -> bool
+    ensures { result ≡ is_negative x }
 {
-    match unsigned32(x) {
-        Unsigned::Of(n) => n,
-        Unsigned::Negative => 0,
-    }
+    unsigned(x).is_none()
 }
 
 // The low 63 bits of a number as an `i64`: the number itself below 2^63.
+// Stays: no trait casts to both `i64` and `i32`, so one generic body would need a trait of its own for these two lines.
 pub fn signed64(n: u64) -> i64
     ensures { result ≡ pos (n % 2 ^ 63) }
 {
@@ -111,30 +65,18 @@ pub fn unzigzag64(word: u64) -> i64
     -1 - half
 }
 
-// The number as a `usize`, 0 where it is negative.
-fn clamped(n: i32) -> usize
-    ensures { result ≡ clamped_of n }
-{
-    if n < 0 {
-        return 0;
-    }
-    n as usize
-}
-
 // A number below `count`, or the refusal.
-fn below(n: i32, count: usize, refusal: Refusal) -> UsizeResult
-    ensures { usize_says result ≡ below_or (number_of refusal) count n }
+fn below(n: i32, count: usize, refusal: Refusal) -> Result<usize, Refusal>
+    ensures { outcome result ≡ below_or (number_of refusal) count n }
 {
-    if n < 0 {
-        return UsizeResult::Err(refusal);
-    }
-    let i = n as usize;
+    let i = unsigned(i64::from(n)).ok_or(refusal)? as usize;
     if i < count {
-        return UsizeResult::Ok(i);
+        return Ok(i);
     }
-    UsizeResult::Err(refusal)
+    Err(refusal)
 }
 
+// Stays: document 01 asks for two tuple structs; a trait for three short methods would be longer than these two blocks.
 impl PieceIndex {
     // Piece n, where n is below 2^31.
     pub fn new(n: u64) -> PieceIndex
@@ -151,10 +93,11 @@ impl PieceIndex {
     }
 
     // The number as a `usize`, 0 where it is negative, as in the Rust's release build.
+    // Stays: document 01 asks for two tuple structs, and a trait for this line would be longer than its twin.
     pub fn get(self) -> usize
         ensures { result ≡ clamped_of self.0 }
     {
-        clamped(self.0)
+        clamped(i64::from(self.0)) as usize
     }
 }
 
@@ -174,15 +117,16 @@ impl FileIndex {
     }
 
     // The number as a `usize`, 0 where it is negative, as in the Rust's release build.
+    // Stays: document 01 asks for two tuple structs, and a trait for this line would be longer than its twin.
     pub fn get(self) -> usize
         ensures { result ≡ clamped_of self.0 }
     {
-        clamped(self.0)
+        clamped(i64::from(self.0)) as usize
     }
 
     // The number of one of `count` files, or refusal 11.
-    pub fn within(self, count: usize) -> UsizeResult
-        ensures { usize_says result ≡ below_or 11 count self.0 }
+    pub fn within(self, count: usize) -> Result<usize, Refusal>
+        ensures { outcome result ≡ below_or 11 count self.0 }
     {
         below(self.0, count, Refusal::NoSuchFile)
     }

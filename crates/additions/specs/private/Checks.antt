@@ -1,36 +1,28 @@
 -- What the rules of Addition.antt but that of room look at, by a set's record and the parts of a path, and what they
 -- settle.
-use Rattle.std.specs.Prelude.{ℕ, ◌+◌, Bool, false, not, ◌&&◌, ◌||◌, List, ℤ, length}
+use Rattle.std.specs.Prelude.{ℕ, ◌+◌, Bool, false, not, ◌&&◌, ◌||◌, List, ℤ, length, Option, Some, None}
 use Rattle.path.specs.Split.{is_complete}
 use Rattle.path.specs.Join.{is_empty}
-use Rattle.types.specs.Refusals.{number_of, Outcome, value, refused}
 use Rattle.tables.specs.declared.storage.FileStorage.{FileStorage}
-use Rattle.tables.specs.Model.{Optional, absent, present}
 use Rattle.rules.specs.Rules.{Rule}
 use Rattle.rules.specs.Bounds.{is_negative, clamped_of}
 use Rattle.additions.specs.declared.checks.Sizes.{Sizes}
-use Rattle.additions.specs.declared.checks.SizesResult.{SizesResult}
-use Rattle.additions.specs.declared.checks.SizesResult.TheVariants.{Ok, Err}
 use Rattle.additions.specs.declared.parts.PathParts.{PathParts}
 use Rattle.additions.specs.Addition.{decides, is_left_open, v2_after, pad_after, name_rules, Tested, rules_on}
 use Rattle.additions.specs.private.Texts.{absolute_kind}
 
-abbrev pub sizes_says : SizesResult → Outcome Sizes
-sizes_says (Ok s) = value s
-sizes_says (Err e) = refused (number_of e)
-
 -- refusal 5 looks at a given name, or at the path's last part
-abbrev pub limited_length : Optional (List ℕ) → ℕ → ℕ
-limited_length absent leaf = leaf
-limited_length (present given) leaf = length given
+abbrev pub limited_length : Option (List ℕ) → ℕ → ℕ
+limited_length None leaf = leaf
+limited_length (Some given) leaf = length given
 
 -- refusal 6 beside a path that is absolute or not
-abbrev pub bad_beside : Optional (List ℕ) → Bool → Bool
-bad_beside absent absolute = false
-bad_beside (present given) absolute = is_complete given || (not (is_empty given) && absolute)
+abbrev pub bad_beside : Option (List ℕ) → Bool → Bool
+bad_beside None absolute = false
+bad_beside (Some given) absolute = is_complete given || (not (is_empty given) && absolute)
 
 -- refusals 5, 6, 7
-abbrev pub names_of : ℕ → Optional (List ℕ) → PathParts → List Rule
+abbrev pub names_of : ℕ → Option (List ℕ) → PathParts → List Rule
 names_of files given parts =
     name_rules files
     (limited_length given parts.leaf.len)
@@ -52,7 +44,7 @@ sizes_for fs size link root =
     }
 
 -- what the rules look at, by a set's record and the parts of a path
-abbrev pub tested_for : FileStorage → Optional (List ℕ) → PathParts → ℤ → List ℕ → Bool → Tested
+abbrev pub tested_for : FileStorage → Option (List ℕ) → PathParts → ℤ → List ℕ → Bool → Tested
 tested_for fs given parts size link root =
     record {
       piece_length = fs.piece_length;
@@ -71,5 +63,5 @@ tested_for fs given parts size link root =
     }
 
 -- every rule but that of room
-abbrev pub number_rules : FileStorage → Optional (List ℕ) → PathParts → ℤ → List ℕ → Bool → List Rule
+abbrev pub number_rules : FileStorage → Option (List ℕ) → PathParts → ℤ → List ℕ → Bool → List Rule
 number_rules fs given parts size link root = rules_on (tested_for fs given parts size link root)

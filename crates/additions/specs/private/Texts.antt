@@ -1,8 +1,7 @@
 -- The texts that an addition keeps, by what a call brings and the parts of its path. What they are is in Addition.antt;
 -- proofs/Texts.antt shows that they are the same.
 use Rattle.std.specs.Prelude.{Bool, true, false, cond, not, ◌&&◌, List, [], ℕ, ◌+◌, ◌≤◌, eqb}
-use Rattle.lists.specs.Lists.{equal}
-use Rattle.path.specs.Split.{rsplit_branch, lsplit_first, lsplit_rest}
+use Rattle.path.specs.Split.{rsplit_branch, lsplit_rest}
 use Rattle.path.specs.Join.{is_empty}
 use Rattle.tables.specs.declared.rows.Presence.{Presence}
 use Rattle.tables.specs.declared.rows.Presence.TheVariants.{Absent, Present}
@@ -62,14 +61,7 @@ pub record PartsWithin (n : ℕ) (p : PathParts) : Type 0 where
   pub directory : p.directory.at + p.directory.len ≤ n
   pub name : p.name.at + p.name.len ≤ n
 
--- where a file lies under a set's name, by its path's branch, which is there and doesn't begin with a separator
-abbrev pub kind_in : List ℕ → List ℕ → PathKind
-kind_in name branch = cond (equal (lsplit_first branch) name) Inside Outside
-
-abbrev pub place_in : List ℕ → List ℕ → Place
-place_in name branch = record { kind = kind_in name branch; directory = directory_span (kind_in name branch) branch }
-
--- the same by its path
+-- where a file lies under a set's name, by its path
 abbrev pub place_for : List ℕ → List ℕ → Place
 place_for name path =
     record { kind = kind_for name path; directory = directory_span (kind_for name path) (rsplit_branch path) }

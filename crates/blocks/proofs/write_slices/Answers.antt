@@ -7,7 +7,7 @@ use lib.ListN.{length, length-append}
 use lib.Seq.{sets}
 use Prim.Native.Nat.{ℕ, ◌+◌, ◌-◌}
 use Rattle.layout.specs.Mapping.{Slice, before, files_of, offsets_of, sizes_of}
-use Rattle.layout.proofs.Slices.{walk_none, walk_end, walk_turn, before-length, one-le}
+use Rattle.layout.proofs.Slices.{walk_none, walk_end, walk_turn, before-length, one_le}
 use Rattle.blocks.proofs.Columns.{column-turn}
 use Rattle.blocks.proofs.write_slices.Goals as goal
 use Rattle.blocks.proofs.write_slices.Invariants.{Inv}
@@ -20,7 +20,7 @@ over i e =
     (omega (arith, i.sum, z), (rw e at i.in_f, (rw e at i.in-o, rw e at i.in-s)))
 
 pub loop-k-init : goal.loop-k-init
-loop-k-init c = record { low = omega arith; len-f = refl; len-o = refl; len-s = refl; in_f = refl; in-o = refl; in-s = refl; sum = omega arith }
+loop-k-init c = record { low = omega arith; in_f = refl; in-o = refl; in-s = refl; sum = omega arith }
 
 pub returns-then-left-eq0 : goal.returns-then-left-eq0
 returns-then-left-eq0 c =
@@ -35,7 +35,7 @@ returns-then-left-eq0 c =
     }
 
 pub overflow_add-n : goal.overflow_add-n
-overflow_add-n c = omega (arith, one-le c.min-part.result, c.slice_count-n.ensures, c.loop-k.invariant.low)
+overflow_add-n c = omega (arith, one_le c.min-part.result, c.slice_count-n.ensures, c.loop-k.invariant.low)
 
 pub loop-k-preserved : goal.loop-k-preserved
 loop-k-preserved c =
@@ -48,10 +48,7 @@ loop-k-preserved c =
     in
     let m : l.n + c.slice_count-n.result ≡ l.n + length x = ap (λ (j : ℕ). l.n + j) (c.slice_count-n.ensures ∙ sym (before-length (record { file = l.k; offset = l.s; size = c.min-part.result }))) in
     record {
-      low = omega (arith, one-le c.min-part.result, c.slice_count-n.ensures);
-      len-f = p.auto.out_file ∙ l.invariant.len-f;
-      len-o = p.auto.out_offset ∙ l.invariant.len-o;
-      len-s = p.auto.out_size ∙ l.invariant.len-s;
+      low = omega (arith, one_le c.min-part.result, c.slice_count-n.ensures);
       in_f = column-turn (λ s. s.file) l.out_file l.n x _ l.invariant.in_f e p.ensures.out_file_after m;
       in-o = column-turn (λ s. s.offset) l.out_offset l.n x _ l.invariant.in-o e p.ensures.out_offset_after m;
       in-s = column-turn (λ s. s.size) l.out_size l.n x _ l.invariant.in-s e p.ensures.out_size_after m;

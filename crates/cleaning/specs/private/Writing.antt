@@ -1,12 +1,11 @@
 -- What the private parts of a cleaning's code give: verdicts read from flags and marks, and the lengths of new texts.
 -- The meaning is that of Cleaning.antt; it relies on the joins of `path` and on the flags of a link in `lookup`.
-use Rattle.std.specs.Prelude.{ℕ, zero, suc, ◌+◌, ◌-◌, Bool, true, false, cond, List, [], ◌∷◌, eqb, ltb, length, get_or}
+use Rattle.std.specs.Prelude.{ℕ, zero, suc, ◌+◌, ◌-◌, cond, List, [], ◌∷◌, eqb, ltb, length, get_or}
 use Rattle.lists.specs.Lists.{cleared}
-use Rattle.types.specs.Refusals.{Outcome, value, refused}
+use Rattle.types.specs.Refusals.{value, refused}
 use Rattle.path.specs.Join.{appended}
 use Rattle.tables.specs.declared.span.Span.{Span}
 use Rattle.tables.specs.declared.rows.Row.{Row}
-use Rattle.tables.specs.declared.storage.FileStorage.{FileStorage}
 use Rattle.tables.specs.Span.{text_at, clip}
 use Rattle.tables.specs.Rows.{row_at, directory_span}
 use Rattle.tables.specs.Model.{Store}
@@ -98,11 +97,3 @@ cleaned_within s marks scratch walk_path =
     cond (eqb (cleaning_number s marks (length scratch) walk_path) 0)
     (cleaned_to (value (cleaned_store (length scratch) s).fs) (cleaned_store (length scratch) s) [] (cleared scratch) [])
     (cleaned_to (refused (cleaning_number s marks (length scratch) walk_path)) s [] scratch [])
-
--- whether a call was done, and what is cleared then
-abbrev pub is_done : Outcome FileStorage → Bool
-is_done (value fs) = true
-is_done (refused k) = false
-
-abbrev pub cleared_if : Bool → List ℕ → List ℕ
-cleared_if b xs = cond b (cleared xs) xs

@@ -1,13 +1,9 @@
 -- A composed path read byte by byte from its three parts: positions in it, what is left from a position on, and one
 -- step. It relies on the tests of a join of `path`.
-use Rattle.std.specs.Prelude.{ℕ, ◌+◌, Bool, false, cond, not, ◌&&◌, List, [], ◌∷◌, ◌++◌, eqb, ltb, length, get_or, drop}
+use Rattle.std.specs.Prelude.{ℕ, ◌+◌, Bool, false, cond, not, ◌&&◌, List, [], ◌∷◌, ◌++◌, eqb, ltb, length, get_or, drop, Option, Some, None}
 use Rattle.path.specs.Join.{is_alone, is_empty, is_closed}
 use Rattle.compatible.specs.declared.walk.Position.{Position}
 use Rattle.compatible.specs.declared.walk.Composition.{Composition}
-use Rattle.compatible.specs.declared.walk.Step.{Step}
-use Rattle.compatible.specs.declared.walk.Step.TheVariants.{Byte, End}
-use Rattle.compatible.specs.declared.walk.Meeting.{Meeting}
-use Rattle.compatible.specs.declared.walk.Meeting.TheVariants as meeting
 
 -- a part, and the separator that may follow it
 abbrev pub ended : List ℕ → Bool → List ℕ
@@ -40,12 +36,16 @@ rest_from a b c p =
 abbrev pub whole_of : List ℕ → List ℕ → List ℕ → Composition → List ℕ
 whole_of a b c k = rest_from (ended a k.cut_first) (ended b k.cut_second) c k.start
 
+-- a step: a byte and the position after it, nothing at the end of the path
+abbrev pub Step : Type 0
+Step = Option (ℕ × Position)
+
 -- the byte at position `at` of list l, the k-th, and the position after it; `other` past the end of the list
 abbrev pub step_in : List ℕ → ℕ → ℕ → Step → Step
-step_in l k at other = cond (ltb at (length l)) (Byte (get_or l at 0) (record { part = k; at = at + 1 })) other
+step_in l k at other = cond (ltb at (length l)) (Some (get_or l at 0, record { part = k; at = at + 1 })) other
 
 abbrev pub step_last : List ℕ → ℕ → Step
-step_last c at = step_in c 2 at End
+step_last c at = step_in c 2 at None
 
 abbrev pub step_second : List ℕ → List ℕ → ℕ → Step
 step_second b c at = step_in b 1 at (step_last c 0)
@@ -54,10 +54,3 @@ abbrev pub step_from : List ℕ → List ℕ → List ℕ → Position → Step
 step_from a b c p =
     cond (eqb p.part 0) (step_in a 0 p.at (step_second b c 0))
     (cond (eqb p.part 1) (step_second b c p.at) (step_last c p.at))
-
--- two steps that meet: on the same byte, on different ones, or both at the end
-abbrev pub meeting_of : Step → Step → Meeting
-meeting_of (Byte x p) (Byte y q) = cond (eqb x y) (meeting.Same p q) meeting.Differ
-meeting_of (Byte x p) End = meeting.Differ
-meeting_of End (Byte y q) = meeting.Differ
-meeting_of End End = meeting.Over

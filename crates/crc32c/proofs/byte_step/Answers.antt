@@ -1,20 +1,10 @@
 -- `crc32c::byte_step` meets its contract: the entry of the low eight bits, and the rest shifted down. Assumes nothing.
 use Prim.Native.Nat.{ℕ, ◌/◌}
 use mathlib.Core.Path.{◌∙◌, ap, sym}
-use native.Mathlib.Omega.{arith}
 use lib.Bits.{bit_xor, bit_and, mask_lt, and_mask}
 use Rattle.crc32c.specs.Crc.{bits}
 use Rattle.crc32c.proofs.Steps.{byte-table}
 use Rattle.crc32c.proofs.byte_step.Goals as goal
-
-pub overflow_cast-result : goal.overflow_cast-result
-overflow_cast-result c = omega (arith, mask_lt (bit_xor c.args.state c.args.b) 8)
-
-pub offset_bounds-table-i : goal.offset_bounds-table-i
-offset_bounds-table-i c = omega (arith, mask_lt (bit_xor c.args.state c.args.b) 8)
-
-pub bounds-table-i : goal.bounds-table-i
-bounds-table-i c = mask_lt (bit_xor c.args.state c.args.b) 8
 
 pub returns : goal.returns
 returns c =

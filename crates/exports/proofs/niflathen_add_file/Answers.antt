@@ -1,9 +1,10 @@
 -- The addition's own promise, at the record and the presences that were read.
+use Rattle.types.specs.Refusals.{outcome}
 use Rattle.std.proofs.Common.{◌∙◌, ap, ℤ, w64, to_z, of_z, to_z-of_z}
 use Rattle.tables.specs.declared.rows.Presence.{Presence}
 use Rattle.tables.specs.declared.storage.FileStorage.{FileStorage}
 use Rattle.tables.specs.Model.{store_of}
-use Rattle.change.specs.Changes.{Changed, changed_of, storage_says}
+use Rattle.change.specs.Changes.{Changed, changed_of}
 use Rattle.additions.specs.Addition.{optional_of}
 use Rattle.plan.specs.Outcomes.{add_stored}
 use Rattle.exports.specs.State.{storage_of, presence_of}
@@ -33,7 +34,7 @@ returns c =
     c.args.state.now
     c.put_answer.new.state
     c.put_answer.result
-    (changed_of (storage_says c.add_file-answer.result) c.add_file-answer.new.rows c.add_file-answer.new.roots c.add_file-answer.new.firsts c.add_file-answer.new.dirs c.add_file-answer.new.text)
+    (changed_of (outcome c.add_file-answer.result) c.add_file-answer.new.rows c.add_file-answer.new.roots c.add_file-answer.new.firsts c.add_file-answer.new.dirs c.add_file-answer.new.text)
     (added fs given rooted c.args.file_size c.args.mtime)
     (c.add_file-answer.ensures
     ∙ ap (λ (x : FileStorage). added x c.presence_of.result c.presence_of-2.result size time) c.storage_at.ensures

@@ -1,7 +1,8 @@
 -- The trim's own promise, at the record that was read.
+use Rattle.types.specs.Refusals.{outcome}
 use Rattle.std.proofs.Common.{◌∙◌, ap}
 use Rattle.tables.specs.declared.storage.FileStorage.{FileStorage}
-use Rattle.change.specs.Changes.{Changed, storage_says}
+use Rattle.change.specs.Changes.{Changed}
 use Rattle.trim.specs.Removal.{trim_stored}
 use Rattle.exports.specs.State.{storage_of}
 use Rattle.exports.proofs.Exported.{answered}
@@ -11,7 +12,7 @@ pub returns : goal.returns
 returns c firsts =
     let left : Changed =
     record {
-      says = storage_says c.remove_tail_padding-answer.result;
+      says = outcome c.remove_tail_padding-answer.result;
       rows = c.remove_tail_padding-answer.new.rows;
       roots = c.remove_tail_padding-answer.new.roots;
       firsts = firsts;

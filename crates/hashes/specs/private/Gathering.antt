@@ -19,11 +19,6 @@ abbrev pub gathered : ℕ → List ℕ → List ℕ → List ℕ
 gathered b [] xs = xs
 gathered b (h ∷ hs) xs = gathered b hs (cond (ltb h b) xs (inserted h xs))
 
--- the number of those before the first that is h or above
-abbrev pub below_count : ℕ → List ℕ → ℕ
-below_count h [] = 0
-below_count h (x ∷ xs) = cond (ltb x h) (suc (below_count h xs)) 0
-
 -- each is above the one before it, and the first is at or above b
 abbrev pub Rising : ℕ → List ℕ → Type 0
 Rising b [] = Unit

@@ -1,8 +1,7 @@
 -- The same as Output.antt by rows: a line of four columns, a file's line by its row in the tables, and the lines of all
 -- files. It relies on the columns of `lists`, the joins of `path`, the rows of `tables`, Output.antt and Printing.antt.
-use Rattle.std.specs.Prelude.{ℕ, ◌-◌, ◌%◌, cond, List, [], ◌∷◌, ◌++◌, leb}
+use Rattle.std.specs.Prelude.{ℕ, ◌-◌, ◌%◌, cond, List, [], ◌∷◌, ◌++◌, leb, Option, Some, None}
 use Rattle.lists.specs.Decimal.{column}
-use Rattle.types.specs.Refusals.{Outcome, value, refused}
 use Rattle.path.specs.Join.{appended}
 use Rattle.tables.specs.declared.rows.Row.{Row}
 use Rattle.tables.specs.declared.storage.FileStorage.{FileStorage}
@@ -31,6 +30,6 @@ row_line dirs text i r = four_columns i r.offset r.size 2 (r.flags % 2) 32 ++ (r
 abbrev pub lines_of : FileStorage → List ℕ → List ℕ → List ℕ → List ℕ
 lines_of fs rows dirs text = file_lines 0 (shown fs rows dirs text).files
 
--- what is left of `room` bytes once `needed` are taken
-abbrev pub left_in : ℕ → ℕ → Outcome ℕ
-left_in needed room = cond (leb needed room) (value (room - needed)) (refused 10)
+-- what is left of `room` bytes once `needed` are taken, if they are there
+abbrev pub left_in : ℕ → ℕ → Option ℕ
+left_in needed room = cond (leb needed room) (Some (room - needed)) None

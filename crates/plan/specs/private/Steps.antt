@@ -1,10 +1,11 @@
 -- The steps that the code takes to a plan: directories, counts, spans of the new texts. proofs/Plans.antt ties them to
 -- `planned_for` of Plan.antt.
-use Rattle.std.specs.Prelude.{◌≡◌, ℕ, ◌+◌, ◌<◌, ◌≤◌, Bool, true, cond, not, ◌&&◌, ◌||◌, List, [], ◌∷◌, ◌++◌, length, ◌==◌, nat_lt}
+use Rattle.std.specs.Prelude.{◌≡◌, ℕ, ◌+◌, ◌<◌, ◌≤◌, Bool, true, false, cond, not, ◌&&◌, ◌||◌, List, [], ◌∷◌, ◌++◌, length, ◌==◌, nat_lt, Option, Some, None}
+use Rattle.std.specs.Bool.{then_some}
 use Rattle.lists.specs.Lists.{ceiling}
 use Rattle.types.specs.Refusals.{Outcome}
 use Rattle.types.specs.Signed.{zigzag}
-use Rattle.tables.specs.Model.{Optional, absent, present, Directory, is_pad, Model, tabled}
+use Rattle.tables.specs.Model.{Directory, is_pad, Model, tabled}
 use Rattle.rules.specs.Rules.{outcome_of}
 use Rattle.additions.specs.Addition.{Addition, flags_kept, link_is_kept}
 use Rattle.additions.specs.Addition.{pad_directory_name, with_directory_of, with_directory, directory_added}
@@ -28,8 +29,6 @@ use Rattle.plan.specs.declared.counts.Counts.{Counts}
 use Rattle.plan.specs.declared.counts.FileFacts.{FileFacts}
 use Rattle.plan.specs.declared.counts.RowFacts.{RowFacts}
 use Rattle.plan.specs.declared.plan.TextSpans.{TextSpans}
-use Rattle.plan.specs.declared.plan.TextSpansResult.{TextSpansResult}
-use Rattle.plan.specs.declared.plan.TextSpansResult.TheVariants as laid
 use Rattle.plan.specs.declared.plan.TextLengths.{TextLengths}
 use Rattle.plan.specs.declared.plan.AddPlan.{AddPlan}
 
@@ -47,6 +46,14 @@ dir_plan_of d ds =
       len = length (new_text_of d ds);
       count = length (with_directory_of d ds);
     }
+
+-- the plan of a directory that is stored, or of none, with index k beside n stored ones, and that of a new one, after n
+-- stored ones, with a text of len bytes
+abbrev pub known_at : ℕ → ℕ → DirPlan
+known_at k n = record { index = k; new = false; len = 0; count = n }
+
+abbrev pub added_at : ℕ → ℕ → DirPlan
+added_at n len = record { index = n; new = true; len = len; count = n + 1 }
 
 -- the directories with one more, where it is new
 abbrev pub dirs_with : Bool → List ℕ → List (List ℕ) → List (List ℕ)
@@ -129,13 +136,9 @@ text_spans_of start set dir name link pad_dir pad =
       end = start + set + dir + name + link + pad_dir + pad;
     }
 
-abbrev pub text_spans_says : TextSpansResult → Optional TextSpans
-text_spans_says (laid.Ok p) = present p
-text_spans_says laid.Full = absent
-
 -- spans that end within the room
-abbrev pub spans_within : ℕ → TextSpans → Optional TextSpans
-spans_within room p = cond (nat_lt room p.end) absent (present p)
+abbrev pub spans_within : ℕ → TextSpans → Option TextSpans
+spans_within room p = cond (nat_lt room p.end) None (Some p)
 
 -- ---- the plan
 
@@ -175,12 +178,9 @@ plan_from fs z counts file first second spans old parts =
         flags = made_pad_flags;
         time = 0;
       };
-      dir = record { new = first.new; slot = fs.num_paths; text = spans.directory };
-      pad_dir = record {
-        new = second.new;
-        slot = first.count;
-        text = record { at = spans.pad_directory; len = 4 };
-      };
+      dir = then_some first.new (record { slot = fs.num_paths; text = spans.directory });
+      pad_dir =
+          then_some second.new (record { slot = first.count; text = record { at = spans.pad_directory; len = 4 } });
       old = old;
       start = spans.set.at;
       parts = parts;

@@ -5,6 +5,7 @@
 --     changes, is_own, is_beside               whether a verdict changes a text, and how
 --     amount                              a sum over files, by their verdicts
 --     emptied-turned, rewritten-turned    the two passes
+use Rattle.std.specs.Prelude.{Some}
 use mathlib.Core.Path.{◌≡◌, refl, sym, ap, ap₂, subst, ◌∙◌}
 use mathlib.Core.Bool.{Bool, true, false, cond}
 use mathlib.Core.List.{List, [], ◌∷◌, ◌++◌}
@@ -18,7 +19,7 @@ use Rattle.tables.specs.declared.span.Span.{Span}
 use Rattle.tables.specs.declared.storage.FileStorage.{FileStorage}
 use Rattle.tables.specs.Span.{end_of, text_at}
 use Rattle.tables.specs.Rows.{row_at, directory_span, has}
-use Rattle.tables.specs.Model.{present, present_if, Directory, single, absolute, stored, File, Store, file_of, path_in}
+use Rattle.tables.specs.Model.{present_if, Directory, single, absolute, stored, File, Store, file_of, path_in}
 use Rattle.lookup.specs.Lookup.{Entry, entry_of, is_held, held_text}
 use Rattle.links.specs.Clean.{linked_to}
 use Rattle.links.specs.declared.mark.LinkVerdict.{LinkVerdict}
@@ -125,7 +126,7 @@ amount-same w x (v ∷ vs) i s t e = ap₂ ◌+◌ first (amount-same w x vs (i 
 
 abbrev pub emptied_file : LinkVerdict → File → File
 emptied_file Keep f = f
-emptied_file OwnPath f = linked_to (present []) f
+emptied_file OwnPath f = linked_to (Some []) f
 emptied_file FromDirectory f = f
 
 -- the bytes of the texts that go
@@ -205,8 +206,8 @@ emptied-turned (v ∷ vs) i s ok h e =
 
 abbrev pub rewritten_file : LinkVerdict → File → File
 rewritten_file Keep f = f
-rewritten_file OwnPath f = linked_to (present (text_by OwnPath (entry_of f))) f
-rewritten_file FromDirectory f = linked_to (present (text_by FromDirectory (entry_of f))) f
+rewritten_file OwnPath f = linked_to (Some (text_by OwnPath (entry_of f))) f
+rewritten_file FromDirectory f = linked_to (Some (text_by FromDirectory (entry_of f))) f
 
 -- by how much the new text is longer
 abbrev pub grown : LinkVerdict → Entry → ℕ
@@ -242,11 +243,11 @@ module _ (s : Store) (ok : Sound s) (i : ℕ) (h : i < s.fs.num_files) where
   given v = text_by v (entry_of (file_of s i))
 
   -- the text is that of the file itself
-  of-itself : (v : LinkVerdict) (k : ℕ) → k < s.fs.num_files → at_file i (linked_to (present (given v))) k (file_of s k) ≡ at_file i (λ (f : File). linked_to (present (text_by v (entry_of f))) f) k (file_of s k)
+  of-itself : (v : LinkVerdict) (k : ℕ) → k < s.fs.num_files → at_file i (linked_to (Some (given v))) k (file_of s k) ≡ at_file i (λ (f : File). linked_to (Some (text_by v (entry_of f))) f) k (file_of s k)
   of-itself v k b = at (eqb k i) refl
     where
-      at : (c : Bool) → eqb k i ≡ c → cond c (linked_to (present (given v)) (file_of s k)) (file_of s k) ≡ cond c (linked_to (present (text_by v (entry_of (file_of s k)))) (file_of s k)) (file_of s k)
-      at true q = ap (λ (j : ℕ). linked_to (present (text_by v (entry_of (file_of s j)))) (file_of s k)) (sym (eqb-true k i q))
+      at : (c : Bool) → eqb k i ≡ c → cond c (linked_to (Some (given v)) (file_of s k)) (file_of s k) ≡ cond c (linked_to (Some (text_by v (entry_of (file_of s k)))) (file_of s k)) (file_of s k)
+      at true q = ap (λ (j : ℕ). linked_to (Some (text_by v (entry_of (file_of s j)))) (file_of s k)) (sym (eqb-true k i q))
       at false q = refl
 
   -- what goes, and that this is in the used part

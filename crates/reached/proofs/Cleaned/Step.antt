@@ -2,6 +2,7 @@
 -- one. The tables stay in order and mean the set with that link's text. It relies on Cleaned/Texts.antt and on the laws of spans
 -- and rows in `tables`.
 --     emptied-turn, linked-turn, relinked-turn
+use Rattle.std.specs.Prelude.{Some}
 use mathlib.Core.Path.{◌≡◌, refl, sym, ap, subst, ◌∙◌}
 use mathlib.Core.Bool.{Bool, true, false, cond}
 use mathlib.Core.Logic.{◌⊎◌, inl, inr}
@@ -19,7 +20,7 @@ use Rattle.tables.specs.declared.span.Span.{Span}
 use Rattle.tables.specs.declared.rows.Row.{Row}
 use Rattle.tables.specs.Span.{end_of, text_at, Apart, low}
 use Rattle.tables.specs.Rows.{row_at, words, dir_at, put_row, has, filled}
-use Rattle.tables.specs.Model.{present, File, Store, file_of}
+use Rattle.tables.specs.Model.{File, Store, file_of}
 use Rattle.tables.proofs.Spans.{apart-kept, within-kept, read_kept, apart-empty, apart-before, apart-sym, clip-same, length-slid, read-before, read-new}
 use Rattle.tables.proofs.Words.{InRange, row-in-range, row_back, row_other, length-put-row}
 use Rattle.tables.proofs.Moves.{row-filled, dir-lowered, length-lowered}
@@ -75,10 +76,10 @@ linked-twice x i l h =
         }
 
 -- of two texts put for one file the second counts
-twice : (i : ℕ) (a b : List ℕ) (k : ℕ) (f : File) → at_file i (linked_to (present b)) k (at_file i (linked_to (present a)) k f) ≡ at_file i (linked_to (present b)) k f
+twice : (i : ℕ) (a b : List ℕ) (k : ℕ) (f : File) → at_file i (linked_to (Some b)) k (at_file i (linked_to (Some a)) k f) ≡ at_file i (linked_to (Some b)) k f
 twice i a b k f = at (eqb k i)
   where
-    at : (c : Bool) → cond c (linked_to (present b) (cond c (linked_to (present a) f) f)) (cond c (linked_to (present a) f) f) ≡ cond c (linked_to (present b) f) f
+    at : (c : Bool) → cond c (linked_to (Some b) (cond c (linked_to (Some a) f) f)) (cond c (linked_to (Some a) f) f) ≡ cond c (linked_to (Some b) f) f
     at true = refl
     at false = refl
 
@@ -211,12 +212,12 @@ module _ (s : Store) (ok : Sound s) (i : ℕ) (h : i < s.fs.num_files) where
       }
 
   module _ (held : has (row_at s.rows i).flags 16 ≡ true) where
-    without-turn : Turned s without (at_file i (linked_to (present [])))
+    without-turn : Turned s without (at_file i (linked_to (Some [])))
     without-turn = turn s ok i h [] (area_of without) relinks-without held
 
-    pub emptied-turn : Turned s (relinked s i []) (at_file i (linked_to (present [])))
+    pub emptied-turn : Turned s (relinked s i []) (at_file i (linked_to (Some [])))
     emptied-turn =
-        subst (λ (x : Span). Turned s (linked (cut_out s x) i []) (at_file i (linked_to (present [])))) (sym gone-is) without-turn
+        subst (λ (x : Span). Turned s (linked (cut_out s x) i []) (at_file i (linked_to (Some [])))) (sym gone-is) without-turn
 
   -- ---- a text is put where none was
 
@@ -291,7 +292,7 @@ module _ (s : Store) (ok : Sound s) (i : ℕ) (h : i < s.fs.num_files) where
           apart = apart-put;
         }
 
-    pub linked-turn : has (row_at s.rows i).flags 16 ≡ true → Turned s (linked s i l) (at_file i (linked_to (present l)))
+    pub linked-turn : has (row_at s.rows i).flags 16 ≡ true → Turned s (linked s i l) (at_file i (linked_to (Some l)))
     linked-turn held = turn s ok i h l (area_of put) relinks-put held
 
 -- ---- a text takes the place of the old one
@@ -302,18 +303,18 @@ module _ (s : Store) (ok : Sound s) (i : ℕ) (h : i < s.fs.num_files) (l : List
 
   -- it goes, and then the new one is put
   module _ (room : s.fs.text_len - old.len + length l ≤ length s.text) where
-    between : Turned s (without s ok i h) (at_file i (linked_to (present [])))
+    between : Turned s (without s ok i h) (at_file i (linked_to (Some [])))
     between = without-turn s ok i h held
 
-    second : Turned (without s ok i h) (linked (without s ok i h) i l) (at_file i (linked_to (present l)))
+    second : Turned (without s ok i h) (linked (without s ok i h) i l) (at_file i (linked_to (Some l)))
     second =
         linked-turn (without s ok i h) between.sound i h l
         (ap (λ (r : Row). r.link.len) (row_here s ok i h))
         (omega (arith, between.long))
         (ap (λ (r : Row). has r.flags 16) (row_here s ok i h) ∙ held)
 
-    pub relinked-turn : Turned s (relinked s i l) (at_file i (linked_to (present l)))
+    pub relinked-turn : Turned s (relinked s i l) (at_file i (linked_to (Some l)))
     relinked-turn =
-        subst (λ (x : Span). Turned s (linked (cut_out s x) i l) (at_file i (linked_to (present l)))) (sym (gone-is s ok i h))
-        (subst (λ (x : Store). Turned s x (at_file i (linked_to (present l)))) (linked-twice (cut_out s old) i l (omega (arith, ok.rows-hold, length-rows-lowered s.rows s.fs.num_files old)))
+        subst (λ (x : Span). Turned s (linked (cut_out s x) i l) (at_file i (linked_to (Some l)))) (sym (gone-is s ok i h))
+        (subst (λ (x : Store). Turned s x (at_file i (linked_to (Some l)))) (linked-twice (cut_out s old) i l (omega (arith, ok.rows-hold, length-rows-lowered s.rows s.fs.num_files old)))
         (turned_same (λ k b. twice i [] l k (file_of s k)) (turned_then between second)))

@@ -3,6 +3,7 @@
 --     Area, over          a store with other places of texts
 --     Relinks             what is asked of them
 --     Turned, turn        what then holds
+use Rattle.std.specs.Prelude.{Some}
 use mathlib.Core.Path.{◌≡◌, refl, sym, ap, ◌∙◌}
 use mathlib.Core.Bool.{Bool, true, false, cond, false≢true}
 use mathlib.Core.List.{List}
@@ -16,7 +17,7 @@ use Rattle.tables.specs.declared.rows.Row.{Row}
 use Rattle.tables.specs.declared.storage.FileStorage.{FileStorage}
 use Rattle.tables.specs.Span.{end_of, text_at, Apart}
 use Rattle.tables.specs.Rows.{row_at, root_at, has, skip}
-use Rattle.tables.specs.Model.{present, present_if, File, Model, Store, tabled, directory_text, directory_of, file_of, view_of}
+use Rattle.tables.specs.Model.{present_if, File, Model, Store, tabled, directory_text, directory_of, file_of, view_of}
 use Rattle.tables.proofs.Tabled.{tabled-same}
 use Rattle.links.specs.Clean.{linked_to}
 use Rattle.texts.specs.Texts.{storage_with, row_with}
@@ -280,10 +281,10 @@ module _ (s : Store) (ok : Sound s) (i : ℕ) (h : i < s.fs.num_files) (l : List
   file-after : (k : ℕ) → k < n → (x : List ℕ) → text_at a.text (row_at a.rows k).link ≡ x → file_of t k ≡ with k x
   file-after k b x e = same-file (r.row k b) (name-kept k b) (place_kept k b) e refl
 
-  files-after : (k : ℕ) → k < n → file_of t k ≡ at_file i (linked_to (present l)) k (file_of s k)
+  files-after : (k : ℕ) → k < n → file_of t k ≡ at_file i (linked_to (Some l)) k (file_of s k)
   files-after k b = at (eqb k i) refl
     where
-      at : (c : Bool) → eqb k i ≡ c → file_of t k ≡ cond c (linked_to (present l) (file_of s k)) (file_of s k)
+      at : (c : Bool) → eqb k i ≡ c → file_of t k ≡ cond c (linked_to (Some l) (file_of s k)) (file_of s k)
       at true q =
           let e : text_at a.text (row_at a.rows k).link ≡ l = rw (eqb-true k i q) r.says in
           let f : has (row_at s.rows k).flags 16 ≡ true = rw (eqb-true k i q) held in
@@ -291,7 +292,7 @@ module _ (s : Store) (ok : Sound s) (i : ℕ) (h : i < s.fs.num_files) (l : List
       at false q = file-after k b (text_at s.text (row_at s.rows k).link) (link-kept k b (eqb-false k i q))
 
   -- together
-  pub turn : Turned s (over s a) (at_file i (linked_to (present l)))
+  pub turn : Turned s (over s a) (at_file i (linked_to (Some l)))
   turn =
       record {
         sound = sound-after;

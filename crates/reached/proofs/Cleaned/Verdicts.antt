@@ -3,6 +3,7 @@
 --     verdict-at, cleaned-file    the verdict of each file gives what the cleaning makes of it
 --     balance, …               sums
 --     space-at                 a text of a flagged link fits into the work space
+use Rattle.std.specs.Prelude.{Option, Some, None}
 use mathlib.Core.Path.{◌≡◌, refl, sym, ap, ◌∙◌}
 use mathlib.Core.Bool.{Bool, true, false, cond, false≢true}
 use mathlib.Core.List.{List, [], ◌∷◌}
@@ -11,7 +12,7 @@ use native.Mathlib.Omega.{arith}
 use lib.ListN.{length}
 use borrow.Author.Tests.{eq-eqb, ne_eqb}
 use Rattle.tables.specs.declared.span.Span.{Span}
-use Rattle.tables.specs.Model.{Optional, absent, present, Directory, single, absolute, stored, File, Store, tabled, file_of, path_in}
+use Rattle.tables.specs.Model.{Directory, single, absolute, stored, File, Store, tabled, file_of, path_in}
 use Rattle.additions.specs.Addition.{link_length}
 use Rattle.lookup.specs.Lookup.{Entry, entry_of, is_held, held_text}
 use Rattle.links.specs.Clean.{linked_to, clean_text, clean_file}
@@ -61,17 +62,17 @@ verdict-flagged false v e = e
 -- ---- what becomes of a file
 
 -- a link text that is held
-still-held : (l : Optional (List ℕ)) → is_held l ≡ true → l ≡ present (held_text l)
-still-held absent e = absurd (false≢true e)
-still-held (present t) e = refl
+still-held : (l : Option (List ℕ)) → is_held l ≡ true → l ≡ Some (held_text l)
+still-held None e = absurd (false≢true e)
+still-held (Some t) e = refl
 
-pub length-held : (l : Optional (List ℕ)) → link_length l ≡ length (held_text l)
-length-held absent = refl
-length-held (present t) = refl
+pub length-held : (l : Option (List ℕ)) → link_length l ≡ length (held_text l)
+length-held None = refl
+length-held (Some t) = refl
 
 -- a file that holds a link text has the text that the verdict gives
-pub given-file : (v : LinkVerdict) (f : File) → is_held f.link ≡ true → rewritten_file v (emptied_file v f) ≡ linked_to (present (text_by v (entry_of f))) f
-given-file Keep f h = ap (λ (l : Optional (List ℕ)). linked_to l f) (still-held f.link h)
+pub given-file : (v : LinkVerdict) (f : File) → is_held f.link ≡ true → rewritten_file v (emptied_file v f) ≡ linked_to (Some (text_by v (entry_of f))) f
+given-file Keep f h = ap (λ (l : Option (List ℕ)). linked_to l f) (still-held f.link h)
 given-file OwnPath f h = refl
 given-file FromDirectory f h = refl
 
@@ -83,8 +84,8 @@ module _ (files : List Entry) (dirs : List (List ℕ)) (f : File) where
   pub cleaned-file : rewritten_file (verdict files dirs (entry_of f)) (emptied_file (verdict files dirs (entry_of f)) f) ≡ clean_file files dirs f
   cleaned-file = at (entry_of f).flagged (held-flagged f)
     where
-      at : (b : Bool) → (b ≡ true → is_held f.link ≡ true) → rewritten_file (cond b v Keep) (emptied_file (cond b v Keep) f) ≡ cond b (linked_to (present (clean_text files dirs (entry_of f))) f) f
-      at true h = given-file v f (h refl) ∙ ap (λ (t : List ℕ). linked_to (present t) f) (verdict-text files dirs (entry_of f))
+      at : (b : Bool) → (b ≡ true → is_held f.link ≡ true) → rewritten_file (cond b v Keep) (emptied_file (cond b v Keep) f) ≡ cond b (linked_to (Some (clean_text files dirs (entry_of f))) f) f
+      at true h = given-file v f (h refl) ∙ ap (λ (t : List ℕ). linked_to (Some t) f) (verdict-text files dirs (entry_of f))
       at false h = refl
 
 -- ---- sums over files

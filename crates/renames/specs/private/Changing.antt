@@ -1,7 +1,7 @@
 -- The decision before a rename, on numbers: the slot of the rename, or the refusal. It relies on the slots of
 -- Slots.antt and on the order of Renames.antt.
 use Rattle.std.specs.Prelude.{ℕ, ◌+◌, ◌-◌, ◌/◌, Bool, ◌||◌, List, [], ◌∷◌, ltb, ℤ, length}
-use Rattle.types.specs.Refusals.{number_of, Outcome, value, refused}
+use Rattle.types.specs.Refusals.{Outcome}
 use Rattle.tables.specs.declared.storage.FileStorage.{FileStorage}
 use Rattle.rules.specs.Rules.{when, first_of, outcome_of}
 use Rattle.rules.specs.Bounds.{clamped_of}
@@ -9,14 +9,8 @@ use Rattle.rules.specs.Questions.{bad_piece_length, no_file, short, few_entries}
 use Rattle.renames.specs.declared.rename.RenameMode.{RenameMode}
 use Rattle.renames.specs.declared.rename.RenamedFiles.{RenamedFiles}
 use Rattle.renames.specs.declared.slot.Slot.{Slot}
-use Rattle.renames.specs.declared.slot.SlotResult.{SlotResult}
-use Rattle.renames.specs.declared.slot.SlotResult.TheVariants as slot
 use Rattle.renames.specs.Renames.{Renamed, renames_of, with_rename, mode_for, in_order_in}
 use Rattle.renames.specs.private.Slots.{slot_of}
-
-abbrev pub slot_says : SlotResult → Outcome Slot
-slot_says (slot.At p) = value p
-slot_says (slot.Err e) = refused (number_of e)
 
 -- `lacks_room` where a text of `len` bytes comes to slot p
 abbrev pub is_short : RenamedFiles → Slot → ℕ → ℕ → ℕ → Bool

@@ -21,5 +21,5 @@ abbrev pub slot_of : ℕ → ℕ → List ℕ → Slot
 slot_of n k entries = slot_at n k (below_from n 0 k entries) entries
 
 -- a table whose first `used` cells are in use, after the `old` cells from `at` on give way to new ones
-abbrev pub spliced : List ℕ → ℕ → ℕ → ℕ → List ℕ → List ℕ
+abbrev pub spliced : {A : Type 0} → List A → ℕ → ℕ → ℕ → List A → List A
 spliced l used at old new = sets l at (new ++ drop (at + old) (take used l))

@@ -1,5 +1,6 @@
 -- A file's row put behind those held, with its name, link text and root: the tables stay in order, and mean the set with one
 -- more file. Relies on Added/Texts.antt.
+use Rattle.std.specs.Prelude.{Option, Some, None}
 use mathlib.Core.Path.{◌≡◌, refl, sym, ap, ◌∙◌}
 use mathlib.Core.Logic.{◌⊎◌, inl, inr}
 use mathlib.Core.Bool.{Bool, true, false, cond}
@@ -16,7 +17,7 @@ use Rattle.tables.specs.declared.span.Span.{Span}
 use Rattle.tables.specs.declared.rows.Row.{Row}
 use Rattle.tables.specs.Span.{text_at}
 use Rattle.tables.specs.Rows.{row_at, put_row, root_at, has}
-use Rattle.tables.specs.Model.{Optional, absent, present, present_if, File, Store, tabled, directory_of, file_of, view_of}
+use Rattle.tables.specs.Model.{present_if, File, Store, tabled, directory_of, file_of, view_of}
 use Rattle.tables.proofs.Spans.{read-before, read-new}
 use Rattle.tables.proofs.Words.{InRange, row_back, row_other, root-back, root-other}
 use Rattle.tables.proofs.Tabled.{tabled-more}
@@ -35,7 +36,7 @@ pub record NewFile : Type 0 where
   pub index : ℕ
   pub flags : ℕ
   pub time : ℕ
-  pub root : Optional (List ℕ)
+  pub root : Option (List ℕ)
 
 -- the row of a new file that begins at byte o and whose texts begin at byte u of the text area
 abbrev pub row_for : ℕ → ℕ → NewFile → Row
@@ -85,23 +86,23 @@ pub record Fitting (s : Store) (f : NewFile) : Type 0 where
   pub text-holds : s.fs.text_len + length f.name + length f.link ≤ length s.text
   pub limited : s.fs.total_size + f.size ≤ limit
   pub flagged : f.flags < 2 ^ 16
-  pub rooted : (root : List ℕ) → f.root ≡ present root → length root ≡ 32
+  pub rooted : (root : List ℕ) → f.root ≡ Some root → length root ≡ 32
   pub unlinked : has f.flags 16 ≡ false → length f.link ≡ 0
   pub placed : f.index < 1073741822 → f.index < s.fs.num_paths
   pub indexed : f.index ≤ 1073741823
 
 -- roots
-pub length-roots : (roots : List ℕ) (i : ℕ) (root : Optional (List ℕ)) → length (roots_added roots i root) ≡ length roots
-length-roots roots i absent = refl
-length-roots roots i (present root) = length-sets roots (i * 32) root
+pub length-roots : (roots : List ℕ) (i : ℕ) (root : Option (List ℕ)) → length (roots_added roots i root) ≡ length roots
+length-roots roots i None = refl
+length-roots roots i (Some root) = length-sets roots (i * 32) root
 
-roots-other : (roots : List ℕ) (i k : ℕ) (root : Optional (List ℕ)) → ((r : List ℕ) → root ≡ present r → length r ≡ 32) → (k ≡ i → ⊥) → root_at (roots_added roots i root) k ≡ root_at roots k
-roots-other roots i k absent l d = refl
-roots-other roots i k (present root) l d = root-other roots i root (l root refl) k d
+roots-other : (roots : List ℕ) (i k : ℕ) (root : Option (List ℕ)) → ((r : List ℕ) → root ≡ Some r → length r ≡ 32) → (k ≡ i → ⊥) → root_at (roots_added roots i root) k ≡ root_at roots k
+roots-other roots i k None l d = refl
+roots-other roots i k (Some root) l d = root-other roots i root (l root refl) k d
 
-root-there : (roots : List ℕ) (i : ℕ) (root : Optional (List ℕ)) → ((r : List ℕ) → root ≡ present r → length r ≡ 32) → i * 32 + 32 ≤ length roots → present_if (is_present root) (root_at (roots_added roots i root) i) ≡ root
-root-there roots i absent l h = refl
-root-there roots i (present root) l h = ap present (root-back roots i root (l root refl) h)
+root-there : (roots : List ℕ) (i : ℕ) (root : Option (List ℕ)) → ((r : List ℕ) → root ≡ Some r → length r ≡ 32) → i * 32 + 32 ≤ length roots → present_if (is_present root) (root_at (roots_added roots i root) i) ≡ root
+root-there roots i None l h = refl
+root-there roots i (Some root) l h = ap Some (root-back roots i root (l root refl) h)
 
 module _ (s : Store) (f : NewFile) (ok : Sound s) (fit : Fitting s f) where
   abbrev new : Store

@@ -1,4 +1,5 @@
 -- An addition as a whole is its stages one after the other. Relies on Added/Stages.antt and on the law of texts in a row of `plan`.
+use Rattle.std.specs.Prelude.{None}
 use mathlib.Core.Path.{◌≡◌, refl, ap, ◌∙◌}
 use mathlib.Core.Bool.{Bool, true, false, cond, not, ◌&&◌}
 use mathlib.Core.List.{List, [], ◌∷◌, ◌++◌}
@@ -10,7 +11,7 @@ use Rattle.types.specs.Signed.{zigzag}
 use Rattle.tables.specs.declared.storage.FileStorage.{FileStorage}
 use Rattle.tables.specs.Span.{slid}
 use Rattle.tables.specs.Rows.{has}
-use Rattle.tables.specs.Model.{absent, Directory, single, absolute, stored, Model, Store, store_of}
+use Rattle.tables.specs.Model.{Directory, single, absolute, stored, Model, Store, store_of}
 use Rattle.additions.specs.Addition.{Addition, added, files_of, size_added, keeps, is_v2, pad_of, directory_added, file_added, pad_added, pad_directory_name, flags_kept, is_among, with_directory, with_directory_of, is_present}
 use Rattle.plan.specs.Write.{directory_index, path_index_of, is_outside, text_if_new, new_texts, set_text, directory_new, name_text, link_new, pad_directory_new, pad_text, old_name, text_kept, put_dir_if, is_new, is_new_directory, is_new_pad, roots_added, storage_added, firsts_added, store_added}
 use Rattle.plan.proofs.Joined.{sets-joined}
@@ -43,7 +44,7 @@ new_pad m a =
       index = directory_index pad_directory_name (with_directory_of (directory_added m a) m.directories);
       flags = 65;
       time = 0;
-      root = absent;
+      root = None;
     }
 
 abbrev pub stage1 : Store → Model → Addition → Store

@@ -1,5 +1,6 @@
 -- What tables in order mean once row f is removed: the set without file f. It relies on Trimmed/Texts.antt and on the laws of
 -- spans in `tables`, which serve the roots as well.
+use Rattle.std.specs.Prelude.{Option}
 use mathlib.Core.Path.{◌≡◌, refl, sym, ap, ◌∙◌}
 use mathlib.Core.Bool.{Bool, true, false, cond}
 use mathlib.Core.List.{List, ◌++◌, map}
@@ -17,7 +18,7 @@ use Rattle.tables.specs.declared.span.Span.{Span}
 use Rattle.tables.specs.declared.rows.Row.{Row}
 use Rattle.tables.specs.Span.{text_at, Apart, low, lower, slid}
 use Rattle.tables.specs.Rows.{row_at, root_at, has, skip}
-use Rattle.tables.specs.Model.{Optional, present_if, Directory, single, absolute, stored, File, Store, tabled, directory_text, file_of, view_of}
+use Rattle.tables.specs.Model.{present_if, Directory, single, absolute, stored, File, Store, tabled, directory_text, file_of, view_of}
 use Rattle.tables.proofs.Spans.{read_kept, length-slid}
 use Rattle.tables.proofs.Tabled.{tabled-same}
 use Rattle.trim.specs.Trim.{beginning_at, without_file}
@@ -67,11 +68,11 @@ module _ (roots : List ℕ) (n f k : ℕ) (hf : f < n) (hk : k < n - 1) (hold : 
 
 -- ---- equal records from equal fields
 
-abbrev file : ℕ → ℕ → List ℕ → Directory → ℕ → ℤ → Optional (List ℕ) → Optional (List ℕ) → Bool → File
+abbrev file : ℕ → ℕ → List ℕ → Directory → ℕ → ℤ → Option (List ℕ) → Option (List ℕ) → Bool → File
 file o s n d g t l r m =
     record { offset = o; size = s; name = n; directory = d; flags = g; time = t; link = l; root = r; made = m }
 
-same-file : {o o' s s' g g' : ℕ} {n n' : List ℕ} {d d' : Directory} {t t' : ℤ} {l l' r r' : Optional (List ℕ)} {m m' : Bool}
+same-file : {o o' s s' g g' : ℕ} {n n' : List ℕ} {d d' : Directory} {t t' : ℤ} {l l' r r' : Option (List ℕ)} {m m' : Bool}
     → o ≡ o' → s ≡ s' → n ≡ n' → d ≡ d' → g ≡ g' → t ≡ t' → l ≡ l' → r ≡ r' → m ≡ m' → file o s n d g t l r m ≡ file o' s' n' d' g' t' l' r' m'
 same-file o s n d g t l r m = cc
 

@@ -1,40 +1,41 @@
 -- What each table holds once a plan is written. Private: the public definitions are those of `plan`, and
 -- proofs/Written.antt ties these to them.
-use Rattle.std.specs.Prelude.{ℕ, ◌+◌, ◌-◌, cond, List, [], eqb, replicate}
+use Rattle.std.specs.Prelude.{ℕ, ◌+◌, ◌-◌, cond, List, eqb, replicate, Option, Some, None}
 use Rattle.std.proofs.lemmas.List.Edits.{sets}
 use Rattle.tables.specs.declared.span.Span.{Span}
 use Rattle.tables.specs.declared.storage.FileStorage.{FileStorage}
 use Rattle.tables.specs.Span.{slid}
-use Rattle.tables.specs.Rows.{put_row, dirs_lowered}
+use Rattle.tables.specs.Rows.{put_row, put_dir, dirs_lowered}
 use Rattle.rules.specs.Questions.{num_pieces}
 use Rattle.additions.specs.Addition.{pad_directory_name}
 use Rattle.plan.specs.declared.plan.NewDir.{NewDir}
 use Rattle.plan.specs.declared.plan.AddPlan.{AddPlan}
-use Rattle.plan.specs.Write.{pad_digits, put_dir_if}
+use Rattle.plan.specs.Write.{pad_digits}
 
 -- the text area without the old name of a set without files, which is named again
 abbrev pub renamed : ℕ → Span → ℕ → List ℕ → List ℕ
 renamed files old used text = cond (eqb files 0) (slid old used text) text
 
+-- the text of a directory, where that is new
+abbrev pub dir_text_written : Option NewDir → List ℕ → List ℕ → List ℕ
+dir_text_written None text dir = text
+dir_text_written (Some d) text dir = sets text d.text.at dir
+
+-- the new texts but the pad's
+abbrev pub texts_written : AddPlan → List ℕ → List ℕ → List ℕ → List ℕ → List ℕ → List ℕ
+texts_written p text set_name dir name link =
+    sets (sets (dir_text_written p.dir (sets text p.start set_name) dir) p.row.name.at name) p.row.link.at link
+
 -- the text area before the pad's texts
 abbrev pub text_before_pad : ℕ → ℕ → AddPlan → List ℕ → List ℕ → List ℕ → List ℕ → List ℕ → List ℕ
 text_before_pad files used p text set_name dir name link =
-    sets
-    (sets
-    (sets (sets (renamed files p.old used text) p.start set_name) p.dir.text.at (cond p.dir.new dir []))
-    p.row.name.at
-    name)
-    p.row.link.at
-    link
+    texts_written p (renamed files p.old used text) set_name dir name link
 
 -- the pad's texts, where there is a pad
 abbrev pub pad_text_written : AddPlan → List ℕ → List ℕ
 pad_text_written p text =
     cond (eqb p.pad_row.size 0) text
-    (sets
-    (sets text p.pad_dir.text.at (cond p.pad_dir.new pad_directory_name []))
-    p.pad_row.name.at
-    (pad_digits p.pad_row.size))
+    (sets (dir_text_written p.pad_dir text pad_directory_name) p.pad_row.name.at (pad_digits p.pad_row.size))
 
 abbrev pub text_written : ℕ → ℕ → AddPlan → List ℕ → List ℕ → List ℕ → List ℕ → List ℕ → List ℕ
 text_written files used p text set_name dir name link =
@@ -43,8 +44,10 @@ text_written files used p text set_name dir name link =
 abbrev pub dirs_renamed : ℕ → Span → ℕ → List ℕ → List ℕ
 dirs_renamed files old n dirs = cond (eqb files 0) (dirs_lowered dirs n old) dirs
 
-abbrev pub dir_written : NewDir → List ℕ → List ℕ
-dir_written d dirs = put_dir_if d.new dirs d.slot d.text
+-- the row of a directory, where that is new
+abbrev pub dir_written : Option NewDir → List ℕ → List ℕ
+dir_written None dirs = dirs
+dir_written (Some d) dirs = put_dir dirs d.slot d.text
 
 -- the directory rows before the pad's
 abbrev pub dirs_before_pad : ℕ → ℕ → AddPlan → List ℕ → List ℕ

@@ -4,4 +4,4 @@ use Rattle.additions.proofs.Texts.{branch-is}
 use Rattle.additions.proofs.parts.branch_before.Goals as goal
 
 pub returns : goal.returns
-returns c = c.part.ensures ∙ rw c.saturating_sub_usize.ensures (branch-is c.args.path.now c.args.leaf c.requires)
+returns c = c.part.ensures ∙ rw c.saturating_sub.ensures (branch-is c.args.path.now c.args.leaf c.requires)

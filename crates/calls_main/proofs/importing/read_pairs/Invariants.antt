@@ -1,9 +1,6 @@
--- The loop counts no more pairs than bytes were read. The bytes that are left are its measure: a pair ends after its start.
-use Rattle.std.proofs.Common.{◌+◌, ◌≤◌}
+-- A pair ends after its start, so the bytes that are left are the measure.
+use Rattle.std.proofs.Common.{◌≤◌, length}
 use Rattle.calls_main.proofs.importing.read_pairs.Given as goal
 
-abbrev pub invariant-loop-pair : goal.invariant-loop-pair
-invariant-loop-pair l = l.count + l.left ≤ l.initial.left
-
-abbrev pub decreases-loop-pair : goal.decreases-loop-pair
-decreases-loop-pair l = l.left
+abbrev pub decreases-loop-rest : goal.decreases-loop-rest
+decreases-loop-rest l = length l.rest

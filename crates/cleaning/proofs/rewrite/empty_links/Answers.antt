@@ -1,20 +1,11 @@
 -- `cleaning::rewrite::empty_links` meets its contract. The loop's invariant: the pass is going on at file i.
 use Prim.Native.Nat.{ℕ}
 use mathlib.Core.Path.{ap, ◌∙◌}
-use native.Mathlib.Omega.{arith}
 use Rattle.lookup.specs.Lookup.{lent}
 use Rattle.cleaning.specs.Cleaning.{emptied_at}
 use Rattle.cleaning.specs.private.Writing.{flags_in, verdict_by, mark_after, verdicts_by}
-use Rattle.cleaning.proofs.Passes.{emptied-keeps, emptied-pass, going_start, going-turn, going_end}
+use Rattle.cleaning.proofs.Passes.{emptied-keeps, emptied-pass, going-turn, going_end}
 use Rattle.cleaning.proofs.rewrite.empty_links.Goals as goal
-
-pub loop-i-init : goal.loop-i-init
-loop-i-init c =
-    let a = c.args in
-    going_start emptied_at a.marks.now a.n (lent a.fs a.rows.now a.dirs.now a.text.now)
-
-pub overflow_add-i : goal.overflow_add-i
-overflow_add-i c = record { fits = omega (arith, c.loop-i-test.true, c.ranges.n) }
 
 pub loop-i-preserved : goal.loop-i-preserved
 loop-i-preserved c =

@@ -1,5 +1,4 @@
 -- `cleaning::rewrite::empty_links` meets its contract. The loop's invariant: the pass is going on at file i.
-use Prim.Native.Nat.{◌-◌}
 use Rattle.lookup.specs.Lookup.{lent}
 use Rattle.cleaning.specs.Cleaning.{emptied_at}
 use Rattle.cleaning.proofs.Passes.{Going}
@@ -7,6 +6,3 @@ use Rattle.cleaning.proofs.rewrite.empty_links.Given as goal
 
 abbrev pub invariant-loop-i : goal.invariant-loop-i
 invariant-loop-i l = Going emptied_at l.marks l.n (lent l.initial.set l.initial.rows l.initial.dirs l.initial.text) (lent l.set l.rows l.dirs l.text) l.i l.k
-
-abbrev pub decreases-loop-i : goal.decreases-loop-i
-decreases-loop-i l = l.n - l.i

@@ -1,25 +1,13 @@
 -- `cleaning::rewrite::write_links` meets its contract. The loop's invariant: the pass is going on at file i, and the scratch space is as
 -- long as it was.
 use Prim.Native.Nat.{ℕ}
-use mathlib.Core.Path.{refl, ap, ◌∙◌}
-use native.Mathlib.Omega.{arith}
+use mathlib.Core.Path.{ap, ◌∙◌}
 use lib.ListN.{length}
 use Rattle.lookup.specs.Lookup.{lent}
 use Rattle.cleaning.specs.Cleaning.{rewritten_at}
 use Rattle.cleaning.specs.private.Writing.{flags_in, verdict_by, mark_after, verdicts_by}
-use Rattle.cleaning.proofs.Passes.{rewritten-keeps, rewritten-pass, going_start, going-turn, going_end}
+use Rattle.cleaning.proofs.Passes.{rewritten-keeps, rewritten-pass, going-turn, going_end}
 use Rattle.cleaning.proofs.rewrite.write_links.Goals as goal
-
-pub loop-i-init : goal.loop-i-init
-loop-i-init c =
-    let a = c.args in
-    (refl, going_start (rewritten_at (length a.scratch.now)) a.marks.now a.n (lent a.fs a.rows.now a.dirs.now a.text.now))
-
-pub mark_after-k-requires : goal.mark_after-k-requires
-mark_after-k-requires c = omega (arith, c.loop-i-test.true, c.loop-i.invariant.1.counted, c.ranges.n)
-
-pub overflow_add-i : goal.overflow_add-i
-overflow_add-i c = record { fits = omega (arith, c.loop-i-test.true, c.ranges.n) }
 
 pub loop-i-preserved : goal.loop-i-preserved
 loop-i-preserved c =

@@ -1,6 +1,5 @@
 -- `cleaning::rewrite::write_links` meets its contract. The loop's invariant: the pass is going on at file i, and the scratch space is as
 -- long as it was.
-use Prim.Native.Nat.{◌-◌}
 use mathlib.Core.Path.{◌≡◌}
 use lib.ListN.{length}
 use Rattle.lookup.specs.Lookup.{lent}
@@ -10,6 +9,3 @@ use Rattle.cleaning.proofs.rewrite.write_links.Given as goal
 
 abbrev pub invariant-loop-i : goal.invariant-loop-i
 invariant-loop-i l = (length l.scratch ≡ length l.initial.scratch) × Going (rewritten_at (length l.initial.scratch)) l.marks l.n (lent l.initial.set l.initial.rows l.initial.dirs l.initial.text) (lent l.set l.rows l.dirs l.text) l.i l.k
-
-abbrev pub decreases-loop-i : goal.decreases-loop-i
-decreases-loop-i l = l.n - l.i

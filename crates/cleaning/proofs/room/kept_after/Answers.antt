@@ -7,13 +7,8 @@ use Rattle.tables.specs.declared.rows.Row.{Row}
 use Rattle.links.specs.declared.mark.LinkVerdict.{LinkVerdict}
 use Rattle.cleaning.specs.Cleaning.{if_changed}
 use Rattle.cleaning.specs.private.Writing.{flags_in, verdict_by, mark_after, gone_bytes}
-use Rattle.cleaning.proofs.Rooms.{leaving-start, leaving-turn, leaving-end}
+use Rattle.cleaning.proofs.Rooms.{leaving-turn, leaving-end}
 use Rattle.cleaning.proofs.room.kept_after.Goals as goal
-
-pub loop-i-init : goal.loop-i-init
-loop-i-init c =
-    let a = c.args in
-    leaving-start (gone_bytes a.rows.now a.used) (flags_in a.rows.now) a.marks.now a.n a.used
 
 pub loop-i-preserved : goal.loop-i-preserved
 loop-i-preserved c =

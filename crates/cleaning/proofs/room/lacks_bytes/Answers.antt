@@ -7,15 +7,9 @@ use Rattle.tables.specs.declared.rows.Row.{Row}
 use Rattle.tables.specs.Rows.{row_at}
 use Rattle.links.specs.declared.mark.LinkVerdict.{LinkVerdict}
 use Rattle.cleaning.specs.private.Writing.{flags_in, verdict_by, mark_after, new_length}
-use Rattle.cleaning.proofs.Rooms.{taking-start, taking-stop, taking-turn, taking-end}
+use Rattle.cleaning.proofs.Rooms.{taking-stop, taking-turn, taking-end}
 use Rattle.cleaning.proofs.room.lacks_bytes.Goals as goal
-use Rattle.cleaning.proofs.room.lacks_bytes.Goals.{After-new_length-more}
 use Rattle.cleaning.proofs.room.lacks_bytes.Invariants.{lengths}
-
-pub loop-i-init : goal.loop-i-init
-loop-i-init c =
-    let a = c.args in
-    taking-start (lengths a.rows.now a.dirs.now a.text.now) (flags_in a.rows.now) a.marks.now a.n a.room
 
 pub returns-then-left-more : goal.returns-then-left-more
 returns-then-left-more c =

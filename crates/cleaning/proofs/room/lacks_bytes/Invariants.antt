@@ -1,6 +1,6 @@
 -- `cleaning::room::lacks_bytes` meets its contract. The loop's invariant: i files are passed, and the other new texts have more
 -- than `left` bytes just where all have more than `room`.
-use Prim.Native.Nat.{ℕ, ◌-◌}
+use Prim.Native.Nat.{ℕ}
 use mathlib.Core.List.{List}
 use Rattle.tables.specs.Rows.{row_at}
 use Rattle.links.specs.declared.mark.LinkVerdict.{LinkVerdict}
@@ -14,6 +14,3 @@ lengths rows dirs text v i = new_length dirs text v (row_at rows i)
 
 abbrev pub invariant-loop-i : goal.invariant-loop-i
 invariant-loop-i l = Taking (lengths l.rows l.dirs l.text) (flags_in l.rows) l.marks l.n l.room l.left l.i l.k
-
-abbrev pub decreases-loop-i : goal.decreases-loop-i
-decreases-loop-i l = l.n - l.i

@@ -1,7 +1,7 @@
 -- The cleaning's own promise, at the record that was read.
+use Rattle.types.specs.Refusals.{outcome}
 use Rattle.std.proofs.Common.{◌∙◌, ap}
 use Rattle.tables.specs.declared.storage.FileStorage.{FileStorage}
-use Rattle.change.specs.Changes.{storage_says}
 use Rattle.lookup.specs.Lookup.{lent}
 use Rattle.cleaning.specs.Cleaning.{Cleaned, clean_stored}
 use Rattle.exports.specs.State.{storage_of}
@@ -12,7 +12,7 @@ pub returns : goal.returns
 returns c =
     let left : Cleaned =
     record {
-      says = storage_says c.sanitize_symlinks-answer.result;
+      says = outcome c.sanitize_symlinks-answer.result;
       rows = c.sanitize_symlinks-answer.new.rows;
       dirs = c.sanitize_symlinks-answer.new.dirs;
       text = c.sanitize_symlinks-answer.new.text;

@@ -2,7 +2,7 @@
 use Rattle.std.proofs.Common.{◌≡◌, ◌∙◌, ap, ℤ, w32, w64, to_z, of_z, to_z-of_z}
 use mir.Val.{SFits}
 use borrow.Author.Rules.{rules}
-use Rattle.types.specs.Refusals.{usize_says}
+use Rattle.types.specs.Refusals.{outcome}
 use Rattle.tables.specs.declared.storage.FileStorage.{FileStorage}
 use Rattle.layout.specs.declared.window.Window.{Window}
 use Rattle.layout.specs.Window.{window_for}
@@ -32,7 +32,7 @@ returns c =
     said
     _
     (record {
-      says = usize_says c.map_block_core.result;
+      says = outcome c.map_block_core.result;
       file = c.map_block_core.new.out_file;
       offset = c.map_block_core.new.out_offset;
       size = c.map_block_core.new.out_size;

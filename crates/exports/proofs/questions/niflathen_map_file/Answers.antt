@@ -11,4 +11,4 @@ returns c =
     let i : SFits w32 a.index = search rules in
     let o : SFits w64 a.offset = search rules in
     let s : SFits w32 a.size = search rules in
-    rw (c.map_file.ensures, c.storage_at.ensures, to_z-of_z i, to_z-of_z o, to_z-of_z s) at c.request_returned.ensures
+    rw (c.map_file.ensures, c.storage_at.ensures, to_z-of_z i, to_z-of_z o, to_z-of_z s) at c.from.ensures

@@ -2,7 +2,7 @@
 use Rattle.std.proofs.Common.{◌≡◌, ◌∙◌, ap, ℤ, w64, to_z-of_z}
 use mir.Val.{SFits}
 use borrow.Author.Rules.{rules}
-use Rattle.types.specs.Refusals.{usize_says}
+use Rattle.types.specs.Refusals.{outcome}
 use Rattle.tables.specs.declared.storage.FileStorage.{FileStorage}
 use Rattle.files.specs.List.{AnswersListed, files_mapped}
 use Rattle.exports.specs.State.{storage_of}
@@ -20,7 +20,7 @@ returns c =
     λ fs. files_mapped fs c.args.rows.now c.args.files.now c.args.offsets.now c.args.sizes.now c.args.answers.now in
     said
     _
-    (record { says = usize_says c.map_files.result; answers = c.map_files.new.answers })
+    (record { says = outcome c.map_files.result; answers = c.map_files.new.answers })
     (listed (storage_of c.args.state.now))
     (c.map_files.ensures ∙ ap listed c.storage_at.ensures)
     (to_z-of_z r ∙ c.count_returned.ensures)

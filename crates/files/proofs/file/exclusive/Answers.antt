@@ -8,11 +8,6 @@ use Rattle.files.proofs.Requests.{placed, first-place}
 use Rattle.files.proofs.Deciding.{low-as, low-whole}
 use Rattle.files.proofs.file.exclusive.Goals as goal
 
-pub exclusive_begin-requires : goal.exclusive_begin-requires
-exclusive_begin-requires c =
-    let p = placed c.args.fs _ 1 (request_of c.request_at-r.result) c.requires.0 c.request_at-r.ensures in
-    omega arith
-
 pub exclusive_end-requires : goal.exclusive_end-requires
 exclusive_end-requires c =
     let p = placed c.args.fs _ 1 (request_of c.request_at-r.result) c.requires.0 c.request_at-r.ensures in

@@ -2,7 +2,7 @@
 -- is, come to what is due.
 use Rattle.tables.specs.declared.span.Span.{Span}
 use Rattle.hashes.proofs.Hashing.{dirs-turn, dirs-end}
-use Rattle.hashes.proofs.Inserting.{going, gone-on, arrived, gathered-is}
+use Rattle.hashes.proofs.Inserting.{gone-on, arrived, gathered-is}
 use Rattle.hashes.specs.private.Gathering.{hashes_after, hashes_within}
 use Rattle.hashes.specs.Hashes.{joined_lists}
 use Rattle.tables.specs.Model.{tabled}
@@ -10,19 +10,10 @@ use Rattle.tables.specs.Rows.{dir_at}
 use Rattle.tables.specs.Span.{text_at}
 use lib.Seq.{sets}
 use lib.ListN.{length, drop}
-use native.Mathlib.Omega.{arith}
 use mathlib.Core.List.{List, map}
-use mathlib.Core.Path.{◌≡◌, refl, ◌∙◌, ap}
+use mathlib.Core.Path.{◌≡◌, ◌∙◌, ap}
 use Prim.Native.Nat.{min, ℕ, ◌+◌}
 use Rattle.hashes.proofs.hashes.gather.Goals as goal
-
-pub loop-i-init : goal.loop-i-init
-loop-i-init c =
-    let a = c.args in
-    (omega arith, refl, going a.bound (hashes_within a.state a.dirs.now a.text.now a.count) 0 a.table.now (record { within = omega arith; rising = tt }))
-
-pub keep_dir-kept-requires : goal.keep_dir-kept-requires
-keep_dir-kept-requires c = c.loop-i.invariant.2.begun
 
 pub loop-i-preserved : goal.loop-i-preserved
 loop-i-preserved c =
@@ -32,9 +23,8 @@ loop-i-preserved c =
     let g : ℕ → List ℕ = λ i. text_at a.text.now (dir_at a.dirs.now i) in
     let e : t.result.now ≡ g l.i = t.ensures ∙ ap (λ (s : Span). text_at a.text.now s) c.dir_at-place.ensures in
     let hs = hashes_after a.state t.result.now in (
-      omega arith,
-      c.keep_dir-kept.auto.table ∙ l.invariant.1,
-      gone-on a.bound hs (joined_lists (map (hashes_after a.state) (drop (l.i + 1) (tabled a.count g)))) l.invariant.2
+      c.keep_dir-kept.auto.table ∙ l.invariant.0,
+      gone-on a.bound hs (joined_lists (map (hashes_after a.state) (drop (l.i + 1) (tabled a.count g)))) l.invariant.1
           (dirs-turn (hashes_after a.state) a.count g l.i hs c.loop-i-test.true (ap (hashes_after a.state) e)) c.keep_dir-kept.ensures.0,
     )
 
@@ -43,7 +33,7 @@ returns c =
     let l = c.loop-i in
     let a = c.args in
     let hs = hashes_within a.state a.dirs.now a.text.now a.count in
-    let g = rw (dirs-end (hashes_after a.state) a.count (λ i. text_at a.text.now (dir_at a.dirs.now i)) l.i c.loop-i-test.false) at l.invariant.2 in
+    let g = rw (dirs-end (hashes_after a.state) a.count (λ i. text_at a.text.now (dir_at a.dirs.now i)) l.i c.loop-i-test.false) at l.invariant.1 in
     let r = arrived a.bound l.kept.held g in
     record {
       stored = r.0 ∙ ap (sets a.table.now 0) (gathered-is a.bound hs);

@@ -10,14 +10,11 @@ use lib.Seq.{sets}
 use lib.ListN.{length, drop}
 use mathlib.Core.List.{[], map}
 use mathlib.Core.Path.{◌≡◌}
-use Prim.Native.Nat.{◌-◌, ◌≤◌, min}
+use Prim.Native.Nat.{min}
 use Rattle.hashes.proofs.hashes.gather.Given as goal
 
 abbrev pub invariant-loop-i : goal.invariant-loop-i
 invariant-loop-i l =
-    (l.i ≤ l.count) × (length l.table ≡ length l.initial.table)
+    (length l.table ≡ length l.initial.table)
     × Going l.bound (joined_lists (map (hashes_after l.state) (drop l.i (tabled l.count (λ i. text_at l.text (dir_at l.dirs i)))))) l.kept.held l.table
     (sets l.initial.table 0 (gathered l.bound (hashes_within l.state l.dirs l.text l.count) [])) (min (length l.initial.table) (length (gathered l.bound (hashes_within l.state l.dirs l.text l.count) [])))
-
-abbrev pub decreases-loop-i : goal.decreases-loop-i
-decreases-loop-i l = l.count - l.i

@@ -1,11 +1,11 @@
 -- `hashes::hashes::has_room` meets its contract. The loop's invariant: the table holds the first n of the hashes from some bound on,
 -- and these fit what is left where all hashes fit the room.
-use Rattle.hashes.proofs.Counting.{counted-first, counted_next, counted-over, counted-last}
+use Rattle.hashes.proofs.Counting.{counted-first, counted_next}
 use Rattle.hashes.specs.private.Gathering.{hashes_within}
 use lib.ListN.{length}
 use native.Mathlib.Omega.{arith}
 use mathlib.Core.Path.{refl, ◌∙◌}
-use Prim.Native.Nat.{◌-◌, ◌<◌}
+use Prim.Native.Nat.{◌<◌}
 use Rattle.hashes.proofs.hashes.has_room.Goals as goal
 
 pub loop-n-init : goal.loop-n-init
@@ -15,18 +15,6 @@ loop-n-init c =
     let k = g.auto.table in
     let z : 0 < length a.table.now = c.requires in
     (omega arith, refl, counted-first (hashes_within a.state a.dirs.now a.text.now a.count) a.room g.result a.table.now g.new.table g.ensures)
-
-pub returns-then-left-n : goal.returns-then-left-n
-returns-then-left-n c =
-    let l = c.loop-n in
-    let a = c.args in
-    counted-over (hashes_within a.state a.dirs.now a.text.now a.count) a.room l.left l.n l.table l.invariant.2 c.if-left-n.true
-
-pub overflow_cast-bound : goal.overflow_cast-bound
-overflow_cast-bound c = omega (arith, c.type_inv.table (c.loop-n.n - 1))
-
-pub overflow_add-bound : goal.overflow_add-bound
-overflow_add-bound c = omega (arith, c.type_inv.table (c.loop-n.n - 1))
 
 pub loop-n-preserved : goal.loop-n-preserved
 loop-n-preserved c =
@@ -38,11 +26,5 @@ loop-n-preserved c =
     let t = c.loop-n-test.true in (
       omega arith,
       k ∙ l.invariant.1,
-      counted_next (hashes_within a.state a.dirs.now a.text.now a.count) a.room l.left l.n l.table l.invariant.2 g.result _ g.new.table t (omega arith) c.if-left-n.false refl g.ensures,
+      counted_next (hashes_within a.state a.dirs.now a.text.now a.count) a.room l.left l.n l.table l.invariant.2 g.result _ g.new.table t (omega arith) c.if-left-n.false (omega arith) g.ensures,
     )
-
-pub returns : goal.returns
-returns c =
-    let l = c.loop-n in
-    let a = c.args in
-    counted-last (hashes_within a.state a.dirs.now a.text.now a.count) a.room l.left l.n l.table l.invariant.2 c.loop-n-test.false

@@ -1,22 +1,17 @@
 -- `hashes::hashes::insert` meets its contract: the number is there already, or goes to its place.
-use Rattle.hashes.proofs.Inserting.{stays, goes}
-use native.Mathlib.Omega.{arith}
+use Rattle.std.proofs.Common.{Ok, Err, take, rules}
+use Rattle.std.proofs.lemmas.List.Sorted.{searched}
+use Rattle.hashes.proofs.Inserting.{rising-sorted, stays, goes}
 use Rattle.hashes.proofs.hashes.insert.Goals as goal
 
-pub returns-then-is_there : goal.returns-then-is_there
-returns-then-is_there c =
+pub returns-in-Ok : goal.returns-in-Ok
+returns-in-Ok c =
     let a = c.args in
-    stays a.table.now a.n a.h c.place_of-p.result c.requires c.place_of-p.ensures c.is_there.result c.is_there.ensures c.if-is_there.true
+    let s = searched (take a.n a.table.now) a.h (Ok c.in-Ok.field-0) c.in-Ok.ensures.position (rising-sorted 0 (take a.n a.table.now) c.requires.rising) in
+    stays a.table.now a.n a.h c.in-Ok.field-0 c.requires s.0 s.1
 
-pub returns-then-n-table : goal.returns-then-n-table
-returns-then-n-table c =
+pub returns-in-Err : goal.returns-in-Err
+returns-in-Err c =
     let a = c.args in
-    let s = c.push.auto.table in
-    goes a.table.now a.n a.h c.place_of-p.result c.requires c.place_of-p.ensures c.is_there.result _ _ c.is_there.ensures c.if-is_there.false c.push.ensures (omega arith)
-
-pub returns : goal.returns
-returns c =
-    let a = c.args in
-    let s = c.push.auto.table in
-    let w = c.requires.within in
-    goes a.table.now a.n a.h c.place_of-p.result c.requires c.place_of-p.ensures c.is_there.result _ _ c.is_there.ensures c.if-is_there.false c.push.ensures (omega arith)
+    let s = searched (take a.n a.table.now) a.h (Err c.in-Err.p) c.in-Err.ensures.position (rising-sorted 0 (take a.n a.table.now) c.requires.rising) in
+    goes a.table.now a.n a.h c.in-Err.p c.requires s.0 s.1 s.2 c.push.new.table c.min.result c.push.ensures (search rules)

@@ -9,6 +9,7 @@ use Rattle.crc32c.proofs.Parts.{crc-none}
 use lib.Seq.{sets, length-take-le}
 use lib.ListN.{length, take, drop}
 use native.Mathlib.Omega.{arith}
+use borrow.Author.Rules.{rules}
 use mathlib.Core.List.{List, [], ◌∷◌, map}
 use mathlib.Core.Path.{◌≡◌, refl, sym, ◌∙◌, ap}
 use Prim.Native.Nat.{◌+◌, ◌-◌, min, ℕ, ◌<◌}
@@ -21,10 +22,10 @@ started : (bound state n x k m : ℕ) (d table after : List ℕ) → Begun n tab
 started bound state n x k m d table after b h e s t =
     gone-on bound (x ∷ []) (hashes_from state d k) (going bound (hashes_after state d) n table b) (hashes-first state d x k e h s) t
 
-pub returns-then-d-eq0 : goal.returns-then-d-eq0
-returns-then-d-eq0 c =
+pub returns-then-is_empty : goal.returns-then-is_empty
+returns-then-is_empty c =
     let a = c.args in
-    let e = empty-list a.d.now c.if-d-eq0.true in
+    let e = empty-list a.d.now (search rules) in
     (rw e (kept a.n a.table.now c.requires.within), rw e (sym (crc-none a.state)))
 
 pub slice_bounds-crc32c_append_lowercase-end : goal.slice_bounds-crc32c_append_lowercase-end
@@ -37,23 +38,11 @@ loop-end-init c =
     let a = c.args in
     let x = c.crc32c_append_lowercase-x in
     let k = c.next_separator-end in
-    let s = started a.bound a.state a.n x.result k.result c.keep-m.result a.d.now a.table.now c.keep-m.new.table c.requires (omega arith) x.ensures k.ensures c.keep-m.ensures in
+    let s = started a.bound a.state a.n x.result k.result c.keep-m.result a.d.now a.table.now c.keep-m.new.table c.requires (search rules) x.ensures k.ensures c.keep-m.ensures in
     ((scan-within a.d.now 0 k.result k.ensures (omega arith)).1, refl, x.ensures, going a.bound (hashes_from a.state a.d.now k.result) c.keep-m.result c.keep-m.new.table s.begun)
-
-pub slice_bounds-crc32c_append_lowercase-count : goal.slice_bounds-crc32c_append_lowercase-count
-slice_bounds-crc32c_append_lowercase-count c = omega (arith, scan-within c.args.d.now (c.loop-end.end + 1) c.next_separator-next.result c.next_separator-next.ensures (omega arith))
-
-pub slice_bounds-crc32c_append_lowercase-start : goal.slice_bounds-crc32c_append_lowercase-start
-slice_bounds-crc32c_append_lowercase-start c = omega (arith, scan-within c.args.d.now (c.loop-end.end + 1) c.next_separator-next.result c.next_separator-next.ensures (omega arith))
 
 pub slice_bounds-crc32c_append_lowercase-end-in-loop-end : goal.slice_bounds-crc32c_append_lowercase-end-in-loop-end
 slice_bounds-crc32c_append_lowercase-end-in-loop-end c = omega (arith, scan-within c.args.d.now (c.loop-end.end + 1) c.next_separator-next.result c.next_separator-next.ensures (omega arith))
-
-pub keep-m-requires-in-loop-end : goal.keep-m-requires-in-loop-end
-keep-m-requires-in-loop-end c = c.loop-end.invariant.3.begun
-
-pub loop-end-smaller : goal.loop-end-smaller
-loop-end-smaller c = omega (arith, scan-within c.args.d.now (c.loop-end.end + 1) c.next_separator-next.result c.next_separator-next.ensures (omega arith))
 
 pub loop-end-preserved : goal.loop-end-preserved
 loop-end-preserved c =
@@ -75,7 +64,7 @@ returns c =
     let a = c.args in
     let x = c.crc32c_append_lowercase-x in
     let k = c.next_separator-end in
-    let s = started a.bound a.state a.n x.result k.result c.keep-m.result a.d.now a.table.now c.keep-m.new.table c.requires (omega arith) x.ensures k.ensures c.keep-m.ensures in
+    let s = started a.bound a.state a.n x.result k.result c.keep-m.result a.d.now a.table.now c.keep-m.new.table c.requires (search rules) x.ensures k.ensures c.keep-m.ensures in
     let g = rw (hashes-end a.state a.d.now l.end c.loop-end-test.false) at l.invariant.3 in
     let r = arrived a.bound l.m g in
     (record { stored = r.0 ∙ s.stored; count = r.1 ∙ s.counted }, l.invariant.2 ∙ hash-all a.state a.d.now l.end c.loop-end-test.false)

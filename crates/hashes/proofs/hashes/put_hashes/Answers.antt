@@ -5,15 +5,8 @@ use lib.ListN.{length}
 use lib.Dec.{leb}
 use borrow.Author.Tests.{le-leb, lt-leb}
 use Rattle.hashes.specs.private.Gathering.{hashes_within}
-use Rattle.hashes.proofs.Listing.{not-held, no_room_lem, all-put}
+use Rattle.hashes.proofs.Listing.{all-put}
 use Rattle.hashes.proofs.hashes.put_hashes.Goals as goal
-
-pub returns-then-dirs-count : goal.returns-then-dirs-count
-returns-then-dirs-count c =
-    let a = c.args in
-    let hs = hashes_within a.state a.dirs.now a.text.now a.count in
-    let held = leb a.count (length a.dirs.now / 2) in
-    not-held hs a.out.now held _ refl (lt-leb a.count (length a.dirs.now / 2) c.if-dirs-count.true)
 
 pub returns-then-all_fit : goal.returns-then-all_fit
 returns-then-all_fit c =
@@ -21,10 +14,3 @@ returns-then-all_fit c =
     let hs = hashes_within a.state a.dirs.now a.text.now a.count in
     let held = leb a.count (length a.dirs.now / 2) in
     all-put hs a.out.now held c.all_fit.result c.all_fit.ensures (le-leb a.count (length a.dirs.now / 2) c.if-dirs-count.false) c.if-all_fit.true c.fill.result c.fill.new.out c.fill.ensures
-
-pub returns : goal.returns
-returns c =
-    let a = c.args in
-    let hs = hashes_within a.state a.dirs.now a.text.now a.count in
-    let held = leb a.count (length a.dirs.now / 2) in
-    no_room_lem hs a.out.now held c.all_fit.result c.all_fit.ensures (le-leb a.count (length a.dirs.now / 2) c.if-dirs-count.false) c.if-all_fit.false

@@ -1,7 +1,7 @@
 -- `hashes::hashes::repeats_fit` meets its contract. The loop's invariant: the beginnings of the directories from i on fit what is left
 -- where all of them fit the room.
 use Prim.Native.Nat.{ℕ, ◌+◌, ◌<◌}
-use mathlib.Core.Path.{◌≡◌, refl, sym, ap, ◌∙◌}
+use mathlib.Core.Path.{◌≡◌, sym, ap, ◌∙◌}
 use mathlib.Core.List.{List, map}
 use native.Mathlib.Omega.{arith}
 use lib.ListN.{length, drop, length-append}
@@ -27,24 +27,21 @@ one_more count i n dirs text d place h p t e =
     let u = dirs-turn beginnings count g i hs h (ap beginnings q) in
     ap length u ∙ length-append hs rest ∙ ap (λ (k : ℕ). k + length rest) (sym e)
 
-pub loop-i-init : goal.loop-i-init
-loop-i-init c = (omega arith, refl)
-
 pub returns-then-left-n : goal.returns-then-left-n
 returns-then-left-n c =
     let a = c.args in
     let l = c.loop-i in
-    sym (count-over _ _ _ _ (one_more a.count l.i c.beginning_count-n.result a.dirs.now a.text.now c.text_at.result.now c.dir_at-place.result c.loop-i-test.true c.dir_at-place.ensures c.text_at.ensures c.beginning_count-n.ensures) c.if-left-n.true) ∙ l.invariant.1
+    sym (count-over _ _ _ _ (one_more a.count l.i c.beginning_count-n.result a.dirs.now a.text.now c.text_at.result.now c.dir_at-place.result c.loop-i-test.true c.dir_at-place.ensures c.text_at.ensures c.beginning_count-n.ensures) c.if-left-n.true) ∙ l.invariant
 
 pub loop-i-preserved : goal.loop-i-preserved
 loop-i-preserved c =
     let a = c.args in
     let l = c.loop-i in
-    (omega arith, count_turn _ _ _ _ (one_more a.count l.i c.beginning_count-n.result a.dirs.now a.text.now c.text_at.result.now c.dir_at-place.result c.loop-i-test.true c.dir_at-place.ensures c.text_at.ensures c.beginning_count-n.ensures) c.if-left-n.false ∙ l.invariant.1)
+    (count_turn _ _ _ _ (one_more a.count l.i c.beginning_count-n.result a.dirs.now a.text.now c.text_at.result.now c.dir_at-place.result c.loop-i-test.true c.dir_at-place.ensures c.text_at.ensures c.beginning_count-n.ensures) c.if-left-n.false ∙ l.invariant)
 
 pub returns : goal.returns
 returns c =
     let a = c.args in
     let l = c.loop-i in
     let e = ap length (dirs-end beginnings a.count (λ i. text_at a.text.now (dir_at a.dirs.now i)) l.i c.loop-i-test.false) in
-    sym (le-leb _ l.left (omega arith)) ∙ l.invariant.1
+    sym (le-leb _ l.left (omega arith)) ∙ l.invariant

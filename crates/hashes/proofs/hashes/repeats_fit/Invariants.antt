@@ -1,6 +1,5 @@
 -- `hashes::hashes::repeats_fit` meets its contract. The loop's invariant: the beginnings of the directories from i on fit what is left
 -- where all of them fit the room.
-use Prim.Native.Nat.{◌-◌, ◌≤◌}
 use mathlib.Core.Path.{◌≡◌}
 use mathlib.Core.List.{map}
 use lib.Dec.{leb}
@@ -14,8 +13,4 @@ use Rattle.hashes.proofs.hashes.repeats_fit.Given as goal
 
 abbrev pub invariant-loop-i : goal.invariant-loop-i
 invariant-loop-i l =
-    (l.i ≤ l.count)
-    × (leb (length (joined_lists (map beginnings (drop l.i (tabled l.count (λ i. text_at l.text (dir_at l.dirs i))))))) l.left ≡ leb (length (beginnings_within l.dirs l.text l.count)) l.room)
-
-abbrev pub decreases-loop-i : goal.decreases-loop-i
-decreases-loop-i l = l.count - l.i
+    (leb (length (joined_lists (map beginnings (drop l.i (tabled l.count (λ i. text_at l.text (dir_at l.dirs i))))))) l.left ≡ leb (length (beginnings_within l.dirs l.text l.count)) l.room)

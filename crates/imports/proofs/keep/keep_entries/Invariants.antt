@@ -1,12 +1,8 @@
 -- `imports::keep::keep_entries` meets its contract. The loop's invariant: the entries from i on are as they were, and what is left
 -- of them behind those that were moved gives the whole.
-use Prim.Native.Nat.{◌-◌}
 use Rattle.imports.specs.private.Merging.{is_noted}
 use Rattle.imports.proofs.Keeping.{Moved}
 use Rattle.imports.proofs.keep.keep_entries.Given as goal
 
 abbrev pub invariant-loop-i : goal.invariant-loop-i
 invariant-loop-i l = Moved (is_noted l.files l.notes) l.n l.initial.entries l.entries l.i l.to
-
-abbrev pub decreases-loop-i : goal.decreases-loop-i
-decreases-loop-i l = l.n - l.i

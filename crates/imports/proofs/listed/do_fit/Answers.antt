@@ -1,34 +1,19 @@
--- `imports::listed::do_fit` meets its contract. The loop's invariant: the first i lengths and what is left make up the room.
+-- `imports::listed::do_fit` meets its contract.
 use Prim.Native.Nat.{◌+◌}
 use mathlib.Core.Path.{sym}
 use native.Mathlib.Omega.{arith}
-use borrow.Author.Tests.{le-leb, lt-leb}
-use lib.ListN.{take}
+use borrow.Author.Tests.{lt-leb}
 use Rattle.lists.specs.Lists.{sum}
-use Rattle.lists.proofs.Sums.{sum-take-more, sum-take-mono}
+use Rattle.lists.proofs.Sums.{sum-take-more, sum-take-le}
 use Rattle.imports.proofs.listed.do_fit.Goals as goal
-
-pub loop-i-init : goal.loop-i-init
-loop-i-init c = (omega arith, omega arith)
 
 pub returns-then-left-len : goal.returns-then-left-len
 returns-then-left-len c =
-    let a = c.args in
-    let l = c.loop-i in
-    let m = sum-take-more a.lengths.now l.i in
-    let n = sum-take-mono a.lengths.now (l.i + 1) a.n (omega arith) in
-    sym (lt-leb (sum (take a.n a.lengths.now)) a.room (omega (arith, l.invariant.1, m, n, c.word-len.ensures, c.if-left-len.true)))
+    let xs = c.args.lengths.now in
+    let l = c.loop-len in
+    sym (lt-leb (sum xs) c.args.room (omega (arith, l.invariant, sum-take-more xs l.len-index, sum-take-le xs (l.len-index + 1), c.if-left-len.true)))
 
-pub loop-i-preserved : goal.loop-i-preserved
-loop-i-preserved c =
-    let a = c.args in
-    let l = c.loop-i in
-    let m = sum-take-more a.lengths.now l.i in
-    (omega arith, omega (arith, l.invariant.1, m, c.word-len.ensures, c.if-left-len.false))
-
-pub returns : goal.returns
-returns c =
-    let a = c.args in
-    let l = c.loop-i in
-    let m = sum-take-mono a.lengths.now a.n l.i c.loop-i-test.false in
-    sym (le-leb (sum (take a.n a.lengths.now)) a.room (omega (arith, l.invariant.1, m)))
+pub loop-len-preserved : goal.loop-len-preserved
+loop-len-preserved c =
+    let l = c.loop-len in
+    omega (arith, l.invariant, sum-take-more c.args.lengths.now l.len-index, c.if-left-len.false)

@@ -1,27 +1,20 @@
--- `imports::listed::has_negative` meets its contract. The loop's invariant: the numbers from i on say what all say.
-use mathlib.Core.Path.{refl, sym, ◌∙◌}
-use lib.IntN.{pos}
-use Rattle.lists.proofs.Tests.{any-turn, any-stop, any-end}
+-- `imports::listed::has_negative` meets its contract.
+use mathlib.Core.Path.{◌≡◌, refl, ◌∙◌}
+use mathlib.Core.List.{List, [], ◌∷◌}
+use lib.IntN.{ℤ, pos, negsuc}
+use borrow.Author.Rules.{rules}
+use borrow.Author.Tests.{tests}
+use Rattle.std.specs.List.{list_any}
+use Rattle.std.proofs.lemmas.Iterator.{YieldsList-from_slice}
+use Rattle.std.proofs.lemmas.Iterator.Search.{any_from_yields_List}
+use Rattle.lists.specs.Lists.{any}
 use Rattle.rules.specs.Bounds.{is_negative}
 use Rattle.imports.proofs.listed.has_negative.Goals as goal
 
-pub loop-i-init : goal.loop-i-init
-loop-i-init c = refl
-
-pub returns-then-is_negative : goal.returns-then-is_negative
-returns-then-is_negative c =
-    let a = c.args in
-    let l = c.loop-i in
-    sym (any-stop is_negative a.numbers.now l.i (pos 0) c.loop-i-test.true (sym c.is_negative.ensures ∙ c.if-is_negative.true)) ∙ l.invariant
-
-pub loop-i-preserved : goal.loop-i-preserved
-loop-i-preserved c =
-    let a = c.args in
-    let l = c.loop-i in
-    sym (any-turn is_negative a.numbers.now l.i (pos 0) c.loop-i-test.true (sym c.is_negative.ensures ∙ c.if-is_negative.false)) ∙ l.invariant
+any-is : (xs : List ℤ) → list_any is_negative xs ≡ any is_negative xs
+any-is [] = refl
+any-is (pos n ∷ xs) = any-is xs
+any-is (negsuc n ∷ xs) = refl
 
 pub returns : goal.returns
-returns c =
-    let a = c.args in
-    let l = c.loop-i in
-    sym (any-end is_negative a.numbers.now l.i c.loop-i-test.false) ∙ l.invariant
+returns c = any_from_yields_List is_negative _ _ _ c.any.ensures.ran (YieldsList-from_slice c.args.numbers.now cc) (λ x b q k. search (rules, tests)) ∙ any-is c.args.numbers.now

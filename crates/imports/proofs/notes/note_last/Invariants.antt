@@ -1,12 +1,8 @@
 -- `imports::notes::note_last` meets its contract. The loop's invariant: the numbers from i on, written down too, give the whole.
-use Prim.Native.Nat.{◌-◌}
 use mathlib.Core.Path.{◌≡◌}
-use lib.ListN.{length, drop}
+use lib.ListN.{drop}
 use Rattle.imports.specs.private.Merging.{noted_from}
 use Rattle.imports.proofs.notes.note_last.Given as goal
 
 abbrev pub invariant-loop-i : goal.invariant-loop-i
-invariant-loop-i l = (length l.notes ≡ length l.initial.notes) × (noted_from l.files l.i (drop l.i l.numbers) l.notes ≡ noted_from l.files 0 l.numbers l.initial.notes)
-
-abbrev pub decreases-loop-i : goal.decreases-loop-i
-decreases-loop-i l = length l.numbers - l.i
+invariant-loop-i l = noted_from l.files l.i (drop l.i l.numbers) l.notes ≡ noted_from l.files 0 l.numbers l.initial.notes

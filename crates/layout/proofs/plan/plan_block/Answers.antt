@@ -1,33 +1,30 @@
 -- `layout::plan::plan_block` meets its contract.
-use Rattle.std.proofs.Common.{◌≡◌, ℕ, List, ℤ, ap, ◌∙◌, to_z-of_z, w64, SFits, to_z, of_z, rules}
-use Rattle.tables.specs.declared.storage.FileStorage.{FileStorage}
-use Rattle.layout.specs.declared.window.Window.{Window}
-use Rattle.layout.specs.Start.{Started, block_start}
-use Rattle.layout.proofs.Plans.{plan-refused, plan-short, plan-whole}
+use Rattle.std.proofs.Common.{◌∙◌, to_z-of_z, w64, SFits, rules}
+use Rattle.types.proofs.Refusals.{exit}
+use Rattle.layout.proofs.Starts.{plan_refused, plan_short, plan_whole}
 use Rattle.layout.proofs.plan.plan_block.Goals as goal
 
--- the start, at the numbers that were passed
-started : (fs : FileStorage) (rows : List ℕ) (w : Window) (z offset size : ℤ) {s : Started} → SFits w64 offset → SFits w64 size
-    → s ≡ block_start fs rows w z (to_z w64 (of_z w64 offset)) (to_z w64 (of_z w64 size)) → s ≡ block_start fs rows w z offset size
-started fs rows w z offset size f g e =
-    e
-    ∙ ap (λ (x : ℤ). block_start fs rows w z x (to_z w64 (of_z w64 size))) (to_z-of_z f)
-    ∙ ap (λ (x : ℤ). block_start fs rows w z offset x) (to_z-of_z g)
-
-pub returns-in-Stop : goal.returns-in-Stop
-returns-in-Stop c =
+pub returns-in_err-from : goal.returns-in_err-from
+returns-in_err-from c =
     let a = c.args in
-    let s = started a.fs a.rows.now a.window a.piece.0 a.offset a.size (search rules) (search rules) c.start_block-start.ensures in
-    c.refuse.ensures ∙ plan-refused a.fs a.rows.now a.window a.piece.0 a.offset a.size _ s a.room _ c.in-Stop.is
+    let f : SFits w64 a.offset = search rules in
+    let g : SFits w64 a.size = search rules in
+    exit _ _ c.from_residual.ensures.1
+    ∙ plan_refused a.fs a.rows.now a.window a.piece.0 a.offset a.size c.in_err-from.field-0.0 a.room (rw (to_z-of_z f, to_z-of_z g) at c.in_err-from.ensures)
 
 pub returns-then-room-count : goal.returns-then-room-count
 returns-then-room-count c =
     let a = c.args in
-    let s = started a.fs a.rows.now a.window a.piece.0 a.offset a.size (search rules) (search rules) c.start_block-start.ensures in
-    c.refuse-then-room-count.ensures ∙ plan-short a.fs a.rows.now a.window a.piece.0 a.offset a.size _ s a.room _ c.in_default.is c.count_slices-count.ensures c.if-room-count.true
+    let f : SFits w64 a.offset = search rules in
+    let g : SFits w64 a.size = search rules in
+    plan_short a.fs a.rows.now a.window a.piece.0 a.offset a.size (rw (to_z-of_z f, to_z-of_z g) at c.in_ok-from.ensures) a.room
+    (rw c.count_slices-count.ensures at c.if-room-count.true)
 
 pub returns : goal.returns
 returns c =
     let a = c.args in
-    let s = started a.fs a.rows.now a.window a.piece.0 a.offset a.size (search rules) (search rules) c.start_block-start.ensures in
-    plan-whole a.fs a.rows.now a.window a.piece.0 a.offset a.size _ s a.room _ c.in_default.is c.count_slices-count.ensures c.if-room-count.false
+    let f : SFits w64 a.offset = search rules in
+    let g : SFits w64 a.size = search rules in
+    rw c.count_slices-count.ensures
+    (plan_whole a.fs a.rows.now a.window a.piece.0 a.offset a.size (rw (to_z-of_z f, to_z-of_z g) at c.in_ok-from.ensures) a.room
+    (rw c.count_slices-count.ensures at c.if-room-count.false))

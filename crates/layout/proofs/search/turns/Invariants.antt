@@ -4,7 +4,4 @@ use Rattle.layout.specs.private.Level.{Level}
 use Rattle.layout.proofs.search.turns.Given as goal
 
 abbrev pub invariant-loop-j : goal.invariant-loop-j
-invariant-loop-j l = (l.low ≤ l.j) × (l.j ≤ l.top) × Level l.rows l.n l.target l.j l.e
-
-abbrev pub decreases-loop-j : goal.decreases-loop-j
-decreases-loop-j l = l.j
+invariant-loop-j l = (l.low ≤ l.j) × Level l.rows l.n l.target l.j l.e

@@ -17,8 +17,5 @@ marks_of s fs = first_marks (entries_of s) (directories_of s) fs
 
 abbrev pub invariant-loop-i : goal.invariant-loop-i
 invariant-loop-i l =
-    (l.i ≤ l.fs.num_files) × (l.k ≤ l.i) × (length l.marks ≡ length l.initial.marks)
-    × (sets l.marks l.k (marks_of (lent l.fs l.rows l.dirs l.text) (entries_from (lent l.fs l.rows l.dirs l.text) (l.fs.num_files - l.i) l.i)) ≡ sets l.initial.marks 0 (first_marks_in (lent l.fs l.rows l.dirs l.text)))
-
-abbrev pub decreases-loop-i : goal.decreases-loop-i
-decreases-loop-i l = l.fs.num_files - l.i
+    (l.k ≤ l.i) × (length l.marks ≡ length l.initial.marks)
+    × (sets l.marks l.k (marks_of (lent l.fn.fs l.rows l.dirs l.text) (entries_from (lent l.fn.fs l.rows l.dirs l.text) (l.fn.fs.num_files - l.i) l.i)) ≡ sets l.initial.marks 0 (first_marks_in (lent l.fn.fs l.rows l.dirs l.text)))

@@ -2,7 +2,6 @@
 use mathlib.Core.Path.{◌≡◌, sym, ap, ◌∙◌}
 use native.Mathlib.Omega.{arith}
 use lib.ListN.{replicate}
-use lib.Seq.{length-take-le}
 use Rattle.tables.specs.Model.{Store}
 use Rattle.tables.specs.Rows.{row_at, is_inside}
 use Rattle.lookup.specs.Lookup.{lent, entries_of, directories_of}
@@ -10,17 +9,13 @@ use Rattle.lookup.specs.private.Rows.{entry_at}
 use Rattle.links.specs.Judging.{walk_decides}
 use Rattle.rope.specs.Rope.{frame_width, front}
 use Rattle.links.proofs.Heads.{fronted}
-use Rattle.links.proofs.Marking.{near-not, near-in, one-long, one-part}
+use Rattle.links.proofs.Marking.{near-in, one-long, one-part}
 use Rattle.links.proofs.first.relative_mark.Goals as goal
-use Rattle.links.proofs.first.relative_mark.Goals.{After-is_inside, Start}
 
 pub put_head-n-requires : goal.put_head-n-requires
 put_head-n-requires c =
     let the_set : Store = lent c.args.fs c.args.rows.now c.args.dirs.now c.args.text.now in
     one-long the_set c.args.i c.lead_length.result (replicate frame_width 0) c.put_frame.new.frames (omega arith) c.put_frame.ensures c.lead_length.ensures
-
-pub slice_bounds-settled_mark-end-then-is_inside : goal.slice_bounds-settled_mark-end-then-is_inside
-slice_bounds-settled_mark-end-then-is_inside c = sym (length-take-le c.put_head-n.result c.put_head-n.new.buf c.put_head-n.ensures.1)
 
 pub settled_mark-requires : goal.settled_mark-requires
 settled_mark-requires c =
@@ -46,11 +41,3 @@ returns-then-is_inside c =
     ∙ near-in (entries_of s) (directories_of s) (entry_at s a.i).text walk_decides s (row_at a.rows.now a.i) (front a.rows.now a.dirs.now a.text.now f.new.frames 1 n.result)
     (inside ∙ c.if-is_inside.true)
     (one-part s a.i n.result (replicate frame_width 0) f.new.frames (omega arith) f.ensures n.ensures)
-
-pub returns : goal.returns
-returns c =
-    let the_set : Store = lent c.args.fs c.args.rows.now c.args.dirs.now c.args.text.now in
-    let inside : is_inside (row_at c.args.rows.now c.args.i) ≡ c.is_inside.result = ap is_inside (sym c.row_at-row.ensures) ∙ sym c.is_inside.ensures in
-    let a = c.args in
-    let s = the_set in
-    near-not (entries_of s) (directories_of s) (entry_at s a.i).text walk_decides s (row_at a.rows.now a.i) (inside ∙ c.if-is_inside.false)

@@ -7,7 +7,4 @@ use Rattle.rope.specs.Rope.{held_path, frame_width}
 use Rattle.links.proofs.front.drop_front.Given as goal
 
 abbrev pub invariant-loop-k : goal.invariant-loop-k
-invariant-loop-k l = (length l.frames ≡ length l.initial.frames) × (l.k ≤ l.depth) × (l.depth * frame_width ≤ length l.initial.frames) × (drop l.left (held_path l.rows l.dirs l.text l.frames l.k) ≡ drop l.count (held_path l.rows l.dirs l.text l.initial.frames l.depth))
-
-abbrev pub decreases-loop-k : goal.decreases-loop-k
-decreases-loop-k l = l.k
+invariant-loop-k l = (length l.frames ≡ length l.initial.frames) × (l.depth * frame_width ≤ length l.initial.frames) × (drop l.left (held_path l.rows l.dirs l.text l.frames l.k) ≡ drop l.count (held_path l.rows l.dirs l.text l.initial.frames l.depth))

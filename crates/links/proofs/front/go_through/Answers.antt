@@ -4,23 +4,11 @@ use mathlib.Core.Path.{sym, ap, ◌∙◌}
 use mathlib.Core.List.{List}
 use native.Mathlib.Omega.{arith}
 use lib.ListN.{length, drop}
-use Rattle.path.specs.Join.{is_alone, is_closed, combined}
+use Rattle.path.specs.Join.{is_alone, combined}
 use Rattle.rope.specs.Rope.{leads, flat, frame_width}
-use Rattle.links.proofs.Fronts.{combined-rest, combined-text, tail-small, flat-alone, flat-through}
+use Rattle.links.proofs.Fronts.{combined-text, flat-alone, flat-through}
 use Rattle.links.proofs.front.go_through.Goals as goal
-use Rattle.links.proofs.front.go_through.Goals.{Start}
 
--- src/front.rt:145:9
-pub returns-then-is_lead_alone : goal.returns-then-is_lead_alone
-returns-then-is_lead_alone c =
-    let texts : ℕ → List ℕ = leads c.args.rows.now c.args.dirs.now c.args.text.now in
-    let rest : List ℕ = drop (c.args.e + 1) (flat texts c.args.frames.now c.args.depth) in
-    record {
-      result_after = c.drop_front-k.ensures.result_after ∙ combined-rest (texts c.args.v) rest (sym c.is_lead_alone.ensures ∙ c.if-is_lead_alone.true);
-      upper_bound = omega (arith, c.drop_front-k.ensures.upper_bound);
-    }
-
--- src/front.rt:150:9
 pub returns-then-is_path_alone : goal.returns-then-is_path_alone
 returns-then-is_path_alone c =
     let texts : ℕ → List ℕ = leads c.args.rows.now c.args.dirs.now c.args.text.now in
@@ -32,13 +20,6 @@ returns-then-is_path_alone c =
       upper_bound = omega arith;
     }
 
--- src/front.rt:153:26
-pub overflow_add-kind : goal.overflow_add-kind
-overflow_add-kind c =
-    let texts : ℕ → List ℕ = leads c.args.rows.now c.args.dirs.now c.args.text.now in
-    omega (arith, c.lead_tail-t.ensures, tail-small (is_closed (texts c.args.v)), c.requires)
-
--- src/front.rt:123:1
 pub returns : goal.returns
 returns c =
     let texts : ℕ → List ℕ = leads c.args.rows.now c.args.dirs.now c.args.text.now in

@@ -8,22 +8,19 @@ use Rattle.path.specs.Join.{is_closed}
 use Rattle.path.proofs.Ends.{closed_is}
 use Rattle.rope.specs.Rope.{leads}
 use Rattle.links.proofs.front.lead_tail.Goals as goal
-use Rattle.links.proofs.front.lead_tail.Goals.{After-saturating_sub_usize}
 
--- src/front.rt:101:9
 pub returns-then-lead_byte-eq47 : goal.returns-then-lead_byte-eq47
 returns-then-lead_byte-eq47 c =
-    let last-is : c.saturating_sub_usize.result ≡ length (leads c.args.rows.now c.args.dirs.now c.args.text.now c.args.v) - 1 = c.saturating_sub_usize.ensures ∙ rw c.lead_length-n.ensures in
+    let last-is : c.saturating_sub.result ≡ length (leads c.args.rows.now c.args.dirs.now c.args.text.now c.args.v) - 1 = c.saturating_sub.ensures ∙ rw c.lead_length-n.ensures in
     let a = c.args in
     let p = leads a.rows.now a.dirs.now a.text.now a.v in
-    let e : is_closed p ≡ true = sym (closed_is p c.saturating_sub_usize.result last-is) ∙ eq-eqb _ 47 (sym c.lead_byte.ensures ∙ c.if-lead_byte-eq47.true) in
+    let e : is_closed p ≡ true = sym (closed_is p c.saturating_sub.result last-is) ∙ eq-eqb _ 47 (sym c.lead_byte.ensures ∙ c.if-lead_byte-eq47.true) in
     rw e
 
--- src/front.rt:94:1
 pub returns : goal.returns
 returns c =
-    let last-is : c.saturating_sub_usize.result ≡ length (leads c.args.rows.now c.args.dirs.now c.args.text.now c.args.v) - 1 = c.saturating_sub_usize.ensures ∙ rw c.lead_length-n.ensures in
+    let last-is : c.saturating_sub.result ≡ length (leads c.args.rows.now c.args.dirs.now c.args.text.now c.args.v) - 1 = c.saturating_sub.ensures ∙ rw c.lead_length-n.ensures in
     let a = c.args in
     let p = leads a.rows.now a.dirs.now a.text.now a.v in
-    let e : is_closed p ≡ false = sym (closed_is p c.saturating_sub_usize.result last-is) ∙ ne_eqb _ 47 (λ q. c.if-lead_byte-eq47.false (c.lead_byte.ensures ∙ q)) in
+    let e : is_closed p ≡ false = sym (closed_is p c.saturating_sub.result last-is) ∙ ne_eqb _ 47 (λ q. c.if-lead_byte-eq47.false (c.lead_byte.ensures ∙ q)) in
     rw e

@@ -8,21 +8,6 @@ use Rattle.rules.specs.Questions.{rows_are_held, dirs_held, text_held, few_entri
 use Rattle.lookup.specs.Lookup.{lent}
 use Rattle.lookup.proofs.Spaces.{count-rows}
 use Rattle.links.proofs.judge.links_to_judge.Goals as goal
-use Rattle.links.proofs.judge.links_to_judge.Goals.{Else-is_bad_length, Else-not-is_held, Start}
-
-pub returns-then-is_bad_length : goal.returns-then-is_bad_length
-returns-then-is_bad_length c = let e = sym c.is_bad_length.ensures ∙ c.if-is_bad_length.true in rw e
-
-pub returns-then-not-is_held : goal.returns-then-not-is_held
-returns-then-not-is_held c =
-    let is-good : bad_length c.args.fs.piece_length ≡ false = sym c.is_bad_length.ensures ∙ c.if-is_bad_length.false in
-    let e = sym c.is_held.ensures ∙ c.if-not-is_held.true in rw (is-good, e)
-
-pub returns-then-lacks_space : goal.returns-then-lacks_space
-returns-then-lacks_space c =
-    let is-good : bad_length c.args.fs.piece_length ≡ false = sym c.is_bad_length.ensures ∙ c.if-is_bad_length.false in
-    let is_whole : ((rows_are_held c.args.fs c.args.rows.now && (dirs_held c.args.fs c.args.dirs.now && text_held c.args.fs c.args.text.now)) && few_entries c.args.fs) ≡ true = sym c.is_held.ensures ∙ c.if-not-is_held.false in
-    let e = sym c.lacks_space.ensures ∙ c.if-lacks_space.true in rw (is-good, is_whole, e)
 
 pub returns : goal.returns
 returns c =

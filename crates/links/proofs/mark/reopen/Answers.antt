@@ -6,7 +6,7 @@ use native.Mathlib.Omega.{arith}
 use borrow.Author.Rules.{rules}
 use lib.ListN.{length, get_or, set, take, drop, length-map}
 use Rattle.links.specs.private.Walking.{lead, untraversed}
-use Rattle.links.proofs.Packed.{lead-below, map_read, map-turn, map-end, fresh-small}
+use Rattle.links.proofs.Packed.{lead-below, map_read, map-turn, fresh-small}
 use Rattle.links.proofs.mark.reopen.Goals as goal
 
 -- a turn: lead k becomes fresh
@@ -22,10 +22,3 @@ pub loop-k-preserved : goal.loop-k-preserved
 loop-k-preserved c =
     let l = c.loop-k in let m₀ = c.args.marks.now in
     (search rules, turn (map lead m₀) (map lead l.marks) (map lead c.put_lead.new.marks) l.k c.untraversed_lead-m.result (omega (arith, length-map m₀ lead, c.loop-k-test.true, l.invariant.0)) l.invariant.1 (c.untraversed_lead-m.ensures ∙ ap untraversed c.lead_at.ensures) c.put_lead.ensures.marks_after, c.put_lead.ensures.marks_unchanged ∙ l.invariant.2)
-
-pub returns : goal.returns
-returns c =
-    let l = c.loop-k in let m₀ = c.args.marks.now in record {
-      marks_after = l.invariant.1 ∙ map-end untraversed (map lead m₀) l.k (omega (arith, length-map m₀ lead, c.loop-k-test.false, l.invariant.0));
-      marks_unchanged = l.invariant.2;
-    }

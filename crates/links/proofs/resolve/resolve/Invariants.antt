@@ -16,16 +16,10 @@ use Rattle.links.proofs.Turning.{Walking}
 use Rattle.links.proofs.resolve.resolve.Given as goal
 
 abbrev pub invariant-loop-d : goal.invariant-loop-d
-invariant-loop-d l = (l.e ≡ l.part.e) × (l.d ≤ l.fs.num_paths) × (is_directory (directories_from (lent l.fs l.rows l.dirs l.text) (l.fs.num_paths - l.d) l.d) (take l.part.e (path_of (lent l.fs l.rows l.dirs l.text) l.frames l.part.depth)) ≡ is_directory (directories_of (lent l.fs l.rows l.dirs l.text)) (take l.part.e (path_of (lent l.fs l.rows l.dirs l.text) l.frames l.part.depth)))
-
-abbrev pub decreases-loop-d : goal.decreases-loop-d
-decreases-loop-d l = l.fs.num_paths - l.d
+invariant-loop-d l = (l.e ≡ l.part.e) × (is_directory (directories_from (lent l.fs l.rows l.dirs l.text) (l.fs.num_paths - l.d) l.d) (take l.part.e (path_of (lent l.fs l.rows l.dirs l.text) l.frames l.part.depth)) ≡ is_directory (directories_of (lent l.fs l.rows l.dirs l.text)) (take l.part.e (path_of (lent l.fs l.rows l.dirs l.text) l.frames l.part.depth)))
 
 abbrev pub invariant-loop-i : goal.invariant-loop-i
-invariant-loop-i l = (l.marks ≡ l.initial.marks) × (l.frames ≡ l.initial.frames) × (l.depth ≡ l.part.depth) × (l.e ≡ l.part.e) × (l.i ≤ l.fs.num_files) × (l.k ≤ l.i) × Scan (entries_of (lent l.fs l.rows l.dirs l.text)) (entries_from (lent l.fs l.rows l.dirs l.text) (l.fs.num_files - l.i) l.i) (map lead l.initial.marks) (take l.part.e (path_of (lent l.fs l.rows l.dirs l.text) l.initial.frames l.part.depth)) l.k
-
-abbrev pub decreases-loop-i : goal.decreases-loop-i
-decreases-loop-i l = l.fs.num_files - l.i
+invariant-loop-i l = (l.marks ≡ l.initial.marks) × (l.frames ≡ l.initial.frames) × (l.depth ≡ l.part.depth) × (l.e ≡ l.part.e) × (l.k ≤ l.i) × Scan (entries_of (lent l.fs l.rows l.dirs l.text)) (entries_from (lent l.fs l.rows l.dirs l.text) (l.fs.num_files - l.i) l.i) (map lead l.initial.marks) (take l.part.e (path_of (lent l.fs l.rows l.dirs l.text) l.initial.frames l.part.depth)) l.k
 
 abbrev pub invariant-walk : goal.invariant-walk
 invariant-walk l = (length l.buf ≡ 4096) × Walking (lent l.fs l.rows l.dirs l.text) l.initial.marks l.initial.frames (goes_on (lent l.fs l.rows l.dirs l.text) (map lead l.initial.marks) (path_of (lent l.fs l.rows l.dirs l.text) l.initial.frames 1) (part_end (path_of (lent l.fs l.rows l.dirs l.text) l.initial.frames 1) 0)) l.marks l.frames l.depth l.e

@@ -1,7 +1,7 @@
--- `links::scan::file_in` meets its contract. Its loop keeps: none of the last k files stands at the part.
-use Prim.Native.Nat.{ℕ, ◌-◌, ◌+◌}
+-- `links::scan::file_in` meets its contract. Its loop keeps: none of the files from i on stands at the part.
+use Prim.Native.Nat.{ℕ, ◌-◌}
 use mathlib.Core.Path.{◌≡◌, refl, sym, ap, ◌∙◌}
-use mathlib.Core.Bool.{false}
+use mathlib.Core.Bool.{true, false}
 use mathlib.Core.List.{List}
 use native.Mathlib.Omega.{arith}
 use Rattle.lists.specs.Lists.{equal}
@@ -13,70 +13,42 @@ use Rattle.lookup.proofs.Rows.{own_at, flagged-at, back_start, back-turn, back-f
 use Rattle.rope.specs.Rope.{held_path, front}
 use Rattle.links.proofs.Heads.{head-not}
 use Rattle.links.proofs.scan.file_in.Goals as goal
-use Rattle.links.proofs.scan.file_in.Goals.{After-may_stand, After-own_part, After-struct_known-in-loop-k-1, Start}
+use Rattle.links.proofs.scan.file_in.Goals.{then-is_link, else-is_link, else-may_stand-via-then-may_stand+else-own_part, else-may_stand-via-else-may_stand}
 
-pub loop-k-init : goal.loop-k-init
-loop-k-init c =
-    let the_set : Store = lent c.args.fs c.args.rows.now c.args.dirs.now c.args.text.now in
-    let here : List ℕ = front c.args.rows.now c.args.dirs.now c.args.text.now c.args.frames.now c.args.part.depth c.args.part.e in
-    let n = c.args.fs.num_files in
-    let e : n - 0 ≡ n = omega arith in
-    (omega arith, rw e (back_start the_set here n))
-
-pub own_part-requires : goal.own_part-requires
-own_part-requires c = c.requires
-
-pub returns-then-is_link : goal.returns-then-is_link
-returns-then-is_link c =
-    let the_set : Store = lent c.args.fs c.args.rows.now c.args.dirs.now c.args.text.now in
-    let here : List ℕ = front c.args.rows.now c.args.dirs.now c.args.text.now c.args.frames.now c.args.part.depth c.args.part.e in
-    let place : ℕ = c.args.fs.num_files - (c.loop-k.k + 1) in
-    let own_is : (i : ℕ) → equal (internal_path c.args.dirs.now c.args.text.now (row_at c.args.rows.now i)) here ≡ equal (own_path (entry_at the_set i)) here = λ i. ap (λ (x : List ℕ). equal x here) (own_at the_set i) in
-    let is-own : c.own_part.result ≡ equal (own_path (entry_at the_set place)) here = c.own_part.ensures ∙ own_is place in
-    let n = c.args.fs.num_files in
-    let l = c.loop-k in
-    back-link the_set here n (n - l.k) place (omega arith) (omega arith) l.invariant.1 refl (sym is-own ∙ c.if-own_part.true) (sym (flagged-at the_set place) ∙ sym c.is_link.ensures ∙ c.if-is_link.true)
+pub loop-i-init : goal.loop-i-init
+loop-i-init c =
+    let a = c.args in
+    back_start (lent a.fs a.rows.now a.dirs.now a.text.now) (front a.rows.now a.dirs.now a.text.now a.frames.now a.part.depth a.part.e) a.fs.num_files
 
 pub returns-then-own_part : goal.returns-then-own_part
 returns-then-own_part c =
-    let the_set : Store = lent c.args.fs c.args.rows.now c.args.dirs.now c.args.text.now in
-    let here : List ℕ = front c.args.rows.now c.args.dirs.now c.args.text.now c.args.frames.now c.args.part.depth c.args.part.e in
-    let place : ℕ = c.args.fs.num_files - (c.loop-k.k + 1) in
-    let own_is : (i : ℕ) → equal (internal_path c.args.dirs.now c.args.text.now (row_at c.args.rows.now i)) here ≡ equal (own_path (entry_at the_set i)) here = λ i. ap (λ (x : List ℕ). equal x here) (own_at the_set i) in
-    let is-own : c.own_part.result ≡ equal (own_path (entry_at the_set place)) here = c.own_part.ensures ∙ own_is place in
-    let n = c.args.fs.num_files in
-    let l = c.loop-k in
-    back-file the_set here n (n - l.k) place (omega arith) (omega arith) l.invariant.1 refl (sym is-own ∙ c.if-own_part.true) (sym (flagged-at the_set place) ∙ sym c.is_link.ensures ∙ c.if-is_link.false)
+    let a = c.args in
+    let s : Store = lent a.fs a.rows.now a.dirs.now a.text.now in
+    let here : List ℕ = front a.rows.now a.dirs.now a.text.now a.frames.now a.part.depth a.part.e in
+    let j : ℕ = c.loop-i.i - 1 in
+    let own : equal (own_path (entry_at s j)) here ≡ true = ap (λ (x : List ℕ). equal x here) (sym (own_at s j)) ∙ sym c.own_part.ensures ∙ c.if-own_part.true in
+    let flagged : c.is_link.result ≡ (entry_at s j).flagged = c.is_link.ensures ∙ flagged-at s j in
+    elim c.if-is_link.branch [
+      | then-is_link w ↦ w.result-is ∙ back-link s here a.fs.num_files c.loop-i.i j (omega arith) (omega arith) c.loop-i.invariant refl own (sym flagged ∙ w.if-is_link.true)
+      | else-is_link w ↦ w.result-is ∙ back-file s here a.fs.num_files c.loop-i.i j (omega arith) (omega arith) c.loop-i.invariant refl own (sym flagged ∙ w.if-is_link.false)
+    ]
 
-pub loop-k-preserved-else-own_part : goal.loop-k-preserved-else-own_part
-loop-k-preserved-else-own_part c =
-    let the_set : Store = lent c.args.fs c.args.rows.now c.args.dirs.now c.args.text.now in
-    let here : List ℕ = front c.args.rows.now c.args.dirs.now c.args.text.now c.args.frames.now c.args.part.depth c.args.part.e in
-    let place : ℕ = c.args.fs.num_files - (c.loop-k.k + 1) in
-    let own_is : (i : ℕ) → equal (internal_path c.args.dirs.now c.args.text.now (row_at c.args.rows.now i)) here ≡ equal (own_path (entry_at the_set i)) here = λ i. ap (λ (x : List ℕ). equal x here) (own_at the_set i) in
-    let is-own : c.own_part.result ≡ equal (own_path (entry_at the_set place)) here = c.own_part.ensures ∙ own_is place in
-    let n = c.args.fs.num_files in
-    let l = c.loop-k in
-    (omega (arith, c.loop-k-test.true), back-turn the_set here n (n - l.k) place (omega arith) (omega arith) l.invariant.1 (sym is-own ∙ c.if-own_part.false))
-
-pub loop-k-preserved : goal.loop-k-preserved
-loop-k-preserved c =
-    let the_set : Store = lent c.args.fs c.args.rows.now c.args.dirs.now c.args.text.now in
-    let here : List ℕ = front c.args.rows.now c.args.dirs.now c.args.text.now c.args.frames.now c.args.part.depth c.args.part.e in
-    let place : ℕ = c.args.fs.num_files - (c.loop-k.k + 1) in
-    let own_is : (i : ℕ) → equal (internal_path c.args.dirs.now c.args.text.now (row_at c.args.rows.now i)) here ≡ equal (own_path (entry_at the_set i)) here = λ i. ap (λ (x : List ℕ). equal x here) (own_at the_set i) in
-    let not_own : c.may_stand.result ≡ false → equal (own_path (entry_at the_set place)) here ≡ false = λ e. let a = c.args in
-    let q = c.may_stand.ensures e in
-    sym (own_is place)
-    ∙ head-not a.head.now (held_path a.rows.now a.dirs.now a.text.now a.frames.now a.part.depth) a.part.e c.requires.head q.0 (internal_path a.dirs.now a.text.now (row_at a.rows.now place)) (q.1 a.dirs.now) in
-    let n = c.args.fs.num_files in
-    let l = c.loop-k in
-    (omega (arith, c.loop-k-test.true), back-turn the_set here n (n - l.k) place (omega arith) (omega arith) l.invariant.1 (not_own c.if-may_stand.false))
+pub loop-i-preserved : goal.loop-i-preserved
+loop-i-preserved c =
+    let a = c.args in
+    let s : Store = lent a.fs a.rows.now a.dirs.now a.text.now in
+    let here : List ℕ = front a.rows.now a.dirs.now a.text.now a.frames.now a.part.depth a.part.e in
+    let j : ℕ = c.loop-i.i - 1 in
+    let own_is : equal (own_path (entry_at s j)) here ≡ equal (internal_path a.dirs.now a.text.now (row_at a.rows.now j)) here = ap (λ (x : List ℕ). equal x here) (sym (own_at s j)) in
+    let turn : equal (own_path (entry_at s j)) here ≡ false → _ = back-turn s here a.fs.num_files c.loop-i.i j (omega arith) (omega arith) c.loop-i.invariant in
+    elim c.else-may_stand.branch [
+      | else-may_stand-via-then-may_stand+else-own_part w ↦ turn (own_is ∙ sym w.own_part.ensures ∙ w.if-own_part.false)
+      | else-may_stand-via-else-may_stand w ↦
+          let q = c.may_stand.ensures w.if-may_stand.false in
+          turn (own_is ∙ head-not a.head.now (held_path a.rows.now a.dirs.now a.text.now a.frames.now a.part.depth) a.part.e c.requires.head q.0 (internal_path a.dirs.now a.text.now (row_at a.rows.now j)) (q.1 a.dirs.now))
+    ]
 
 pub returns : goal.returns
 returns c =
-    let the_set : Store = lent c.args.fs c.args.rows.now c.args.dirs.now c.args.text.now in
-    let here : List ℕ = front c.args.rows.now c.args.dirs.now c.args.text.now c.args.frames.now c.args.part.depth c.args.part.e in
-    let n = c.args.fs.num_files in
-    let l = c.loop-k in
-    back_end the_set here n (n - l.k) refl (omega arith) l.invariant.1
+    let a = c.args in
+    back_end (lent a.fs a.rows.now a.dirs.now a.text.now) (front a.rows.now a.dirs.now a.text.now a.frames.now a.part.depth a.part.e) a.fs.num_files c.loop-i.i refl (omega arith) c.loop-i.invariant

@@ -1,7 +1,7 @@
 -- `links::scan::has_link` meets its contract. Its loop keeps: a link leads on at the part just where one of those from
 -- file i and mark k on does.
 use Prim.Native.Nat.{ℕ, ◌+◌, ◌-◌, ◌≤◌}
-use mathlib.Core.Path.{◌≡◌, refl, sym, ap, ◌∙◌}
+use mathlib.Core.Path.{◌≡◌, sym, ap, ◌∙◌}
 use mathlib.Core.Bool.{Bool, cond}
 use mathlib.Core.List.{List, ◌∷◌, map}
 use native.Mathlib.Omega.{arith}
@@ -14,13 +14,6 @@ use Rattle.rope.specs.Rope.{front}
 use Rattle.links.specs.private.Walking.{lead, any_at, link_at}
 use Rattle.links.proofs.Scans.{link-at, any-turn, any-hit}
 use Rattle.links.proofs.scan.has_link.Goals as goal
-use Rattle.links.proofs.scan.has_link.Goals.{After-is_link_at, After-link_count-k, Start}
-
-pub loop-i-init : goal.loop-i-init
-loop-i-init c = (c.requires.0, refl)
-
-pub is_link_at-requires : goal.is_link_at-requires
-is_link_at-requires c = c.requires.1
 
 pub returns-then-is_link_at : goal.returns-then-is_link_at
 returns-then-is_link_at c =
@@ -32,13 +25,6 @@ returns-then-is_link_at c =
     let split : any_at (entries_from the_set (c.args.fs.num_files - c.loop-i.i) c.loop-i.i) (drop c.loop-i.k its) here ≡ any_at (entry_at the_set c.loop-i.i ∷ behind c.loop-i.i) (drop c.loop-i.k its) here = ap (λ (l : List Entry). any_at l (drop c.loop-i.k its) here) (entries-cons the_set c.args.fs.num_files c.loop-i.i c.loop-i-test.true) in
     let l = c.loop-i in
     sym (any-hit (entry_at the_set l.i) (behind l.i) its here l.k (sym c.if-is_link_at.true ∙ at-is)) ∙ sym split ∙ l.invariant.1
-
-pub overflow_add-k : goal.overflow_add-k
-overflow_add-k c =
-    let the_set : Store = lent c.args.fs c.args.rows.now c.args.dirs.now c.args.text.now in
-    let count-is : c.link_count-k.result ≡ cond (entry_at the_set c.loop-i.i).flagged 1 0 = c.link_count-k.ensures ∙ ap (λ (b : Bool). cond b 1 0) (flagged-at the_set c.loop-i.i) in
-    let few : c.link_count-k.result ≤ 1 = one-or-none (entry_at the_set c.loop-i.i).flagged c.link_count-k.result count-is in
-    omega (arith, few, c.loop-i.invariant.0, c.loop-i-test.true)
 
 pub loop-i-preserved : goal.loop-i-preserved
 loop-i-preserved c =

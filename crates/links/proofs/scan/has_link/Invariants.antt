@@ -13,8 +13,5 @@ use Rattle.links.proofs.scan.has_link.Given as goal
 abbrev pub invariant-loop-i : goal.invariant-loop-i
 invariant-loop-i l =
     (l.k ≤ l.i)
-    × (any_at (entries_from (lent l.fs l.rows l.dirs l.text) (l.fs.num_files - l.i) l.i) (drop l.k (map lead l.marks)) (front l.rows l.dirs l.text l.frames l.part.depth l.part.e)
-    ≡ any_at (entries_from (lent l.fs l.rows l.dirs l.text) (l.fs.num_files - l.i0) l.i0) (drop l.k0 (map lead l.marks)) (front l.rows l.dirs l.text l.frames l.part.depth l.part.e))
-
-abbrev pub decreases-loop-i : goal.decreases-loop-i
-decreases-loop-i l = l.fs.num_files - l.i
+    × (any_at (entries_from (lent l.fn.fs l.rows l.dirs l.text) (l.fn.fs.num_files - l.i) l.i) (drop l.k (map lead l.marks)) (front l.rows l.dirs l.text l.frames l.part.depth l.part.e)
+    ≡ any_at (entries_from (lent l.fn.fs l.rows l.dirs l.text) (l.fn.fs.num_files - l.i0) l.i0) (drop l.k0 (map lead l.marks)) (front l.rows l.dirs l.text l.frames l.part.depth l.part.e))

@@ -9,7 +9,6 @@ use Rattle.links.proofs.Marks.{leads-back}
 use Rattle.links.proofs.Packed.{marks-from}
 use Rattle.links.proofs.Walks.{open_is, first-path, first-walkable}
 use Rattle.links.proofs.second.walk_link.Goals as goal
-use Rattle.links.proofs.second.walk_link.Goals.{Start}
 
 pub resolve-r-requires : goal.resolve-r-requires
 resolve-r-requires c =

@@ -9,25 +9,12 @@ use Rattle.lookup.specs.private.Rows.{entry_at, entries_from}
 use Rattle.lookup.proofs.Rows.{entries-start, entries-cons, entries_none, one-or-none}
 use Rattle.links.proofs.Walked.{judging-start, judging-turn, judging-end}
 use Rattle.links.proofs.second.walk_links.Goals as goal
-use Rattle.links.proofs.second.walk_links.Goals.{After-walk_one-k, Start}
 
 pub loop-i-init : goal.loop-i-init
 loop-i-init c =
     let the_set : Store = lent c.args.fs c.args.rows.now c.args.dirs.now c.args.text.now in
     let s = the_set in
     (omega arith, refl, refl, rw (entries-start s c.args.fs.num_files refl) (judging-start (entries_of s) (directories_of s) c.args.marks.now c.requires.0))
-
-pub walk_one-k-requires : goal.walk_one-k-requires
-walk_one-k-requires c =
-    let l = c.loop-i in
-    let b = c.requires.1 in
-    (c.loop-i-test.true, l.invariant.3.leads, record { few = b.few; small = b.small; room = omega (arith, b.room, l.invariant.2) })
-
-pub overflow_add-k : goal.overflow_add-k
-overflow_add-k c =
-    let the_set : Store = lent c.args.fs c.args.rows.now c.args.dirs.now c.args.text.now in
-    let few : c.walk_one-k.result ≤ 1 = one-or-none (entry_at the_set c.loop-i.i).flagged c.walk_one-k.result c.walk_one-k.ensures.value in
-    omega (arith, few, c.loop-i.invariant.0, c.loop-i-test.true)
 
 pub loop-i-preserved : goal.loop-i-preserved
 loop-i-preserved c =

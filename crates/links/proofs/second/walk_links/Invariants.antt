@@ -9,7 +9,4 @@ use Rattle.links.proofs.Walked.{Judging}
 use Rattle.links.proofs.second.walk_links.Given as goal
 
 abbrev pub invariant-loop-i : goal.invariant-loop-i
-invariant-loop-i l = (l.k ≤ l.i) × (length l.marks ≡ length l.initial.marks) × (length l.frames ≡ length l.initial.frames) × Judging (entries_of (lent l.fs l.rows l.dirs l.text)) (directories_of (lent l.fs l.rows l.dirs l.text)) (entries_from (lent l.fs l.rows l.dirs l.text) (l.fs.num_files - l.i) l.i) l.marks l.k
-
-abbrev pub decreases-loop-i : goal.decreases-loop-i
-decreases-loop-i l = l.fs.num_files - l.i
+invariant-loop-i l = (l.k ≤ l.i) × (length l.marks ≡ length l.initial.marks) × (length l.frames ≡ length l.initial.frames) × Judging (entries_of (lent l.fn.fs l.rows l.dirs l.text)) (directories_of (lent l.fn.fs l.rows l.dirs l.text)) (entries_from (lent l.fn.fs l.rows l.dirs l.text) (l.fn.fs.num_files - l.i) l.i) l.marks l.k

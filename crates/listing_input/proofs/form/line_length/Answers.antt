@@ -1,21 +1,14 @@
--- `listing_input::form::line_length` meets its contract. The loop's invariant: i is not before `at`, and the line that begins
--- at `at` is as long as the bytes between and the line that begins at i.
-use native.Mathlib.Omega.{arith}
-use Rattle.listing_input.proofs.Reading.{line-turn, line-stop, line-end}
+-- The library's search finds the line feed.
+use Rattle.std.proofs.Common.{ℕ, eqb, List, length, drop, ap, ◌∙◌, rules, tests}
+use Rattle.std.proofs.lemmas.List.{take_rest, drop_min}
+use Rattle.std.proofs.lemmas.Iterator.{YieldsList-from_slice}
+use Rattle.std.proofs.lemmas.Iterator.Search.{position_from_yields_List}
+use Rattle.listing_input.specs.Answers.{first_line}
+use Rattle.listing_input.proofs.Reading.{line_found}
 use Rattle.listing_input.proofs.form.line_length.Goals as goal
-
-pub returns-then-input-i-eq10 : goal.returns-then-input-i-eq10
-returns-then-input-i-eq10 c =
-    let l = c.loop-i in
-    omega (arith, l.invariant.1, line-stop c.args.input.now l.i (omega arith) c.if-input-i-eq10.true)
-
-pub loop-i-preserved : goal.loop-i-preserved
-loop-i-preserved c =
-    let l = c.loop-i in
-    let e = line-turn c.args.input.now l.i (omega arith) c.if-input-i-eq10.false in
-    (omega arith, omega (arith, l.invariant.1))
 
 pub returns : goal.returns
 returns c =
-    let l = c.loop-i in
-    omega (arith, l.invariant.1, line-end c.args.input.now l.i (omega arith))
+    c.unwrap_or.ensures
+    ∙ line_found _ c.position.result (position_from_yields_List (λ b. eqb b 10) _ _ c.position.result c.position.ensures.ran (YieldsList-from_slice _ c.iter.ensures.rest) (λ x b q k. search (rules, tests)))
+    ∙ ap (λ (s : List ℕ). length (first_line s)) (take_rest c.args.input.now c.min.result ∙ ap (λ (n : ℕ). drop n c.args.input.now) c.min.ensures ∙ drop_min c.args.at c.args.input.now)

@@ -1,13 +1,10 @@
--- `listing_input::form::unblank` meets its contract. The loop's invariant: i is at most the length, and the column from i on
--- is the whole column but for blanks at its start.
-use Prim.Native.Nat.{◌-◌, ◌≤◌}
-use mathlib.Core.Path.{◌≡◌}
-use lib.ListN.{length, drop}
+-- What is left is the column but for blanks at its start.
+use Rattle.std.proofs.Common.{◌≡◌, ◌≤◌, length}
 use Rattle.listing_input.specs.Form.{unblanked}
 use Rattle.listing_input.proofs.form.unblank.Given as goal
 
-abbrev pub invariant-loop-i : goal.invariant-loop-i
-invariant-loop-i l = (l.i ≤ length l.column) × (unblanked (drop l.i l.column) ≡ unblanked l.column)
+abbrev pub invariant-loop-rest : goal.invariant-loop-rest
+invariant-loop-rest l = (unblanked l.rest ≡ unblanked l.column) × (length l.rest ≤ length l.column)
 
-abbrev pub decreases-loop-i : goal.decreases-loop-i
-decreases-loop-i l = length l.column - l.i
+abbrev pub decreases-loop-rest : goal.decreases-loop-rest
+decreases-loop-rest l = length l.rest

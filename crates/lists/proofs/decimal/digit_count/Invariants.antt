@@ -1,14 +1,10 @@
--- `lists::decimal::digit_count` meets its contract. The loop's invariant: k is from 1 to 20, and k - 1 digits and those of
--- the rest, of which 21 - k may be left, are as many as those of n.
+-- `lists::decimal::digit_count` meets its contract. The loop's invariant: k - 1 digits and those of the rest, of which
+-- 21 - k may be left, are as many as those of n.
 use mathlib.Core.Path.{◌≡◌}
-use Prim.Native.Nat.{◌+◌, ◌-◌, ◌≤◌}
+use Prim.Native.Nat.{◌+◌, ◌-◌}
 use lib.ListN.{length}
 use Rattle.lists.specs.Decimal.{digits_within, decimal}
 use Rattle.lists.proofs.decimal.digit_count.Given as goal
 
 abbrev pub invariant-loop-k : goal.invariant-loop-k
-invariant-loop-k l =
-    (1 ≤ l.k) × (l.k ≤ 20) × (length (digits_within (20 - l.k) l.rest) + l.k ≡ length (decimal l.n) + 1)
-
-abbrev pub decreases-loop-k : goal.decreases-loop-k
-decreases-loop-k l = 20 - l.k
+invariant-loop-k l = length (digits_within (20 - l.k) l.rest) + l.k ≡ length (decimal l.n) + 1

@@ -1,25 +1,20 @@
--- `lists::decimal::put_blanks` meets its contract. The loop's invariant: the target keeps its length, and the blanks that are
--- left, stored from `at + i` on, give the whole.
+-- `lists::decimal::put_blanks` meets its contract.
 use native.Mathlib.Omega.{arith}
-use mathlib.Core.Path.{◌≡◌, refl, sym, ◌∙◌}
+use mathlib.Core.Path.{sym}
 use Prim.Native.Nat.{ℕ, ◌+◌, ◌-◌}
-use native.Mathlib.Nat.{add-zero, sub-zero}
-use lib.ListN.{replicate, length-set, length-replicate}
-use Rattle.lists.proofs.Runs.{fill-turn, sets-none}
+use lib.ListN.{length, take, drop, replicate, length-take, length-drop, length-replicate}
+use Rattle.lists.proofs.Runs.{sets-filled, sets-none}
 use Rattle.lists.proofs.decimal.put_blanks.Goals as goal
 
-pub loop-i-init : goal.loop-i-init
-loop-i-init c = let a = c.args in (omega arith, omega arith, refl, rw (add-zero a.at, sub-zero a.count))
-
-pub loop-i-preserved : goal.loop-i-preserved
-loop-i-preserved c =
-    let l = c.loop-i in
+pub returns-then-n-gt0 : goal.returns-then-n-gt0
+returns-then-n-gt0 c =
     let a = c.args in
-    let e : a.at + (l.i + 1) ≡ a.at + l.i + 1 = omega arith in
-    (omega arith, l.invariant.1, simp length-set l.invariant.2, rw e (fill-turn l.target (a.at + l.i) a.count l.i 32 (omega arith)) ∙ l.invariant.3)
+    let n = a.at + c.min-n.result - a.at in
+    let k = length (take n (drop a.at a.target.now)) in
+    rw (c.fill.ensures.after (λ y e. e))
+    (sets-filled a.target.now a.at a.count n k 32 (omega arith) (omega arith) (omega (arith, length-take {A = ℕ}, length-drop {A = ℕ})))
 
-pub returns : goal.returns
-returns c =
-    let l = c.loop-i in
+pub returns-else-n-gt0 : goal.returns-else-n-gt0
+returns-else-n-gt0 c =
     let a = c.args in
-    sym (sets-none (replicate (a.count - l.i) 32) l.target (a.at + l.i) (omega (arith, length-replicate {A = ℕ} (a.count - l.i) 32))) ∙ l.invariant.3
+    sym (sets-none (replicate a.count 32) a.target.now a.at (omega (arith, length-replicate {A = ℕ} a.count 32)))

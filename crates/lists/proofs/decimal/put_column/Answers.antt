@@ -18,19 +18,19 @@ drawn l l₁ l₂ at w n k blanks count a b d e f =
     let h : w - length (decimal n) ≡ blanks = omega arith in
     f ∙ rw (g, e, column-is w n, h, sets-append (replicate blanks 32) (drop (length (decimal n) - w) (decimal n)) l at, length-replicate {A = ℕ} blanks 32)
 
-pub returns-then-blanks-saturating_sub_usize : goal.returns-then-blanks-saturating_sub_usize
-returns-then-blanks-saturating_sub_usize c =
+pub returns-then-blanks-saturating_sub : goal.returns-then-blanks-saturating_sub
+returns-then-blanks-saturating_sub c =
     let b = c.put_blanks in
-    let m = c.saturating_sub_usize-blanks in
+    let m = c.saturating_sub-blanks in
     let k = c.digit_count-k in
     let a = c.args in
-    drawn a.target.now b.new.target c.put_digits.new.target a.at a.width a.n k.result m.result c.min_usize.result k.ensures m.ensures c.min_usize.ensures b.ensures c.put_digits.ensures
+    drawn a.target.now b.new.target c.put_digits.new.target a.at a.width a.n k.result m.result c.min.result k.ensures m.ensures c.min.ensures b.ensures c.put_digits.ensures
 
-pub returns-else-blanks-saturating_sub_usize : goal.returns-else-blanks-saturating_sub_usize
-returns-else-blanks-saturating_sub_usize c =
+pub returns-else-blanks-saturating_sub : goal.returns-else-blanks-saturating_sub
+returns-else-blanks-saturating_sub c =
     let a = c.args in
     let b = c.put_blanks in
     let k = c.digit_count-k in
-    let m = c.saturating_sub_usize-blanks in
+    let m = c.saturating_sub-blanks in
     let rest = drop (length (decimal a.n) - min a.width k.result) (decimal a.n) in
     drawn a.target.now b.new.target b.new.target a.at a.width a.n k.result m.result (min a.width k.result) k.ensures m.ensures refl b.ensures (sym (sets-past rest b.new.target (a.at + m.result) (omega arith)))

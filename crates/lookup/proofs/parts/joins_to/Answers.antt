@@ -6,20 +6,8 @@ use lib.ListN.{length, drop}
 use Rattle.lists.specs.Lists.{equal}
 use Rattle.path.specs.Join.{is_alone, is_closed}
 use Rattle.path.proofs.Ends.{part-rest}
-use Rattle.lookup.proofs.Paths.{joins-alone, joins-empty, joins-on, joins-not}
+use Rattle.lookup.proofs.Paths.{joins-on, joins-not}
 use Rattle.lookup.proofs.parts.joins_to.Goals as goal
-use Rattle.lookup.proofs.parts.joins_to.Goals.{After-is_tail, Else-is_alone}
-
-pub returns-then-is_alone : goal.returns-then-is_alone
-returns-then-is_alone c =
-    let a = c.args in
-    c.same.ensures ∙ joins-alone a.d.now a.name.now a.p.now (sym c.is_alone.ensures ∙ c.if-is_alone.true)
-
-pub returns-then-name-eq0 : goal.returns-then-name-eq0
-returns-then-name-eq0 c =
-    let alone-not : is_alone c.args.d.now ≡ false = sym c.is_alone.ensures ∙ c.if-is_alone.false in
-    let a = c.args in
-    c.same-then-name-eq0.ensures ∙ joins-empty a.d.now a.name.now a.p.now alone-not c.if-name-eq0.true
 
 pub returns-then-is_tail : goal.returns-then-is_tail
 returns-then-is_tail c =

@@ -1,5 +1,5 @@
 -- `lookup::set::is_directory` meets its contract.
-use Prim.Native.Nat.{◌-◌, ◌≤◌}
+use Prim.Native.Nat.{◌-◌}
 use mathlib.Core.Path.{◌≡◌}
 use mathlib.Core.List.{[]}
 use Rattle.lookup.specs.Lookup.{is_directory, lent, directories_of}
@@ -8,7 +8,4 @@ use Rattle.lookup.proofs.set.is_directory.Given as goal
 
 -- the loop keeps: the directories from d on decide
 abbrev pub invariant-loop-d : goal.invariant-loop-d
-invariant-loop-d l = (l.d ≤ l.fs.num_paths) × (is_directory (directories_from (lent l.fs [] l.dirs l.text) (l.fs.num_paths - l.d) l.d) l.p ≡ is_directory (directories_of (lent l.fs [] l.dirs l.text)) l.p)
-
-abbrev pub decreases-loop-d : goal.decreases-loop-d
-decreases-loop-d l = l.fs.num_paths - l.d
+invariant-loop-d l = is_directory (directories_from (lent l.fn.fs [] l.dirs l.text) (l.fn.fs.num_paths - l.d) l.d) l.p ≡ is_directory (directories_of (lent l.fn.fs [] l.dirs l.text)) l.p

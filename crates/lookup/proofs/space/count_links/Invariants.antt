@@ -9,7 +9,4 @@ use Rattle.lookup.proofs.space.count_links.Given as goal
 
 -- the loop keeps: n links are among the first i files, and the rest makes up the count
 abbrev pub invariant-loop-i : goal.invariant-loop-i
-invariant-loop-i l = (l.i ≤ l.fs.num_files) × (l.n ≤ l.i) × (l.n + link_count (entries_from (lent l.fs l.rows [] []) (l.fs.num_files - l.i) l.i) ≡ link_count (entries_of (lent l.fs l.rows [] [])))
-
-abbrev pub decreases-loop-i : goal.decreases-loop-i
-decreases-loop-i l = l.fs.num_files - l.i
+invariant-loop-i l = (l.n ≤ l.i) × (l.n + link_count (entries_from (lent l.fn.fs l.rows [] []) (l.fn.fs.num_files - l.i) l.i) ≡ link_count (entries_of (lent l.fn.fs l.rows [] [])))

@@ -1,18 +1,10 @@
--- `names::file::hash_set` meets its contract.
-use mathlib.Core.Path.{◌≡◌, sym, ◌∙◌}
-use mathlib.Core.Bool.{true, false, not, ◌&&◌}
-use Rattle.tables.specs.Rows.{has, is_inside}
+-- `names::file::hash_set` meets its contract: no bytes change no hash.
+use Rattle.std.proofs.Common.{◌≡◌, sym, ◌∙◌, false}
 use Rattle.crc32c.proofs.Parts.{crc-none}
+use Rattle.names.specs.Paths.{set_leads}
 use Rattle.names.proofs.file.hash_set.Goals as goal
 
-pub returns-then-is_led : goal.returns-then-is_led
-returns-then-is_led c =
-    let r = c.args.row in
-    let e : (is_inside r && not (has r.flags 32)) ≡ true = sym c.is_led.ensures ∙ c.if-is_led.true in
-    c.hash_closed.ensures ∙ rw (e, c.text_at.ensures)
-
-pub returns : goal.returns
-returns c =
-    let r = c.args.row in
-    let e : (is_inside r && not (has r.flags 32)) ≡ false = sym c.is_led.ensures ∙ c.if-is_led.false in
+pub returns-else-is_led : goal.returns-else-is_led
+returns-else-is_led c =
+    let e : set_leads c.args.row ≡ false = sym c.is_led.ensures ∙ c.if-is_led.false in
     rw e (sym (crc-none c.args.crc))

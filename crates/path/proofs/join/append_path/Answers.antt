@@ -1,5 +1,5 @@
 -- `path::join::append_path` meets its contract: the branch is not written again, since it stands in the buffer already.
-use Prim.Native.Nat.{ℕ, ◌≤◌, ◌<◌}
+use Prim.Native.Nat.{ℕ, ◌≤◌}
 use mathlib.Core.Path.{◌≡◌, sym, ap, ◌∙◌}
 use mathlib.Core.Bool.{true, false, cond}
 use mathlib.Core.List.{List, ◌∷◌}
@@ -7,15 +7,11 @@ use native.Mathlib.Nat.{zero-add}
 use native.Mathlib.Omega.{arith}
 use lib.ListN.{length, take, take-append-drop}
 use lib.Seq.{sets, sets-eq, length-take-le}
-use borrow.Author.Tests.{le-leb, lt-leb, leb-true}
-use Rattle.types.specs.Refusals.{value, refused}
-use Rattle.path.specs.Join.{is_alone, glued, appended, Joined, joined_if, fits, append_into}
-use Rattle.path.proofs.Joins.{no_bytes, some_bytes, written_is, glued-refused, glued-written}
+use borrow.Author.Tests.{le-leb}
+use Rattle.types.specs.Refusals.{value}
+use Rattle.path.specs.Join.{is_alone, is_empty, glued, appended, Joined, joined_if, fits, append_into}
+use Rattle.path.proofs.Joins.{empty-is, written_is, glued-written}
 use Rattle.path.proofs.join.append_path.Goals as goal
-
-past_is : (buf : List ℕ) (used : ℕ) (leaf : List ℕ) → length buf < used
-    → ◌≡◌ {A = Joined} (record { says = refused 10; buf = buf }) (append_into buf used leaf)
-past_is buf used leaf h = rw (lt-leb used (length buf) h)
 
 module _ (buf : List ℕ) (used : ℕ) (leaf : List ℕ) (h : used ≤ length buf) where
   long : length (take used buf) ≡ used
@@ -31,54 +27,20 @@ module _ (buf : List ℕ) (used : ℕ) (leaf : List ℕ) (h : used ≤ length bu
   alone-is : is_alone (take used buf) ≡ true → joined_if (fits leaf buf) leaf buf ≡ append_into buf used leaf
   alone-is a = text-is leaf (rw a)
 
-  empty-is : is_alone (take used buf) ≡ false → length leaf ≡ 0
+  branch-is : is_alone (take used buf) ≡ false → is_empty leaf ≡ true
       → ◌≡◌ {A = Joined} (record { says = value used; buf = buf }) (append_into buf used leaf)
-  empty-is a e =
+  branch-is a e =
       let b = take used buf in
-      written_is (fits b buf) b buf used buf (rw long (le-leb used (length buf) h)) (sym long) (sym kept) ∙ text-is b (rw (a, no_bytes leaf e))
+      written_is (fits b buf) b buf used buf (rw long (le-leb used (length buf) h)) (sym long) (sym kept) ∙ text-is b (rw (a, e))
 
-  glued-is : is_alone (take used buf) ≡ false → (length leaf ≡ 0 → ⊥)
+  glued-is : is_alone (take used buf) ≡ false → is_empty leaf ≡ false
       → joined_if (fits (glued (take used buf) leaf) buf) (glued (take used buf) leaf) buf ≡ append_into buf used leaf
-  glued-is a e = text-is (glued (take used buf) leaf) (rw (a, some_bytes leaf e))
+  glued-is a e = text-is (glued (take used buf) leaf) (rw (a, e))
 
-pub returns-then-buf-used : goal.returns-then-buf-used
-returns-then-buf-used c =
+pub returns-then-is_empty : goal.returns-then-is_empty
+returns-then-is_empty c =
     let a = c.args in
-    past_is a.buf.now a.used a.leaf.now c.if-buf-used.true
-
-pub slice_bounds-is_alone-end-2 : goal.slice_bounds-is_alone-end-2
-slice_bounds-is_alone-end-2 c =
-    let a = c.args in
-    sym (length-take-le a.used a.buf.now c.if-buf-used.false)
-
-pub returns-then-is_alone : goal.returns-then-is_alone
-returns-then-is_alone c =
-    let a = c.args in
-    c.put_alone.ensures
-    ∙ alone-is a.buf.now a.used a.leaf.now c.if-buf-used.false (sym c.is_alone.ensures ∙ c.if-is_alone.true)
-
-pub returns-then-leaf-eq0 : goal.returns-then-leaf-eq0
-returns-then-leaf-eq0 c =
-    let a = c.args in
-    empty-is a.buf.now a.used a.leaf.now c.if-buf-used.false (sym c.is_alone.ensures ∙ c.if-is_alone.false) c.if-leaf-eq0.true
-
-pub slice_bounds-is_closed-end-2 : goal.slice_bounds-is_closed-end-2
-slice_bounds-is_closed-end-2 c =
-    let a = c.args in
-    sym (length-take-le a.used a.buf.now c.if-buf-used.false)
-
-pub returns-then-not-has_room : goal.returns-then-not-has_room
-returns-then-not-has_room c =
-    let r = c.has_room in
-    let a = c.args in
-    let h = c.if-buf-used.false in
-    glued-refused (take a.used a.buf.now) a.leaf.now a.used c.is_closed-closed.result
-    (sym (length-take-le a.used a.buf.now h)) c.is_closed-closed.ensures a.buf.now r.result r.ensures c.if-not-has_room.true
-    ∙ glued-is a.buf.now a.used a.leaf.now h (sym c.is_alone.ensures ∙ c.if-is_alone.false) c.if-leaf-eq0.false
-
-pub put_after-requires : goal.put_after-requires
-put_after-requires c =
-    leb-true _ _ (sym c.has_room.ensures ∙ c.if-not-has_room.false)
+    branch-is a.buf.now a.used a.leaf.now c.if-buf-used.false (sym c.is_alone.ensures ∙ c.if-is_alone.false) (sym (empty-is a.leaf.now) ∙ sym c.is_empty.ensures ∙ c.if-is_empty.true)
 
 pub returns : goal.returns
 returns c =
@@ -91,4 +53,4 @@ returns c =
     (sym (length-take-le a.used a.buf.now h)) c.is_closed-closed.ensures a.buf.now r.result r.ensures c.if-not-has_room.false
     w.new.buf w.result w.ensures.value
     (w.ensures.buf_after ∙ ap (λ (l : List ℕ). sets l a.used tail) (sym (kept a.buf.now a.used a.leaf.now h)))
-    ∙ glued-is a.buf.now a.used a.leaf.now h (sym c.is_alone.ensures ∙ c.if-is_alone.false) c.if-leaf-eq0.false
+    ∙ glued-is a.buf.now a.used a.leaf.now h (sym c.is_alone.ensures ∙ c.if-is_alone.false) (sym (empty-is a.leaf.now) ∙ sym c.is_empty.ensures ∙ c.if-is_empty.false)

@@ -1,46 +1,15 @@
 -- `path::join::combine_path` meets its contract.
 use Prim.Native.Nat.{ℕ}
 use mathlib.Core.Path.{◌≡◌, refl, sym, ◌∙◌}
-use mathlib.Core.Bool.{true, false}
+use mathlib.Core.Bool.{false}
 use mathlib.Core.List.{List}
 use lib.ListN.{length}
-use lib.Seq.{length-sets}
-use borrow.Author.Tests.{leb-true}
 use Rattle.path.specs.Join.{is_alone, glued, combined, joined_if, fits, combine_into}
-use Rattle.path.proofs.Joins.{glued-refused, glued-written}
+use Rattle.path.proofs.Joins.{glued-written}
 use Rattle.path.proofs.join.combine_path.Goals as goal
 
 text-is : (left right buf text : List ℕ) → text ≡ combined left right → joined_if (fits text buf) text buf ≡ combine_into left right buf
 text-is left right buf text e = rw e
-
-pub returns-then-is_alone : goal.returns-then-is_alone
-returns-then-is_alone c =
-    let a = c.args in
-    let e : is_alone a.left.now ≡ true = sym c.is_alone.ensures ∙ c.if-is_alone.true in
-    c.put_alone.ensures ∙ text-is a.left.now a.right.now a.buf.now a.right.now (rw e)
-
-pub returns-then-is_alone-2 : goal.returns-then-is_alone-2
-returns-then-is_alone-2 c =
-    let a = c.args in
-    let e : is_alone a.left.now ≡ false = sym c.is_alone.ensures ∙ c.if-is_alone.false in
-    let h : is_alone a.right.now ≡ true = sym c.is_alone-2.ensures ∙ c.if-is_alone-2.true in
-    c.put_alone-then-is_alone-2.ensures ∙ text-is a.left.now a.right.now a.buf.now a.left.now (rw (e, h))
-
-pub returns-then-not-has_room : goal.returns-then-not-has_room
-returns-then-not-has_room c =
-    let r = c.has_room in
-    let a = c.args in
-    let e : is_alone a.left.now ≡ false = sym c.is_alone.ensures ∙ c.if-is_alone.false in
-    let h : is_alone a.right.now ≡ false = sym c.is_alone-2.ensures ∙ c.if-is_alone-2.false in
-    glued-refused a.left.now a.right.now (length a.left.now) c.is_closed-closed.result
-    refl c.is_closed-closed.ensures a.buf.now r.result r.ensures c.if-not-has_room.true
-    ∙ text-is a.left.now a.right.now a.buf.now (glued a.left.now a.right.now) (rw (e, h))
-
-pub put_after-requires : goal.put_after-requires
-put_after-requires c =
-    let r = c.has_room in
-    rw (c.copy_after.ensures, length-sets)
-    (leb-true _ _ (sym r.ensures ∙ c.if-not-has_room.false))
 
 pub returns : goal.returns
 returns c =

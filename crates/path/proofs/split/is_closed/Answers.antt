@@ -4,4 +4,4 @@ use Rattle.path.proofs.split.is_closed.Goals as goal
 
 pub returns : goal.returns
 returns c =
-    rw c.byte.ensures (closed_is c.args.path.now c.saturating_sub_usize.result c.saturating_sub_usize.ensures)
+    rw c.item_or.ensures (closed_is c.args.path.now c.saturating_sub.result c.saturating_sub.ensures)

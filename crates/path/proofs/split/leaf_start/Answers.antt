@@ -6,13 +6,14 @@ use mathlib.Core.Bool.{false}
 use mathlib.Core.List.{List, ◌∷◌, ◌++◌}
 use native.Mathlib.Omega.{arith}
 use lib.ListN.{length, get_or, take, drop}
-use lib.Seq.{split_at, drop-length}
+use lib.Seq.{split_at}
 use borrow.Author.Tests.{ne_eqb}
 use Rattle.lists.specs.Lists.{any}
 use Rattle.lists.proofs.Tests.{any-turn}
 use Rattle.path.specs.Split.{is_separator, before_last, after_last}
 use Rattle.path.proofs.Splits.{branch-none, leaf-all, branch-only, leaf-only}
 use Rattle.path.proofs.split.leaf_start.Goals as goal
+use Rattle.path.proofs.split.leaf_start.Goals.{else-i-eq1-via-then-i-eq1+else-path-eq47, else-i-eq1-via-else-i-eq1}
 
 found : (p : List ℕ) (i j : ℕ) → i ≡ suc j → j < length p → get_or p j 0 ≡ 47 → any is_separator (drop i p) ≡ false
     → (take j p ≡ before_last p) × (drop i p ≡ after_last p)
@@ -25,9 +26,6 @@ one_less : (p : List ℕ) (i j : ℕ) → i ≡ suc j → j < length p → (get_
     → any is_separator (drop j p) ≡ false
 one_less p i j e h q n =
     let f : j + 1 ≡ i = omega arith in any-turn is_separator p j 0 h (ne_eqb (get_or p j 0) 47 q) ∙ rw f n
-
-pub loop-i-init : goal.loop-i-init
-loop-i-init c = (omega arith, ap (any is_separator) (drop-length c.args.path.now))
 
 pub returns-then-path-i-eq47 : goal.returns-then-path-i-eq47
 returns-then-path-i-eq47 c =
@@ -44,36 +42,14 @@ returns-then-path-i-eq47-2 c =
     (found p (l.i - 1) (l.i - 2) (omega arith) (omega arith) c.if-path-i-eq47-2.true
     (one_less p l.i (l.i - 1) (omega arith) (omega arith) c.if-path-i-eq47.false l.invariant.1))
 
-pub loop-i-preserved : goal.loop-i-preserved
-loop-i-preserved c =
-    let l = c.loop-i in
-    let p = c.args.path.now in (
-      omega arith,
-      one_less p (l.i - 1) (l.i - 2) (omega arith) (omega arith) c.if-path-i-eq47-2.false
-          (one_less p l.i (l.i - 1) (omega arith) (omega arith) c.if-path-i-eq47.false l.invariant.1),
-    )
-
-pub bounds-path-0 : goal.bounds-path-0
-bounds-path-0 c = omega (arith, c.loop-i.invariant.0)
-
-pub returns-then-path-eq47 : goal.returns-then-path-eq47
-returns-then-path-eq47 c =
+pub returns : goal.returns
+returns c =
     let l = c.loop-i in
     let p = c.args.path.now in
-    let e : l.i ≡ 1 = c.if-i-eq1.true in
-    found p 1 0 refl (omega (arith, l.invariant.0)) c.if-path-eq47.true (rw e at l.invariant.1)
-
-pub returns-else-path-eq47 : goal.returns-else-path-eq47
-returns-else-path-eq47 c =
-    let l = c.loop-i in
-    let p = c.args.path.now in
-    let e : l.i ≡ 1 = c.if-i-eq1.true in
-    let n = one_less p 1 0 refl (omega (arith, l.invariant.0)) c.if-path-eq47.false (rw e at l.invariant.1) in
-    (sym (branch-none p n), sym (leaf-all p n))
-
-pub returns-else-i-eq1 : goal.returns-else-i-eq1
-returns-else-i-eq1 c =
-    let p = c.args.path.now in
-    let z : c.loop-i.i ≡ 0 = omega arith in
-    let n : any is_separator p ≡ false = rw z at c.loop-i.invariant.1 in
+    let n : any is_separator p ≡ false = elim c.else-i-eq1.branch [
+      | else-i-eq1-via-then-i-eq1+else-path-eq47 w ↦
+          let e : l.i ≡ 1 = w.if-i-eq1.true in
+          one_less p 1 0 refl (omega (arith, l.invariant.0)) w.if-path-eq47.false (rw e at l.invariant.1)
+      | else-i-eq1-via-else-i-eq1 w ↦ let z : l.i ≡ 0 = omega arith in rw z at l.invariant.1
+    ] in
     (sym (branch-none p n), sym (leaf-all p n))

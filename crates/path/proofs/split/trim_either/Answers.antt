@@ -7,9 +7,9 @@ use Rattle.path.proofs.split.trim_either.Goals as goal
 pub returns-then-is_either : goal.returns-then-is_either
 returns-then-is_either c =
     let p = c.args.path.now in
-    c.part.ensures ∙ trim-yes is_either refl p c.saturating_sub_usize-last.result c.saturating_sub_usize-last.ensures (ap is_either (sym c.byte.ensures) ∙ sym c.is_either.ensures ∙ c.if-is_either.true)
+    c.part.ensures ∙ trim-yes is_either refl p c.saturating_sub-last.result c.saturating_sub-last.ensures (ap is_either (sym c.item_or.ensures) ∙ sym c.is_either.ensures ∙ c.if-is_either.true)
 
 pub returns : goal.returns
 returns c =
     let p = c.args.path.now in
-    trim-no is_either refl p c.saturating_sub_usize-last.result c.saturating_sub_usize-last.ensures (ap is_either (sym c.byte.ensures) ∙ sym c.is_either.ensures ∙ c.if-is_either.false)
+    trim-no is_either refl p c.saturating_sub-last.result c.saturating_sub-last.ensures (ap is_either (sym c.item_or.ensures) ∙ sym c.is_either.ensures ∙ c.if-is_either.false)

@@ -1,68 +1,72 @@
 -- `renamed::question::file_absolute_path` meets its contract.
 use Prim.Native.Nat.{ℕ}
-use mathlib.Core.Path.{◌≡◌, sym, ap, ◌∙◌}
+use mathlib.Core.Path.{ap, ◌∙◌}
 use mathlib.Core.Bool.{Bool}
+use mathlib.Core.List.{List}
 use lib.ListN.{length}
-use Rattle.types.specs.Refusals.{number_of, value, refused}
+use Rattle.types.specs.Refusals.{number_of, refused}
+use Rattle.types.proofs.Refusals.{exit}
 use Rattle.tables.specs.Rows.{row_at, is_absolute}
-use Rattle.rules.specs.Questions.{file_answer, rows_are_held}
+use Rattle.rules.specs.Questions.{rows_are_held}
 use Rattle.rules.specs.Bounds.{clamped_of}
-use Rattle.rules.specs.Results.{bool_says}
+use Rattle.renames.specs.declared.rename.RenamedFiles.{RenamedFiles}
 use Rattle.renames.specs.Renames.{renames_of, in_order}
-use Rattle.renames.specs.Results.{find_says}
 use Rattle.renames.specs.Finding.{rename_for, find_given}
 use Rattle.renames.proofs.Deciding.{asked-own}
 use Rattle.renamed.specs.Questions.{renamed_absolute}
 use Rattle.renamed.proofs.Deciding.{asked-refused, asked-disorder, asked-value}
-use Rattle.renamed.proofs.Questions.{found-renamed, found-own, found-refused, listed-renamed, listed-own}
+use Rattle.renamed.proofs.Questions.{found-value, found-refused, listed}
 use Rattle.renamed.proofs.question.file_absolute_path.Goals as goal
 
-pub returns-in-Renamed : goal.returns-in-Renamed
-returns-in-Renamed c =
-    let own_answer : ℕ → Bool = λ k. is_absolute (row_at c.args.rows.now k) in
-    let held : Bool = rows_are_held c.args.fs c.args.rows.now in
-    let order : Bool = in_order c.args.renames c.args.rename_entries.now c.args.rename_text.now in
-    let new_answer : ℕ → Bool = λ k. renamed_absolute (rename_for k (renames_of c.args.renames c.args.rename_entries.now c.args.rename_text.now)) (own_answer k) in
-    let own_is : value c.in-Ok.own ≡ file_answer c.args.fs c.args.index.0 held own_answer = ap bool_says (sym c.in-Ok.is) ∙ c.file_absolute_path.ensures in
-    let find-is : let a = c.args in find_says c.find_rename-found.result ≡ find_given a.renames a.rename_entries.now (length a.rename_text.now) (clamped_of a.index.0) = let a = c.args in
-    c.find_rename-found.ensures ∙ ap (find_given a.renames a.rename_entries.now (length a.rename_text.now)) c.get.ensures in
-    let a = c.args in
-    let r = c.in-Renamed.rename in
-    let w = found-renamed a.renames a.rename_entries.now a.rename_text.now (clamped_of a.index.0) c.find_rename-found.result find-is r c.in-Renamed.is in
-    asked-value a.fs a.index.0 held order own_answer new_answer _ own_is w.0 _ (rw (listed-renamed a.renames a.rename_entries.now a.rename_text.now (clamped_of a.index.0) w.0 r w.1) c.is_by_itself.ensures)
+-- whether the path of file k is absolute by its row, and through the renames
+module _ (rows : List ℕ) (rf : RenamedFiles) (e names : List ℕ) where
+  abbrev own_answer : ℕ → Bool
+  own_answer k = is_absolute (row_at rows k)
 
-pub returns-in-Own : goal.returns-in-Own
-returns-in-Own c =
-    let own_answer : ℕ → Bool = λ k. is_absolute (row_at c.args.rows.now k) in
-    let held : Bool = rows_are_held c.args.fs c.args.rows.now in
-    let order : Bool = in_order c.args.renames c.args.rename_entries.now c.args.rename_text.now in
-    let new_answer : ℕ → Bool = λ k. renamed_absolute (rename_for k (renames_of c.args.renames c.args.rename_entries.now c.args.rename_text.now)) (own_answer k) in
-    let own_is : value c.in-Ok.own ≡ file_answer c.args.fs c.args.index.0 held own_answer = ap bool_says (sym c.in-Ok.is) ∙ c.file_absolute_path.ensures in
-    let find-is : let a = c.args in find_says c.find_rename-found.result ≡ find_given a.renames a.rename_entries.now (length a.rename_text.now) (clamped_of a.index.0) = let a = c.args in
-    c.find_rename-found.ensures ∙ ap (find_given a.renames a.rename_entries.now (length a.rename_text.now)) c.get.ensures in
-    let a = c.args in
-    let own = own_is in
-    let w = found-own a.renames a.rename_entries.now a.rename_text.now (clamped_of a.index.0) c.find_rename-found.result find-is c.in-Own.is in
-    asked-value a.fs a.index.0 held order own_answer new_answer _ own w.0 _ (rw (listed-own a.renames a.rename_entries.now a.rename_text.now (clamped_of a.index.0) w.0 w.1) (asked-own a.fs a.index.0 held own_answer _ own))
+  abbrev new_answer : ℕ → Bool
+  new_answer k = renamed_absolute (rename_for k (renames_of rf e names)) (own_answer k)
 
-pub returns-in-Err-found : goal.returns-in-Err-found
-returns-in-Err-found c =
-    let own_answer : ℕ → Bool = λ k. is_absolute (row_at c.args.rows.now k) in
-    let held : Bool = rows_are_held c.args.fs c.args.rows.now in
-    let order : Bool = in_order c.args.renames c.args.rename_entries.now c.args.rename_text.now in
-    let new_answer : ℕ → Bool = λ k. renamed_absolute (rename_for k (renames_of c.args.renames c.args.rename_entries.now c.args.rename_text.now)) (own_answer k) in
-    let own_is : value c.in-Ok.own ≡ file_answer c.args.fs c.args.index.0 held own_answer = ap bool_says (sym c.in-Ok.is) ∙ c.file_absolute_path.ensures in
-    let find-is : let a = c.args in find_says c.find_rename-found.result ≡ find_given a.renames a.rename_entries.now (length a.rename_text.now) (clamped_of a.index.0) = let a = c.args in
-    c.find_rename-found.ensures ∙ ap (find_given a.renames a.rename_entries.now (length a.rename_text.now)) c.get.ensures in
+pub returns-in-Some : goal.returns-in-Some
+returns-in-Some c =
     let a = c.args in
-    let w = found-refused a.renames a.rename_entries.now a.rename_text.now (clamped_of a.index.0) c.find_rename-found.result find-is c.in-Err-found.e c.in-Err-found.is in
-    ap refused w.1 ∙ asked-disorder a.fs a.index.0 held order own_answer new_answer _ own_is w.0
+    let k = clamped_of a.index.0 in
+    let own = own_answer a.rows.now a.renames a.rename_entries.now a.rename_text.now in
+    let new = new_answer a.rows.now a.renames a.rename_entries.now a.rename_text.now in
+    let find = ap (find_given a.renames a.rename_entries.now (length a.rename_text.now)) c.get.ensures in
+    let w = found-value a.renames a.rename_entries.now a.rename_text.now k c.in_ok-found.found (c.in_ok-found.ensures ∙ find) in
+    let one = listed a.renames a.rename_entries.now a.rename_text.now k w.0 _ (w.1 ∙ c.in-Some.is) in
+    asked-value a.fs a.index.0 (rows_are_held a.fs a.rows.now) (in_order a.renames a.rename_entries.now a.rename_text.now) own new
+    c.in_ok-own.own c.in_ok-own.ensures w.0 _ (rw one c.is_by_itself.ensures)
 
-pub returns-in-Err : goal.returns-in-Err
-returns-in-Err c =
-    let own_answer : ℕ → Bool = λ k. is_absolute (row_at c.args.rows.now k) in
-    let held : Bool = rows_are_held c.args.fs c.args.rows.now in
-    let order : Bool = in_order c.args.renames c.args.rename_entries.now c.args.rename_text.now in
-    let new_answer : ℕ → Bool = λ k. renamed_absolute (rename_for k (renames_of c.args.renames c.args.rename_entries.now c.args.rename_text.now)) (own_answer k) in
+pub returns-in-None : goal.returns-in-None
+returns-in-None c =
     let a = c.args in
-    asked-refused a.fs a.index.0 held order own_answer new_answer (number_of c.in-Err.e) (ap bool_says (sym c.in-Err.is) ∙ c.file_absolute_path.ensures)
+    let k = clamped_of a.index.0 in
+    let own = own_answer a.rows.now a.renames a.rename_entries.now a.rename_text.now in
+    let new = new_answer a.rows.now a.renames a.rename_entries.now a.rename_text.now in
+    let find = ap (find_given a.renames a.rename_entries.now (length a.rename_text.now)) c.get.ensures in
+    let w = found-value a.renames a.rename_entries.now a.rename_text.now k c.in_ok-found.found (c.in_ok-found.ensures ∙ find) in
+    let none = listed a.renames a.rename_entries.now a.rename_text.now k w.0 _ (w.1 ∙ c.in-None.is) in
+    asked-value a.fs a.index.0 (rows_are_held a.fs a.rows.now) (in_order a.renames a.rename_entries.now a.rename_text.now) own new
+    c.in_ok-own.own c.in_ok-own.ensures w.0 _ (rw none (asked-own a.fs a.index.0 (rows_are_held a.fs a.rows.now) own _ c.in_ok-own.ensures))
+
+pub returns-in_err-own : goal.returns-in_err-own
+returns-in_err-own c =
+    let a = c.args in
+    let own = own_answer a.rows.now a.renames a.rename_entries.now a.rename_text.now in
+    let new = new_answer a.rows.now a.renames a.rename_entries.now a.rename_text.now in
+    exit c.from_residual.result _ c.from_residual.ensures.1
+    ∙ asked-refused a.fs a.index.0 (rows_are_held a.fs a.rows.now) (in_order a.renames a.rename_entries.now a.rename_text.now) own new
+    (number_of c.in_err-own.field-0.0) c.in_err-own.ensures
+
+pub returns-in_err-found : goal.returns-in_err-found
+returns-in_err-found c =
+    let a = c.args in
+    let own = own_answer a.rows.now a.renames a.rename_entries.now a.rename_text.now in
+    let new = new_answer a.rows.now a.renames a.rename_entries.now a.rename_text.now in
+    let find = ap (find_given a.renames a.rename_entries.now (length a.rename_text.now)) c.get.ensures in
+    let w = found-refused a.renames a.rename_entries.now a.rename_text.now (clamped_of a.index.0) (number_of c.in_err-found.field-0.0) (c.in_err-found.ensures ∙ find) in
+    exit c.from_residual-in_err-found.result _ c.from_residual-in_err-found.ensures.1
+    ∙ ap refused w.1
+    ∙ asked-disorder a.fs a.index.0 (rows_are_held a.fs a.rows.now) (in_order a.renames a.rename_entries.now a.rename_text.now) own new
+    c.in_ok-own.own c.in_ok-own.ensures w.0

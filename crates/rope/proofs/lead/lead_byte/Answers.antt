@@ -9,7 +9,7 @@ use Rattle.rope.proofs.lead.lead_byte.Goals as goal
 pub returns-then-v-lt2 : goal.returns-then-v-lt2
 returns-then-v-lt2 c =
     let a = c.args in
-    c.byte.ensures ∙ ap (λ (x : List ℕ). get_or x a.j 0) (c.text_of-t.ensures ∙ lead-given a.rows.now a.dirs.now a.text.now a.v c.if-v-lt2.true)
+    c.item_or.ensures ∙ ap (λ (x : List ℕ). get_or x a.j 0) (c.text_of-t.ensures ∙ lead-given a.rows.now a.dirs.now a.text.now a.v c.if-v-lt2.true)
 
 pub returns : goal.returns
 returns c =

@@ -5,7 +5,6 @@ use mathlib.Core.List.{List}
 use Rattle.rope.specs.Rope.{held_path}
 use Rattle.rope.proofs.Fronting.{cover-short, cover_on, cover-off}
 use Rattle.rope.proofs.part.covers_in.Goals as goal
-use Rattle.rope.proofs.part.covers_in.Goals.{Start}
 
 pub returns-then-d-e : goal.returns-then-d-e
 returns-then-d-e c =

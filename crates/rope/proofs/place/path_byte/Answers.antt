@@ -1,21 +1,12 @@
 -- `rope::place::path_byte` meets its contract. Its loop keeps: byte `at` of the path that k frames hold
 -- is byte j of the whole.
 use Prim.Native.Nat.{◌≤◌, ◌<◌, ◌+◌}
-use mathlib.Core.Path.{refl, sym, ◌∙◌}
+use mathlib.Core.Path.{sym, ◌∙◌}
 use native.Mathlib.Omega.{arith}
 use borrow.Author.Tests.{ltb-true, ltb-false}
 use Rattle.rope.specs.Rope.{leads}
 use Rattle.rope.proofs.Flat.{flat-here, flat_on, flat-none}
 use Rattle.rope.proofs.place.path_byte.Goals as goal
-use Rattle.rope.proofs.place.path_byte.Goals.{Else-is_in, Then-is_in}
-
-pub loop-k-init : goal.loop-k-init
-loop-k-init c = (omega arith, refl)
-
-pub frame_byte-requires : goal.frame_byte-requires
-frame_byte-requires c =
-    let inside : c.loop-k.at < c.text_left-n.result + c.tail_in-t.result = ltb-true _ _ (sym c.is_in.ensures ∙ c.if-is_in.true) in
-    (c.text_left-n.ensures.value, c.text_left-n.ensures.result_bound, omega (arith, inside, c.tail_in-t.ensures))
 
 pub returns-then-is_in : goal.returns-then-is_in
 returns-then-is_in c =
@@ -24,28 +15,18 @@ returns-then-is_in c =
     let l = c.loop-k in
     c.frame_byte.ensures
     ∙ flat-here (leads a.rows.now a.dirs.now a.text.now) a.frames.now l.k l.at (omega arith) (omega (arith, inside, c.text_left-n.ensures.value, c.tail_in-t.ensures))
-    ∙ l.invariant.1
-
-pub overflow_sub-at : goal.overflow_sub-at
-overflow_sub-at c =
-    let behind : c.text_left-n.result + c.tail_in-t.result ≤ c.loop-k.at = ltb-false _ _ (sym c.is_in.ensures ∙ c.if-is_in.false) in
-    omega (arith, behind)
-
-pub overflow_sub-at-in-loop-k : goal.overflow_sub-at-in-loop-k
-overflow_sub-at-in-loop-k c =
-    let behind : c.text_left-n.result + c.tail_in-t.result ≤ c.loop-k.at = ltb-false _ _ (sym c.is_in.ensures ∙ c.if-is_in.false) in
-    omega (arith, behind)
+    ∙ l.invariant
 
 pub loop-k-preserved : goal.loop-k-preserved
 loop-k-preserved c =
     let behind : c.text_left-n.result + c.tail_in-t.result ≤ c.loop-k.at = ltb-false _ _ (sym c.is_in.ensures ∙ c.if-is_in.false) in
     let a = c.args in
     let l = c.loop-k in
-    (omega arith, flat_on (leads a.rows.now a.dirs.now a.text.now) a.frames.now l.k l.at c.text_left-n.result c.tail_in-t.result (omega arith) c.text_left-n.ensures.value c.tail_in-t.ensures behind ∙ l.invariant.1)
+    flat_on (leads a.rows.now a.dirs.now a.text.now) a.frames.now l.k l.at c.text_left-n.result c.tail_in-t.result (omega arith) c.text_left-n.ensures.value c.tail_in-t.ensures behind ∙ l.invariant
 
 pub returns : goal.returns
 returns c =
     let a = c.args in
     let l = c.loop-k in
     let e = flat-none (leads a.rows.now a.dirs.now a.text.now) a.frames.now l.k (omega arith) in
-    rw e at l.invariant.1
+    rw e at l.invariant

@@ -1,13 +1,9 @@
 -- `rope::place::path_byte` meets its contract. Its loop keeps: byte `at` of the path that k frames hold
 -- is byte j of the whole.
-use Prim.Native.Nat.{◌≤◌}
 use mathlib.Core.Path.{◌≡◌}
 use lib.ListN.{get_or}
 use Rattle.rope.specs.Rope.{leads, flat}
 use Rattle.rope.proofs.place.path_byte.Given as goal
 
 abbrev pub invariant-loop-k : goal.invariant-loop-k
-invariant-loop-k l = (l.k ≤ l.depth) × (get_or (flat (leads l.rows l.dirs l.text) l.frames l.k) l.at 0 ≡ get_or (flat (leads l.rows l.dirs l.text) l.frames l.depth) l.j 0)
-
-abbrev pub decreases-loop-k : goal.decreases-loop-k
-decreases-loop-k l = l.k
+invariant-loop-k l = (get_or (flat (leads l.rows l.dirs l.text) l.frames l.k) l.at 0 ≡ get_or (flat (leads l.rows l.dirs l.text) l.frames l.depth) l.j 0)

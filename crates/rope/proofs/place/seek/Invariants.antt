@@ -7,7 +7,4 @@ use Rattle.rope.specs.Rope.{leads, flat, place_in}
 use Rattle.rope.proofs.place.seek.Given as goal
 
 abbrev pub invariant-loop-k : goal.invariant-loop-k
-invariant-loop-k l = (l.k ≤ l.depth) × (l.at ≤ l.j) × (drop l.at (flat (leads l.rows l.dirs l.text) l.frames l.k) ≡ drop l.j (flat (leads l.rows l.dirs l.text) l.frames l.depth)) × (place_in (leads l.rows l.dirs l.text) l.frames l.k l.at ≡ place_in (leads l.rows l.dirs l.text) l.frames l.depth l.j)
-
-abbrev pub decreases-loop-k : goal.decreases-loop-k
-decreases-loop-k l = l.k
+invariant-loop-k l = (l.at ≤ l.j) × (drop l.at (flat (leads l.rows l.dirs l.text) l.frames l.k) ≡ drop l.j (flat (leads l.rows l.dirs l.text) l.frames l.depth)) × (place_in (leads l.rows l.dirs l.text) l.frames l.k l.at ≡ place_in (leads l.rows l.dirs l.text) l.frames l.depth l.j)

@@ -1,20 +1,16 @@
--- `script::scan::before_first` meets its contract. The loop's invariant: i bytes are passed, and the scan of the rest
--- gives what is left of the count.
-use mathlib.Core.Path.{ap}
-use native.Mathlib.Omega.{arith}
-use lib.ListN.{drop_of_length-le}
+-- The library's search is the scan of the spec.
+use Rattle.std.proofs.Common.{eqb, rules, tests, refl, ◌∙◌}
+use Rattle.std.proofs.lemmas.Iterator.{YieldsList-from_slice}
+use Rattle.std.proofs.lemmas.Iterator.Search.{position_from_yields_List}
 use Rattle.script.specs.Words.{count_before}
-use Rattle.script.proofs.Scans.{before-turn, before-stop}
+use Rattle.script.proofs.Scans.{found, before-more}
 use Rattle.script.proofs.scan.before_first.Goals as goal
 
-pub loop-i-init : goal.loop-i-init
-loop-i-init c = (omega arith, omega arith)
-
-pub returns-then-bytes-i : goal.returns-then-bytes-i
-returns-then-bytes-i c = omega (arith, before-stop c.args.bytes.now c.loop-i.i c.loop-i-test.true c.args.c c.if-bytes-i.true, c.loop-i.invariant.1)
-
-pub loop-i-preserved : goal.loop-i-preserved
-loop-i-preserved c = (omega arith, omega (arith, before-turn c.args.bytes.now c.loop-i.i c.loop-i-test.true c.args.c c.if-bytes-i.false, c.loop-i.invariant.1))
-
 pub returns : goal.returns
-returns c = omega (arith, ap (count_before c.args.c) (drop_of_length-le c.args.bytes.now {i = c.loop-i.i} (omega arith)), c.loop-i.invariant.1)
+returns c =
+    let at = c.args.c in
+    let text = c.args.bytes.now in
+    let by_search = position_from_yields_List (λ b. eqb b at) _ _ c.position.result c.position.ensures.ran (YieldsList-from_slice text c.iter.ensures.rest) (λ x b q k. search (rules, tests)) in
+    let scan = found (count_before at) (λ b. eqb b at) refl (before-more at) text c.position.result by_search in
+    let value = c.unwrap_or.ensures ∙ scan.0 in
+    record { value = value; within = rw value scan.1 }

@@ -1,20 +1,15 @@
--- `script::scan::blanks` meets its contract. The loop's invariant: i blanks are passed, and the scan of the rest gives
--- what is left of the count.
-use mathlib.Core.Path.{ap}
-use native.Mathlib.Omega.{arith}
-use lib.ListN.{drop_of_length-le}
+-- The library's search is the scan of the spec.
+use Rattle.std.proofs.Common.{eqb, not, rules, tests, refl, ◌∙◌}
+use Rattle.std.proofs.lemmas.Iterator.{YieldsList-from_slice}
+use Rattle.std.proofs.lemmas.Iterator.Search.{position_from_yields_List}
 use Rattle.script.specs.Words.{blanks_of}
-use Rattle.script.proofs.Scans.{blanks-turn, blanks-stop}
+use Rattle.script.proofs.Scans.{found, blanks-more}
 use Rattle.script.proofs.scan.blanks.Goals as goal
 
-pub loop-i-init : goal.loop-i-init
-loop-i-init c = (omega arith, omega arith)
-
-pub returns-then-bytes-i-ne32 : goal.returns-then-bytes-i-ne32
-returns-then-bytes-i-ne32 c = omega (arith, blanks-stop c.args.bytes.now c.loop-i.i c.loop-i-test.true c.if-bytes-i-ne32.true, c.loop-i.invariant.1)
-
-pub loop-i-preserved : goal.loop-i-preserved
-loop-i-preserved c = (omega arith, omega (arith, blanks-turn c.args.bytes.now c.loop-i.i c.loop-i-test.true c.if-bytes-i-ne32.false, c.loop-i.invariant.1))
-
 pub returns : goal.returns
-returns c = omega (arith, ap blanks_of (drop_of_length-le c.args.bytes.now {i = c.loop-i.i} (omega arith)), c.loop-i.invariant.1)
+returns c =
+    let text = c.args.bytes.now in
+    let by_search = position_from_yields_List (λ b. not (eqb b 32)) _ _ c.position.result c.position.ensures.ran (YieldsList-from_slice text c.iter.ensures.rest) (λ x b q k. search (rules, tests)) in
+    let scan = found blanks_of (λ b. not (eqb b 32)) refl blanks-more text c.position.result by_search in
+    let value = c.unwrap_or.ensures ∙ scan.0 in
+    record { value = value; within = rw value scan.1 }

@@ -1,21 +1,9 @@
--- `script::words::from_word` meets its contract. The loop's invariant: what is left of the line from `at` on has the
--- word at number `left`.
-use mathlib.Core.Path.{◌≡◌, refl, ap, ◌∙◌}
-use native.Mathlib.Omega.{arith}
-use Rattle.script.specs.Words.{from_word}
-use Rattle.script.proofs.Scans.{part-rest, end-le, end-turn}
+-- A turn of the loop passes a word.
+use Rattle.std.proofs.Common.{◌∙◌}
+use Rattle.std.proofs.lemmas.List.{take_rest}
+use Rattle.script.proofs.Scans.{word-turn}
 use Rattle.script.proofs.words.from_word.Goals as goal
 
-pub loop-left-init : goal.loop-left-init
-loop-left-init c = (omega arith, refl)
-
-pub overflow_add-at : goal.overflow_add-at
-overflow_add-at c = omega (arith, end-le c.args.line.now c.loop-left.at _ _ c.part.ensures c.word_end-at.ensures c.loop-left.invariant.0)
-
-pub loop-left-preserved : goal.loop-left-preserved
-loop-left-preserved c = (end-le c.args.line.now c.loop-left.at _ _ c.part.ensures c.word_end-at.ensures c.loop-left.invariant.0, end-turn c.args.line.now c.loop-left.at _ _ c.part.ensures c.word_end-at.ensures c.loop-left.left c.loop-left-test.true ∙ c.loop-left.invariant.1)
-
-pub returns : goal.returns
-returns c =
-    let z : c.loop-left.left ≡ 0 = omega arith in
-    c.unblanked.ensures ∙ ap (from_word 0) (c.part-2.ensures ∙ part-rest c.args.line.now c.loop-left.at) ∙ rw z at c.loop-left.invariant.1
+pub loop-preserved : goal.loop-preserved
+loop-preserved c =
+    word-turn c.args.number c.loop.counter c.word_end.result c.loop.rest.now _ c.loop-test.true c.word_end.ensures.value (take_rest c.loop.rest.now c.word_end.result) ∙ c.loop.invariant

@@ -8,15 +8,9 @@ use Rattle.tables.specs.declared.span.Span.{Span}
 use Rattle.tables.specs.Span.{low}
 use Rattle.tables.specs.Rows.{put_dir, filled}
 use Rattle.tables.proofs.Words.{dir-above}
-use Rattle.tables.proofs.Filled.{writing_start, writing-turn, writing-end}
+use Rattle.tables.proofs.Filled.{writing-turn, writing-end}
 use Rattle.tables.proofs.lower.lower_dirs.Goals as goal
 use Rattle.tables.proofs.lower.lower_dirs.Invariants.{new}
-
-pub loop-i-init : goal.loop-i-init
-loop-i-init c =
-    let a = c.args in
-    let d = a.dirs.now in
-    (c.min_usize-m.ensures, writing_start 2 (new d a.c) c.min_usize-m.result d)
 
 pub loop-i-preserved : goal.loop-i-preserved
 loop-i-preserved c =
@@ -25,8 +19,7 @@ loop-i-preserved c =
     let l = c.loop-i in
     let same = dir-above l.dirs d l.i l.invariant.1.2 l.i (omega arith) in
     let put = c.lower_dir.ensures ∙ ap (λ (s : Span). put_dir l.dirs l.i (low a.c s)) same in
-    let turn = c.loop-i-test.true in
-    (l.invariant.0, writing-turn 2 (new d a.c) c.min_usize-m.result d l.dirs l.i refl l.invariant.1 turn put)
+    (l.invariant.0, writing-turn 2 (new d a.c) c.min-m.result d l.dirs l.i refl l.invariant.1 (omega arith) put)
 
 pub returns : goal.returns
 returns c =
@@ -34,5 +27,5 @@ returns c =
     let d = a.dirs.now in
     let l = c.loop-i in
     let g = new d a.c in
-    writing-end 2 g c.min_usize-m.result d l.dirs l.i l.invariant.1 c.loop-i-test.false
+    writing-end 2 g c.min-m.result d l.dirs l.i l.invariant.1 (omega arith)
     ∙ ap (λ (m : ℕ). sets d 0 (filled g 0 m)) l.invariant.0

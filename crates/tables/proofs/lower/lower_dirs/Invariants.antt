@@ -2,7 +2,7 @@
 -- written, and the rest is untouched.
 use mathlib.Core.Path.{◌≡◌}
 use mathlib.Core.List.{List}
-use Prim.Native.Nat.{ℕ, ◌-◌, ◌/◌, min}
+use Prim.Native.Nat.{ℕ, ◌/◌, min}
 use lib.ListN.{length}
 use Rattle.tables.specs.declared.span.Span.{Span}
 use Rattle.tables.specs.Span.{low}
@@ -15,6 +15,3 @@ new dirs c k = dir_words (low c (dir_at dirs k))
 
 abbrev pub invariant-loop-i : goal.invariant-loop-i
 invariant-loop-i l = (l.m ≡ min l.n (length l.initial.dirs / 2)) × Writing 2 (new l.initial.dirs l.c) l.m l.initial.dirs l.dirs l.i
-
-abbrev pub decreases-loop-i : goal.decreases-loop-i
-decreases-loop-i l = l.m - l.i

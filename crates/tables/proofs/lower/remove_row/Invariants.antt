@@ -2,7 +2,7 @@
 -- written, and the rest is untouched.
 use mathlib.Core.Path.{◌≡◌}
 use mathlib.Core.List.{List}
-use Prim.Native.Nat.{ℕ, ◌-◌, ◌/◌, min}
+use Prim.Native.Nat.{ℕ, ◌/◌, min}
 use lib.ListN.{length}
 use Rattle.tables.specs.declared.span.Span.{Span}
 use Rattle.tables.specs.Rows.{row_at, words, skip, row_moved}
@@ -14,6 +14,3 @@ new rows f total c d k = words (row_moved f total c d k (row_at rows (skip f k))
 
 abbrev pub invariant-loop-i : goal.invariant-loop-i
 invariant-loop-i l = (l.m ≡ min l.n (length l.initial.rows / 8)) × Writing 8 (new l.initial.rows l.f l.total l.c l.d) l.m l.initial.rows l.rows l.i
-
-abbrev pub decreases-loop-i : goal.decreases-loop-i
-decreases-loop-i l = l.m - l.i

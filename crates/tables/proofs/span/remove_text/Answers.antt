@@ -1,27 +1,24 @@
--- `tables::span::remove_text` meets its contract: nothing slides where the used part ends at or before the span's end, and
--- what lies past the area's end is in no used part.
-use mathlib.Core.Path.{◌≡◌, ◌∙◌}
+-- `tables::span::remove_text` meets its contract: what follows the span is copied to its start, and what lies past the
+-- area's end is in no used part.
+use mathlib.Core.Path.{◌≡◌, sym, ◌∙◌}
 use mathlib.Core.List.{List}
-use Prim.Native.Nat.{ℕ, ◌-◌, ◌≤◌, min}
+use Prim.Native.Nat.{ℕ, ◌+◌, ◌-◌, ◌≤◌, min}
 use native.Mathlib.Omega.{arith}
-use lib.ListN.{length, take, drop_of_length-le, length-take}
-use Rattle.lists.proofs.Parts.{take-clipped}
-use Rattle.tables.specs.declared.span.Span.{Span}
-use Rattle.tables.specs.Span.{end_of, slid}
+use lib.ListN.{length, take, drop, length-take, length-drop}
+use lib.Seq.{paste, sets, sets-eq}
+use Rattle.lists.proofs.Parts.{take-clipped, drop-take}
 use Rattle.tables.proofs.span.remove_text.Goals as goal
 
-still : (c : Span) (u : ℕ) (text : List ℕ) → min u (length text) - c.at ≤ c.len → text ≡ slid c u text
-still c u text h = rw (drop_of_length-le (take u text) {i = end_of c} (omega (arith, length-take u text)))
-
-clipped : (c : Span) (u : ℕ) (text : List ℕ) → slid c (min u (length text)) text ≡ slid c u text
-clipped c u text = rw (take-clipped u text)
-
-pub returns-then-saturating_sub_usize-c : goal.returns-then-saturating_sub_usize-c
-returns-then-saturating_sub_usize-c c =
-    let a = c.args in
-    still a.c a.used a.text.now (omega arith)
+module _ (l : List ℕ) (at e u : ℕ) (h : at ≤ e) (b : e ≤ min u (length l)) where
+  moved : paste l at (drop e l) (min u (length l) - e) ≡ sets l at (drop e (take u l))
+  moved =
+      let m = min u (length l) in
+      let n : length (take (m - e) (drop e l)) ≡ m - e = omega (arith, length-take (m - e) (drop e l), length-drop e l) in
+      let s = sets-eq (take (m - e) (drop e l)) l at (omega (arith, n)) in
+      rw (← take-clipped u l, drop-take e m l) (sym (rw n at s))
 
 pub returns : goal.returns
 returns c =
     let a = c.args in
-    rw c.min_usize-end.ensures at c.slide.ensures ∙ clipped a.c a.used a.text.now
+    c.copy_within.ensures.after
+    ∙ rw c.min-end.ensures (moved a.text.now a.c.at (a.c.at + a.c.len) a.used (omega arith) (omega arith))

@@ -1,25 +1,14 @@
 -- `texts::put::copy_span` meets its contract.
-use Prim.Native.Nat.{◌+◌, ◌-◌, ◌≤◌}
-use mathlib.Core.Path.{ap}
+use Prim.Native.Nat.{◌+◌, ◌-◌}
+use mathlib.Core.Path.{◌≡◌, ap, ◌∙◌}
 use native.Mathlib.Omega.{arith}
 use lib.ListN.{length}
-use Rattle.lists.proofs.Parts.{part_length}
-use Rattle.texts.proofs.Placed.{span-put}
+use Rattle.texts.proofs.Placed.{span-pasted}
 use Rattle.texts.proofs.put.copy_span.Goals as goal
 
-pub copy_within-requires : goal.copy_within-requires
-copy_within-requires c =
+pub returns-then-n-gt0-clause-text_after : goal.returns-then-n-gt0-clause-text_after
+returns-then-n-gt0-clause-text_after c =
     let a = c.args in
-    let n = ap length c.text_at-part.ensures in
-    let m = part_length a.text.now a.s.at a.s.len in
-    let p : a.s.at + length c.text_at-part.result.now ≤ a.to = omega (arith, n, m, c.requires.0) in
-    let q : length c.text_at-part.result.now ≤ length a.text.now - a.to = omega (arith, n, c.requires.1) in
-    (p, q)
-
-pub returns : goal.returns
-returns c =
-    let a = c.args in
-    let n = ap length c.text_at-part.ensures in record {
-      value = n;
-      text_after = span-put a.text.now a.s a.to n c.copy_within.ensures;
-    }
+    let n = length c.text_at-n.result.now in
+    let e : a.s.at + n - a.s.at ≡ n = omega arith in
+    (rw e at c.copy_within.ensures.after) ∙ span-pasted a.text.now a.s a.to n (ap length c.text_at-n.ensures) (omega (arith, ap length c.text_at-n.ensures, c.requires.1))

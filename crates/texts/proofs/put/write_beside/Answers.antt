@@ -1,5 +1,7 @@
 -- `texts::put::write_beside` meets its contract.
-use Prim.Native.Nat.{ℕ, ◌+◌, ◌-◌, ◌^◌, ◌<◌, ◌≤◌}
+use Rattle.std.specs.Prelude.{Ok, Result}
+use Rattle.types.specs.declared.refusal.Refusal.{Refusal}
+use Prim.Native.Nat.{ℕ, ◌-◌}
 use mathlib.Core.Path.{◌≡◌, sym, ap, ◌∙◌}
 use mathlib.Core.Bool.{true}
 use mathlib.Core.List.{List}
@@ -7,9 +9,7 @@ use native.Mathlib.Omega.{arith}
 use lib.Dec.{leb}
 use lib.ListN.{length}
 use lib.Seq.{sets}
-use Rattle.types.specs.declared.refusal.UsizeResult.{UsizeResult}
-use Rattle.types.specs.declared.refusal.UsizeResult.TheVariants.{Ok}
-use Rattle.types.specs.Refusals.{usize_says}
+use Rattle.types.specs.Refusals.{outcome}
 use Rattle.path.specs.Join.{Joined, joined_if, fits}
 use Rattle.tables.specs.declared.rows.Row.{Row}
 use Rattle.tables.specs.declared.span.Span.{Span}
@@ -19,17 +19,12 @@ use Rattle.lookup.specs.Lookup.{lent}
 use Rattle.texts.specs.Texts.{gone_at, relinked, staged_beside}
 use Rattle.texts.proofs.OneLink.{beside_of, room_beside, beside_long, beside-roomless, beside-written, beside-staged, scratch-short, staged, staged-part}
 use Rattle.texts.proofs.put.write_beside.Goals as goal
-use Rattle.texts.proofs.put.write_beside.Goals.{After-clipped-gone, After-part, After-row_at-row, After-saturating_sub_usize-room, After-stage_text, In-Ok, Start}
-
--- n bytes behind the first u of l
-fits-behind : (u l n : ℕ) → n ≤ l - u → l < 2 ^ 64 → u < 2 ^ 64 → u + n < 2 ^ 64
-fits-behind u l n h p q = omega arith
 
 pub returns-in_default : goal.returns-in_default
 returns-in_default c =
     let given : Store = lent c.args.fs c.args.rows.now c.args.dirs.now c.args.text.now in
     let new : List ℕ = beside_of given c.args.i (length c.args.scratch.now) c.row_at-row.result c.row_at-row.ensures in
-    let saying : UsizeResult → Joined = λ x. record { says = usize_says x; buf = c.stage_text.new.scratch } in
+    let saying : Result ℕ Refusal → Joined = λ x. record { says = outcome x; buf = c.stage_text.new.scratch } in
     let scratch-is : c.stage_text.new.scratch ≡ staged_beside given c.args.i c.args.scratch.now = let a = c.args in
     let r = c.row_at-row in
     beside-staged given a.i (length a.scratch.now) r.result r.ensures a.scratch.now _ (ap (λ (j : Joined). j.buf) c.stage_text.ensures) in
@@ -45,11 +40,11 @@ returns-then-room-n c =
     let given : Store = lent c.args.fs c.args.rows.now c.args.dirs.now c.args.text.now in
     let new : List ℕ = beside_of given c.args.i (length c.args.scratch.now) c.row_at-row.result c.row_at-row.ensures in
     let gone-is : c.clipped-gone.result ≡ gone_at given c.args.i = c.clipped-gone.ensures ∙ ap (λ (r : Row). clip c.args.fs.text_len r.link) c.row_at-row.ensures in
-    let room-is : c.saturating_sub_usize-room.result ≡ room_beside given c.args.i (length c.args.scratch.now) c.row_at-row.result c.row_at-row.ensures = let a = c.args in
-    c.saturating_sub_usize-room.ensures
-    ∙ ap (λ (x : ℕ). length a.text.now - x) c.saturating_sub_usize.ensures
+    let room-is : c.saturating_sub-room.result ≡ room_beside given c.args.i (length c.args.scratch.now) c.row_at-row.result c.row_at-row.ensures = let a = c.args in
+    c.saturating_sub-room.ensures
+    ∙ ap (λ (x : ℕ). length a.text.now - x) c.saturating_sub.ensures
     ∙ ap (λ (x : Span). length a.text.now - (a.fs.text_len - x.len)) gone-is in
-    let saying : UsizeResult → Joined = λ x. record { says = usize_says x; buf = c.stage_text.new.scratch } in
+    let saying : Result ℕ Refusal → Joined = λ x. record { says = outcome x; buf = c.stage_text.new.scratch } in
     let told : saying (Ok c.in-Ok.n) ≡ joined_if (fits new c.args.scratch.now) new c.args.scratch.now = sym (ap saying c.in-Ok.is) ∙ c.stage_text.ensures in
     let said : (leb (length new) (length c.args.scratch.now) ≡ true) × (c.in-Ok.n ≡ length new) × (c.stage_text.new.scratch ≡ sets c.args.scratch.now 0 new) = staged (fits new c.args.scratch.now) new c.args.scratch.now _ _ told in
     let scratch-is : c.stage_text.new.scratch ≡ staged_beside given c.args.i c.args.scratch.now = let a = c.args in
@@ -61,31 +56,16 @@ returns-then-room-n c =
       scratch_after = scratch-is;
     }
 
-pub relink-requires : goal.relink-requires
-relink-requires c =
-    let given : Store = lent c.args.fs c.args.rows.now c.args.dirs.now c.args.text.now in
-    let new : List ℕ = beside_of given c.args.i (length c.args.scratch.now) c.row_at-row.result c.row_at-row.ensures in
-    let gone-is : c.clipped-gone.result ≡ gone_at given c.args.i = c.clipped-gone.ensures ∙ ap (λ (r : Row). clip c.args.fs.text_len r.link) c.row_at-row.ensures in
-    let saying : UsizeResult → Joined = λ x. record { says = usize_says x; buf = c.stage_text.new.scratch } in
-    let told : saying (Ok c.in-Ok.n) ≡ joined_if (fits new c.args.scratch.now) new c.args.scratch.now = sym (ap saying c.in-Ok.is) ∙ c.stage_text.ensures in
-    let said : (leb (length new) (length c.args.scratch.now) ≡ true) × (c.in-Ok.n ≡ length new) × (c.stage_text.new.scratch ≡ sets c.args.scratch.now 0 new) = staged (fits new c.args.scratch.now) new c.args.scratch.now _ _ told in
-    let part-is : c.part.result.now ≡ new = c.part.ensures ∙ staged-part new c.args.scratch.now said.0 said.1 said.2 in
-    let a = c.args in
-    let used = c.saturating_sub_usize.ensures ∙ ap (λ (x : Span). a.fs.text_len - x.len) gone-is in
-    let n : length c.part.result.now ≤ length a.text.now - c.saturating_sub_usize.result = omega (arith, ap length part-is, said.1, c.saturating_sub_usize-room.ensures, c.if-room-n.false) in
-    let b : c.saturating_sub_usize.result < 2 ^ 64 = omega arith in
-    rw (sym used) (fits-behind c.saturating_sub_usize.result (length a.text.now) (length c.part.result.now) n c.well_formed.1.1.1.0.0 b)
-
 pub returns : goal.returns
 returns c =
     let given : Store = lent c.args.fs c.args.rows.now c.args.dirs.now c.args.text.now in
     let new : List ℕ = beside_of given c.args.i (length c.args.scratch.now) c.row_at-row.result c.row_at-row.ensures in
     let gone-is : c.clipped-gone.result ≡ gone_at given c.args.i = c.clipped-gone.ensures ∙ ap (λ (r : Row). clip c.args.fs.text_len r.link) c.row_at-row.ensures in
-    let room-is : c.saturating_sub_usize-room.result ≡ room_beside given c.args.i (length c.args.scratch.now) c.row_at-row.result c.row_at-row.ensures = let a = c.args in
-    c.saturating_sub_usize-room.ensures
-    ∙ ap (λ (x : ℕ). length a.text.now - x) c.saturating_sub_usize.ensures
+    let room-is : c.saturating_sub-room.result ≡ room_beside given c.args.i (length c.args.scratch.now) c.row_at-row.result c.row_at-row.ensures = let a = c.args in
+    c.saturating_sub-room.ensures
+    ∙ ap (λ (x : ℕ). length a.text.now - x) c.saturating_sub.ensures
     ∙ ap (λ (x : Span). length a.text.now - (a.fs.text_len - x.len)) gone-is in
-    let saying : UsizeResult → Joined = λ x. record { says = usize_says x; buf = c.stage_text.new.scratch } in
+    let saying : Result ℕ Refusal → Joined = λ x. record { says = outcome x; buf = c.stage_text.new.scratch } in
     let told : saying (Ok c.in-Ok.n) ≡ joined_if (fits new c.args.scratch.now) new c.args.scratch.now = sym (ap saying c.in-Ok.is) ∙ c.stage_text.ensures in
     let said : (leb (length new) (length c.args.scratch.now) ≡ true) × (c.in-Ok.n ≡ length new) × (c.stage_text.new.scratch ≡ sets c.args.scratch.now 0 new) = staged (fits new c.args.scratch.now) new c.args.scratch.now _ _ told in
     let scratch-is : c.stage_text.new.scratch ≡ staged_beside given c.args.i c.args.scratch.now = let a = c.args in

@@ -1,9 +1,0 @@
--- `plan::plan::name_after` meets its contract.
-use Rattle.std.proofs.Common.{eq-eqb, ne_eqb}
-use Rattle.plan.proofs.plan.name_after.Goals as goal
-
-pub returns-then-fs-eq0 : goal.returns-then-fs-eq0
-returns-then-fs-eq0 c = rw (eq-eqb c.args.fs.num_files 0 c.if-fs-eq0.true)
-
-pub returns : goal.returns
-returns c = rw (ne_eqb c.args.fs.num_files 0 c.if-fs-eq0.false)

@@ -1,0 +1,77 @@
+// A line of standard output as it is put together: it is written out when its buffer is full, and at its end. Relies on
+// std's standard output.
+use std::io;
+use std::io::{Stdout, Write};
+use types::Refusal;
+
+// The bytes that a reply holds before it writes them.
+const ROOM: usize = 256;
+
+// Where an answer goes, and what of it is not yet written: the first `used` bytes.
+// Stays: there is no heap, so the buffer has a fixed size and its length stands beside it.
+#[derive(Drop)]
+pub struct Reply {
+    out: Stdout,
+    used: usize,
+    bytes: [u8; ROOM],
+}
+
+impl Reply {
+    // The start of an answer that has values after it.
+    pub(crate) fn ok(out: Stdout) -> io::Result<Reply> {
+        let mut reply = Reply {
+            out,
+            used: 0,
+            bytes: [0; ROOM],
+        };
+        reply.write_all(b"ok")?;
+        Ok(reply)
+    }
+
+    // Ends an answer.
+    pub(crate) fn end(mut self) -> io::Result<()> {
+        self.write_all(b"\n")?;
+        self.flush()
+    }
+}
+
+impl Write for Reply {
+    fn write(&mut self, bytes: &[u8]) -> io::Result<usize> {
+        if ROOM <= self.used {
+            self.flush()?;
+        }
+        let used = self.used.min(ROOM);
+        let n = bytes.len().min(ROOM - used);
+        self.bytes[used..used + n].copy_from_slice(&bytes[..n]);
+        self.used = used + n;
+        Ok(n)
+    }
+
+    fn flush(&mut self) -> io::Result<()> {
+        let n = self.used.min(ROOM);
+        self.used = 0;
+        let bytes = &self.bytes[..];
+        self.out.write_all(&bytes[..n])
+    }
+}
+
+// Answers a line that is no call.
+// Stays: each writes a text of its own; one function with the text as a parameter would let a caller write any.
+pub fn bad_call(out: Stdout) -> io::Result<()> {
+    let mut out = out;
+    out.write_all(b"badcall\n")
+}
+
+// Answers a call that is refused.
+pub fn refused(out: Stdout, refusal: Refusal) -> io::Result<()> {
+    let mut out = out;
+    let number = u32::from(refusal);
+    writeln!(out, "refused {number}")
+}
+
+// Answers a change that was made.
+// Stays: each writes a text of its own; one function with the text as a parameter would let a caller write any.
+pub fn done(out: Stdout) -> io::Result<()> {
+    let mut out = out;
+    out.write_all(b"ok\n")
+}
