@@ -1,6 +1,6 @@
 -- Rules in order: two lists of them in a row, what is known where none stops a call, and the rules of an addition on
 -- numbers, group by group.
-use Rattle.std.specs.Prelude.{Option}
+use Rattle.std.specs.Prelude.{Option, Result, IsErrAnd}
 use Prim.Native.Nat.{ℕ, ◌+◌, ◌-◌, ◌%◌, ◌≤◌, ◌<◌}
 use mathlib.Core.Path.{◌≡◌, refl, sym, ◌∙◌}
 use mathlib.Core.Bool.{Bool}
@@ -9,8 +9,9 @@ use native.Mathlib.Nat.{mod-lt, mod_self, mod-eq_of_lt, sub-zero}
 use native.Mathlib.Omega.{arith}
 use lib.IntN.{ℤ}
 use borrow.Author.Tests.{ltb-false, lt-ltb}
-use Rattle.types.specs.Refusals.{number_of, Outcome, refused}
+use Rattle.types.specs.Refusals.{number_of, outcome, Outcome, refused}
 use Rattle.types.specs.declared.refusal.Refusal.{Refusal}
+use Rattle.types.proofs.Refusals.{exit}
 use Rattle.tables.specs.declared.storage.FileStorage.{FileStorage}
 use Rattle.additions.specs.declared.checks.Sizes.{Sizes}
 use Rattle.additions.specs.declared.parts.PathParts.{PathParts}
@@ -48,20 +49,24 @@ module _ (fs : FileStorage) (given : Option (List ℕ)) (parts : PathParts) (z :
   abbrev result : Outcome Sizes
   result = outcome_of (first_of (number_rules fs given parts z link root)) (sizes_for fs z link root)
 
+  -- what the exit of a `?` says where a group of rules stops
+  abbrev Left : Refusal → Type 0
+  Left e = (r : Result Sizes Refusal) → IsErrAnd r (λ x. x ≡ e) → outcome r ≡ result
+
   -- the number's sign and its size, as the code reads them
   module _ (negative : Bool) (size : ℕ) (n : negative ≡ is_negative z) (m : size ≡ clamped_of z) where
     as_sized : {k : ℕ} → k ≡ first_of (size_rules fs.piece_length fs.total_size negative size) → k ≡ first_of sized
     as_sized k = k ∙ rw (n, m)
 
-    pub stop-size : (e : Refusal) → number_of e ≡ first_of (size_rules fs.piece_length fs.total_size negative size) → refused (number_of e) ≡ result
-    stop-size e k = stopped sized (named ++ (kinds ++ padded)) e (sizes_for fs z link root) refl (as_sized k)
+    pub stop-size : (e : Refusal) → number_of e ≡ first_of (size_rules fs.piece_length fs.total_size negative size) → Left e
+    stop-size e k r h = exit r e h ∙ stopped sized (named ++ (kinds ++ padded)) e (sizes_for fs z link root) refl (as_sized k)
 
     module _ (p : 0 ≡ first_of (size_rules fs.piece_length fs.total_size negative size)) where
       past-size : first_of (number_rules fs given parts z link root) ≡ first_of (named ++ (kinds ++ padded))
       past-size = after sized (named ++ (kinds ++ padded)) refl (as_sized p)
 
-      pub stop-name : (e : Refusal) → number_of e ≡ first_of named → refused (number_of e) ≡ result
-      stop-name e k = rw past-size (stopped named (kinds ++ padded) e (sizes_for fs z link root) refl k)
+      pub stop-name : (e : Refusal) → number_of e ≡ first_of named → Left e
+      stop-name e k r h = exit r e h ∙ rw past-size (stopped named (kinds ++ padded) e (sizes_for fs z link root) refl k)
 
       module _ (q : 0 ≡ first_of named) where
         past-name : first_of (number_rules fs given parts z link root) ≡ first_of (kinds ++ padded)
@@ -72,8 +77,8 @@ module _ (fs : FileStorage) (given : Option (List ℕ)) (parts : PathParts) (z :
           as_kinds : {k : ℕ} → k ≡ first_of (version_rules fs.v2 plain free there) → k ≡ first_of kinds
           as_kinds k = k ∙ rw (a, b, c, m)
 
-          pub stop-kind : (e : Refusal) → number_of e ≡ first_of (version_rules fs.v2 plain free there) → refused (number_of e) ≡ result
-          stop-kind e k = rw past-name (stopped kinds padded e (sizes_for fs z link root) refl (as_kinds k))
+          pub stop-kind : (e : Refusal) → number_of e ≡ first_of (version_rules fs.v2 plain free there) → Left e
+          stop-kind e k r h = exit r e h ∙ rw past-name (stopped kinds padded e (sizes_for fs z link root) refl (as_kinds k))
 
           pub stop-pad : 0 ≡ first_of (version_rules fs.v2 plain free there) → limit < fs.total_size + size + (sizes_for fs z link root).pad → refused 4 ≡ result
           stop-pad r h =

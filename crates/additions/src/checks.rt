@@ -31,6 +31,7 @@ pub struct Sizes {
 }
 
 // Refusals 1, 2, 3, 4.
+// Stays: `decide_sizes` goes on with the number after these tests, and would have to open an `Option` a second time.
 fn check_size(piece_length: u64, total: u64, negative: bool, size: u64) -> Result<(), Refusal>
     ensures { check_number result ≡ first_of (size_rules piece_length total negative size) }
 {

@@ -11,7 +11,8 @@ const MAX_LINKS: usize = 32766;
 
 // A file to add, besides its texts: whether a name is given, its size, flags and modified time, and its root, if it is
 // there.
-// Stays: document 01 prescribes an enum of presence, with the root's bytes beside it.
+// Stays: document 01 puts an enum of presence in the place of `Option`, with the value beside it: the root's bytes
+// here, and the given name among the texts.
 #[derive(Clone, Copy)]
 pub struct FileInfo {
     pub given: Presence,

@@ -197,6 +197,7 @@ pub fn is_outside(kind: PathKind) -> bool
 }
 
 // Whether a path is absolute.
+// Stays: it and `is_outside` each name a kind; a derived `==` would be as long at each caller.
 pub(crate) fn is_absolute(kind: PathKind) -> bool
     ensures { result ≡ absolute_kind kind }
 {

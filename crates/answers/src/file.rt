@@ -32,6 +32,7 @@ pub fn root_of(rows: &[u64], roots: &[u8], k: usize) -> Sha256Hash
 }
 
 // The size of a file.
+// Stays: a record of all tables would ask for those that a question doesn't read (docs/DECISIONS.md), here and below.
 pub fn file_size(fs: FileStorage, rows: &[u64], index: FileIndex) -> Result<i64, Refusal>
     ensures { outcome result ≡ file_size_given fs rows.now index.0 }
 {

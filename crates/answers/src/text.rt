@@ -9,7 +9,7 @@ ghost use Rattle.answers.specs.Answers.{internal_path, symlink_path};
 ghost use Rattle.answers.specs.Given.{file_name_given, internal_symlink_given, symlink_given, internal_file_path_given};
 
 use rules::file_in;
-use tables::{FileStorage, Row, Span};
+use tables::{FileStorage, Lent, Row, Span};
 use types::{FileIndex, Refusal};
 
 // Whether a table of rows with `words` words and a text area of `bytes` bytes are long enough for the set.
@@ -46,17 +46,22 @@ fn link_in(fs: FileStorage, rows: &[u64], index: FileIndex, held: bool) -> Resul
     Err(Refusal::NoRoom)
 }
 
-// Writes the path within the set of the file in `row`.
-fn put_internal(dirs: &[u64], text: &[u8], row: Row, buf: &mut [u8]) -> Result<usize, Refusal>
+// Writes the path within the set of file k.
+// Stays: the separator between the two texts depends on both, and the buffer is lent, so no format string writes it.
+fn put_internal(lent: Lent<'_>, k: usize, buf: &mut [u8]) -> Result<usize, Refusal>
     ensures { composed_says result buf.new
-        ≡ composed_if 0 (internal_path dirs.now text.now row) buf.old }
+        ≡ composed_if 0
+        (internal_path lent.entry.dirs.now lent.entry.text.now (row_at lent.entry.rows.now k))
+        buf.old }
 {
-    let branch = tables::text_at(text, tables::directory_span(dirs, row));
-    let leaf = tables::text_at(text, row.name);
+    let row = tables::row_at(lent.rows, k);
+    let branch = tables::directory_of(lent.dirs, lent.text, row);
+    let leaf = tables::text_at(lent.text, row.name);
     path::join_path(branch, leaf, buf)
 }
 
 // Writes the path that the link of the file in `row` leads to; nothing where it holds no link text.
+// Stays: it is a join, as `put_internal` is, of the set's name and the link text.
 fn put_link(fs: FileStorage, text: &[u8], row: Row, buf: &mut [u8]) -> Result<usize, Refusal>
     ensures { composed_says result buf.new
         ≡ composed_if 0 (symlink_path fs text.now row) buf.old }
@@ -70,6 +75,7 @@ fn put_link(fs: FileStorage, text: &[u8], row: Row, buf: &mut [u8]) -> Result<us
 }
 
 // Where a file's name stands in the text area.
+// Stays: a record of all tables would ask for those that a question doesn't read (docs/DECISIONS.md), here and below.
 pub fn file_name(
     fs: FileStorage,
     rows: &[u64],
@@ -114,6 +120,7 @@ pub fn symlink(
 }
 
 // Writes the path of a file within the set into `buf`.
+// Stays: it takes the tables as its neighbours do, which read fewer of them (docs/DECISIONS.md).
 pub fn internal_file_path(
     fs: FileStorage,
     rows: &[u64],
@@ -128,5 +135,5 @@ pub fn internal_file_path(
 {
     let held = are_held(fs, rows.len(), text.len()) && fs.num_paths <= dirs.len() / 2;
     let k = file_in(fs, index, held)?;
-    put_internal(dirs, text, tables::row_at(rows, k), buf)
+    put_internal(Lent { rows, dirs, text }, k, buf)
 }

@@ -6,12 +6,13 @@ use mathlib.Core.List.{List, [], ◌∷◌, ◌++◌, map, map-append}
 use Prim.Native.Nat.{ℕ, ◌+◌, min}
 use lib.Dec.{leb}
 use lib.IntN.{ℤ}
+use mir.Facts.{to_z-of_z}
 use lib.ListN.{length, length-map}
 use lib.Seq.{sets}
 use Rattle.lists.proofs.Runs.{sets-append}
 use Rattle.types.specs.Refusals.{number_of, value, refused}
 use Rattle.types.specs.declared.refusal.Refusal.{Refusal}
-use Rattle.types.proofs.Refusals.{numbered}
+use Rattle.types.proofs.Refusals.{numbered, exit}
 use Rattle.tables.specs.declared.storage.FileStorage.{FileStorage}
 use Rattle.rules.specs.Questions.{short}
 use Rattle.layout.specs.declared.start.Cursor.{Cursor}
@@ -51,3 +52,6 @@ module _ (fs : FileStorage) (rows : List ℕ) (w : Window) (z offset size : ℤ)
         → ◌≡◌ {A = Mapped} (record { says = value n; file = f'; offset = o'; size = s' }) (map_block fs rows w z offset size f o s)
     block_written y en ef eo es =
         rw (block_open fs rows w z offset size h (short (has_places block f o s) ∷ []), ← places, y, en, ef, eo, es, from_block fs rows w z offset size h)
+
+-- what a refusal needs, with signed numbers as the code passes them on
+pub ruleset stopping = (block_refused, block-short, exit, to_z-of_z)

@@ -44,6 +44,8 @@ fn put_slice(
 }
 
 // Puts the slices from a cursor on into the columns' first places, and gives their number.
+// Stays: three columns are what the C interface lends, and a slice is stored at one place of all three. The walk is
+// that of layout's `count_slices`; one walk over a closure would have to say in its contract what the closure does.
 fn write_slices(
     rows: &[u64],
     at: Cursor,
@@ -79,6 +81,8 @@ fn write_slices(
 
 // The slices of a block of a piece, put into the columns' first places. The search for the first file begins with a
 // window.
+// Stays: three columns are what the C interface lends, and each is written from its first place on.
+#[tactic(auto, using(crate::proofs::Columns::stopping))]
 pub fn map_block_core(
     fs: FileStorage,
     rows: &[u64],

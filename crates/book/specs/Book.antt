@@ -1,7 +1,7 @@
 -- Document 01, 'The book of demand 3'. The book 'is fed the calls' arguments, no table of the set among them, and which
 -- calls were refused'. Nothing here speaks of the port's tables or of its model. Of the port it relies on the records
--- of the calls' arguments alone: `Addition` of `additions`, whose given name and root are each an `Optional` of
--- `tables`, and `Naming` of `renames`; besides, on `sum` of `lists`, which adds a list up.
+-- of the calls' arguments alone: `Addition` of `additions`, whose given name and root are each an `Option` of
+-- std, and `Naming` of `renames`; besides, on `sum` of `lists`, which adds a list up.
 --
 -- Names from elsewhere: `cond t a b` is a where t is true, else b; `eqb` and `ltb` test = and <; `a - b` is 0 where b
 -- is larger. The integer n is `pos n`, and −(n + 1) is `negsuc n`.

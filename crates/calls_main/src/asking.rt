@@ -3,6 +3,7 @@
 use crate::places::{Tables, part};
 use crate::sets::Sets;
 use crate::{compat, sets};
+use questions::Asked;
 use std::io;
 use std::io::Stdout;
 
@@ -15,18 +16,17 @@ pub(crate) fn answer(out: Stdout, line: &[u8], all: Sets, tables: &Tables) -> io
         return questions::on_no_set(out, line);
     };
     let p = set.parts;
-    questions::on_set(
-        out,
-        line,
-        set.fs,
-        part(&tables.rows, p.rows),
-        part(&tables.roots, p.roots),
-        part(&tables.firsts, p.firsts),
-        part(&tables.dirs, p.dirs),
-        part(&tables.text, p.text),
-        set.held,
-        part(&tables.rows, p.entries),
-        part(&tables.text, p.area),
-        set.lent,
-    )
+    let asked = Asked {
+        fs: set.fs,
+        rows: part(&tables.rows, p.rows),
+        roots: part(&tables.roots, p.roots),
+        firsts: part(&tables.firsts, p.firsts),
+        dirs: part(&tables.dirs, p.dirs),
+        text: part(&tables.text, p.text),
+        held: set.held,
+        entries: part(&tables.rows, p.entries),
+        area: part(&tables.text, p.area),
+        lent: set.lent,
+    };
+    questions::on_set(out, line, asked)
 }

@@ -3,13 +3,14 @@
 // a form in one module, and an arm beside it. Relies on the modules of the calls.
 use crate::input::Buffer;
 use crate::places::Tables;
-use crate::sets::{Made, Sets};
+use crate::sets::{Call, Made, Sets};
 use crate::{asking, changes, opening, sets, words};
 use std::io;
 use std::io::Stdout;
 
 // Answers the line of a length, of which as many bytes stand in its buffer as that has places; a change of the sets
 // is left to `noted`.
+// Stays: a line may be longer than its buffer, and `length` is the line's.
 pub(crate) fn answer(
     out: Stdout,
     line: &Buffer,
@@ -32,7 +33,8 @@ pub(crate) fn answer(
         return Ok(made);
     }
     if let Some(set) = sets::current(all) {
-        if let Some(made) = changes::make(content, set, tables) {
+        let call = Call { line: content, set };
+        if let Some(made) = changes::make(call, tables) {
             return Ok(made);
         }
     }

@@ -3,27 +3,28 @@
 // addition.rt for the words of an addition, and on cleanings.rt, renaming.rt and importing.rt.
 use crate::input::between;
 use crate::places::{Tables, part_mut};
-use crate::sets::{Made, Set};
+use crate::sets::{Call, Made, Set};
 use crate::{addition, cleanings, importing, renaming, words};
 
 // Makes the change of a set that a line says, if it says one.
-pub(crate) fn make(line: &[u8], set: Set, tables: &mut Tables) -> Option<Made> {
-    // Stays: the forms stand in one text, numbered by their order; an enum would need a second list in that order.
+pub(crate) fn make(call: Call<'_>, tables: &mut Tables) -> Option<Made> {
+    // Stays: a form says the most words of a line too; a match on the first word would need that test in each arm.
     match words::form_of(
         b"add NAME PATH SIZE FLAGS MTIME LINK ROOT, trim, clean, rename I :NEW, import I :N ..",
-        line,
+        call.line,
     ) {
-        Some(0) => add(line, set, tables),
-        Some(1) => Some(trim(set, tables)),
-        Some(2) => Some(cleanings::clean(set, tables)),
-        Some(3) => renaming::rename(line, set, tables),
-        Some(4) => importing::import(line, set, tables),
+        Some(0) => add(call, tables),
+        Some(1) => Some(trim(call.set, tables)),
+        Some(2) => Some(cleanings::clean(call.set, tables)),
+        Some(3) => renaming::rename(call, tables),
+        Some(4) => importing::import(call, tables),
         _ => None,
     }
 }
 
 // `add NAME PATH SIZE FLAGS MTIME LINK ROOT`: the texts stand in a buffer, one after the other.
-fn add(line: &[u8], set: Set, tables: &mut Tables) -> Option<Made> {
+fn add(call: Call<'_>, tables: &mut Tables) -> Option<Made> {
+    let Call { line, set } = call;
     let mut texts = questions::large_buffer();
     let words = addition::read(line, &mut texts)?;
     let parts = set.parts;

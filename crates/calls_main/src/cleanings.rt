@@ -3,13 +3,14 @@
 // is lent full of one byte: a refusal must leave it so, and a cleaning must clear it.
 ghost use Rattle.std.specs.Prelude.{◌<◌};
 
-use crate::places::{Place, Tables, part_mut};
+use crate::places::{Place, Tables, part, part_mut};
 use crate::sets::{Made, Set};
 
 // The byte that the work space is lent full of.
 const FILL: u8 = 7;
 
-// The most that a stage needs: for 256 links in directories of 4096 bytes, and as many bytes of texts as a set can hold.
+// The most that a stage needs: for 256 links in directories of 4096 bytes, and as many bytes of texts as a set can
+// hold.
 const LARGE_STAGE: usize = 1311232;
 
 // `clean`.
@@ -45,9 +46,9 @@ fn clean_in<const STAGE: usize, const PATH: usize>(set: Set, tables: &mut Tables
         Ok(_) => 0,
         Err(_) => FILL,
     };
-    if !all_are(&marks, work.marks, byte)
-        || !all_are(&stage, work.sum, byte)
-        || !all_are(&path, twice, byte)
+    if !all_are(part(&marks, first(work.marks)), byte)
+        || !all_are(part(&stage, first(work.sum)), byte)
+        || !all_are(part(&path, first(twice)), byte)
     {
         return Made::Spoilt;
     }
@@ -61,9 +62,9 @@ fn filled<const N: usize>() -> [u8; N]
     [FILL; N]
 }
 
-// Whether the first n bytes are this one.
-fn all_are(bytes: &[u8], n: usize, byte: u8) -> bool {
-    lists::part(bytes, 0, n).iter().all(|held| *held == byte)
+// Whether all bytes are this one.
+fn all_are(bytes: &[u8], byte: u8) -> bool {
+    bytes.iter().all(|held| *held == byte)
 }
 
 // The first n places of a table.

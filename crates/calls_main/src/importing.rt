@@ -2,14 +2,15 @@
 // set's parts of the tables of renames. Relies on `renames` and `script`, and on the module for sets.
 use crate::input::Buffer;
 use crate::places::{Tables, part_mut};
-use crate::sets::{Made, Set};
+use crate::sets::{Call, Made, Set};
 use crate::words;
 
 // The most pairs that a line has.
 const MAX_PAIRS: usize = 16384;
 
 // Imports names for files of a set; the names stand in a buffer, one after the other.
-pub(crate) fn import(line: &[u8], set: Set, tables: &mut Tables) -> Option<Made> {
+pub(crate) fn import(call: Call<'_>, tables: &mut Tables) -> Option<Made> {
+    let Call { line, set } = call;
     let mut files = [0i32; MAX_PAIRS];
     let mut lengths = [0u64; MAX_PAIRS];
     let mut names = questions::large_buffer();
@@ -36,21 +37,19 @@ fn read_pairs(
     names: &mut Buffer,
 ) -> Option<usize> {
     let mut rest = script::after(line, 0);
-    let mut count = 0;
     let mut used = 0;
-    // Stays: the count of pairs is what is asked for, and the words are not at fixed places.
-    while words::has(rest, 0) {
-        let after = script::after(rest, 1);
-        if rest.len() <= after.len() || MAX_PAIRS <= count {
-            return None;
+    for (n, (file, length)) in files.iter_mut().zip(lengths.iter_mut()).enumerate() {
+        if !words::has(rest, 0) {
+            return Some(n);
         }
-        let file = words::i32_at(rest, 0)?;
+        *file = words::i32_at(rest, 0)?;
         let end = words::decode(rest, 1, names, used)?;
-        files[count] = file;
-        lengths[count] = end.saturating_sub(used) as u64;
-        rest = after;
+        *length = end.saturating_sub(used) as u64;
+        rest = script::after(rest, 1);
         used = end;
-        count += 1;
     }
-    Some(count)
+    if words::has(rest, 0) {
+        return None;
+    }
+    Some(MAX_PAIRS)
 }

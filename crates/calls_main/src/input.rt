@@ -5,8 +5,8 @@ ghost use Rattle.std.specs.Prelude.{◌≤◌};
 use std::io;
 use std::io::{Read, Stdin};
 
-// Stays: memory is lent in fixed sizes.
 // A buffer of input, of a line, or of what its words stand for.
+// Stays: memory is lent in fixed sizes.
 pub(crate) type Buffer = [u8; 65536];
 
 // The bytes of a buffer from one place up to another.
@@ -15,6 +15,7 @@ pub(crate) fn between(bytes: &Buffer, from: usize, to: usize) -> &[u8] {
 }
 
 // Standard input: what is read but not yet taken stands in the block from `at` to `end`.
+// Stays: std's `BufReader` keeps its block on the heap, which the project lacks; here the block has a fixed size.
 #[derive(Drop)]
 pub(crate) struct Input {
     from: Stdin,
@@ -35,8 +36,8 @@ impl Input {
         }
     }
 
-    // Reads the next line without its line feed into a buffer, as far as that has room, and gives its length, or nothing
-    // where the input ends. The last line may lack its line feed.
+    // Reads the next line without its line feed into a buffer, as far as that has room, and gives its length, or
+    // nothing where the input ends. The last line may lack its line feed.
     pub(crate) fn next_line(&mut self, line: &mut Buffer) -> io::Result<Option<usize>> {
         let mut length: usize = 0;
         for _ in 0..u64::MAX {

@@ -26,7 +26,7 @@ struct Rooms {
 
 // Makes the change of the sets that a line says, if it says one; `at` is the place of the set that is spoken of.
 pub(crate) fn make(line: &[u8], at: usize) -> Option<Made> {
-    // Stays: the forms stand in one text, numbered by their order; an enum would need a second list in that order.
+    // Stays: a form says the most words of a line too; a match on the first word would need that test in each arm.
     match words::form_of(b"open LENGTH ROOM .., use N, reset", line) {
         Some(0) => open(line, at),
         Some(1) => turn_to(line),

@@ -2,12 +2,13 @@
 // `script`, and on the module for sets.
 use crate::input::between;
 use crate::places::{Tables, part_mut};
-use crate::sets::{Made, Set};
+use crate::sets::{Call, Made, Set};
 use crate::words;
 use types::FileIndex;
 
 // `rename I :NEW`.
-pub(crate) fn rename(line: &[u8], set: Set, tables: &mut Tables) -> Option<Made> {
+pub(crate) fn rename(call: Call<'_>, tables: &mut Tables) -> Option<Made> {
+    let Call { line, set } = call;
     let index = FileIndex(words::i32_at(line, 1)?);
     let mut name = questions::large_buffer();
     let length = words::decode(line, 2, &mut name, 0)?;

@@ -16,6 +16,13 @@ pub(crate) struct Set {
     pub work: Work,
 }
 
+// A call that may change a set: its line, and the set that is spoken of.
+#[derive(Clone, Copy)]
+pub(crate) struct Call<'a> {
+    pub line: &'a [u8],
+    pub set: Set,
+}
+
 // The work space of a cleaning: the marks, and the sum over the links for which it has room.
 #[derive(Clone, Copy)]
 pub(crate) struct Work {

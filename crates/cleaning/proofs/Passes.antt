@@ -6,7 +6,6 @@ use mathlib.Core.Bool.{Bool, true, false, cond}
 use mathlib.Core.Logic.{⊎_elim}
 use mathlib.Core.List.{List, [], ◌∷◌}
 use native.Mathlib.Omega.{arith}
-use native.Mathlib.Nat.{sub-zero}
 use lib.ListN.{length, get_or, get_or-eq_default}
 use lib.Seq.{sets, length-sets}
 use Rattle.lists.proofs.Orders.{le-or-lt}
@@ -22,7 +21,7 @@ use Rattle.links.specs.declared.mark.LinkVerdict.{LinkVerdict}
 use Rattle.links.specs.declared.mark.LinkVerdict.TheVariants.{Keep, OwnPath, FromDirectory}
 use Rattle.texts.specs.Texts.{row_lowered, rows_lowered, linked, cut_out, gone_at, relinked, own_fits, beside_fits, own_text, text_beside}
 use Rattle.cleaning.specs.Cleaning.{emptied_at, emptied, rewritten_at, rewritten}
-use Rattle.cleaning.specs.private.Writing.{flags_in, verdict_by, mark_after, verdicts_by, passed}
+use Rattle.cleaning.specs.private.Writing.{flags_in, verdict_by, mark_after, verdicts_by, all_verdicts, passed}
 
 -- ---- flags stay
 
@@ -107,13 +106,21 @@ unfolding verdicts_by
 verdicts-same g h e marks zero i k = refl
 verdicts-same g h e marks (suc n) i k = rw (e i) (ap (λ (vs : List LinkVerdict). verdict_by (h i) marks k ∷ vs) (verdicts-same g h e marks n (i + 1) (mark_after (h i) k)))
 
-pub both-passes : (size n : ℕ) (marks : List ℕ) (s t : Store) → t ≡ emptied (verdicts_by (flags_in s.rows) marks n 0 0) 0 s
-    → rewritten size (verdicts_by (flags_in t.rows) marks n 0 0) 0 t
-    ≡ rewritten size (verdicts_by (flags_in s.rows) marks n 0 0) 0 (emptied (verdicts_by (flags_in s.rows) marks n 0 0) 0 s)
-both-passes size n marks s t e =
-    let vs = verdicts_by (flags_in s.rows) marks n 0 0 in
+-- and the number of files
+emptied-count : (vs : List LinkVerdict) (i : ℕ) (s : Store) → (emptied vs i s).fs.num_files ≡ s.fs.num_files
+emptied-count [] i s = refl
+emptied-count (Keep ∷ vs) i s = emptied-count vs (i + 1) s
+emptied-count (OwnPath ∷ vs) i s = emptied-count vs (i + 1) (emptied_at OwnPath s i)
+emptied-count (FromDirectory ∷ vs) i s = emptied-count vs (i + 1) s
+
+pub both-passes : (size : ℕ) (marks : List ℕ) (s t : Store) → t ≡ emptied (all_verdicts s marks) 0 s
+    → rewritten size (all_verdicts t marks) 0 t ≡ rewritten size (all_verdicts s marks) 0 (emptied (all_verdicts s marks) 0 s)
+both-passes size marks s t e =
+    let vs = all_verdicts s marks in
     let same : (j : ℕ) → flags_in t.rows j ≡ flags_in s.rows j = λ j. ap (λ (x : Store). flags_in x.rows j) e ∙ emptied-flags vs 0 s j in
-    ap (λ (ws : List LinkVerdict). rewritten size ws 0 t) (verdicts-same (flags_in t.rows) (flags_in s.rows) same marks n 0 0)
+    let count : t.fs.num_files ≡ s.fs.num_files = ap (λ (x : Store). x.fs.num_files) e ∙ emptied-count vs 0 s in
+    ap (λ (n : ℕ). rewritten size (verdicts_by (flags_in t.rows) marks n 0 0) 0 t) count
+    ∙ ap (λ (ws : List LinkVerdict). rewritten size ws 0 t) (verdicts-same (flags_in t.rows) (flags_in s.rows) same marks s.fs.num_files 0 0)
     ∙ ap (rewritten size vs 0) e
 
 -- the verdicts still to come, file by file; marks are no more than files
@@ -143,18 +150,6 @@ module _ (f : LinkVerdict → Store → ℕ → Store) (marks : List ℕ) (n : �
     pub text-long : length s.text ≡ length s₀.text
     pub flags : (j : ℕ) → flags_in s.rows j ≡ flags_in s₀.rows j
     pub rest : passed f (verdicts_by (flags_in s₀.rows) marks (n - i) i k) i s ≡ passed f (verdicts_by (flags_in s₀.rows) marks n 0 0) 0 s₀
-
-  pub going_start : Going s₀ 0 0
-  going_start =
-      record {
-        within = omega arith;
-        counted = omega arith;
-        rows_long = refl;
-        dirs-long = refl;
-        text-long = refl;
-        flags = λ j. refl;
-        rest = rw (sub-zero n);
-      }
 
   pub going_end : (s : Store) (i k : ℕ) → Going s i k → n ≤ i → s ≡ passed f (verdicts_by (flags_in s₀.rows) marks n 0 0) 0 s₀
   going_end s i k p h =

@@ -1,2 +1,3 @@
 -- Definitions that only private functions cite.
+pub mod Judged
 pub mod Writing

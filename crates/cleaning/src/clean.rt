@@ -8,9 +8,9 @@ ghost use Rattle.cleaning.specs.Cleaning.{cleaning_of, clean_stored};
 ghost use Rattle.cleaning.specs.private.Writing.{cleaned_by_marks, cleaned_within};
 
 use crate::rewrite::rewrite_links;
-use crate::room::lacks_room;
+use crate::room::{JudgedSet, lacks_room};
 use links::{judge_links, links_to_judge};
-use tables::FileStorage;
+use tables::{FileStorage, Lent, LentSet};
 use types::Refusal;
 
 // Writes the texts of a set whose links are judged, where they have room, and then clears the scratch space.
@@ -26,10 +26,13 @@ fn write_judged(
         ≡ cleaned_by_marks (lent fs rows.old dirs.old text.old) marks.now
         scratch.old }
 {
-    if lacks_room(fs, rows, dirs, text, marks) {
+    let lent = Lent { rows, dirs, text };
+    let set = LentSet { fs, lent };
+    let judged = JudgedSet { set, marks };
+    if lacks_room(judged) {
         return Err(Refusal::NoRoom);
     }
-    let cleaned = rewrite_links(fs, fs.num_files, rows, dirs, text, marks, scratch);
+    let cleaned = rewrite_links(fs, rows, dirs, text, marks, scratch);
     lists::clear(scratch);
     Ok(cleaned)
 }

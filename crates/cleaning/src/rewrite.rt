@@ -24,7 +24,7 @@ fn write_link(
         ≡ rewritten_at (length scratch.old) verdict
         (lent fs rows.old dirs.old text.old) i }
 {
-    // Stays: a verdict is data of the set, and each of its three cases is one line.
+    // Stays: it matches an enum, and each of its three cases is one line.
     match verdict {
         LinkVerdict::Keep => fs,
         LinkVerdict::OwnPath => texts::write_own(fs, rows, dirs, text, i),
@@ -50,22 +50,21 @@ fn empty_link(
     }
 }
 
-// Removes the old text of each of the first n files whose verdict is the link's own path.
+// Removes the old text of each file whose verdict is the link's own path.
 fn empty_links(
     fs: FileStorage,
-    n: usize,
     rows: &mut [u64],
     dirs: &mut [u64],
     text: &mut [u8],
     marks: &[u8],
 ) -> FileStorage
     ensures { lent result rows.new dirs.new text.new
-        ≡ emptied (verdicts_in rows.old marks.now n) 0
+        ≡ emptied (verdicts_in rows.old marks.now fs.num_files) 0
         (lent fs rows.old dirs.old text.old) }
 {
     let mut set = fs;
     let mut k = 0;
-    for i in 0..n {
+    for i in 0..fs.num_files {
         let flags = tables::flags_at(rows, i);
         let verdict = verdict_of(flags, marks, k);
         set = empty_link(set, rows, dirs, text, i, verdict);
@@ -74,12 +73,11 @@ fn empty_links(
     set
 }
 
-// Writes the new texts of the first n files.
+// Writes the new texts of all files.
 // Stays: this pass and the one before differ in their step alone, but a step takes all lent slices, so a closure for it
 // is no plainer.
 fn write_links(
     fs: FileStorage,
-    n: usize,
     rows: &mut [u64],
     dirs: &mut [u64],
     text: &mut [u8],
@@ -87,12 +85,12 @@ fn write_links(
     scratch: &mut [u8],
 ) -> FileStorage
     ensures { lent result rows.new dirs.new text.new
-        ≡ rewritten (length scratch.old) (verdicts_in rows.old marks.now n) 0
+        ≡ rewritten (length scratch.old) (verdicts_in rows.old marks.now fs.num_files) 0
         (lent fs rows.old dirs.old text.old) }
 {
     let mut set = fs;
     let mut k = 0;
-    for i in 0..n {
+    for i in 0..fs.num_files {
         let flags = tables::flags_at(rows, i);
         let verdict = verdict_of(flags, marks, k);
         set = write_link(set, rows, dirs, text, scratch, i, verdict);
@@ -101,10 +99,9 @@ fn write_links(
     set
 }
 
-// Removes the old texts of the first n files and writes their new ones.
+// Removes the old texts of all files and writes their new ones.
 pub(crate) fn rewrite_links(
     fs: FileStorage,
-    n: usize,
     rows: &mut [u64],
     dirs: &mut [u64],
     text: &mut [u8],
@@ -112,10 +109,10 @@ pub(crate) fn rewrite_links(
     scratch: &mut [u8],
 ) -> FileStorage
     ensures { lent result rows.new dirs.new text.new
-        ≡ rewritten (length scratch.old) (verdicts_in rows.old marks.now n) 0
-        (emptied (verdicts_in rows.old marks.now n) 0
+        ≡ rewritten (length scratch.old) (verdicts_in rows.old marks.now fs.num_files) 0
+        (emptied (verdicts_in rows.old marks.now fs.num_files) 0
         (lent fs rows.old dirs.old text.old)) }
 {
-    let without = empty_links(fs, n, rows, dirs, text, marks);
-    write_links(without, n, rows, dirs, text, marks, scratch)
+    let without = empty_links(fs, rows, dirs, text, marks);
+    write_links(without, rows, dirs, text, marks, scratch)
 }

@@ -1,15 +1,15 @@
 -- Bytes fed one after another, and a running CRC over parts. Assumes nothing.
 --     feed-more, lower-more   a turn of the loop that feeds a slice, and of the one that feeds it in lower case
---     feed-end                nothing more to feed
+--     feed-end, lower-end     nothing more to feed, and the same in lower case
 --     crc-parts               the CRC over two parts, one after the other, is that over both
 --     crc-lower               the same of parts in lower case
 --     crc-none                over no bytes, it stays
-use Prim.Native.Nat.{ℕ, ◌+◌, ◌<◌}
+use Prim.Native.Nat.{ℕ, ◌+◌, ◌≤◌, ◌<◌}
 use mathlib.Core.Path.{◌≡◌, refl, ap, ◌∙◌}
 use mathlib.Core.List.{List, [], ◌∷◌, ◌++◌, map}
 use native.Mathlib.Numerals.{add-one}
 use lib.Bits.{bit_xor, xor_self, xor_zero_r}
-use lib.ListN.{length, get_or, drop}
+use lib.ListN.{length, get_or, drop, drop_of_length-le}
 use lib.Seq.{drop-cons}
 use Rattle.crc32c.specs.Crc.{byte_step, feed, inverted, crc_from, lower}
 use Rattle.crc32c.proofs.Steps.{xor_assoc}
@@ -22,9 +22,16 @@ pub lower-more : (x : ℕ) (s : List ℕ) (i : ℕ) → i < length s → feed (b
 unfolding feed
 lower-more x s i h = rw (drop-cons s i 0 h, add-one)
 
-pub feed-end : (x : ℕ) → feed x [] ≡ x
+pub feed-end : (x : ℕ) (s : List ℕ) (i : ℕ) → length s ≤ i → feed x (drop i s) ≡ x
 unfolding feed
-feed-end x = refl
+feed-end x s i h = rw (drop_of_length-le s {i = i} h)
+
+pub lower-end : (x : ℕ) (s : List ℕ) (i : ℕ) → length s ≤ i → feed x (map lower (drop i s)) ≡ x
+unfolding feed
+lower-end x s i h = rw (drop_of_length-le s {i = i} h)
+
+-- for the loops that feed a slice
+pub ruleset feeding = (feed-more, lower-more, feed-end, lower-end)
 
 feed-append : (x : ℕ) (a b : List ℕ) → feed x (a ++ b) ≡ feed (feed x a) b
 unfolding feed

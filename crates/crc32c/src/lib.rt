@@ -21,6 +21,7 @@ fn byte_step(table: &[u32; 256], state: u32, b: u8) -> u32
 }
 
 // The register after the bytes of `data`. The table is lent to each step: it is stored once a call.
+#[tactic(auto, using(crate::proofs::Parts::feeding))]
 fn feed_part(state: u32, data: &[u8]) -> u32
     ensures { result ≡ feed state «data».now }
 {
@@ -33,6 +34,7 @@ fn feed_part(state: u32, data: &[u8]) -> u32
 
 // The register after the bytes of `data` in lower case.
 // Stays: one function over a closure for each byte is no plainer, since its contract must say what the closure answers.
+#[tactic(auto, using(crate::proofs::Parts::feeding))]
 fn feed_lowercase(state: u32, data: &[u8]) -> u32
     ensures { result ≡ feed state (map lower «data».now) }
 {
@@ -44,6 +46,7 @@ fn feed_lowercase(state: u32, data: &[u8]) -> u32
 }
 
 // A byte with the letters A to Z in lower case.
+// Stays: it is a call of std's method, and public.
 pub fn to_ascii_lowercase(b: u8) -> u8
     ensures { result ≡ lower b }
 {

@@ -1,7 +1,7 @@
 // What the C interface does, for benchmarks and other languages; the static library `exports_c` has its functions under
 // the same names. A set's record is twelve lent words and a root 32 lent bytes, arrays with their sizes in their types.
-// A change returns 0 or document 01's number; questions.rt and slices.rt say what a question returns. An addition has 15
-// parameters and can't have fewer in C: each table and each text is a slice of its own. Relies on `storage`, `trim`,
+// A change returns 0 or document 01's number; questions.rt and slices.rt say what a question returns. An addition has
+// 15 parameters and can't have fewer in C: each table and each text is a slice of its own. Relies on `storage`, `trim`,
 // `tables`, `layout`, `files`, `blocks` and `mapping`.
 #![tactic(auto)]
 
@@ -59,6 +59,7 @@ pub(crate) fn storage_at(state: &State) -> FileStorage
 }
 
 // The words of a set's record.
+// Stays: the C interface lends a set as an array of words, and neither type is this crate's, as `From` would need.
 fn words_of(fs: FileStorage) -> State
     ensures { result ≡ words_of fs }
 {

@@ -46,6 +46,7 @@ fn file_returned(answer: Result<FileIndex, Refusal>) -> i64
 }
 
 // A request of `map_file` as C has it: 0 and the request, or the number of the refusal and zeros.
+// Stays: C gets a struct of numbers, and has no enum with values.
 #[repr(C)]
 #[derive(Drop)]
 pub struct FileRequest {

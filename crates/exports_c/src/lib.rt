@@ -1,6 +1,6 @@
 // The C interface: each function calls that of `exports` of the same name and states its clauses again. A C program
-// links the archive, and passes a slice as a pointer and a length, and an array, whose size is in its type, as a pointer.
-// Relies on `exports`.
+// links the archive, and passes a slice as a pointer and a length, and an array, whose size is in its type, as a
+// pointer. Relies on `exports`.
 #![tactic(auto)]
 
 ghost use Rattle.std.specs.Prelude.{◌≡◌, List, ℕ, pos};

@@ -32,3 +32,6 @@ module _ (rows roots root : List ℕ) where
 
 pub root_low : (n : ℕ) (rows roots root : List ℕ) → n ≤ 65535 → low31 (root_from n 0 rows roots root) ≡ root_from n 0 rows roots root
 root_low n rows roots root h = low-from rows roots root n 0 (omega arith)
+
+-- what the search for a root needs
+pub ruleset looking = (root_here, root_next, root_none)

@@ -1,6 +1,7 @@
 // Answers about files' pieces, blocks and trees, and `map_file`. They rely on `merkle` for the nodes, on `types` for
 // signed numbers and on `rules`: each decides its refusals first.
-ghost use Rattle.std.specs.Prelude.{◌≡◌, ◌+◌, ◌*◌, ◌/◌, ◌%◌, ◌^◌, ◌<◌, ◌≤◌, ◌&&◌, false, not, [], ◌∷◌, length, pos, ◌==◌, IfOk};
+ghost use Rattle.std.specs.Prelude.{◌≡◌, ◌+◌, ◌*◌, ◌/◌, ◌%◌, ◌^◌, ◌<◌, ◌≤◌, ◌&&◌, ◌==◌};
+ghost use Rattle.std.specs.Prelude.{false, not, [], ◌∷◌, length, pos, IfOk};
 ghost use Rattle.types.specs.Refusals.{number_of, outcome};
 ghost use Rattle.lists.specs.Lists.{equal};
 ghost use Rattle.tables.specs.Rows.{row_at};
@@ -19,7 +20,7 @@ ghost use Rattle.files.specs.Given.{no_node, node_given, first_piece_node_given,
 ghost use Rattle.files.specs.Given.{file_for_root_given, file_mapped};
 ghost use Rattle.layout.specs.private.Deciding.{FewPieces};
 ghost use Rattle.files.specs.private.Deciding.{request_of, set_rules, position_rules};
-ghost use Rattle.files.specs.Files.{last_quotient, low31, after_quotient, last_piece, pieces_of, blocks_of, root_from};
+ghost use Rattle.files.specs.Files.{last_quotient, low31, after_quotient, blocks_of, root_from};
 ghost use Rattle.files.specs.Files.{position_of, exclusive_begin, end_or_begin, exclusive_end};
 ghost use Rattle.files.specs.Files.{exclusive_range, inclusive_range};
 
@@ -40,13 +41,6 @@ pub(crate) struct UnsignedRequest {
     piece: u64,
     start: u64,
     length: u64,
-}
-
-// The number of pieces of file k.
-fn pieces_of(fs: FileStorage, rows: &[u64], k: usize) -> u64
-    ensures { result ≡ pieces_of fs rows.now k }
-{
-    div_ceil(tables::size_at(rows, k), fs.piece_length)
 }
 
 // The number of blocks of file k.
@@ -84,23 +78,20 @@ struct Cut {
     start: u64,
 }
 
-// Position `at` as its piece and its start in it. A piece length that is a power of two, as most are, cuts by a shift;
-// the power is made from the length's low zero bits and compared with it, so that nothing rests on their count.
+// Position `at` as its piece and its start in it. A piece length that is a power of two, as most are, cuts by a shift.
 fn cut_at(at: u64, piece_length: u64) -> Cut
     requires { 0 < piece_length }
     ensures { (result.piece ≡ at / piece_length) × (result.start ≡ at % piece_length) }
 {
-    let bits = u64::trailing_zeros(piece_length) % 64;
-    let unit = 1u64 << bits;
-    if unit == piece_length {
-        return Cut {
+    match lists::exponent(piece_length) {
+        Some(bits) => Cut {
             piece: at >> bits,
-            start: at % unit,
-        };
-    }
-    Cut {
-        piece: at / piece_length,
-        start: at % piece_length,
+            start: at % (1 << bits),
+        },
+        None => Cut {
+            piece: at / piece_length,
+            start: at % piece_length,
+        },
     }
 }
 
@@ -170,6 +161,8 @@ fn exclusive_end(fs: FileStorage, k: usize, size: u64, r: UnsignedRequest) -> u6
 }
 
 // The pieces that lie wholly in file k.
+// Stays: two words of file k's row are read, its offset and its size; a `Row` by value would be made of all eight. That
+// the set has few pieces is told by `file_of_pieces`, with the file's number.
 fn exclusive(fs: FileStorage, rows: &[u64], k: usize) -> PieceIndexRange
     requires { FewPieces fs × (k < fs.num_files) }
     ensures { range_numbers result ≡ exclusive_range fs rows.now k }
@@ -200,6 +193,7 @@ fn inclusive(fs: FileStorage, rows: &[u64], k: usize) -> PieceIndexRange
 const MAX_LEAVES: u64 = 1073741823;
 
 // Whether no tree has that number of leaves.
+// Stays: `merkle` makes the same test within its answer, of a count as `usize`.
 fn is_no_width(leaves: u64) -> bool
     ensures { result ≡ not (has_tree leaves) }
 {
@@ -237,7 +231,9 @@ fn has_root_of(rows: &[u64], roots: &[u8], k: usize, root: Sha256Hash) -> bool
 }
 
 // The first of n files whose root is `root`, −1 where none fits.
-#[tactic(auto, using(crate::proofs::Roots::root_here, crate::proofs::Roots::root_next, crate::proofs::Roots::root_none))]
+// Stays: n counts the rows of two tables of different widths; two slices of them would each give it anew. −1 is the
+// answer that the Rust gives where no file has the root.
+#[tactic(auto, using(crate::proofs::Roots::looking))]
 fn find_root(rows: &[u64], roots: &[u8], n: usize, root: Sha256Hash) -> FileIndex
     ensures { result.0 ≡ low31 (root_from n 0 rows.now roots.now root.bytes) }
 {
@@ -250,6 +246,7 @@ fn find_root(rows: &[u64], roots: &[u8], n: usize, root: Sha256Hash) -> FileInde
 }
 
 // The number of the file whose pieces a question is about, or its refusal.
+// Stays: its callers are public and are lent each table by itself; a record would be made at each call of this one.
 fn file_of_pieces(fs: FileStorage, rows: &[u64], index: FileIndex) -> Result<usize, Refusal>
     ensures answer { outcome result ≡ file_pieces_answer fs index.0 (rows_are_held fs rows.now) (λ k. k) }
     ensures known { IfOk result (λ k. FewPieces fs × (k < fs.num_files)) }
@@ -258,8 +255,8 @@ fn file_of_pieces(fs: FileStorage, rows: &[u64], index: FileIndex) -> Result<usi
     Ok(index.get())
 }
 
-// The number of the file whose tree a question is about, or its refusal; `many` says whether the set has too many pieces
-// for the question.
+// The number of the file whose tree a question is about, or its refusal; `many` says whether the set has too many
+// pieces for the question.
 fn file_of_tree(
     fs: FileStorage,
     rows: &[u64],
@@ -293,16 +290,6 @@ pub fn piece_index_at_file(
     Ok(PieceIndex::new(div(tables::offset_at(rows, k), fs.piece_length)))
 }
 
-// The last piece of file k.
-fn last_piece_of(fs: FileStorage, rows: &[u64], k: usize) -> PieceIndex
-    ensures { result.0 ≡ low31 (last_piece fs rows.now k) }
-{
-    last_quotient(
-        tables::offset_at(rows, k) + tables::size_at(rows, k),
-        fs.piece_length,
-    )
-}
-
 // The last piece of a file, −1 for an empty file at 0 where the piece length is 1.
 // Stays: only the form is that of the other questions about a file's pieces; its value is another.
 pub fn last_piece_index_at_file(
@@ -313,7 +300,8 @@ pub fn last_piece_index_at_file(
     ensures { piece_says result ≡ last_piece_at_file_given fs rows.now index.0 }
 {
     let k = file_of_pieces(fs, rows, index)?;
-    Ok(last_piece_of(fs, rows, k))
+    let end = tables::offset_at(rows, k) + tables::size_at(rows, k);
+    Ok(last_quotient(end, fs.piece_length))
 }
 
 // The number of pieces of a file that starts on a piece.
@@ -321,7 +309,7 @@ pub fn file_num_pieces(fs: FileStorage, rows: &[u64], index: FileIndex) -> Resul
     ensures { outcome result ≡ file_num_pieces_given fs rows.now index.0 }
 {
     let k = file_of_tree(fs, rows, index, has_many(fs))?;
-    Ok(types::signed32(pieces_of(fs, rows, k)))
+    Ok(types::signed32(div_ceil(tables::size_at(rows, k), fs.piece_length)))
 }
 
 // A file's pieces, counted from 0.
@@ -352,7 +340,8 @@ pub fn file_first_piece_node(
 ) -> Result<usize, Refusal>
     ensures { outcome result ≡ first_piece_node_given fs rows.now index.0 }
 {
-    first_node(fs, rows, index, pieces_of(fs, rows, index.get()))
+    let leaves = div_ceil(tables::size_at(rows, index.get()), fs.piece_length);
+    first_node(fs, rows, index, leaves)
 }
 
 // The first node of the layer of blocks in a file's tree.
@@ -382,6 +371,7 @@ pub fn file_index_for_root(
 }
 
 // A request in signed numbers, which hold it.
+// Stays: `From` must take every request, and this is asked only of one whose numbers an `i32` holds.
 fn signed_request(r: UnsignedRequest) -> PeerRequest
     requires { (r.piece ≤ 2147483647) × (r.start ≤ 2147483647) × (r.length ≤ 2147483647) }
     ensures { (result.piece.0 ≡ pos r.piece) × (result.start ≡ pos r.start) × (result.length ≡ pos r.length) }
@@ -391,14 +381,6 @@ fn signed_request(r: UnsignedRequest) -> PeerRequest
         start: r.start as i32,
         length: r.length as i32,
     }
-}
-
-// The offset of row k, which the table has.
-fn offset_of(rows: &[u64], k: usize) -> u64
-    requires { k * 8 < length rows.now }
-    ensures { result ≡ (row_at rows.now k).offset }
-{
-    rows[k * 8] % 0x1_0000_0000_0000
 }
 
 // Whether the set passes its own tests, so that it answers questions about bytes of its files.
@@ -455,7 +437,7 @@ pub fn map_file(
     if fit && in_place {
         return Ok(signed_request(request_at(
             fs,
-            offset_of(rows, k) + clamped(offset),
+            tables::offset_at(rows, k) + clamped(offset),
             clamped(i64::from(size)),
         )));
     }

@@ -19,6 +19,7 @@ fn word32(x: i32) -> u32
 }
 
 // Puts the four words of the answer to question i.
+// Stays: an answer is four words of the table that the C interface lends.
 fn put_answer(answers: &mut [u32], i: usize, answer: Result<PeerRequest, Refusal>)
     requires { i * 4 + 3 < length answers.old }
     ensures { answers.new ≡ sets answers.old (i * 4) (answer_words (request_says answer)) }
@@ -56,6 +57,7 @@ fn answer_each(
 
 // `map_file` for each question: question i is file, offset and size i, and its answer is put as four words from 4 × i
 // on. It gives the number of questions.
+// Stays: a table for each number of a question is what the C interface lends.
 pub fn map_files(
     fs: FileStorage,
     rows: &[u64],

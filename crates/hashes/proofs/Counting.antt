@@ -3,7 +3,7 @@
 use Prim.Native.Nat.{ℕ, suc, ◌+◌, ◌-◌, ◌≤◌, ◌<◌, min}
 use mathlib.Core.Path.{◌≡◌, refl, sym, ap, ◌∙◌}
 use mathlib.Core.Logic.{⊎_elim}
-use mathlib.Core.Bool.{true, false}
+use mathlib.Core.Bool.{true}
 use mathlib.Core.List.{List, [], ◌∷◌}
 use native.Mathlib.Omega.{arith}
 use lib.Dec.{leb}
@@ -62,15 +62,6 @@ module _ (hs : List ℕ) (room : ℕ) where
         let d : ascending (above b hs) ≡ drop n s = rw (q, g) (above-next c.bound hs (n - 1) (omega arith) ∙ ap (λ (j : ℕ). drop j s) e) in
         counting b (left - n) m table after h
         (ap (λ (j : ℕ). leb j (left - n)) (ap length d ∙ length-drop n s) ∙ both-less (length s) left n (omega arith) k ∙ c.same)
-
-    pub counted-over : left < n → false ≡ leb (length (ascending hs)) room
-    counted-over k = let ct = c.count in sym (lt-leb (length (ascending (above c.bound hs))) left (omega arith)) ∙ c.same
-
-    pub counted-last : (n ≡ length table → ⊥) → leb n left ≡ leb (length (ascending hs)) room
-    counted-last f =
-        let ct = c.count in
-        let e : n ≡ length (ascending (above c.bound hs)) = omega arith in
-        ap (λ (j : ℕ). leb j left) e ∙ c.same
 
 -- a table that all hashes fit holds all of them
 pub all-stored : (hs out after : List ℕ) (n : ℕ) → TableHolds out (ascending (above 0 hs)) after n → leb (length (ascending hs)) (length out) ≡ true

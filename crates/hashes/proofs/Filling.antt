@@ -1,7 +1,7 @@
 -- Laws of putting hashes in order into a table by windows: those behind the last one of a window go into the next; and of
 -- beginnings counted with repeats. They rely on the laws of proofs/Inserting.antt and of `lists` about runs of stores.
 --     window-lent                                a part of a table, lent
---     Filling, filling, filled_next              the windows up to a place are filled, from the start, one after the other
+--     Filling, filled_next                       the windows up to a place are filled, from the start, one after the other
 --     filled-over, filled-all                    the hashes end, or the table
 --     count_turn, count-over                     the room that one directory's beginnings leave, or that they pass
 --     repeats-enough                             a place for each beginning is a place for each hash
@@ -21,11 +21,10 @@ use Rattle.lists.proofs.Orders.{le-or-lt}
 use Rattle.lists.proofs.Parts.{part-length-within}
 use Rattle.lists.proofs.Runs.{sets-append, sets-cut, sets-drop, get_or-sets}
 use Rattle.crc32c.specs.Crc.{crc_from, lower}
-use Rattle.tables.specs.Span.{text_at}
-use Rattle.tables.specs.Rows.{dir_at}
-use Rattle.tables.specs.Model.{tabled}
 use Rattle.hashes.specs.Hashes.{beginnings, joined_lists, inserted, ascending}
-use Rattle.hashes.specs.private.Gathering.{above, TableHolds, WindowHolds, hashes_after, hashes_within, ascending_within, beginnings_within}
+use Rattle.hashes.specs.declared.hashes.Listed.{Listed}
+use Rattle.hashes.specs.private.Gathering.{above, TableHolds, WindowHolds, hashes_after}
+use Rattle.hashes.specs.private.Due.{listed_dirs, due, due_beginnings}
 use Rattle.hashes.proofs.Inserting.{above-next}
 
 -- a run of stores within the first of two lists
@@ -53,9 +52,6 @@ pub record Filling (hs old : List ℕ) (at bound : ℕ) (table : List ℕ) : Typ
 module _ (hs old : List ℕ) where
   abbrev all : List ℕ
   all = ascending (above 0 hs)
-
-  pub filling : Filling hs old 0 0 old
-  filling = record { within = omega arith; stored = refl; rest = refl }
 
   module _ (at bound end n : ℕ) (table after : List ℕ) (f : Filling hs old at bound table) (k : at < end) (m : end ≤ length old)
       (h : WindowHolds table at (end - at) (ascending (above bound hs)) after n) where
@@ -138,10 +134,9 @@ as_many state (d ∷ ds) =
     let m : length (hashes_after state d) ≡ length (beginnings d) = length-map (beginnings d) (λ (x : List ℕ). crc_from state (map lower x)) in
     omega (arith, as_many state ds)
 
-pub repeats-enough : (state : ℕ) (dirs text : List ℕ) (count room : ℕ) (t : Bool) → t ≡ leb (length (beginnings_within dirs text count)) room → t ≡ true
-    → true ≡ leb (length (ascending_within state dirs text count)) room
-repeats-enough state dirs text count room t e y =
-    let a = ascending-shorter (hashes_within state dirs text count) in
-    let b = as_many state (tabled count (λ i. text_at text (dir_at dirs i))) in
-    let k = leb-true (length (beginnings_within dirs text count)) room (sym e ∙ y) in
-    sym (le-leb (length (ascending_within state dirs text count)) room (omega arith))
+pub repeats-enough : (s : Listed) (room : ℕ) (t : Bool) → t ≡ leb (length (due_beginnings s)) room → t ≡ true → true ≡ leb (length (ascending (due s))) room
+repeats-enough s room t e y =
+    let a = ascending-shorter (due s) in
+    let b = as_many s.state (listed_dirs s) in
+    let k = leb-true (length (due_beginnings s)) room (sym e ∙ y) in
+    sym (le-leb (length (ascending (due s))) room (omega arith))

@@ -6,24 +6,26 @@
 --     hashes-first, hashes-next, hashes-end         a directory's hashes, one after the other; hash-next gives the next one,
 --                                                   hash-all the directory's own
 --     dirs-turn, dirs-end                           the directories, one after the other
+--     dirs-cut                                      those that a longer table begins with
 --     all-within                                    the hashes of what stands behind the set's name
-use Prim.Native.Nat.{ℕ, suc, ◌+◌, ◌-◌, ◌≤◌, ◌<◌}
+use Prim.Native.Nat.{ℕ, suc, ◌+◌, ◌-◌, ◌*◌, ◌/◌, ◌≤◌, ◌<◌}
 use mathlib.Core.Path.{◌≡◌, refl, sym, ap, ◌∙◌}
 use mathlib.Core.Bool.{Bool, true, false, cond, not}
 use mathlib.Core.List.{List, [], ◌∷◌, ◌++◌, map, append-nil, append_assoc}
 use native.Mathlib.Numerals.{add-one}
 use native.Mathlib.Omega.{arith}
-use lib.ListN.{length, get_or, take, drop, length-drop, drop_of_length-le}
-use lib.Seq.{drop-cons, drop-drop, take-suc, take-add, take_all}
+use lib.ListN.{length, take, drop, length-drop, drop_of_length-le}
+use lib.Seq.{drop-cons, drop-drop, take-suc, take-add, take_all, get_or-take, length-take-le}
 use Rattle.std.specs.List.{filter, position_or_len}
 use Rattle.path.specs.Split.{is_separator, before_first}
 use Rattle.crc32c.specs.Crc.{crc_from, lower}
 use Rattle.crc32c.proofs.Parts.{crc-lower}
 use Rattle.tables.specs.declared.storage.FileStorage.{FileStorage}
+use Rattle.tables.specs.declared.span.Span.{Span}
 use Rattle.tables.specs.Span.{text_at}
 use Rattle.tables.specs.Rows.{dir_at}
 use Rattle.tables.specs.Model.{tabled}
-use Rattle.tables.proofs.Tabled.{length-tabled, get_or-tabled}
+use Rattle.tables.proofs.Tabled.{length-tabled, get_or-tabled, tabled-same}
 use Rattle.names.specs.Paths.{led, hash_of}
 use Rattle.hashes.specs.Hashes.{beginnings_from, beginnings, joined_lists, directory_hashes, hashes_of}
 use Rattle.hashes.specs.private.Gathering.{hashes_after, hashes_within}
@@ -143,6 +145,18 @@ module _ {A : Type 0} (f : List ℕ → List A) (n : ℕ) (g : ℕ → List ℕ)
 
   pub dirs-end : (i : ℕ) → n ≤ i → joined_lists (map f (drop i (tabled n g))) ≡ []
   dirs-end i h = let k : length (tabled n g) ≤ i = omega (arith, length-tabled n g) in rw (drop_of_length-le (tabled n g) {i = i} k)
+
+-- those that a longer table begins with
+dir-cut : (dirs : List ℕ) (n i : ℕ) → i < n → dir_at (take (n * 2) dirs) i ≡ dir_at dirs i
+dir-cut dirs n i h = rw (get_or-take (n * 2) dirs (i * 2) 0 (omega arith), get_or-take (n * 2) dirs (i * 2 + 1) 0 (omega arith))
+
+pub dirs-cut : (state : ℕ) (dirs text : List ℕ) (n : ℕ) → n ≤ length dirs / 2
+    → hashes_within state (take (n * 2) dirs) text (length (take (n * 2) dirs) / 2) ≡ hashes_within state dirs text n
+dirs-cut state dirs text n h =
+    let e : length (take (n * 2) dirs) ≡ n * 2 = length-take-le (n * 2) dirs (omega arith) in
+    let k : length (take (n * 2) dirs) / 2 ≡ n = omega (arith, e) in
+    rw k (ap (λ (ds : List (List ℕ)). joined_lists (map (hashes_after state) ds))
+    (tabled-same n (λ i. text_at text (dir_at (take (n * 2) dirs) i)) (λ i. text_at text (dir_at dirs i)) (λ i q. ap (λ (s : Span). text_at text s) (dir-cut dirs n i q))))
 
 -- the hashes of what stands behind the set's name and a separator
 map_same : (f g : List ℕ → ℕ) → ((b : List ℕ) → f b ≡ g b) → (bs : List (List ℕ)) → map f bs ≡ map g bs

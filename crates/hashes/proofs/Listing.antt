@@ -1,13 +1,13 @@
 -- The outcome of `all_path_hashes` after the decision on the set's name: the refusals that are left. It relies on what a
 -- decision says (proofs/Deciding.antt of `rules`).
-use Rattle.std.specs.Prelude.{Err, Ok, Result}
+use Rattle.std.specs.Prelude.{Ok, Result}
 use Prim.Native.Nat.{ℕ, ◌/◌}
 use mathlib.Core.Path.{◌≡◌, refl, sym, ap, ◌∙◌}
-use mathlib.Core.Bool.{Bool, true, false, not, false≢true, true≢false, ◌&&◌}
+use mathlib.Core.Bool.{Bool, true, false, not, false≢true, ◌&&◌}
 use mathlib.Core.List.{List, [], ◌∷◌}
 use lib.Dec.{eqb, leb}
 use lib.ListN.{length}
-use Rattle.types.specs.Refusals.{number_of, value, refused, outcome}
+use Rattle.types.specs.Refusals.{value, refused, outcome}
 use Rattle.types.specs.declared.refusal.Refusal.{Refusal}
 use Rattle.tables.specs.declared.storage.FileStorage.{FileStorage}
 use Rattle.tables.specs.declared.span.Span.{Span}
@@ -15,7 +15,7 @@ use Rattle.tables.specs.Span.{text_at}
 use Rattle.rules.specs.Rules.{when, first_of}
 use Rattle.rules.specs.Bounds.{bad_length}
 use Rattle.rules.specs.Questions.{held_answer, dirs_held, text_held, few_entries}
-use Rattle.rules.proofs.Deciding.{allowed, denied}
+use Rattle.rules.proofs.Deciding.{allowed}
 use Rattle.names.specs.Paths.{led, hash_of}
 use Rattle.hashes.specs.Hashes.{hashes_of, ascending, HashesListed, listed, all_path_hashes}
 use Rattle.hashes.specs.private.Gathering.{above, TableHolds, hashes_within}
@@ -45,6 +45,10 @@ module _ (hs out : List ℕ) (held t : Bool) (q : t ≡ leb (length (ascending h
   all-put e f n after h =
       let w = all-stored hs out after n h (sym q ∙ f) in
       rw (e, ← q, f, w.0, w.1)
+
+  pub none-put : held ≡ true → t ≡ false
+      → ◌≡◌ {A = HashesListed} (record { says = refused 10; table = out }) (listed (rest_number held (leb (length (ascending hs)) (length out))) (ascending hs) out)
+  none-put e f = rw (e, ← q, f)
 
 module _ (fs : FileStorage) (dirs text out : List ℕ) (d : Result Span Refusal) (p : outcome d ≡ held_answer fs (text_held fs text) fs.name) where
   abbrev room : Bool

@@ -10,8 +10,8 @@ ghost use Rattle.crc32c.specs.Crc.{crc_from, lower};
 ghost use Rattle.names.specs.Paths.{led, hash_of};
 ghost use Rattle.hashes.specs.Hashes.{beginnings, inserted, ascending, listed_of, all_path_hashes};
 ghost use Rattle.hashes.specs.private.Gathering.{above, gathered, Begun, TableHolds, WindowHolds};
-ghost use Rattle.hashes.specs.private.Gathering.{hashes_after, hashes_within, ascending_within, beginnings_within};
-ghost use Rattle.hashes.specs.private.Gathering.{hashes_put};
+ghost use Rattle.hashes.specs.private.Gathering.{hashes_after, hashes_put};
+ghost use Rattle.hashes.specs.private.Due.{due, due_beginnings};
 
 use names::hash_led;
 use tables::FileStorage;
@@ -19,6 +19,7 @@ use types::Refusal;
 
 // Puts h at place p, and moves what stands from p up to n one place on; the last falls off where there is
 // no room.
+// Stays: the last of the first n goes to the place behind them, if the table has one, and a slice of the n lacks it.
 fn push(table: &mut [u32], p: usize, n: usize, h: u32)
     requires { (p ≤ n) × (n ≤ length table.old) }
     ensures { table.new ≡ sets table.old p (h ∷ part_of table.old p (n - p)) }
@@ -46,6 +47,7 @@ fn insert(table: &mut [u32], n: usize, h: u32) -> usize
 }
 
 // The same where h is at or above `bound`; else nothing changes.
+// Stays: the first n places hold hashes, and a slice of these alone would lack the place that one more takes.
 fn keep(table: &mut [u32], n: usize, bound: u64, h: u32) -> usize
     requires { Begun n table.old }
     ensures { TableHolds table.old (gathered bound (h ∷ []) (take n table.old)) table.new result }
@@ -57,6 +59,7 @@ fn keep(table: &mut [u32], n: usize, bound: u64, h: u32) -> usize
 }
 
 // The position of the first separator at or after `from`, or the length.
+// Stays: its twin in `path` is that crate's own, and takes a place past the end too.
 fn next_separator(path: &[u8], from: usize) -> usize
     requires { from ≤ length path.now }
     ensures { result ≡ from + length (before_first (drop from path.now)) }
@@ -74,7 +77,8 @@ struct Kept {
 
 // Keeps the hashes of a directory's beginnings; `state` is the hash of what stands before the directory, and
 // each directory starts from it.
-// Stays: a turn hashes a separator and the part behind it in one call; over the parts that `split` gives it takes two.
+// Stays: the first n places hold hashes, and those of the directory may take the ones behind them.
+// Stays: a turn hashes a separator and the part behind it in one call; over the parts of `split` it would need two.
 fn keep_dir(table: &mut [u32], n: usize, bound: u64, state: u32, d: &[u8]) -> Kept
     requires { Begun n table.old }
     ensures { TableHolds table.old
@@ -97,115 +101,6 @@ fn keep_dir(table: &mut [u32], n: usize, bound: u64, state: u32, d: &[u8]) -> Ke
     Kept { held: m, state: x }
 }
 
-// Puts the hashes at or above `bound` of the first `count` directories, after `state`, into the table: the least first,
-// each once, as many as there is room for. Gives their number.
-fn gather(
-    table: &mut [u32],
-    bound: u64,
-    state: u32,
-    dirs: &[u64],
-    text: &[u8],
-    count: usize,
-) -> usize
-    ensures { TableHolds table.old
-        (ascending (above bound (hashes_within state dirs.now text.now count)))
-        table.new result }
-{
-    let mut kept = Kept { held: 0, state };
-    // Stays: a directory is read by its number, which `tables::dir_at` takes.
-    for i in 0..count {
-        let place = tables::dir_at(dirs, i);
-        let d = tables::text_at(text, place);
-        kept = keep_dir(table, kept.held, bound, state, d);
-    }
-    kept.held
-}
-
-// Puts the hashes at or above `bound` into the places of `out` from `at` up to `end`: the least first, each once, as
-// many as there is room for. Gives their number.
-fn fill_window(
-    out: &mut [u32],
-    at: usize,
-    end: usize,
-    bound: u64,
-    state: u32,
-    dirs: &[u64],
-    text: &[u8],
-    count: usize,
-) -> usize
-    requires { (at ≤ end) × (end ≤ length out.old) }
-    ensures { WindowHolds out.old at (end - at)
-        (ascending (above bound (hashes_within state dirs.now text.now count)))
-        out.new result }
-{
-    gather(&mut out[at..end], bound, state, dirs, text, count)
-}
-
-// Puts the hashes of the first `count` directories, after `state`, into `out`: the least first, each once, as many as
-// there is room for. Gives their number. Each window of 8192 places takes a pass, and the next one starts behind its
-// last hash.
-fn fill(out: &mut [u32], state: u32, dirs: &[u64], text: &[u8], count: usize) -> usize
-    ensures { TableHolds out.old
-        (ascending (above 0 (hashes_within state dirs.now text.now count)))
-        out.new result }
-{
-    let mut at = 0;
-    let mut bound = 0;
-    // Stays: a pass takes the bound that the pass before it left, and may end the whole; `chunks_mut` hands on neither.
-    while at < out.len() {
-        let end = at + 8192.min(out.len() - at);
-        let n = fill_window(out, at, end, bound, state, dirs, text, count);
-        if n < end - at {
-            return at + n;
-        }
-        bound = u64::from(out[end - 1]) + 1;
-        at = end;
-    }
-    at
-}
-
-// The hash of the set's name and a separator, of nothing where the name is empty.
-fn lead(name: &[u8]) -> u32
-    ensures { result ≡ hash_of (led name.now) }
-{
-    hash_led(0, name)
-}
-
-// Whether a table of `room` places holds the hashes of the first `count` directories. They are counted by passes, the
-// least first, each of as many as `table` holds.
-fn has_room(
-    table: &mut [u32],
-    room: usize,
-    state: u32,
-    dirs: &[u64],
-    text: &[u8],
-    count: usize,
-) -> bool
-    requires { 0 < length table.old }
-    ensures { result ≡ leb (length (ascending_within state dirs.now text.now count)) room }
-{
-    let mut left = room;
-    let mut n = gather(table, 0, state, dirs, text, count);
-    // Stays: no index is counted here; a pass follows each one that filled the table.
-    while n == table.len() {
-        if left < n {
-            return false;
-        }
-        left -= n;
-        let bound = u64::from(table[n - 1]) + 1;
-        n = gather(table, bound, state, dirs, text, count);
-    }
-    n <= left
-}
-
-// The same with a table of 8192 places.
-fn fits(room: usize, state: u32, dirs: &[u64], text: &[u8], count: usize) -> bool
-    ensures { result ≡ leb (length (ascending_within state dirs.now text.now count)) room }
-{
-    let mut table = [0u32; 8192];
-    has_room(&mut table, room, state, dirs, text, count)
-}
-
 // The number of a directory's beginnings.
 fn beginning_count(d: &[u8]) -> usize
     ensures { result ≡ length (beginnings d.now) }
@@ -216,33 +111,121 @@ fn beginning_count(d: &[u8]) -> usize
     d.iter().filter(|c| **c == b'/').count() + 1
 }
 
-// Whether the first `count` directories have at most `room` beginnings, repeats included.
-fn repeats_fit(room: usize, dirs: &[u64], text: &[u8], count: usize) -> bool
-    ensures { result ≡ leb (length (beginnings_within dirs.now text.now count)) room }
-{
-    let mut left = room;
-    // Stays: a directory is read by its number, which `tables::dir_at` takes.
-    for i in 0..count {
-        let place = tables::dir_at(dirs, i);
-        let n = beginning_count(tables::text_at(text, place));
-        if left < n {
-            return false;
-        }
-        left -= n;
-    }
-    true
+// The directories whose hashes are listed: the hash of what stands before each, their words, and the text area.
+#[derive(Clone, Copy)]
+struct Listed<'a> {
+    state: u32,
+    dirs: &'a [u64],
+    text: &'a [u8],
 }
 
-// Whether a table of `room` places holds the hashes of the first `count` directories. Nothing is hashed where it has a
-// place for each beginning.
-fn all_fit(room: usize, state: u32, dirs: &[u64], text: &[u8], count: usize) -> bool
-    ensures { result ≡ leb (length (ascending_within state dirs.now text.now count)) room }
+impl Listed<'_> {
+    // Puts the hashes at or above `bound` into the table: the least first, each once, as many as there is room for.
+    // Gives their number.
+    fn gather(self, table: &mut [u32], bound: u64) -> usize
+        ensures { TableHolds table.old (ascending (above bound (due self.entry))) table.new result }
+    {
+        let mut kept = Kept {
+            held: 0,
+            state: self.state,
+        };
+        for i in 0..self.dirs.len() / 2 {
+            let place = tables::dir_at(self.dirs, i);
+            let d = tables::text_at(self.text, place);
+            kept = keep_dir(table, kept.held, bound, self.state, d);
+        }
+        kept.held
+    }
+
+    // Puts the hashes at or above `bound` into the places of `out` from `at` up to `end`: the least first, each once,
+    // as many as there is room for. Gives their number.
+    fn fill_window(self, out: &mut [u32], at: usize, end: usize, bound: u64) -> usize
+        requires { (at ≤ end) × (end ≤ length out.old) }
+        ensures { WindowHolds out.old at (end - at) (ascending (above bound (due self.entry))) out.new result }
+    {
+        self.gather(&mut out[at..end], bound)
+    }
+
+    // Puts the hashes into `out`: the least first, each once, as many as there is room for. Gives their number. Each
+    // window of 8192 places takes a pass, and the next one starts behind its last hash.
+    fn fill(self, out: &mut [u32]) -> usize
+        ensures { TableHolds out.old (ascending (above 0 (due self.entry))) out.new result }
+    {
+        let mut at = 0;
+        let mut bound = 0;
+        // Stays: a pass asks for the last hash of the one before, and may end the whole; over `chunks_mut` both would
+        // need values of their own beside the window.
+        while at < out.len() {
+            let end = at + 8192.min(out.len() - at);
+            let n = self.fill_window(out, at, end, bound);
+            if n < end - at {
+                return at + n;
+            }
+            bound = u64::from(out[end - 1]) + 1;
+            at = end;
+        }
+        at
+    }
+
+    // Whether a table of `room` places holds the hashes. They are counted by passes, the least first, each of as many
+    // as `table` holds.
+    // Stays: the room is that of the table that is to be filled; the one lent here is that of one pass.
+    fn has_room(self, table: &mut [u32], room: usize) -> bool
+        requires { 0 < length table.old }
+        ensures { result ≡ leb (length (ascending (due self.entry))) room }
+    {
+        let mut left = room;
+        let mut n = self.gather(table, 0);
+        // Stays: no index is counted here; a pass follows each one that filled the table.
+        while n == table.len() {
+            if left < n {
+                return false;
+            }
+            left -= n;
+            let bound = u64::from(table[n - 1]) + 1;
+            n = self.gather(table, bound);
+        }
+        n <= left
+    }
+
+    // Whether the directories have at most `room` beginnings, repeats included.
+    fn repeats_fit(self, room: usize) -> bool
+        ensures { result ≡ leb (length (due_beginnings self.entry)) room }
+    {
+        let mut left = room;
+        for i in 0..self.dirs.len() / 2 {
+            let place = tables::dir_at(self.dirs, i);
+            let n = beginning_count(tables::text_at(self.text, place));
+            if left < n {
+                return false;
+            }
+            left -= n;
+        }
+        true
+    }
+
+    // Whether a table of `room` places holds the hashes. Nothing is hashed where it has a place for each beginning;
+    // else they are counted with a table of 8192 places.
+    fn all_fit(self, room: usize) -> bool
+        ensures { result ≡ leb (length (ascending (due self.entry))) room }
+    {
+        if self.repeats_fit(room) {
+            return true;
+        }
+        let mut table = [0u32; 8192];
+        self.has_room(&mut table, room)
+    }
+}
+
+// The hash of the set's name and a separator, of nothing where the name is empty.
+fn lead(name: &[u8]) -> u32
+    ensures { result ≡ hash_of (led name.now) }
 {
-    repeats_fit(room, dirs, text, count) || fits(room, state, dirs, text, count)
+    hash_led(0, name)
 }
 
 // Puts the hashes of the first `count` directories, after `state`, into `out`, or refuses where a table is too short.
-// Stays: the hashes go into a lent table, since no function here has a heap.
+// Stays: the set counts its directories, and the table that is lent with it may be longer or too short.
 fn put_hashes(
     state: u32,
     dirs: &[u64],
@@ -255,14 +238,21 @@ fn put_hashes(
     if dirs.len() / 2 < count {
         return Err(Refusal::NoRoom);
     }
-    if all_fit(out.len(), state, dirs, text, count) {
-        return Ok(fill(out, state, dirs, text, count));
+    let words = &dirs[..count * 2];
+    let listed = Listed {
+        state,
+        dirs: words,
+        text,
+    };
+    if listed.all_fit(out.len()) {
+        return Ok(listed.fill(out));
     }
     Err(Refusal::NoRoom)
 }
 
 // The hash of each directory and of each part of one that stands before a separator, after the set's name:
 // in `out`, ascending, each once.
+// Stays: a record of all tables would ask for rows, which this question doesn't read (docs/DECISIONS.md).
 pub fn all_path_hashes(
     fs: FileStorage,
     dirs: &[u64],

@@ -1,18 +1,21 @@
 -- Deciding an import and carrying it out: the order of the refusals, that the room is judged on the result, and that the merge of what
 -- is kept and what is given is the change that document 01 asks for. These laws rely on those of proofs/Imported.antt,
 -- proofs/Keeping.antt and proofs/Merged.antt, and of `renames` (its proofs/Decisions.antt).
+use Rattle.std.specs.Prelude.{Result, IsErrAnd}
 use Prim.Native.Nat.{ℕ, ◌+◌, ◌*◌, ◌/◌, ◌≤◌, ◌<◌}
 use mathlib.Core.Path.{◌≡◌, refl, sym, ap, ◌∙◌}
 use mathlib.Core.Bool.{Bool, true, false, cond, not, ◌&&◌}
 use mathlib.Core.List.{List, [], ◌∷◌}
 use native.Mathlib.Omega.{arith}
-use borrow.Author.Tests.{ltb-false, leb-true, not-false}
-use lib.Dec.{eqb, ltb, leb}
+use borrow.Author.Tests.{ltb-false, not-false}
+use lib.Dec.{eqb, ltb}
 use lib.IntN.{ℤ}
-use lib.ListN.{length, get_or, take, drop, replicate}
+use lib.ListN.{length, get_or, drop, replicate}
 use lib.Seq.{sets}
-use Rattle.lists.specs.Lists.{any, sum}
-use Rattle.types.specs.Refusals.{value, refused}
+use Rattle.lists.specs.Lists.{any}
+use Rattle.types.specs.declared.refusal.Refusal.{Refusal}
+use Rattle.types.specs.Refusals.{number_of, outcome, value, refused}
+use Rattle.types.proofs.Refusals.{exit}
 use Rattle.tables.specs.declared.storage.FileStorage.{FileStorage}
 use Rattle.rules.specs.Rules.{when, first_of, outcome_of}
 use Rattle.rules.specs.Bounds.{bad_length, is_negative}
@@ -115,13 +118,14 @@ module _ (fs : FileStorage) (rf : RenamedFiles) (e t : List ℕ) (zs : List ℤ)
         same_test (in_order_in rf e (length t)) (lacks_room final e t) (is_full (length e) (length t) (kept_state named rf e) (state_of comes)) room-is,
       )
 
-  -- one refusal stops it
-  pub import-refused : (m : ℕ) → refused m ≡ import_asked fs rf e (length t) zs list (state_of comes)
-      → ◌≡◌ {A = RenamesChanged} (record { says = refused m; entries = e; text = t }) (import_lent fs rf e t zs lengths names)
-  import-refused m h =
+  -- one refusal stops it, and a `?` leaves with it
+  pub import-refused : (r : Result RenamedFiles Refusal) (x : Refusal) → IsErrAnd r (λ y. y ≡ x)
+      → refused (number_of x) ≡ import_asked fs rf e (length t) zs list (state_of comes)
+      → ◌≡◌ {A = RenamesChanged} (record { says = outcome r; entries = e; text = t }) (import_lent fs rf e t zs lengths names)
+  import-refused r x i h =
       let n = import_number fs rf e (length t) zs list (state_of comes) in
-      let r = denied n (kept_state named rf e) (eqb n 0) m h in
-      rw (number_is, r.0, r.1)
+      let d = denied n (kept_state named rf e) (eqb n 0) (number_of x) h in
+      rw (exit r x i, number_is, d.0, d.1)
 
   -- none does: what stays is known, and the names that come have room
   module _ (st : RenamedFiles) (h : value st ≡ import_asked fs rf e (length t) zs list (state_of comes)) where
@@ -147,9 +151,6 @@ module _ (fs : FileStorage) (rf : RenamedFiles) (e t : List ℕ) (zs : List ℤ)
 
     pub import-noted : (l : List ℕ) → l ≡ noted_from files 0 zs (replicate 65536 0) → Noted fs.num_files zs l
     import-noted l x = zeros-noted files zs l x (few-files fs import-held.1)
-
-    pub import-sum : sum (take (length zs) lengths) ≤ length names
-    import-sum = leb-true _ _ (both_true (leb (length zs) (length lengths)) (leb (sum (take (length zs) lengths)) (length names)) import-held.0).1
 
     module _ (l p : List ℕ) (noted : Noted files zs l) (places : p ≡ placed_from files 0 zs lengths (replicate 65536 0)) (come : RenamedFiles) (q : come ≡ state_of comes) where
       abbrev all : List Renamed

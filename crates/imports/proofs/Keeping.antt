@@ -1,19 +1,42 @@
 -- The renames that stay when a list is imported: how they are counted and moved together, entry by entry, and that the tables then
 -- hold the list of them. These laws rely on those of `renames` (its proofs/Readings.antt).
-use Prim.Native.Nat.{ℕ, zero, suc, ◌+◌, ◌-◌, ◌*◌, ◌≤◌, ◌<◌}
+use Prim.Native.Nat.{ℕ, zero, suc, ◌+◌, ◌-◌, ◌*◌, ◌/◌, ◌≤◌, ◌<◌}
 use mathlib.Core.Path.{◌≡◌, refl, sym, ap, ◌∙◌}
 use mathlib.Core.Bool.{Bool, true, false, cond}
-use mathlib.Core.List.{List, [], ◌∷◌, ◌++◌}
+use mathlib.Core.List.{List, [], ◌∷◌, ◌++◌, append_assoc}
 use native.Mathlib.Nat.{add-zero}
 use native.Mathlib.Omega.{arith}
-use lib.ListN.{length, get_or, take, drop, length-append, length-drop}
-use lib.Seq.{sets, length-sets, length-take-le, drop-drop, get_or-drop}
+use lib.ListN.{length, get_or, take, drop, length-append, length-drop, take-append-drop}
+use lib.Seq.{paste, sets, sets-eq, length-sets, length-take-le, drop-cons, drop-drop, get_or-drop, get_or-take}
 use Rattle.lists.specs.Lists.{part_of}
+use Rattle.lists.proofs.Parts.{drop-take}
 use Rattle.lists.proofs.Runs.{sets-append, drop-sets-le}
 use Rattle.renames.specs.Renames.{Renamed, mode_word, renames_from, words_of, texts_of}
 use Rattle.renames.specs.Finding.{bytes_from}
 use Rattle.imports.specs.private.Importing.{renames_kept, kept_count, kept_bytes, kept_words}
 use Rattle.renames.proofs.Readings.{mode-word}
+use Rattle.renames.proofs.Splices.{copied}
+
+-- ---- one entry, and one text, as it is moved down
+
+-- three words of a table
+three : (e : List ℕ) (k : ℕ) → k + 3 ≤ length e → drop k (take (k + 3) e) ≡ get_or e k 0 ∷ get_or e (k + 1) 0 ∷ get_or e (k + 2) 0 ∷ []
+three e k h =
+    let n : k + 3 - k ≡ 3 = omega arith in
+    let a : k + 1 ≡ suc k = omega arith in
+    let b : k + 2 ≡ suc (suc k) = omega arith in
+    rw (drop-take k (k + 3) e, n, a, b, drop-cons e k 0 (omega arith), drop-cons e (suc k) 0 (omega arith), drop-cons e (suc (suc k)) 0 (omega arith))
+
+pub kept_entry : (e : List ℕ) (k dest : ℕ) → dest ≤ k → k + 3 ≤ length e
+    → paste e dest (drop k e) (k + 3 - k) ≡ sets e dest (get_or e k 0 ∷ get_or e (k + 1) 0 ∷ get_or e (k + 2) 0 ∷ [])
+kept_entry e k dest a b = copied e k (k + 3) dest (omega arith) b (omega arith) ∙ ap (λ (x : List ℕ). sets e dest x) (three e k b)
+
+part-is : (t : List ℕ) (from len : ℕ) → drop from (take (from + len) t) ≡ part_of t from len
+part-is t from len = let n : from + len - from ≡ len = omega arith in drop-take from (from + len) t ∙ rw n
+
+pub kept_text : (t : List ℕ) (from len to : ℕ) → to ≤ from → from + len ≤ length t
+    → paste t to (drop from t) (from + len - from) ≡ sets t to (part_of t from len)
+kept_text t from len to a b = copied t from (from + len) to (omega arith) b (omega arith) ∙ ap (λ (x : List ℕ). sets t to x) (part-is t from len)
 
 module _ (named : ℕ → Bool) where
   -- ---- the counts are those of the list
@@ -169,6 +192,43 @@ module _ (named : ℕ → Bool) where
 
     pub moved-end : (e : List ℕ) (i to : ℕ) → Moved n e₀ e i to → n ≤ i → e ≡ sets e₀ 0 (kept_words named n 0 e₀)
     moved-end e i to (a, b, h, l, d, s) g = let w = words-end i g in rw w at s
+
+  -- the first words of a table, lent and filled, before its others
+  front-filled : (w e : List ℕ) (k : ℕ) → length w ≤ k → k ≤ length e → sets (take k e) 0 w ++ drop k e ≡ sets e 0 w
+  front-filled w e k a b =
+      let m = length w in
+      let p : sets (take k e) 0 w ≡ w ++ drop (0 + m) (take k e) = sets-eq w (take k e) 0 (omega (arith, length-take-le k e b)) in
+      let q : sets e 0 w ≡ w ++ drop (0 + m) e = sets-eq w e 0 (omega arith) in
+      let z : 0 + m ≡ m = omega arith in
+      let n : m + (k - m) ≡ k = omega arith in
+      let r : drop m (take k e) ++ drop k e ≡ drop m e =
+      rw (drop-take m k e) (ap (λ (l : List ℕ). take (k - m) (drop m e) ++ l) (ap (λ (j : ℕ). drop j e) (sym n) ∙ sym (drop-drop (k - m) m e)) ∙ take-append-drop (k - m) (drop m e)) in
+      rw (p, q, z) (append_assoc w (drop m (take k e)) (drop k e) ∙ ap (λ (l : List ℕ). w ++ l) r)
+
+  -- the kept ones of the first n entries, lent and moved, before the others
+  words-short : (n i : ℕ) (e : List ℕ) → length (kept_words named n i e) ≤ n * 3
+  unfolding kept_words
+  words-short zero i e = omega arith
+  words-short (suc n) i e = at (listed e i) (words-short n (i + 1) e)
+    where
+      at : (b : Bool) → length (kept_words named n (i + 1) e) ≤ n * 3
+          → length (cond b (kept_words named n (i + 1) e) (get_or e (i * 3) 0 ∷ get_or e (i * 3 + 1) 0 ∷ get_or e (i * 3 + 2) 0 ∷ kept_words named n (i + 1) e)) ≤ suc n * 3
+      at true h = omega arith
+      at false h = omega arith
+
+  words-front : (k n i : ℕ) (e : List ℕ) → (i + n) * 3 ≤ k → kept_words named n i (take k e) ≡ kept_words named n i e
+  unfolding kept_words
+  words-front k zero i e h = refl
+  words-front k (suc n) i e h =
+      rw (get_or-take k e (i * 3) 0 (omega arith), get_or-take k e (i * 3 + 1) 0 (omega arith), get_or-take k e (i * 3 + 2) 0 (omega arith), words-front k n (i + 1) e (omega arith)) refl
+
+  pub moved-front : (n : ℕ) (e x : List ℕ) → n * 3 ≤ length e
+      → x ≡ sets (take (n * 3) e) 0 (kept_words named (length (take (n * 3) e) / 3) 0 (take (n * 3) e))
+      → x ++ drop (n * 3) e ≡ sets e 0 (kept_words named n 0 e)
+  moved-front n e x h q =
+      let c : length (take (n * 3) e) / 3 ≡ n = omega (arith, length-take-le (n * 3) e h) in
+      let w : x ≡ sets (take (n * 3) e) 0 (kept_words named n 0 e) = q ∙ rw c (ap (λ (l : List ℕ). sets (take (n * 3) e) 0 l) (words-front (n * 3) n 0 e (omega arith))) in
+      rw w (front-filled (kept_words named n 0 e) e (n * 3) (words-short n 0 e) h)
 
   -- ---- the texts moved together, in the same way
 

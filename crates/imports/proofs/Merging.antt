@@ -5,7 +5,7 @@ use mathlib.Core.Path.{◌≡◌, refl, sym, ap, ◌∙◌}
 use mathlib.Core.Bool.{Bool, true, false, cond, true≢false}
 use mathlib.Core.Logic.{◌⊎◌, inl, inr}
 use mathlib.Core.List.{List, [], ◌∷◌, ◌++◌, append-nil, append_assoc}
-use native.Mathlib.Nat.{sub-zero, add-zero}
+use native.Mathlib.Nat.{add-zero}
 use native.Mathlib.Omega.{arith}
 use borrow.Author.Tests.{lt-ltb, le-ltb, ltb-true}
 use lib.Dec.{eqb, ltb}
@@ -203,29 +203,6 @@ module _ (named : ℕ → Bool) (given : ℕ → Renamed) (file : (k : ℕ) → 
     pub size : p.at + length (texts_of (left k p)) ≡ end p
     pub left-entries : sets e (p.to * 3) (words_of (left k p)) ≡ sets e₀ 0 (words_of whole)
     pub left-text : sets t p.at (texts_of (left k p)) ≡ sets t₀ 0 (texts_of whole)
-
-  pub going_start : total * 3 ≤ length e₀ → n₀ ≤ total → f₀ + bytes_from (total - n₀) n₀ e₀ ≤ length t₀
-      → ((j : ℕ) → n₀ ≤ j → j < total → get_or e₀ (j * 3 + 1) 0 ≤ 2)
-      → length (merged_from named given files 0 (kept_in total n₀ f₀ e₀ t₀)) ≡ total
-      → length (texts_of (merged_from named given files 0 (kept_in total n₀ f₀ e₀ t₀))) ≡ f₀ + bytes_from (total - n₀) n₀ e₀
-      → Going 0 (record { to = 0; at = 0; next = n₀; from = f₀ }) e₀ t₀
-  going_start held here fits modes count size =
-      let z = sub-zero files in
-      record {
-        bound = omega arith;
-        words = refl;
-        bytes = refl;
-        held = held;
-        modes = modes;
-        here = here;
-        entries = refl;
-        text = refl;
-        fits = fits;
-        count = rw z (omega (arith, count));
-        size = rw z (omega (arith, size));
-        left-entries = rw z;
-        left-text = rw z;
-      }
 
   module _ (k : ℕ) (p : Place) (e t : List ℕ) (g : Going k p e t) where
     abbrev kept : List Renamed

@@ -12,7 +12,7 @@ ghost use Rattle.imports.specs.private.Merging.{noted_from};
 
 use crate::give::count_given;
 use crate::keep::count_kept;
-use crate::listed::{has_negative, is_list_held};
+use crate::listed::{NameList, has_negative, is_list_held};
 use crate::merge::{NotedList, give};
 use crate::notes::{note_last, note_places};
 use renames::{RenamedFiles, is_in_order};
@@ -29,36 +29,35 @@ fn is_full(words: usize, room: usize, stay: RenamedFiles, come: RenamedFiles) ->
 }
 
 // The record of the renames that are kept, or why the list is refused; `room` is the length of the text area.
+// Stays: `room` is the length of a table that is lent for writing, so it comes alone.
 fn decide(
     fs: FileStorage,
     renames: RenamedFiles,
     entries: &[u64],
     room: usize,
-    numbers: &[i32],
-    lengths: &[u64],
-    names: &[u8],
+    list: NameList<'_>,
     notes: &[u64],
 ) -> Result<RenamedFiles, Refusal>
-    requires { notes.now ≡ noted_from fs.num_files 0 numbers.now (replicate 65536 0) }
-    ensures { outcome result ≡ import_asked fs renames entries.now room numbers.now
-        (list_held numbers.now lengths.now names.now && few_entries fs)
+    requires { notes.now ≡ noted_from fs.num_files 0 list.numbers.now (replicate 65536 0) }
+    ensures { outcome result ≡ import_asked fs renames entries.now room list.entry.numbers.now
+        (list_held list.entry.numbers.now list.entry.lengths.now list.entry.names.now && few_entries fs)
         (state_of
-        (renames_given fs.num_files numbers.now lengths.now names.now)) }
+        (renames_given fs.num_files list.entry.numbers.now list.entry.lengths.now list.entry.names.now)) }
 {
     if is_bad_length(fs.piece_length) {
         return Err(Refusal::InvalidPieceLength);
     }
-    if has_negative(numbers) {
+    if has_negative(list.numbers) {
         return Err(Refusal::NoSuchFile);
     }
-    if !are_held(fs, is_list_held(numbers, lengths, names)) {
+    if !are_held(fs, is_list_held(list)) {
         return Err(Refusal::NoRoom);
     }
     if !is_in_order(renames, entries, room) {
         return Err(Refusal::NoRoom);
     }
     let stay = count_kept(renames, entries, notes, fs.num_files);
-    let come = count_given(numbers, lengths, names, fs.num_files, notes);
+    let come = count_given(list, fs.num_files, notes);
     if is_full(entries.len(), room, stay, come) {
         return Err(Refusal::NoRoom);
     }
@@ -68,7 +67,7 @@ fn decide(
 // Records other paths for many files, or why not: file `numbers[i]` gets the name of `lengths[i]` bytes, the names
 // stand one after the other. Numbers past the end are skipped, and of repeats the last counts. A list with fewer
 // lengths than numbers, or fewer bytes of names than the lengths say, is refused.
-// Stays: without a heap the list of pairs is lent as three arrays.
+// Stays: it is public, and without a heap no caller that has numbers and lengths could make a list of records of them.
 pub fn import_filenames(
     fs: FileStorage,
     renames: RenamedFiles,
@@ -85,27 +84,23 @@ pub fn import_filenames(
     let files = fs.num_files;
     let mut notes = [0u64; 65536];
     note_last(&mut notes, numbers, files);
-    let stay = decide(
-        fs,
-        renames,
-        rename_entries,
-        rename_text.len(),
+    let list = NameList {
         numbers,
         lengths,
         names,
-        &notes,
-    )?;
+    };
+    let stay = decide(fs, renames, rename_entries, rename_text.len(), list, &notes)?;
     let mut places = [0u64; 65536];
     note_places(&mut places, numbers, lengths, files);
-    let come = count_given(numbers, lengths, names, files, &notes);
-    let list = NotedList {
+    let come = count_given(list, files, &notes);
+    let noted = NotedList {
         files,
         notes: &notes,
         places: &places,
         lengths,
         names,
     };
-    give(renames, stay, come, rename_entries, rename_text, list);
+    give(renames, stay, come, rename_entries, rename_text, noted);
     Ok(RenamedFiles {
         num_renames: stay.num_renames + come.num_renames,
         text_len: stay.text_len + come.text_len,

@@ -1,6 +1,6 @@
 // The renames that are kept when a list of names is imported: counting them, and moving them together in both
 // tables. Relies on notes.rt and on the laws of proofs/Keeping.antt.
-ghost use Rattle.std.specs.Prelude.{◌≡◌, [], ◌∷◌, ◌+◌, ◌*◌, ◌≤◌, ◌<◌, ◌^◌, length, get_or};
+ghost use Rattle.std.specs.Prelude.{◌≡◌, [], ◌∷◌, ◌+◌, ◌*◌, ◌/◌, ◌≤◌, ◌<◌, ◌^◌, length, get_or};
 ghost use Rattle.std.proofs.lemmas.List.Edits.{sets};
 ghost use Rattle.lists.specs.Lists.{part_of};
 ghost use Rattle.renames.specs.Renames.{renames_from, texts_of};
@@ -38,6 +38,7 @@ pub(crate) fn count_kept(
 }
 
 // Moves entry i down to entry `to`.
+#[tactic(auto, using(crate::proofs::Keeping::kept_entry))]
 pub(crate) fn keep_entry(entries: &mut [u64], i: usize, to: usize)
     requires { (to ≤ i) × (i * 3 + 3 ≤ length entries.old) }
     ensures { entries.new
@@ -50,16 +51,15 @@ pub(crate) fn keep_entry(entries: &mut [u64], i: usize, to: usize)
     entries.copy_within(i * 3..i * 3 + 3, to * 3);
 }
 
-// Moves the kept ones of the first n entries together.
-// Stays: the entries in use are the first n of a longer table that the caller lends, here and below.
+// Moves the kept ones of the entries in use together.
 #[tactic(auto, using(crate::proofs::Keeping::moving))]
-pub(crate) fn keep_entries(entries: &mut [u64], n: usize, notes: &[u64], files: usize)
-    requires { n * 3 ≤ length entries.old }
+pub(crate) fn keep_entries(entries: &mut [u64], notes: &[u64], files: usize)
     ensures { entries.new
-        ≡ sets entries.old 0 (kept_words (is_noted files notes.now) n 0 entries.old) }
+        ≡ sets entries.old 0
+        (kept_words (is_noted files notes.now) (length entries.old / 3) 0 entries.old) }
 {
     let mut to = 0;
-    for i in 0..n {
+    for i in 0..entries.len() / 3 {
         if !is_noted(notes, files, entries[i * 3]) {
             keep_entry(entries, i, to);
             to += 1;
@@ -68,6 +68,8 @@ pub(crate) fn keep_entries(entries: &mut [u64], n: usize, notes: &[u64], files: 
 }
 
 // Moves a text of `len` bytes from position `from` down to position `to`.
+// Stays: other texts stand before and behind it, so `from` and `len` say which bytes of the area it has.
+#[tactic(auto, using(crate::proofs::Keeping::kept_text))]
 pub(crate) fn keep_text(text: &mut [u8], from: usize, len: usize, to: usize)
     requires { (to ≤ from) × (from + len ≤ length text.old) }
     ensures { text.new ≡ sets text.old to (part_of text.old from len) }
@@ -75,19 +77,19 @@ pub(crate) fn keep_text(text: &mut [u8], from: usize, len: usize, to: usize)
     text.copy_within(from..from + len, to);
 }
 
-// Moves the texts of the kept ones of the first n entries together.
+// Moves the texts of the kept ones of the entries in use together.
 #[tactic(auto, using(crate::proofs::Keeping::joining))]
-pub(crate) fn keep_texts(text: &mut [u8], entries: &[u64], n: usize, notes: &[u64], files: usize)
-    requires { (n * 3 ≤ length entries.now) × (bytes_from n 0 entries.now ≤ length text.old) }
+pub(crate) fn keep_texts(text: &mut [u8], entries: &[u64], notes: &[u64], files: usize)
+    requires { bytes_from (length entries.now / 3) 0 entries.now ≤ length text.old }
     ensures { text.new
         ≡ sets text.old 0
         (texts_of
         (renames_kept (is_noted files notes.now)
-        (renames_from n 0 entries.now text.old))) }
+        (renames_from (length entries.now / 3) 0 entries.now text.old))) }
 {
     let mut from = 0;
     let mut to = 0;
-    for i in 0..n {
+    for i in 0..entries.len() / 3 {
         let len = entries[i * 3 + 2] as usize;
         if !is_noted(notes, files, entries[i * 3]) {
             keep_text(text, from, len, to);

@@ -5,7 +5,16 @@ ghost use Rattle.lists.specs.Lists.{any, sum};
 ghost use Rattle.rules.specs.Bounds.{is_negative};
 ghost use Rattle.imports.specs.Imports.{list_held};
 
+// A list of names as it is lent: its numbers, the lengths of the names, and the names one after the other.
+#[derive(Clone, Copy)]
+pub(crate) struct NameList<'a> {
+    pub numbers: &'a [i32],
+    pub lengths: &'a [u64],
+    pub names: &'a [u8],
+}
+
 // Whether the lengths sum to at most `room`.
+// Stays: `room` is how many bytes of names there are, and no count of the lengths.
 fn do_fit(lengths: &[u64], room: usize) -> bool
     ensures { result ≡ leb (sum lengths.now) room }
 {
@@ -20,10 +29,12 @@ fn do_fit(lengths: &[u64], room: usize) -> bool
 }
 
 // Whether the list is whole: each number has a length, and the names have the bytes that these lengths say.
-pub(crate) fn is_list_held(numbers: &[i32], lengths: &[u64], names: &[u8]) -> bool
-    ensures { result ≡ list_held numbers.now lengths.now names.now }
+pub(crate) fn is_list_held(list: NameList<'_>) -> bool
+    ensures { result
+        ≡ list_held list.entry.numbers.now list.entry.lengths.now list.entry.names.now }
 {
-    numbers.len() <= lengths.len() && do_fit(&lengths[..numbers.len()], names.len())
+    let count = list.numbers.len();
+    count <= list.lengths.len() && do_fit(&list.lengths[..count], list.names.len())
 }
 
 // Whether one of the numbers is below 0.

@@ -45,6 +45,9 @@ fn name_of<'a>(list: NotedList<'a>, file: usize) -> &'a [u8]
 }
 
 // Writes a name that is given to a file, and gives the place after it.
+// Stays: it writes to two lent tables and moves a place on in both; with one record of the three each clause would name
+// a field before and after, here and below.
+#[tactic(auto, using(renames::proofs::Splices::written))]
 fn put_given(entries: &mut [u64], text: &mut [u8], p: Place, file: usize, name: &[u8]) -> Place
     requires { (p.to * 3 + 3 ≤ length entries.old) × (p.at + length name.now ≤ length text.old) }
     ensures value { result ≡ after_given p (length name.now) }
@@ -66,6 +69,7 @@ fn put_given(entries: &mut [u64], text: &mut [u8], p: Place, file: usize, name: 
 }
 
 // Moves the next entry that is kept and its text, and gives the place after them.
+// Stays: the copying is std's `copy_within`, in `keep_entry` and `keep_text`; only the place is moved on here.
 fn put_kept(entries: &mut [u64], text: &mut [u8], p: Place) -> Place
     requires { (p.to ≤ p.next)
         × (p.next * 3 + 3 ≤ length entries.old)
@@ -94,6 +98,7 @@ fn put_kept(entries: &mut [u64], text: &mut [u8], p: Place) -> Place
 }
 
 // Writes what a file gets: the name that is noted, or its own rename, which is the next of `total` entries, or nothing.
+// Stays: it chooses between the list's name and the file's own rename.
 fn put_file(
     entries: &mut [u64],
     text: &mut [u8],
@@ -175,6 +180,7 @@ fn merge(
 
 // Puts the names that a list gives to the renames that are kept. `stay` counts those that are kept, `come` those that
 // the list gives; there is room for all of them.
+#[tactic(auto, using(renames::proofs::Used::in_use))]
 pub(crate) fn give(
     renames: RenamedFiles,
     stay: RenamedFiles,
@@ -195,14 +201,27 @@ pub(crate) fn give(
         ≡ stay.text_len + come.text_len) }
     ensures entries_after { entries.new
         ≡ sets entries.old 0
-        (words_of (merged_with list.entry (renames_kept (named_in list.entry) (renames_of renames entries.old text.old)))) }
+        (words_of
+        (merged_with list.entry
+        (renames_kept (named_in list.entry) (renames_of renames entries.old text.old)))) }
     ensures text_after { text.new
         ≡ sets text.old 0
-        (texts_of (merged_with list.entry (renames_kept (named_in list.entry) (renames_of renames entries.old text.old)))) }
+        (texts_of
+        (merged_with list.entry
+        (renames_kept (named_in list.entry) (renames_of renames entries.old text.old)))) }
 {
     let total = stay.num_renames + come.num_renames;
-    keep_texts(text, entries, renames.num_renames, list.notes, list.files);
-    keep_entries(entries, renames.num_renames, list.notes, list.files);
+    keep_texts(
+        text,
+        &entries[..renames.num_renames * 3],
+        list.notes,
+        list.files,
+    );
+    keep_entries(
+        &mut entries[..renames.num_renames * 3],
+        list.notes,
+        list.files,
+    );
     text.copy_within(..stay.text_len, come.text_len);
     entries.copy_within(..stay.num_renames * 3, come.num_renames * 3);
     merge(entries, text, come, total, list);

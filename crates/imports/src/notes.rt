@@ -9,6 +9,8 @@ ghost use Rattle.imports.specs.private.Merging.{noted_from, Noted, placed_from, 
 use types::FileIndex;
 
 // Writes a value to the cell of a file, if it is one of `files` files.
+// Stays: a cell is a word, 0 where no number names the file: 65536 cells stand on the stack, and an `Option` would take
+// twice the memory. `files` counts the files of the set, and the notes are as many for every set.
 fn note(notes: &mut [u64], file: FileIndex, files: usize, value: u64)
     ensures { notes.new ≡ cond (is_below files file.0) (set notes.old (clamped_of file.0) value) notes.old }
 {

@@ -8,7 +8,7 @@ use Rattle.std.proofs.Common.{◌≡◌, ℕ, ◌+◌, ◌-◌, ◌*◌, ◌/◌
 use Rattle.layout.specs.Search.{offset_at, file_found}
 use Rattle.layout.specs.Steps.{reach, stride, moved, halved}
 use Rattle.layout.specs.private.Level.{Level}
-use Rattle.layout.proofs.Halving.{reach_some, Split, split, idle, enough, found-is}
+use Rattle.layout.proofs.Halving.{reach_some, reach_mono, Split, split, idle, enough, found-is}
 
 within-words : (b s n most : ℕ) {at w : ℕ} → 0 < most → 0 < n → b + s + min n most ≤ n → at ≡ b * 8 → w ≡ s * 8 → at + w < n * 8
 within-words b s n most z h q p e = omega arith
@@ -85,3 +85,6 @@ module _ (rows : List ℕ) (n t : ℕ) where
         by : (x : Bool) → r ≡ cond x ((l.b + stride n j) * 8) at → halved j f t n (cond x (l.b + stride n j) l.b) ≡ halved n f t n 0 → Level rows n t j r
         by true k g = record { b = l.b + stride n j; place = k; left = parts.up; gives = g }
         by false k g = record { b = l.b; place = k ∙ l.place; left = parts.down; gives = g }
+
+-- what a step needs
+pub ruleset turning = (inside, turned, first, later, begun, reach_mono, reach_some)

@@ -5,6 +5,7 @@ pub mod Halving
 pub mod Levels
 pub mod Near
 pub mod Starting
+pub mod Front
 pub mod Slices
 pub mod Starts
 pub mod Sums

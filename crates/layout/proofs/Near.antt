@@ -5,6 +5,7 @@
 --     first_here, first_next, first_none   one file more, and none left
 --     byte_above, first_alike        files behind the rows that differ
 --     near-least, near_has           the same of a window's first files
+--     looking                        what a loop needs that looks at the files one by one
 use Rattle.std.proofs.Common.{◌≡◌, ℕ, zero, suc, ◌+◌, ◌-◌, ◌*◌, ◌<◌, ◌≤◌, Bool, true, false, cond, ◌&&◌, ltb, leb, List, drop, refl, ap, ◌∙◌, arith, ltb-true}
 use Rattle.tables.specs.declared.rows.Row.{Row}
 use Rattle.tables.specs.Rows.{row_width}
@@ -76,3 +77,5 @@ near_has rows w t e =
   where
     behind : (k end low : ℕ) → low ≤ k → k < end → k < low + (end - low)
     behind k end low a b = omega arith
+
+pub ruleset looking = (first_here, first_next, first_none)

@@ -2,6 +2,7 @@
 --     walk_turn, walk_length      the slice of one file, and those after it
 --     walk_none, walk_end         nothing left to take, or no file left
 --     walk_files, walk_bytes      there are no more slices than files, nor than bytes
+--     counting                    what a loop needs that counts slices
 use Rattle.std.proofs.Common.{◌≡◌, ℕ, zero, suc, ◌+◌, ◌-◌, ◌<◌, ◌≤◌, min, Bool, true, false, cond, eqb, List, [], ◌∷◌, ◌++◌, length, refl, arith, ne_eqb}
 use Rattle.tables.specs.Rows.{row_at}
 use Rattle.layout.specs.Mapping.{Slice, before, walk}
@@ -99,3 +100,5 @@ module _ (rows : List ℕ) where
       (before_more
       (record { file = k; offset = s; size = min ((row_at rows k).size - s) n })
       (walk (files - (k + 1)) rows (k + 1) (s - (row_at rows k).size) (n - ((row_at rows k).size - s))))
+
+pub ruleset counting = (walk_none, walk_end, walk_length, one_le)

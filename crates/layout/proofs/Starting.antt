@@ -5,7 +5,7 @@
 --     found_alike                      'the search, given its start, answers the same whatever the rows before it hold'
 --     from-least                       the search from a window's first file finds that one or a later one
 --     window-is, is-window             a window that has files of the set
---     checked-near                     the file found among its first ones
+--     checked-near, near_found         the file found among its first ones
 --     within_below, within_in          the file found is one of them, whatever the rows hold
 --     last-unique, byte_last           the last file that begins at or before a byte
 --     found_within                     for every window, the file found is the last that begins at or before the target
@@ -21,7 +21,7 @@ use Rattle.tables.proofs.Words.{row-ext}
 use Rattle.rules.proofs.Rules.{both_true}
 use Rattle.layout.specs.declared.window.Window.{Window}
 use Rattle.layout.specs.Window.{Begins, Told}
-use Rattle.layout.specs.Search.{file_found, has_byte, near_end, found_near, found_far, found_from, is_within, found_within}
+use Rattle.layout.specs.Search.{file_found, has_byte, first_with, near_end, found_near, found_far, found_from, is_within, found_within}
 use Rattle.layout.proofs.Halving.{Ascending, Last, found-last, found_below, found_in}
 use Rattle.layout.proofs.Near.{first_alike, near-least, near_has}
 
@@ -57,12 +57,12 @@ window-is w n e =
     let a = both_true (ltb w.low w.high) (leb w.high n) e in
     (ltb-true w.low w.high a.0, leb-true w.high n a.1)
 
-pub is-window : (w : Window) (n : ℕ) → w.low < w.high → w.high ≤ n → is_within w n ≡ true
+is-window : (w : Window) (n : ℕ) → w.low < w.high → w.high ≤ n → is_within w n ≡ true
 is-window w n a b = rw (lt-ltb w.low w.high a, le-leb w.high n b)
 
 -- the file found by a window that has files of the set, where it is one of its first
 module _ (rows : List ℕ) (n : ℕ) (w : Window) (t : ℕ) where
-  pub checked-near : is_within w n ≡ true → found_near rows w t < near_end w → found_near rows w t ≡ found_within rows n w t
+  checked-near : is_within w n ≡ true → found_near rows w t < near_end w → found_near rows w t ≡ found_within rows n w t
   checked-near e h =
       let l : ltb (found_near rows w t) (near_end w) ≡ true = lt-ltb (found_near rows w t) (near_end w) h in
       let b : has_byte rows (found_near rows w t) t ≡ true = near_has rows w t l in
@@ -71,13 +71,20 @@ module _ (rows : List ℕ) (n : ℕ) (w : Window) (t : ℕ) where
       ap (λ (x : Bool). cond (x && has_byte rows (found_near rows w t) t) (found_near rows w t) (file_found rows n t)) e ∙
       ap (λ (x : Bool). cond x (found_near rows w t) (file_found rows n t)) b)
 
+  -- the same as the code says it, which has computed where its first ones end
+  pub near_found : {k end : ℕ} → w.low < w.high → w.high ≤ n → end ≡ min (w.low + 4) w.high → k ≡ first_with rows (end - w.low) w.low t → k < end
+      → k ≡ found_within rows n w t
+  near_found a b e f h =
+      let g = f ∙ ap (λ (x : ℕ). first_with rows (x - w.low) w.low t) e in
+      g ∙ checked-near (is-window w n a b) (rw (g, e) at h)
+
 near-below : (rows : List ℕ) (w : Window) (t n : ℕ) → w.high ≤ n → ltb (found_near rows w t) (near_end w) ≡ true → found_near rows w t < n
 near-below rows w t n h q = among (found_near rows w t) (ltb-true (found_near rows w t) (near_end w) q)
   where
     among : (k : ℕ) → k < min (w.low + 4) w.high → k < n
     among k l = omega arith
 
-from-below : (rows : List ℕ) (n : ℕ) (w : Window) (t : ℕ) → is_within w n ≡ true → found_from rows w t < n
+pub from-below : (rows : List ℕ) (n : ℕ) (w : Window) (t : ℕ) → is_within w n ≡ true → found_from rows w t < n
 from-below rows n w t e = by (ltb (found_near rows w t) (near_end w)) refl (window-is w n e)
   where
     by : (b : Bool) → ltb (found_near rows w t) (near_end w) ≡ b → (w.low < w.high) × (w.high ≤ n) → cond b (found_near rows w t) (found_far rows w t) < n
@@ -232,3 +239,6 @@ module _ (fs : FileStorage) (rows firsts : List ℕ) (laid : Laid rows fs.num_fi
           let y = told (p + 1) d in
           omega (arith, y.high, ends-before rows fs.num_files t laid (get_or firsts (p + 1) 0) i (omega arith) k)
       behind (inr (d, e)) i g k = absurd (omega arith)
+
+-- what a search needs that looks at a window's first files before it halves
+pub ruleset near_first = (within_in, near_found, found_in)

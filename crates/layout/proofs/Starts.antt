@@ -5,7 +5,7 @@
 --     from_block        the slices from there on
 --     plan_refused, plan_short, plan_whole     the block's plan
 --     plan_open, plan_is, plan_fits            what a plan says of the block
-use Rattle.std.proofs.Common.{◌≡◌, ℕ, ◌<◌, ◌≤◌, ◌&&◌, true, false, List, [], ◌∷◌, length, ℤ, sym, refl, ap, ◌∙◌, le-leb, leb-true}
+use Rattle.std.proofs.Common.{◌≡◌, ℕ, ◌<◌, ◌≤◌, ◌&&◌, true, false, List, [], ◌∷◌, length, ℤ, sym, refl, ap, ◌∙◌, to_z-of_z, le-leb, leb-true}
 use Rattle.std.specs.Prelude.{nat_le}
 use borrow.Author.Tests.{lt-leb, not-false}
 use Rattle.types.specs.Refusals.{number_of, value, refused}
@@ -20,7 +20,7 @@ use Rattle.layout.specs.Mapping.{target_of, block_of, block_rules}
 use Rattle.layout.specs.declared.plan.Plan.{Plan}
 use Rattle.layout.specs.Plan.{whole, block_plan}
 use Rattle.layout.specs.Start.{slices_from, cursor_at, block_start}
-use Rattle.types.proofs.Refusals.{numbered}
+use Rattle.types.proofs.Refusals.{numbered, exit}
 use Rattle.rules.proofs.Rules.{first-append, after, passed, outcome-value, outcome-refused}
 
 module _ (fs : FileStorage) (rows : List ℕ) (w : Window) (z offset size : ℤ) where
@@ -78,3 +78,8 @@ module _ (fs : FileStorage) (rows : List ℕ) (w : Window) (z offset size : ℤ)
     plan_fits =
         let q = passed (block_rules fs rows z offset size (short (nat_le (length (block_of fs rows w z offset size)) room) ∷ [])) refl (sym plan_open) in
         rw plan_is (leb-true _ room (not-false _ q.1.1.1.1.1.0))
+
+-- what a block's start and its plan need, with signed numbers as the code passes them on
+pub ruleset starting = (numbered, exit, to_z-of_z)
+
+pub ruleset planning = (plan_refused, plan_short, plan_whole, exit, to_z-of_z)

@@ -1,7 +1,7 @@
 // Answers about pieces, and about files at offsets and pieces. They rely on the search, on `types` for signed numbers
 // and on `rules`: each decides its refusals first. Those that search for a file begin with a window; the answer is the
 // same for every window, on rows that lie end to end (proofs/Starting.antt).
-ghost use Rattle.std.specs.Prelude.{◌≡◌, ◌+◌, ◌-◌, ◌*◌, ◌/◌, ◌^◌, ◌<◌, ◌≤◌, length};
+ghost use Rattle.std.specs.Prelude.{◌≡◌, ◌*◌, ◌/◌, ◌^◌, ◌<◌, ◌≤◌, length};
 ghost use Rattle.types.specs.Refusals.{outcome};
 ghost use Rattle.rules.specs.Bounds.{max_pieces};
 ghost use Rattle.rules.specs.Results.{piece_says, file_says, piece_range_says, file_range_says};
@@ -11,7 +11,7 @@ ghost use Rattle.layout.specs.Given.{piece_size_given, piece_size2_given};
 ghost use Rattle.layout.specs.Given.{blocks_in_piece2_given, blocks_per_piece_given};
 ghost use Rattle.layout.specs.Given.{file_at_offset_given, file_at_piece_given, last_file_at_piece_given};
 
-use crate::search::{find_near_within, find_within, partition_point};
+use crate::search::{file_of, find_near_within, partition_point};
 use crate::window::Window;
 use lists::div_ceil;
 use rules::{DEFAULT_BLOCK_SIZE, ask_piece, ask_pieces, ask_set, count_pieces, is_bad_offset};
@@ -37,41 +37,32 @@ pub(crate) fn start_of(fs: FileStorage, p: u64) -> u64
     p * fs.piece_length
 }
 
-// The size of piece p: the piece length, but for the last.
+// The size of piece p, which begins at `start`: the piece length, but for the last.
 #[tactic(auto, using(crate::proofs::Sizes::size_le))]
-fn size_of(fs: FileStorage, p: u64) -> u64
-    requires { (p < 2 ^ 32) × (p * fs.piece_length < 2 ^ 64) }
+fn size_of(fs: FileStorage, p: u32, start: u64) -> u64
+    requires { start ≡ start_of fs p }
     ensures value { result ≡ piece_size fs p }
     ensures low { 0 < fs.piece_length → result ≤ fs.piece_length }
 {
-    if p + 1 == count_pieces(fs) {
-        return fs.total_size.saturating_sub(start_of(fs, p));
+    if u64::from(p) + 1 == count_pieces(fs) {
+        return fs.total_size.saturating_sub(start);
     }
     fs.piece_length
 }
 
-// The size of piece p, cut where the next file begins: the first with an offset past the piece's start.
-fn size2_of(fs: FileStorage, rows: &[u64], window: Window, p: u64) -> u64
-    requires { (p < 2 ^ 32) × (p * fs.piece_length < 2 ^ 64) × (fs.num_files ≤ length rows.now / 8) }
+// The same, cut where the next file begins: the first with an offset past the piece's start.
+fn size2_of(fs: FileStorage, rows: &[u64], window: Window, p: u32, start: u64) -> u64
+    requires { (start ≡ start_of fs p) × (fs.num_files ≤ length rows.now / 8) }
     ensures value { result ≡ piece_size2 fs rows.now window p }
     ensures low { 0 < fs.piece_length → result ≤ fs.piece_length }
 {
-    let start = start_of(fs, p);
-    let next = partition_point(rows, fs.num_files, window, start);
+    let next = partition_point(&rows[..fs.num_files * 8], window, start);
     if fs.num_files <= next {
-        return size_of(fs, p);
+        return size_of(fs, p, start);
     }
     tables::offset_at(rows, next)
         .saturating_sub(start)
         .min(fs.piece_length)
-}
-
-// Where the last byte of piece p stands.
-fn last_byte(fs: FileStorage, p: u64) -> u64
-    requires { (p < 2 ^ 32) × (p * fs.piece_length + piece_size fs p < 2 ^ 64) }
-    ensures { result ≡ start_of fs p + piece_size fs p - 1 }
-{
-    start_of(fs, p) + size_of(fs, p).saturating_sub(1)
 }
 
 // How many pieces the set has.
@@ -119,7 +110,8 @@ pub fn piece_size(fs: FileStorage, piece: PieceIndex) -> Result<i32, Refusal>
     ensures { outcome result ≡ piece_size_given fs piece.0 }
 {
     ask_piece(fs, piece, false, true)?;
-    Ok(types::signed32(size_of(fs, piece.get() as u64)))
+    let p = piece.get() as u32;
+    Ok(types::signed32(size_of(fs, p, start_of(fs, p.into()))))
 }
 
 // The size of a piece, cut where the next file begins.
@@ -132,7 +124,8 @@ pub fn piece_size2(
     ensures { outcome result ≡ piece_size2_given fs rows.now window piece.0 }
 {
     ask_piece(fs, piece, false, fs.num_files <= rows.len() / 8)?;
-    Ok(types::signed32(size2_of(fs, rows, window, piece.get() as u64)))
+    let p = piece.get() as u32;
+    Ok(types::signed32(size2_of(fs, rows, window, p, start_of(fs, p.into()))))
 }
 
 // How many blocks a piece has that is cut where the next file begins.
@@ -146,10 +139,9 @@ pub fn blocks_in_piece2(
     ensures { outcome result ≡ blocks_in_piece2_given fs rows.now window piece.0 }
 {
     ask_piece(fs, piece, false, fs.num_files <= rows.len() / 8)?;
-    Ok(types::signed32(div_ceil(
-        size2_of(fs, rows, window, piece.get() as u64),
-        DEFAULT_BLOCK_SIZE,
-    )))
+    let p = piece.get() as u32;
+    let size = size2_of(fs, rows, window, p, start_of(fs, p.into()));
+    Ok(types::signed32(div_ceil(size, DEFAULT_BLOCK_SIZE)))
 }
 
 // How many blocks a piece of full length has.
@@ -174,7 +166,8 @@ pub fn file_index_at_offset(
         is_bad_offset(fs, offset),
         fs.num_files <= rows.len() / 8,
     )?;
-    Ok(FileIndex::new(find_near_within(rows, fs.num_files, window, clamped(offset)) as u64))
+    let rows = &rows[..fs.num_files * 8];
+    Ok(FileIndex::new(find_near_within(rows, window, clamped(offset)) as u64))
 }
 
 // The file at the start of a piece.
@@ -187,9 +180,8 @@ pub fn file_index_at_piece(
     ensures { file_says result ≡ file_at_piece_given fs rows.now window piece.0 }
 {
     ask_piece(fs, piece, false, fs.num_files <= rows.len() / 8)?;
-    Ok(FileIndex::new(
-        find_within(rows, fs.num_files, window, start_of(fs, piece.get() as u64)) as u64,
-    ))
+    let start = start_of(fs, piece.get() as u64);
+    Ok(FileIndex::new(file_of(fs, rows, window, start) as u64))
 }
 
 // The file at the last byte of a piece.
@@ -202,10 +194,8 @@ pub fn last_file_index_at_piece(
     ensures { file_says result ≡ last_file_at_piece_given fs rows.now window piece.0 }
 {
     ask_piece(fs, piece, false, fs.num_files <= rows.len() / 8)?;
-    Ok(FileIndex::new(find_within(
-        rows,
-        fs.num_files,
-        window,
-        last_byte(fs, piece.get() as u64),
-    ) as u64))
+    let p = piece.get() as u32;
+    let start = start_of(fs, p.into());
+    let last = (start + size_of(fs, p, start)).saturating_sub(1);
+    Ok(FileIndex::new(file_of(fs, rows, window, last) as u64))
 }

@@ -17,6 +17,8 @@ pub struct Plan {
 }
 
 // The plan for a block of a piece, into a table with `room` places.
+// Stays: `room` counts places of the table of slices, and not rows; the others are those of `map_block`, passed on.
+#[tactic(auto, using(crate::proofs::Starts::planning))]
 pub fn plan_block(
     fs: FileStorage,
     rows: &[u64],

@@ -1,11 +1,11 @@
 // Where the first slice of a block begins, or why the block is refused, and whether a table has a place for each slice:
 // what a caller needs to make the slices one by one. It relies on the search and on the count of the slices.
-ghost use Rattle.std.specs.Prelude.{◌≡◌, ◌-◌, ◌/◌, ◌≤◌, length, if◌then◌else◌, nat_eq, nat_le};
+ghost use Rattle.std.specs.Prelude.{◌≡◌, length, if◌then◌else◌, nat_eq, nat_le};
 ghost use Rattle.types.specs.Refusals.{outcome};
-ghost use Rattle.layout.specs.Start.{slices_from, cursor_at, block_start};
+ghost use Rattle.layout.specs.Start.{slices_from, block_start};
 
 use crate::piece::start_of;
-use crate::search::find_within;
+use crate::search::file_of;
 use crate::window::Window;
 use rules::{ask_piece, is_bad_range};
 use tables::FileStorage;
@@ -28,7 +28,7 @@ pub fn slice_count(size: u64) -> usize
 }
 
 // How many slices there are from a cursor on.
-#[tactic(auto, using(crate::proofs::Slices::walk_none, crate::proofs::Slices::walk_end, crate::proofs::Slices::walk_length, crate::proofs::Slices::one_le))]
+#[tactic(auto, using(crate::proofs::Slices::counting))]
 pub(crate) fn count_slices(rows: &[u64], at: Cursor) -> usize
     ensures { result ≡ length (slices_from rows.now at) }
 {
@@ -50,6 +50,7 @@ pub(crate) fn count_slices(rows: &[u64], at: Cursor) -> usize
 
 // Whether a table with `room` places has one for each slice. No slice is empty and no file has two, so the slices are
 // counted only where there are more files and more bytes than places.
+// Stays: `room` counts the places of another table, and not the rows.
 #[tactic(auto, using(crate::proofs::Slices::walk_files, crate::proofs::Slices::walk_bytes))]
 pub fn has_room(rows: &[u64], at: Cursor, room: usize) -> bool
     ensures { result ≡ nat_le (length (slices_from rows.now at)) room }
@@ -57,24 +58,8 @@ pub fn has_room(rows: &[u64], at: Cursor, room: usize) -> bool
     at.files <= room || at.left <= room as u64 || count_slices(rows, at) <= room
 }
 
-// Where `size` bytes from the target on begin.
-fn cursor_at(fs: FileStorage, rows: &[u64], window: Window, target: u64, size: u64) -> Cursor
-    requires { fs.num_files ≤ length rows.now / 8 }
-    ensures { result ≡ cursor_at fs rows.now window target size }
-{
-    let files = fs.num_files;
-    let file = find_within(rows, files, window, target);
-    let skip = target.saturating_sub(tables::offset_at(rows, file));
-    let left = size.min(fs.total_size.saturating_sub(target));
-    Cursor {
-        file,
-        files,
-        skip,
-        left,
-    }
-}
-
 // The start of a block of a piece.
+#[tactic(auto, using(crate::proofs::Starts::starting))]
 pub fn start_block(
     fs: FileStorage,
     rows: &[u64],
@@ -88,5 +73,11 @@ pub fn start_block(
     let bad_range = is_bad_range(offset, is_negative(size));
     ask_piece(fs, piece, bad_range, fs.num_files <= rows.len() / 8)?;
     let target = start_of(fs, piece.get() as u64) + clamped(offset);
-    Ok(cursor_at(fs, rows, window, target, clamped(size)))
+    let file = file_of(fs, rows, window, target);
+    Ok(Cursor {
+        file,
+        files: fs.num_files,
+        skip: target.saturating_sub(tables::offset_at(rows, file)),
+        left: clamped(size).min(fs.total_size.saturating_sub(target)),
+    })
 }

@@ -9,6 +9,7 @@ use tables::FileStorage;
 use types::{PieceIndex, clamped};
 
 // The files with which a search begins: from `low` on and before `high`; none where `high` is no larger.
+// Stays: a lent table may say anything, so low and high are compared in any case, and an `Option` would add one more.
 #[derive(Drop)]
 pub struct Window {
     pub low: usize,
@@ -30,7 +31,7 @@ fn first_at(firsts: &[u16], p: usize) -> usize
 }
 
 // A quotient, without a division where it is 0 or the divisor is a power of two, as most piece lengths are: then by a
-// shift. The power is made from the divisor's low zero bits and compared with it, so that nothing rests on their count.
+// shift.
 fn quotient(n: u64, d: u64) -> u64
     requires { 0 < d }
     ensures { result ≡ n / d }
@@ -38,15 +39,15 @@ fn quotient(n: u64, d: u64) -> u64
     if n < d {
         return 0;
     }
-    let bits = u64::trailing_zeros(d) % 64;
-    let unit = 1u64 << bits;
-    if unit == d {
-        return n >> bits;
+    match lists::exponent(d) {
+        Some(bits) => n >> bits,
+        None => n / d,
     }
-    n / d
 }
 
 // Where the files end that can have a byte of piece p: behind the first file of the next piece, or with the last file.
+// Stays: four private functions of two crates are told that the piece length was tested, and each takes the set, which
+// holds it; a second record with a tested length would have to be made from the set for each of them.
 fn high_of(fs: FileStorage, firsts: &[u16], p: usize) -> usize
     requires { (p < max_pieces) × (bad_length fs.piece_length ≡ false) }
     ensures { result ≡ high_of fs firsts.now p }

@@ -16,7 +16,7 @@ use Rattle.links.specs.Clean.{Link, to, lead_at, without_link, part_end, weight,
 use Rattle.links.specs.private.Walking.{any_at, lead_mark, lead_text, open_of, walk_of, untraversed}
 use Rattle.links.proofs.Walk.{combine-short, lead-less, link-fewer}
 use Rattle.links.proofs.Turns.{turn_end, turn-dir, turn-dir-stop, turn-link, turn-link-stop, turn-link-less}
-use Rattle.links.proofs.Scans.{Here, here, Scan, scan-turn, scan-hit, scan-none, used-off, used-fresh, used-some, in-marks, mark-small}
+use Rattle.links.proofs.Scans.{Here, here, Scan, scan-turn, scan-hit, scan-none, used-off, used-fresh, used-some, in-marks}
 
 module _ (s : Store) (ms p : List ℕ) (e : ℕ) where
   abbrev n : ℕ
@@ -81,10 +81,6 @@ module _ (s : Store) (ms p : List ℕ) (e : ℕ) where
     module _ (z : m ≡ 0 → ⊥) where
       taken : Here (entry_at s i) (get_or ms k 0) (take e p) (any_at (entries_from s (n - (i + 1)) (i + 1)) (drop (k + 1) ms) (take e p)) m
       taken = here (entry_at s i) (get_or ms k 0) (take e p) (any_at (entries_from s (n - (i + 1)) (i + 1)) (drop (k + 1) ms) (take e p)) m x.is z
-
-      -- a link that is taken: its lead
-      pub mark-low : m ≤ 2
-      mark-low = omega (arith, taken.is, mark-small (get_or ms k 0) taken.leads)
 
       hit : (lead_at ls (take e p) ≡ to (lead_text m (entry_at s i))) × (without_link (take e p) ls ≡ open_of (entries_of s) (set ms k (m + 2)))
       hit =

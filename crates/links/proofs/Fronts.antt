@@ -11,7 +11,7 @@ use lib.Seq.{get_or-set_same, get_or-set_other, drop-append-le, drop-drop}
 use Rattle.path.specs.Join.{is_alone, is_closed, combined}
 use Rattle.rope.specs.Rope.{frame_width, half_word, kind, start, unused, segment, flat}
 use Rattle.links.specs.private.Walking.{with_start, with_frame}
-use Rattle.rope.proofs.Flat.{segment-length, flat_step, flat-none}
+use Rattle.rope.proofs.Flat.{segment-length, flat_step, flat_none}
 
 -- ---- frames written
 
@@ -82,13 +82,13 @@ module _ (t : ℕ → List ℕ) (frames : List ℕ) where
       (sym (drop-append-le n (unused t frames k) (replicate (kind frames k % 2) 47) l))
 
   pub flat-moved : (k n : ℕ) → 0 < k → (k - 1) * frame_width + 2 < length frames
-      → n < length (unused t frames (k - 1)) + kind frames (k - 1) % 2
+      → n < length (segment t frames (k - 1))
       → flat t (with_start frames (k - 1) (start frames (k - 1) + n)) k ≡ drop n (flat t frames k)
   flat-moved k n h q l =
       let f = with_start frames (k - 1) (start frames (k - 1) + n) in
       sym (flat_step t f k h)
-      ∙ rw (segment-moved (k - 1) n q (omega arith), flat_start frames (k - 1) (start frames (k - 1) + n) t)
-      (sym (drop-append-le n (segment t frames (k - 1)) (flat t frames (k - 1)) (omega (arith, segment-length t frames (k - 1)))))
+      ∙ rw (segment-moved (k - 1) n q (omega (arith, segment-length t frames (k - 1))), flat_start frames (k - 1) (start frames (k - 1) + n) t)
+      (sym (drop-append-le n (segment t frames (k - 1)) (flat t frames (k - 1)) (omega arith)))
       ∙ ap (drop n) (flat_step t frames k h)
 
 -- a frame put in front
@@ -120,10 +120,10 @@ no_bool : (b : Bool) → false ≡ cond b false false
 no_bool true = refl
 no_bool false = refl
 
-pub alone-more : (p : List ℕ) → 1 < length p → false ≡ is_alone p
-alone-more [] h = absurd (omega arith)
-alone-more (c ∷ []) h = absurd (omega arith)
-alone-more (c ∷ d ∷ p) h = no_bool (eqb c 46)
+pub alone_more : (p : List ℕ) → 1 < length p → false ≡ is_alone p
+alone_more [] h = absurd (omega arith)
+alone_more (c ∷ []) h = absurd (omega arith)
+alone_more (c ∷ d ∷ p) h = no_bool (eqb c 46)
 
 -- ---- a link's text and the rest of the path
 
@@ -157,7 +157,7 @@ module _ (t : ℕ → List ℕ) (frames : List ℕ) (v : ℕ) where
   flat-alone h =
       let a : v * 2 / 2 ≡ v = omega arith in
       let b : v * 2 % 2 ≡ 0 = omega arith in
-      flat-put t frames 0 (v * 2) (omega arith) ∙ rw (a, b, flat-none t frames 0 refl, append-nil (t v), append-nil (t v))
+      flat-put t frames 0 (v * 2) (omega arith) ∙ rw (a, b, flat_none t frames 0 refl, append-nil (t v), append-nil (t v))
 
   pub flat-through : (k s : ℕ) → k * frame_width + 2 < length frames → s ≡ cond (is_closed (t v)) 0 1
       → is_alone (t v) ≡ false → is_alone (flat t frames k) ≡ false

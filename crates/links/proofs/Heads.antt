@@ -5,15 +5,17 @@ use mathlib.Core.Path.{◌≡◌, sym, ap, ◌∙◌}
 use mathlib.Core.Bool.{false}
 use mathlib.Core.List.{List}
 use native.Mathlib.Numerals.{add-one}
-use lib.ListN.{length, get_or, set, take}
+use lib.ListN.{length, get_or, set, take, length-set}
+use Rattle.rope.proofs.Places.{head_same, next_same}
 use lib.Seq.{length-take-le, take-suc, take-suc-set}
 use Rattle.lists.specs.Lists.{equal}
-use Rattle.rope.specs.Rope.{held_path, front}
-use Rattle.links.specs.private.Walking.{Fronted}
+use Rattle.rope.specs.declared.frame.Path.{Path}
+use Rattle.rope.specs.Rope.{held}
+use Rattle.links.specs.private.Walking.{Fronted, front_of}
 
 -- one byte more in the buffer
-pub head-turn : (b p : List ℕ) (i x : ℕ) → i < length b → i < length p → x ≡ get_or p i 0 → take i b ≡ take i p → take (i + 1) (set b i x) ≡ take (i + 1) p
-head-turn b p i x h k e q = rw add-one (take-suc-set b i x h ∙ rw (q, e) (sym (take-suc p i 0 k)))
+pub head_turn : (b p : List ℕ) (i x : ℕ) → i < length b → i < length p → x ≡ get_or p i 0 → take i b ≡ take i p → take (i + 1) (set b i x) ≡ take (i + 1) p
+head_turn b p i x h k e q = rw add-one (take-suc-set b i x h ∙ rw (q, e) (sym (take-suc p i 0 k)))
 
 -- a buffer that holds e bytes of the path
 module _ (h p : List ℕ) (e : ℕ) (is : h ≡ take (length h) p) (n : length h ≡ e) where
@@ -25,7 +27,8 @@ module _ (h p : List ℕ) (e : ℕ) (is : h ≡ take (length h) p) (n : length h
   head-not x q = ap (equal x) (sym head-whole) ∙ q
 
 -- the first n bytes of a buffer, where they are those of the path
-pub fronted : (rows dirs text frames : List ℕ) (depth e n : ℕ) (b : List ℕ) → e ≤ length (held_path rows dirs text frames depth) → n ≤ length b
-    → take n b ≡ front rows dirs text frames depth n → Fronted rows dirs text frames depth e (take n b)
-fronted rows dirs text frames depth e n b l h q =
-    record { long = l; head = q ∙ ap (front rows dirs text frames depth) (sym (length-take-le n b h)) }
+pub fronted : (p : Path) (e n : ℕ) (b : List ℕ) → e ≤ length (held p) → n ≤ length b → take n b ≡ take n (held p) → Fronted p e (take n b)
+fronted p e n b l h q = record { long = l; head = q ∙ ap (front_of p) (sym (length-take-le n b h)) }
+
+-- for the loop that writes them
+pub ruleset head_laws = (head_same, next_same, head_turn, length-set)

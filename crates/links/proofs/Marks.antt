@@ -161,5 +161,5 @@ module _ (files : List Entry) (dirs : List (List ℕ)) where
       go false h = h
 
   -- the leads that a walk left, without their use
-  pub leads-back : (ms ms' : List ℕ) → ms ≡ first_leads files → map untraversed ms' ≡ map untraversed ms → map untraversed ms' ≡ ms
-  leads-back ms ms' e h = h ∙ rw e (fresh-first files)
+  pub leads_back : (ms ms' : List ℕ) → ms ≡ first_leads files → map untraversed ms' ≡ map untraversed ms → map untraversed ms' ≡ ms
+  leads_back ms ms' e h = h ∙ rw e (fresh-first files)

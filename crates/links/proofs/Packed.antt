@@ -61,17 +61,17 @@ module _ (ms : List ℕ) (k m : ℕ) (h : m < 8) where
   set-lead-verdicts = map-set_same verdict ms k (get_or ms k 0 / 8 * 8 + m) 0 (verdict-of (get_or ms k 0 / 8) m h)
 
 -- leads and verdicts together are the marks
-pub marks-from : (a b : List ℕ) → map lead a ≡ map lead b → map verdict a ≡ map verdict b → a ≡ b
-marks-from [] [] h k = refl
-marks-from [] (y ∷ b) h k = absurd (let z = ap length h in omega arith)
-marks-from (x ∷ a) [] h k = absurd (let z = ap length h in omega arith)
-marks-from (x ∷ a) (y ∷ b) h k =
+pub marks_from : (a b : List ℕ) → map lead a ≡ map lead b → map verdict a ≡ map verdict b → a ≡ b
+marks_from [] [] h k = refl
+marks_from [] (y ∷ b) h k = absurd (let z = ap length h in omega arith)
+marks_from (x ∷ a) [] h k = absurd (let z = ap length h in omega arith)
+marks_from (x ∷ a) (y ∷ b) h k =
     let p : lead x ≡ lead y = cc in
     let q : verdict x ≡ verdict y = cc in
     let e : x ≡ y = omega arith in
     let t : map lead a ≡ map lead b = cc in
     let u : map verdict a ≡ map verdict b = cc in
-    let r = marks-from a b t u in
+    let r = marks_from a b t u in
     cc
 
 -- ---- a lead without its use

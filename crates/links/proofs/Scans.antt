@@ -1,6 +1,6 @@
 -- The scan of the links for the one at a path, with the leads that say which are open. These laws rely on those
 -- of `lookup` about rows.
-use Prim.Native.Nat.{ℕ, zero, suc, ◌+◌, ◌<◌, ◌≤◌}
+use Prim.Native.Nat.{ℕ, zero, suc, ◌+◌, ◌-◌, ◌<◌, ◌≤◌}
 use mathlib.Core.Path.{◌≡◌, refl, sym, ap, ◌∙◌}
 use mathlib.Core.Bool.{Bool, true, false, cond, true≢false, false≢true}
 use mathlib.Core.List.{List, [], ◌∷◌}
@@ -16,7 +16,7 @@ use Rattle.tables.specs.Model.{Store, internal_path}
 use Rattle.lookup.specs.Lookup.{Entry, own_path, is_flagged}
 use Rattle.lookup.specs.Space.{directory_length, space}
 use Rattle.lookup.specs.private.Rows.{entry_at, entries_from}
-use Rattle.lookup.proofs.Rows.{flagged-at, own_at}
+use Rattle.lookup.proofs.Rows.{flagged-at, own_at, entries-cons, entries_none}
 use Rattle.links.specs.Clean.{Link, none, to, lead_at, without_link}
 use Rattle.links.specs.private.Walking.{any_at, but_later, link_at, leading, lead_mark, lead_text, open_link, open_of, untraversed}
 
@@ -30,13 +30,6 @@ cond_yes x y false h = absurd (false≢true h)
 pub cond_no : {A : Type 0} (x y : A) (b : Bool) → b ≡ false → cond b x y ≡ y
 cond_no x y true h = absurd (true≢false h)
 cond_no x y false h = refl
-
--- a link that leads on and is not traversed has lead 1 or 2
-pub mark-small : (m : ℕ) → leading m ≡ true → m ≤ 2
-mark-small zero h = omega arith
-mark-small (suc zero) h = omega arith
-mark-small (suc (suc zero)) h = omega arith
-mark-small (suc (suc (suc m))) h = absurd (false≢true h)
 
 -- what a lead other than 0 tells of the link
 pub record Here (f : Entry) (m : ℕ) (p : List ℕ) (later : Bool) (r : ℕ) : Type 0 where
@@ -147,6 +140,25 @@ any-hit f rest ms p k e = go f.flagged refl
     go true b = any-yes f rest ms p k b ∙ here-is (ltb 0 (get_or ms k 0)) (equal (own_path f) p) (e ∙ cond_yes (cond (ltb 0 (get_or ms k 0)) (equal (own_path f) p) false) false f.flagged b)
     go false b = absurd (true≢false (e ∙ cond_no (cond (ltb 0 (get_or ms k 0)) (equal (own_path f) p) false) false f.flagged b))
 
+-- the links from file i and mark k on: one that doesn't stand at p, one that does, and no more of them
+module _ (s : Store) (ms p : List ℕ) (n i k : ℕ) where
+  -- what row i says of a link at p
+  abbrev pub link_row : ℕ → Bool
+  link_row m = cond (is_flagged (row_at s.rows i).flags) (cond (ltb 0 m) (equal (internal_path s.dirs s.text (row_at s.rows i)) p) false) false
+
+  links-cons : i < n → any_at (entries_from s (n - i) i) (drop k ms) p ≡ any_at (entry_at s i ∷ entries_from s (n - (i + 1)) (i + 1)) (drop k ms) p
+  links-cons h = rw (entries-cons s n i h)
+
+  pub links-turn : i < n → (j : ℕ) → false ≡ link_row (get_or ms k 0) → j ≡ cond (entry_at s i).flagged 1 0
+      → any_at (entries_from s (n - (i + 1)) (i + 1)) (drop (k + j) ms) p ≡ any_at (entries_from s (n - i) i) (drop k ms) p
+  links-turn h j e q = any-turn (entry_at s i) (entries_from s (n - (i + 1)) (i + 1)) ms p k j (e ∙ link-at s i (get_or ms k 0) p) q ∙ sym (links-cons h)
+
+  pub links-hit : i < n → true ≡ link_row (get_or ms k 0) → any_at (entries_from s (n - i) i) (drop k ms) p ≡ true
+  links-hit h e = links-cons h ∙ any-hit (entry_at s i) (entries_from s (n - (i + 1)) (i + 1)) ms p k (e ∙ link-at s i (get_or ms k 0) p)
+
+  pub links-end : n ≤ i → any_at (entries_from s (n - i) i) (drop k ms) p ≡ false
+  links-end h = rw (entries_none s n i h)
+
 -- the first k + 1 of two lists are the same
 take_more : (k : ℕ) (a b : List ℕ) → take (k + 1) a ≡ take (k + 1) b → (take k a ≡ take k b) × (get_or a k 0 ≡ get_or b k 0)
 take_more k a b h = (
@@ -247,3 +259,7 @@ in-marks ms k h = go (ltb k (length ms)) refl
     go : (b : Bool) → ltb k (length ms) ≡ b → k < length ms
     go true b = ltb-true k (length ms) b
     go false b = absurd (h (get_or-eq_default ms 0 {n = k} (ltb-false k (length ms) b)))
+
+-- ---- for the function that scans links
+
+pub ruleset link_scan = (links-hit, links-end)

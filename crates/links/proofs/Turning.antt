@@ -1,5 +1,5 @@
 -- What the walk of `resolve` keeps, turn by turn: its path is in frames, the texts of open links still fit, and there is a frame for
--- each. Before that, the number of a link's text, and the part in the buffer. These laws rely on those of proofs/Events.antt,
+-- each. Before that, the number of a link's text. These laws rely on those of proofs/Events.antt,
 -- proofs/Room.antt and on those of `lookup` about rows.
 use Prim.Native.Nat.{ℕ, zero, suc, ◌+◌, ◌-◌, ◌*◌, ◌/◌, ◌%◌, ◌^◌, ◌<◌, ◌≤◌}
 use mathlib.Core.Path.{◌≡◌, refl, sym, ap, ◌∙◌}
@@ -8,15 +8,15 @@ use mathlib.Core.List.{List, map}
 use native.Mathlib.Omega.{arith}
 use borrow.Author.Tests.{le-ltb}
 use lib.ListN.{length, take, drop, set}
-use lib.Seq.{take_all, length-take-le}
+use lib.Seq.{take_all}
 use Rattle.path.specs.Join.{appended, combined}
 use Rattle.tables.specs.Model.{Store, directory_text}
 use Rattle.lookup.specs.Lookup.{covers, is_directory, known, entries_of, directories_of}
 use Rattle.lookup.specs.private.Rows.{entry_at, entries_from, directories_from}
 use Rattle.lookup.proofs.Rows.{text_at_lem, branch_at, beside_at}
 use Rattle.links.specs.Clean.{part_end, weight, left}
-use Rattle.rope.specs.Rope.{row_lead, leads, held_path, front, frame_width}
-use Rattle.links.specs.private.Walking.{lead, verdict, untraversed, lead_text, open_of, path_of, Walkable, Fronted}
+use Rattle.rope.specs.Rope.{row_lead, leads, frame_width}
+use Rattle.links.specs.private.Walking.{lead, verdict, untraversed, lead_text, open_of, path_of, Walkable}
 use Rattle.links.proofs.Walk.{part-within}
 use Rattle.links.proofs.Scans.{Scan}
 use Rattle.links.proofs.Room.{open-few}
@@ -39,11 +39,6 @@ row-lead s i (suc (suc m)) =
     let q : 2 ≤ suc (suc m) = omega arith in
     rw (le-ltb (suc (suc m)) 2 q) (ap (appended (branch_at s i)) (text_at_lem s i) ∙ beside_at s i (entry_at s i).text)
 
--- ---- a part in the buffer
-
-pub fronted : (rows dirs text frames buf : List ℕ) (depth e n : ℕ) → e ≤ length (held_path rows dirs text frames depth) → n ≤ length buf → take n buf ≡ front rows dirs text frames depth n → Fronted rows dirs text frames depth e (take n buf)
-fronted rows dirs text frames buf depth e n h k q = record { long = h; head = rw (length-take-le n buf k) q }
-
 -- ---- the walk's state
 
 -- what the walk keeps; `answer` is that of the whole walk
@@ -58,7 +53,11 @@ pub record Walking (s : Store) (marks₀ frames₀ : List ℕ) (answer : Bool) (
   pub verdicts-kept : map verdict marks ≡ map verdict marks₀
   pub goes : goes_on s (map lead marks) (path_of s frames depth) e ≡ answer
 
-pub walking_start : (s : Store) (marks frames : List ℕ) (e : ℕ) → Walkable s (map lead marks) frames → e ≡ part_end (path_of s frames 1) 0 → Walking s marks frames (goes_on s (map lead marks) (path_of s frames 1) (part_end (path_of s frames 1) 0)) marks frames 1 e
+-- the answer of the whole walk
+abbrev pub answer_of : Store → List ℕ → List ℕ → Bool
+answer_of s marks frames = goes_on s (map lead marks) (path_of s frames 1) (part_end (path_of s frames 1) 0)
+
+pub walking_start : (s : Store) (marks frames : List ℕ) (e : ℕ) → Walkable s (map lead marks) frames → e ≡ part_end (path_of s frames 1) 0 → Walking s marks frames (answer_of s marks frames) marks frames 1 e
 walking_start s marks frames e w h =
     record {
       marks-long = refl;
@@ -81,10 +80,7 @@ pub record Traversed (s : Store) (marks frames : List ℕ) (depth e : ℕ) (mark
   pub marks-long : length marks' ≡ length marks
   pub frames-long : length frames' ≡ length frames
 
-pub traversed-is : (s : Store) (marks frames marks₁ frames₁ : List ℕ) (depth e : ℕ) (marks' frames' : List ℕ) (depth' i k m : ℕ) → marks₁ ≡ marks → frames₁ ≡ frames → Traversed s marks₁ frames₁ depth e marks' frames' depth' i k m → Traversed s marks frames depth e marks' frames' depth' i k m
-traversed-is s marks frames marks₁ frames₁ depth e marks' frames' depth' i k m a b h = rw (a, b) at h
-
-module _ (s : Store) (marks₀ frames₀ : List ℕ) (answer : Bool) (marks frames : List ℕ) (depth e : ℕ) (w : Walking s marks₀ frames₀ answer marks frames depth e) where
+module _ {s : Store} {marks₀ frames₀ : List ℕ} {answer : Bool} {marks frames : List ℕ} {depth e : ℕ} (w : Walking s marks₀ frames₀ answer marks frames depth e) where
   abbrev p : List ℕ
   p = path_of s frames depth
 
@@ -108,7 +104,7 @@ module _ (s : Store) (marks₀ frames₀ : List ℕ) (answer : Bool) (marks fram
       }
 
   -- through link i with mark k and lead m
-  module _ (i k m : ℕ) (x : Met s (map lead marks) p e i k m) (z : m ≡ 0 → ⊥) where
+  module _ {i k m : ℕ} (x : Met s (map lead marks) p e i k m) (z : m ≡ 0 → ⊥) where
     fewer : length (open_of (entries_of s) (set (map lead marks) k (m + 2))) + 1 ≡ length (open_of (entries_of s) (map lead marks))
     fewer = open-fewer s (map lead marks) p e i k m x z
 
@@ -123,7 +119,7 @@ module _ (s : Store) (marks₀ frames₀ : List ℕ) (answer : Bool) (marks fram
     end_low = omega (arith, w.fits, x.before-end)
 
     -- once it is traversed
-    module _ (marks' frames' : List ℕ) (depth' : ℕ) (g : Traversed s marks frames depth e marks' frames' depth' i k m) where
+    module _ {marks' frames' : List ℕ} {depth' : ℕ} (g : Traversed s marks frames depth e marks' frames' depth' i k m) where
       path-is : path_of s frames' depth' ≡ combined (lead_text m (entry_at s i)) (drop (e + 1) p)
       path-is = g.path-is ∙ ap (λ (t : List ℕ). combined t (drop (e + 1) p)) (row-lead s i m)
 
@@ -161,7 +157,7 @@ pub record Over (s : Store) (marks₀ frames₀ : List ℕ) (answer : Bool) (mar
   pub walking : Walking s marks₀ frames₀ answer marks frames depth e
   pub stopped : e < length (path_of s frames depth) → false ≡ answer
 
-module _ (s : Store) (marks₀ frames₀ : List ℕ) (answer : Bool) (marks frames : List ℕ) (depth e : ℕ) (w : Walking s marks₀ frames₀ answer marks frames depth e) (marks' frames' : List ℕ) (depth' e' : ℕ) (i : marks' ≡ marks) (j : frames' ≡ frames) (k : depth' ≡ depth) (l : e' ≡ e) where
+module _ {s : Store} {marks₀ frames₀ : List ℕ} {answer : Bool} {marks frames : List ℕ} {depth e : ℕ} (w : Walking s marks₀ frames₀ answer marks frames depth e) {marks' frames' : List ℕ} {depth' e' : ℕ} (i : marks' ≡ marks) (j : frames' ≡ frames) (k : depth' ≡ depth) (l : e' ≡ e) where
   over-is : (e < length (path_of s frames depth) → false ≡ answer) → Over s marks₀ frames₀ answer marks' frames' depth' e'
   over-is h = rw (i, j, k, l) (record { walking = w; stopped = h })
 

@@ -9,6 +9,7 @@ use native.Mathlib.Numerals.{add-one}
 use lib.Dec.{eqb}
 use lib.ListN.{length, get_or, set, take, drop, length-drop, length-map}
 use lib.Seq.{take_all, get_or-drop, drop-drop, drop-set-lt, map-set_same, take-suc-set, append_snoc}
+use Rattle.lookup.proofs.Rows.{entries-start, entries_none}
 use Rattle.lookup.specs.Lookup.{Entry}
 use Rattle.links.specs.Clean.{links_of, resolves}
 use Rattle.links.specs.Judging.{first_mark, verdict_of, verdicts_for}
@@ -81,3 +82,6 @@ module _ (files : List Entry) (dirs : List (List ℕ)) where
         go : (b : Bool) → f.flagged ≡ b → j ≡ cond b 1 0 → ms' ≡ cond b (set ms k (walked_mark files dirs f (get_or ms k 0))) ms → Judging rest ms' (k + j)
         go true b e q = rw (e, q) (past-link b)
         go false b e q = let n : k + 0 ≡ k = omega arith in rw (e, q, n) (past-plain b)
+
+-- for the loop of the second pass
+pub ruleset second_laws = (entries-start, entries_none, judging-start, judging-end)

@@ -13,7 +13,7 @@ use Rattle.lookup.specs.private.Rows.{row_text, entry_at}
 use Rattle.lookup.proofs.Rows.{text_at_lem, entries-all}
 use Rattle.links.specs.Clean.{links_of, weight}
 use Rattle.rope.specs.Rope.{leads, frame_width}
-use Rattle.links.specs.private.Walking.{lead, open_of, path_of, with_frame, Walkable, Bounded, WalksFrom}
+use Rattle.links.specs.private.Walking.{lead, open_of, path_of, with_frame, Walkable, WalksFrom}
 use Rattle.links.proofs.Scans.{space-at}
 use Rattle.links.proofs.Room.{links-fit, open-few}
 use Rattle.links.proofs.Marks.{marks-say}
@@ -36,27 +36,27 @@ frame-length f k w =
     let f₂ = set f₁ (k * frame_width + 1) 0 in
     length-set f₂ (k * frame_width + 2) 0 ∙ length-set f₁ (k * frame_width + 1) 0 ∙ length-set f (k * frame_width) w
 
-module _ (s : Store) (marks : List ℕ) (i : ℕ) (w : WalksFrom s marks i) where
+module _ (s : Store) (marks : List ℕ) (i n : ℕ) (w : WalksFrom s marks i n) where
   -- the links that the first pass's leads leave open
   pub open_is : open_of (entries_of s) (map lead marks) ≡ links_of (entries_of s) (directories_of s) (entries_of s)
   open_is = ap (open_of (entries_of s)) w.marked ∙ marks-say (entries_of s) (directories_of s) (entries_of s)
 
   -- the text of link i as a path of one frame, and that it can be walked
-  module _ (f f' : List ℕ) (b : Bounded s (length f)) (e : f' ≡ with_frame f 0 ((i * 4 + 1) * 2)) where
-    pub first-path : path_of s f' 1 ≡ (entry_at s i).text
-    first-path =
+  module _ (f f' : List ℕ) (y : n ≡ length f) (e : f' ≡ with_frame f 0 ((i * 4 + 1) * 2)) where
+    pub first_path : path_of s f' 1 ≡ (entry_at s i).text
+    first_path =
         ap (λ (x : List ℕ). path_of s x 1) e
-        ∙ flat-alone (leads s.rows s.dirs s.text) f (i * 4 + 1) (omega (arith, b.room))
+        ∙ flat-alone (leads s.rows s.dirs s.text) f (i * 4 + 1) (omega (arith, y, w.bounded.room))
         ∙ text-given s i
 
-    pub first-walkable : Walkable s (map lead marks) f'
-    first-walkable =
+    pub first_walkable : Walkable s (map lead marks) f'
+    first_walkable =
         let t : directory_length (entry_at s i).directory + length (entry_at s i).text + 2 ≤ space (entries_of s) = rw (entries-all s) at (space-at s s.fs.num_files 0 i (omega arith) (omega (arith, w.row)) w.flag) in
         let l = links-fit (entries_of s) (directories_of s) (entries_of s) in
         let o = ap weight open_is in
-        let n : length f' ≡ length f = ap length e ∙ frame-length f 0 ((i * 4 + 1) * 2) in
+        let m : length f' ≡ length f = ap length e ∙ frame-length f 0 ((i * 4 + 1) * 2) in
         record {
-          few = b.few;
-          fits = omega (arith, ap length first-path, t, l, o, b.small);
-          room = omega (arith, open-few s (map lead marks), b.few, b.room, n);
+          few = w.bounded.few;
+          fits = omega (arith, ap length first_path, t, l, o, w.bounded.small);
+          room = omega (arith, open-few s (map lead marks), w.bounded.few, y, w.bounded.room, m);
         }

@@ -1,102 +1,78 @@
-// The front of a path in a buffer, where it fits, so that most comparisons are between slices. It relies on `rope`,
-// `lookup` and the laws of proofs/Heads.antt.
+// The front of a path, and its bytes in a buffer where they fit, so that most comparisons are between slices. It relies
+// on `rope`, `lookup` and the laws of proofs/Heads.antt.
 ghost use Rattle.std.specs.Prelude.{◌≡◌, ◌≤◌, length, take};
 ghost use Rattle.lists.specs.Lists.{equal};
 ghost use Rattle.tables.specs.Span.{text_at};
-ghost use Rattle.tables.specs.Rows.{row_at, dir_at};
-ghost use Rattle.tables.specs.Model.{internal_path};
+ghost use Rattle.tables.specs.Rows.{dir_at};
 ghost use Rattle.lookup.specs.Lookup.{covers};
-ghost use Rattle.rope.specs.Rope.{held_path, front};
-ghost use Rattle.links.specs.private.Walking.{Fronted};
+ghost use Rattle.rope.specs.Rope.{held};
+ghost use Rattle.links.specs.private.Walking.{Fronted, front_of, own_text};
 
-use rope::{covers_in, own_in, path_byte, seek};
+use rope::{Path, Place};
 
-// The bytes of the longest part that is copied to a buffer.
+// The bytes of the longest front that is copied to a buffer.
 pub(crate) const HEAD_SIZE: usize = 4096;
 
-// The first e bytes of a path that `depth` frames hold.
+// The first e bytes of a path, and these bytes in a buffer, or nothing there.
 #[derive(Clone, Copy)]
-pub(crate) struct Part {
-    pub depth: u32,
+pub(crate) struct Front<'a> {
+    pub path: Path<'a>,
     pub e: usize,
+    pub head: &'a [u8],
+    ghost fronted: { Fronted path e head.now },
 }
 
-// Writes the part into a buffer where it fits: its length there, or 0.
-pub(crate) fn put_head(
-    rows: &[u64],
-    dirs: &[u64],
-    text: &[u8],
-    frames: &[u32],
-    part: Part,
-    buf: &mut [u8],
-) -> usize
-    requires { part.e ≤ length (held_path rows.now dirs.now text.now frames.now part.depth) }
-    ensures { (result ≤ part.e)
-        × (result ≤ length buf.new)
-        × (take result buf.new
-        ≡ front rows.now dirs.now text.now frames.now part.depth result) }
+// Writes the first e bytes of the path into a buffer where they fit: their number there, or 0.
+// Stays: the bytes are those of many texts, so there is no one slice to copy from.
+#[tactic(auto, using(crate::proofs::Heads::head_laws))]
+pub(crate) fn put_head(path: Path<'_>, e: usize, buf: &mut [u8]) -> usize
+    requires { e ≤ length (held path) }
+    ensures upper_bound { result ≤ length buf.new }
+    ensures fronted { Fronted path.entry e (take result buf.new) }
 {
-    if buf.len() < part.e {
+    if buf.len() < e {
         return 0;
     }
-    let mut k = part.depth;
-    let mut at = 0;
-    // Stays: each byte is sought from the place of the one before; the buffer is longer than the part.
-    for i in 0..part.e {
-        let p = seek(rows, dirs, text, frames, k, at);
-        buf[i] = path_byte(rows, dirs, text, frames, p.k, p.at);
-        k = p.k;
-        at = p.at + 1;
+    let mut next = Place {
+        k: path.depth,
+        at: 0,
+    };
+    for byte in buf[..e].iter_mut() {
+        let p = path.seek_from(next);
+        *byte = path.byte_at(p);
+        next = Place {
+            k: p.k,
+            at: p.at + 1,
+        };
     }
-    part.e
+    e
 }
 
-// Whether directory d covers the part.
-pub(crate) fn covers_part(
-    rows: &[u64],
-    dirs: &[u64],
-    text: &[u8],
-    frames: &[u32],
-    part: Part,
-    head: &[u8],
-    d: usize,
-) -> bool
-    requires { Fronted rows.now dirs.now text.now frames.now part.depth part.e head.now }
-    ensures { result ≡ covers (text_at text.now (dir_at dirs.now d))
-        (front rows.now dirs.now text.now frames.now part.depth
-        part.e) }
-{
-    if head.len() == part.e {
-        return lookup::covers_at(dirs, text, d, head, 0, part.e);
+impl Front<'_> {
+    // Whether directory d covers it.
+    pub(crate) fn is_covered(self, d: usize) -> bool
+        ensures { result
+            ≡ covers (text_at self.entry.path.lent.text.now (dir_at self.entry.path.lent.dirs.now d))
+            (front_of self.entry.path self.entry.e) }
+    {
+        let lent = self.path.lent;
+        if self.head.len() == self.e {
+            return lookup::covers_at(lent.dirs, lent.text, d, self.head, 0, self.e);
+        }
+        let dir = tables::text_at(lent.text, tables::dir_at(lent.dirs, d));
+        self.path.is_covered(dir, self.e)
     }
-    covers_in(
-        tables::text_at(text, tables::dir_at(dirs, d)),
-        rows,
-        dirs,
-        text,
-        frames,
-        part.depth,
-        part.e,
-    )
-}
 
-// Whether the internal path of file i is the part.
-pub(crate) fn own_part(
-    rows: &[u64],
-    dirs: &[u64],
-    text: &[u8],
-    frames: &[u32],
-    part: Part,
-    head: &[u8],
-    i: usize,
-) -> bool
-    requires { Fronted rows.now dirs.now text.now frames.now part.depth part.e head.now }
-    ensures { result ≡ equal (internal_path dirs.now text.now (row_at rows.now i))
-        (front rows.now dirs.now text.now frames.now part.depth
-        part.e) }
-{
-    if head.len() == part.e {
-        return lookup::own_is(rows, dirs, text, i, head);
+    // Whether it is the internal path of file i.
+    #[tactic(auto, using(rope::proofs::Fronting::front_is))]
+    pub(crate) fn is_own(self, i: usize) -> bool
+        ensures { result
+            ≡ equal (own_text self.entry.path.lent i) (front_of self.entry.path self.entry.e) }
+    {
+        let lent = self.path.lent;
+        if self.head.len() == self.e {
+            return lookup::own_is(lent.rows, lent.dirs, lent.text, i, self.head);
+        }
+        self.path.is_own(i, self.e)
     }
-    own_in(rows, dirs, text, frames, part.depth, i, part.e)
 }

@@ -6,34 +6,42 @@ ghost use Rattle.types.specs.Refusals.{outcome};
 ghost use Rattle.rules.specs.Rules.{outcome_of};
 ghost use Rattle.rules.specs.Questions.{rows_are_held, dirs_held, text_held, few_entries};
 ghost use Rattle.lookup.specs.Space.{space, link_count};
-ghost use Rattle.lookup.specs.Lookup.{lent, files_in};
+ghost use Rattle.lookup.specs.Lookup.{lent, files_in, entries_of};
 ghost use Rattle.links.specs.Judging.{verdicts, judging_number, judged_of, judged};
-ghost use Rattle.links.specs.private.Walking.{verdict};
+ghost use Rattle.links.specs.private.Walking.{verdict, set_of};
 
 use crate::first::first_marks;
 use crate::second::walk_links;
 use lookup::{count_links, lacks_space};
-use tables::FileStorage;
+use tables::{DIR_WIDTH, FileStorage, Lent, LentSet, ROW_WIDTH};
 use types::Refusal;
 
 // Whether the lent tables hold what the set counts.
-fn holds_tables(fs: FileStorage, rows: &[u64], dirs: &[u64], text: &[u8]) -> bool
-    ensures { result ≡ (rows_are_held fs rows.now
-        && (dirs_held fs dirs.now && text_held fs text.now)) }
+fn holds_tables(the_set: LentSet<'_>) -> bool
+    ensures { result
+        ≡ (rows_are_held the_set.entry.fs the_set.entry.lent.rows.now
+        && (dirs_held the_set.entry.fs the_set.entry.lent.dirs.now
+        && text_held the_set.entry.fs the_set.entry.lent.text.now)) }
 {
-    fs.num_files <= rows.len() / 8 && fs.num_paths <= dirs.len() / 2 && fs.text_len <= text.len()
+    the_set.fs.num_files <= the_set.lent.rows.len() / ROW_WIDTH
+        && the_set.fs.num_paths <= the_set.lent.dirs.len() / DIR_WIDTH
+        && the_set.fs.text_len <= the_set.lent.text.len()
 }
 
 // Whether they do, and the set has no more files and directories than it may.
-fn is_held(fs: FileStorage, rows: &[u64], dirs: &[u64], text: &[u8]) -> bool
-    ensures { result ≡ ((rows_are_held fs rows.now
-        && (dirs_held fs dirs.now && text_held fs text.now)) && few_entries fs) }
+fn is_held(the_set: LentSet<'_>) -> bool
+    ensures { result
+        ≡ ((rows_are_held the_set.entry.fs the_set.entry.lent.rows.now
+        && (dirs_held the_set.entry.fs the_set.entry.lent.dirs.now
+        && text_held the_set.entry.fs the_set.entry.lent.text.now))
+        && few_entries the_set.entry.fs) }
 {
-    rules::are_held(fs, holds_tables(fs, rows, dirs, text))
+    rules::are_held(the_set.fs, holds_tables(the_set))
 }
 
 // The number of links to judge, or why none are judged. `marks`, `scratch` and `walk_path` are the lengths of the work
 // space that a cleaning is lent.
+// Stays: public functions are lent each table by itself, as most of them read only some (docs/DECISIONS.md).
 pub fn links_to_judge(
     fs: FileStorage,
     rows: &[u64],
@@ -51,7 +59,8 @@ pub fn links_to_judge(
     if rules::is_bad_length(fs.piece_length) {
         return Err(Refusal::InvalidPieceLength);
     }
-    if !is_held(fs, rows, dirs, text) {
+    let lent = Lent { rows, dirs, text };
+    if !is_held(LentSet { fs, lent }) {
         return Err(Refusal::NoRoom);
     }
     if lacks_space(fs, rows, dirs, text, marks, scratch, walk_path) {
@@ -71,15 +80,15 @@ fn keep_verdicts(marks: &mut [u8])
 
 // Judges all flagged links, with one mark for each. A walk has 65536 frames: one for the text that is walked, and one
 // for each of 65535 links.
-fn judge(fs: FileStorage, rows: &[u64], dirs: &[u64], text: &[u8], marks: &mut [u8])
-    requires { (length marks.old ≡ link_count (files_in fs rows.now dirs.now text.now))
-        × (fs.num_files ≤ 65535)
-        × (2 * space (files_in fs rows.now dirs.now text.now) < 2 ^ 64) }
-    ensures { marks.new ≡ verdicts (lent fs rows.now dirs.now text.now) }
+fn judge(the_set: LentSet<'_>, marks: &mut [u8])
+    requires { (length marks.old ≡ link_count (entries_of (set_of the_set)))
+        × (the_set.fs.num_files ≤ 65535)
+        × (2 * space (entries_of (set_of the_set)) < 2 ^ 64) }
+    ensures { marks.new ≡ verdicts (set_of the_set.entry) }
 {
     let mut frames = [0u32; 196608];
-    first_marks(fs, rows, dirs, text, marks);
-    walk_links(fs, rows, dirs, text, marks, &mut frames);
+    first_marks(the_set, marks);
+    walk_links(the_set, marks, &mut frames);
     keep_verdicts(marks);
 }
 
@@ -100,6 +109,7 @@ pub fn judge_links(
         walk_path }
 {
     let n = links_to_judge(fs, rows, dirs, text, marks.len(), scratch, walk_path)?;
-    judge(fs, rows, dirs, text, &mut marks[..n]);
+    let lent = Lent { rows, dirs, text };
+    judge(LentSet { fs, lent }, &mut marks[..n]);
     Ok(n)
 }

@@ -26,7 +26,7 @@ impl From<u8> for LinkVerdict {
 }
 
 // Verdicts as marks hold them; any other number is read as `FromDirectory`.
-// Stays: marks are lent bytes, so what they hold are numbers.
+// Stays: `judge_links`, which is public, is lent a byte for each link, so what marks hold are numbers.
 pub(crate) const VERDICT_KEEP: u8 = 0;
 
 pub(crate) const VERDICT_OWN_PATH: u8 = 1;
@@ -69,6 +69,8 @@ pub fn verdict_in(marks: &[u8], k: usize) -> LinkVerdict
 }
 
 // Sets the lead of mark k and keeps its verdict; past the end it does nothing.
+// Stays: a mark is one lent byte that holds a lead and a verdict, so whoever writes leads has to say that the verdicts
+// stay.
 pub(crate) fn put_lead(marks: &mut [u8], k: usize, m: u8)
     requires { m < 8 }
     ensures marks_after { map lead marks.new ≡ set (map lead marks.old) k m }
@@ -78,6 +80,7 @@ pub(crate) fn put_lead(marks: &mut [u8], k: usize, m: u8)
 }
 
 // Sets the verdict of mark k and keeps its lead; past the end it does nothing.
+// Stays: it packs two numbers in one lent byte.
 pub(crate) fn put_verdict(marks: &mut [u8], k: usize, v: u8)
     requires { v < 32 }
     ensures { marks.new ≡ set marks.old k (v * 8 + lead (get_or marks.old k 0)) }

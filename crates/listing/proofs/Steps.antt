@@ -9,7 +9,7 @@ use native.Mathlib.Omega.{arith}
 use native.Mathlib.Nat.{mod-eq_of_lt}
 use lib.Dec.{eqb, leb, ltb}
 use lib.ListN.{length, get_or, drop, replicate, length-take, length-drop, drop_of_length-le}
-use borrow.Author.Tests.{eqb-true, leb-true, lt-ltb, le-ltb}
+use borrow.Author.Tests.{eqb-true, lt-ltb, le-ltb}
 use Rattle.lists.specs.Lists.{part_of, ceiling}
 use Rattle.lists.proofs.Parts.{part_length}
 use Rattle.types.specs.declared.refusal.Refusal.TheVariants.{TooManyPieces}
@@ -28,6 +28,7 @@ use Rattle.storage.specs.Opening.{new_storage, new_model}
 use Rattle.sound.specs.Sound.{Sound}
 use Rattle.sound.proofs.Added.Answer.{unindexed, adding}
 use Rattle.sound.proofs.Added.{view-added, sound-added}
+use Rattle.sound.proofs.Opened.{sound-opened, view-opened}
 use Rattle.listing_input.specs.Form.{FileEntry, lines, provided, only_if, number_in, piece_length_in, are_flags, entry_of, file_in}
 use Rattle.listing.specs.Run.{addition_of, counted, go_on, opened_as, read_as, run_from, run, places}
 use Rattle.listing_output.specs.Output.{Run, listed, stopped}
@@ -40,19 +41,6 @@ use Rattle.listing_input.proofs.Reading.{number_small, first-take, lines_next}
 pub nil_is : (l : List ℕ) → length l ≡ 0 → l ≡ []
 nil_is [] e = refl
 nil_is (c ∷ l) e = absurd (omega arith)
-
--- a number that passed the test of the piece length
-length-small : (b : Bool) (o : Option ℕ) (n : ℕ) → Some n ≡ provided b (only_if (λ m. leb m 2147483647) o) → n ≤ 2147483647
-length-small false o n e = let z : ◌≡◌ {A = ℕ} 0 1 = cc in absurd (omega arith)
-length-small true None n e = let z : ◌≡◌ {A = ℕ} 0 1 = cc in absurd (omega arith)
-length-small true (Some m) n e = at (leb m 2147483647) refl e
-  where
-    at : (b : Bool) → leb m 2147483647 ≡ b → Some n ≡ present_if b m → n ≤ 2147483647
-    at true q p = let z : n ≡ m = cc in omega (arith, leb-true m 2147483647 q)
-    at false q p = let z : ◌≡◌ {A = ℕ} 0 1 = cc in absurd (omega arith)
-
-pub piece-length-is : (line : List ℕ) (n : ℕ) → Some n ≡ piece_length_in line → n % 2 ^ 31 ≡ n
-piece-length-is line n e = mod-eq_of_lt (omega (arith, length-small (eqb (length line) 10) (number_in line) n e))
 
 -- the size in a file line
 abbrev size_in : Option FileEntry → ℕ
@@ -109,6 +97,13 @@ counted_is fs rows roots dirs text line = at (ltb 2147483647 (ceiling fs.total_s
     at : (b : Bool) → run_says (cond b (Err (record { refusal = TooManyPieces; line = line })) (Ok fs)) rows roots dirs text ≡ cond b (stopped 13 line) (listed (view_of (store_of fs rows roots [] dirs text)))
     at true = refl
     at false = refl
+
+-- tables that keep their lengths keep their places
+pub placed_after : (rows roots dirs text : List ℕ) → Placed rows roots dirs text → (rows' roots' dirs' text' : List ℕ)
+    → length rows' ≡ length rows → length roots' ≡ length roots → length dirs' ≡ length dirs → length text' ≡ length text
+    → Placed rows' roots' dirs' text'
+placed_after rows roots dirs text p rows' roots' dirs' text' a b c d =
+    record { rows_are = a ∙ p.rows_are; roots-are = b ∙ p.roots-are; dirs-are = c ∙ p.dirs-are; text-is = d ∙ p.text-is }
 
 -- tables of these lengths have `places`
 rooms-are : (s : Store) → Placed s.rows s.roots s.dirs s.text → rooms_of s ≡ places
@@ -181,8 +176,8 @@ module _ (s : Store) (p : Placed s.rows s.roots s.dirs s.text) (ok : Sound s) (p
   go-at (Some f) fs e = go-added (addition_of f) (root_is f) fs e
 
 -- a line is no longer than what is left of the input
-pub line-few : (input : List ℕ) (at : ℕ) → length (first_line (drop at input)) ≤ length input - at
-line-few input at =
+pub line_few : (input : List ℕ) (at : ℕ) → length (first_line (drop at input)) ≤ length input - at
+line_few input at =
     let s = drop at input in
     omega (arith, ap length (first-take s), length-take (length (first_line s)) s, length-drop at input)
 
@@ -206,7 +201,10 @@ module _ (input : List ℕ) (whole : Run) (at line : ℕ) (s : Store) (g : Going
     rest-next : run_from places line (view_of s) (part_of input at n ∷ lines (drop (at + n + 1) input)) ≡ whole
     rest-next = ap (λ (l : List (List ℕ)). run_from places line (view_of s) l) (sym (lines_next input at n h e)) ∙ g.rest
 
-    module _ (t : Changed) (q : t ≡ obeyed (file_in (part_of input at n)) s) where
+    module _ (read : List ℕ) (is : read ≡ part_of input at n) (t : Changed) (answers : t ≡ obeyed (file_in read) s) where
+      q : t ≡ obeyed (file_in (part_of input at n)) s
+      q = rw is at answers
+
       -- a line is refused
       pub run-stops : (k : ℕ) → t.says ≡ refused k → stopped k (line + 1) ≡ whole
       run-stops k r =
@@ -224,7 +222,7 @@ module _ (input : List ℕ) (whole : Run) (at line : ℕ) (s : Store) (g : Going
           let m = go-at s g.placed g.sound g.unindexed line l ls (file_in l) fs (sym (ap (λ (x : Changed). x.says) q) ∙ r) in
           record {
             after_line = omega (arith, g.after_line);
-            within = omega (arith, line-few input at);
+            within = omega (arith, line_few input at);
             placed = p;
             sound = subst (λ (x : Changed). Sound (new_store fs x)) (sym q) m.0;
             unindexed = m.1;
@@ -251,8 +249,8 @@ module _ (input : List ℕ) where
         lines_next input 0 n (omega arith) e ∙ ap (λ (i : ℕ). part_of input 0 n ∷ lines (drop i input)) q in
         rw (le-ltb 65536 (length input) h, r)
 
-    pub first_stops : (j : ℕ) → opened_by (piece_length_in (part_of input 0 n)) ≡ refused j → stopped j 1 ≡ run places input
-    first_stops j o = stop (piece_length_in (part_of input 0 n)) o ∙ run-first
+    pub first_stops : (read : List ℕ) → read ≡ part_of input 0 n → (j : ℕ) → opened_by (piece_length_in read) ≡ refused j → stopped j 1 ≡ run places input
+    first_stops read is j o = stop (piece_length_in (part_of input 0 n)) (rw is at o) ∙ run-first
       where
         stop : (x : Option ℕ) → opened_by x ≡ refused j → stopped j 1 ≡ read_as x 1 (λ m. go_on (opened_as m) 1 (λ y. run_from places 1 y (lines (drop (n + 1) input))))
         stop None q = let z : j ≡ 17 = cc in ap (λ (i : ℕ). stopped i 1) z
@@ -262,7 +260,7 @@ module _ (input : List ℕ) where
             at true r = let z : j ≡ 1 = cc in ap (λ (i : ℕ). stopped i 1) z
             at false r = let z : ◌≡◌ {A = ℕ} 0 1 = cc in absurd (omega arith)
 
-    pub first_goes : (fs : FileStorage) → opened_by (piece_length_in (part_of input 0 n)) ≡ value fs → (m : ℕ) × (fs ≡ new_storage m false) × (run_from places 1 (new_model m) (lines (drop (n + 1) input)) ≡ run places input)
+    first_goes : (fs : FileStorage) → opened_by (piece_length_in (part_of input 0 n)) ≡ value fs → (m : ℕ) × (fs ≡ new_storage m false) × (run_from places 1 (new_model m) (lines (drop (n + 1) input)) ≡ run places input)
     first_goes fs o = let r = go (piece_length_in (part_of input 0 n)) o in (r.0, r.1, r.2 ∙ run-first)
       where
         go : (x : Option ℕ) → opened_by x ≡ value fs → (m : ℕ) × (fs ≡ new_storage m false) × (run_from places 1 (new_model m) (lines (drop (n + 1) input)) ≡ read_as x 1 (λ i. go_on (opened_as i) 1 (λ y. run_from places 1 y (lines (drop (n + 1) input)))))
@@ -272,3 +270,17 @@ module _ (input : List ℕ) where
             at : (b : Bool) → cond b (refused 1) (value (new_storage m false)) ≡ value fs → (fs ≡ new_storage m false) × (run_from places 1 (new_model m) (lines (drop (n + 1) input)) ≡ go_on (cond b (refused 1) (value (new_model m))) 1 (λ y. run_from places 1 y (lines (drop (n + 1) input))))
             at true r = let z : ◌≡◌ {A = ℕ} 0 1 = cc in absurd (omega arith)
             at false r = let z : fs ≡ new_storage m false = cc in (z, refl)
+
+    -- the set that the first line opens, in tables that hold anything
+    pub first_opened : (read : List ℕ) → read ≡ part_of input 0 n → (rows roots dirs text : List ℕ) (fs : FileStorage)
+        → opened_by (piece_length_in read) ≡ value fs → Sound (store_of fs rows roots [] dirs text)
+        × (fs.indexed ≡ false)
+        × (run_from places 1 (view_of (store_of fs rows roots [] dirs text)) (lines (drop (n + 1) input)) ≡ run places input)
+    first_opened read is rows roots dirs text fs o =
+        let b = first_goes fs (rw is at o) in (
+          subst (λ (f : FileStorage). Sound (store_of f rows roots [] dirs text)) (sym b.1) (sound-opened b.0 false rows roots [] dirs text),
+          ap (λ (f : FileStorage). f.indexed) b.1,
+          ap (λ (f : FileStorage). run_from places 1 (view_of (store_of f rows roots [] dirs text)) (lines (drop (n + 1) input))) b.1
+              ∙ ap (λ (m : Model). run_from places 1 m (lines (drop (n + 1) input))) (view-opened b.0 false rows roots [] dirs text)
+              ∙ b.2,
+        )

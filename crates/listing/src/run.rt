@@ -45,6 +45,8 @@ fn rooted_by(flags: u64) -> Presence
 }
 
 // Obeys a file line: adds its file. The set keeps no table of first files, so one of no places is lent.
+// Stays: only `add_lines` calls it, and it hands the tables to `storage::add_file`, which takes each by itself; a
+// record would be made for one call and taken apart in the next.
 fn add_line(
     fs: FileStorage,
     rows: &mut [u64],
@@ -114,6 +116,7 @@ fn counted_by(fs: FileStorage, line: usize) -> Result<FileStorage, Stop>
 }
 
 // Obeys the file lines from position `from` of the input on; the first of them is line 2.
+#[tactic(auto, using(crate::proofs::Steps::line_few))]
 fn add_lines(
     input: &[u8],
     from: usize,
@@ -137,7 +140,8 @@ fn add_lines(
     let mut set = fs;
     let mut at = from;
     let mut line = 1;
-    // Stays: the library's `split` would give an empty line after the last line feed.
+    // Stays: the library's `split` would give an empty line after the last line feed, and `split_inclusive` gives line
+    // feeds with the lines.
     while at < input.len() {
         let n = line_length(input, at);
         line += 1;
@@ -178,6 +182,7 @@ fn run_input(
     }
     let n = line_length(input, 0);
     let answer = open_line(lists::part(input, 0, n));
+    // Stays: document 01 asks that each line's answer is taken apart by let else.
     let Ok(fs) = answer else {
         return stopped_by(answer, 1);
     };

@@ -2,8 +2,8 @@
 -- number of 15 columns is.
 use Rattle.std.specs.Prelude.{Option, Some, None}
 use Prim.Native.Nat.{ℕ, suc, ◌+◌, ◌-◌, ◌*◌, ◌^◌, ◌≤◌, ◌<◌}
-use mathlib.Core.Path.{◌≡◌, refl, sym, ap, ◌∙◌}
-use mathlib.Core.Bool.{Bool, true, false, not, cond, ◌||◌}
+use mathlib.Core.Path.{◌≡◌, refl, ap, ◌∙◌}
+use mathlib.Core.Bool.{Bool, true, false, cond, ◌||◌}
 use mathlib.Core.List.{List, [], ◌∷◌, ◌++◌, append-nil, append_assoc}
 use native.Mathlib.Omega.{arith}
 use native.Mathlib.Nat.{mul_assoc, pow-succ', pow-le-pow_right}
@@ -13,10 +13,9 @@ use lib.Seq.{drop-cons, drop-drop}
 use borrow.Author.Tests.{leb-true}
 use Rattle.std.specs.List.{position_or_len, list_all}
 use Rattle.std.specs.Option.{unwrap_or}
-use Rattle.std.proofs.lemmas.List.Recursion.{is_position_or_len}
-use Rattle.std.proofs.lemmas.List.Sums.{prefix_len-le-length}
 use Rattle.lists.specs.Lists.{part_of}
 use Rattle.lists.specs.Decimal.{value_from}
+use Rattle.lists.proofs.Searches.{found}
 use Rattle.path.specs.Join.{is_empty}
 use Rattle.tables.specs.Model.{present_if}
 use Rattle.rules.proofs.Rules.{both_true}
@@ -28,20 +27,13 @@ abbrev pub after_line : List ℕ → List ℕ
 after_line [] = []
 after_line (c ∷ t) = cond (eqb c 10) t (after_line t)
 
--- the library's search for a byte, by the place that it finds
-found-by : (b : Bool) (k n : ℕ) (r : Option ℕ) → b ≡ ltb k n → k ≤ n → r ≡ cond b (Some k) None → unwrap_or r n ≡ k
-found-by true k n r e h q = rw q
-found-by false k n r e h q = grind (arith, e, q)
-
 line_step : (b : Bool) (c : ℕ) (f : List ℕ) → length (cond b [] (c ∷ f)) ≡ cond b 0 (1 + length f)
 line_step true c f = refl
 line_step false c f = omega arith
 
 -- the length of the first line
 pub line_found : (l : List ℕ) (r : Option ℕ) → r ≡ cond (ltb (position_or_len (λ c. eqb c 10) l) (length l)) (Some (position_or_len (λ c. eqb c 10) l)) None → unwrap_or r (length l) ≡ length (first_line l)
-line_found l r e =
-    found-by (ltb (position_or_len (λ c. eqb c 10) l) (length l)) (position_or_len (λ c. eqb c 10) l) (length l) r refl (prefix_len-le-length (λ c. not (eqb c 10)) l) e
-    ∙ sym (is_position_or_len (λ s. length (first_line s)) (λ c. eqb c 10) refl (λ c t. line_step (eqb c 10) c (first_line t)) l)
+line_found l r e = (found (λ s. length (first_line s)) (λ c. eqb c 10) refl (λ c t. line_step (eqb c 10) c (first_line t)) l r e).0
 
 -- whether all bytes are digits
 pub digits_all : (l : List ℕ) → list_all is_digit l ≡ are_digits l

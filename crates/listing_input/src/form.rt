@@ -27,7 +27,7 @@ fn unblank(column: &[u8]) -> &[u8]
     ensures within { length result.now ≤ length column.now }
 {
     let mut rest = column;
-    // Stays: it counts no index, and std's `trim_ascii_start` takes more than blanks.
+    // Stays: no index is counted, and std's `trim_ascii_start` takes more than blanks.
     while let [b' ', more @ ..] = rest {
         rest = more;
     }
@@ -64,6 +64,7 @@ fn value_of(digits: &[u8]) -> u64
 }
 
 // The number in a column, right-justified.
+// Stays: `str::parse` takes a `str`, and a sign or zeros in front, which are out of form.
 fn number_in(column: &[u8]) -> Option<u64>
     requires { length column.now ≤ 15 }
     ensures { result ≡ number_in column.now }

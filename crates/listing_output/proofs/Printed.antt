@@ -1,5 +1,5 @@
 -- Laws of printing: runs of columns and texts are written one after the other, and a path is joined in the rest of a buffer.
-use Rattle.std.specs.Prelude.{Result}
+use Rattle.std.specs.Prelude.{Result, None, Some}
 use Prim.Native.Nat.{ℕ, zero, suc, ◌+◌, ◌-◌, ◌%◌, ◌≤◌, ◌<◌}
 use mathlib.Core.Path.{◌≡◌, refl, sym, ap, ◌∙◌}
 use mathlib.Core.Bool.{Bool, true, false, cond, not, ◌&&◌}
@@ -9,7 +9,7 @@ use lib.Dec.{eqb}
 use native.Mathlib.Numerals.{add-one}
 use lib.ListN.{length, take, drop, set, length-append, length-take, length-drop, drop_of_length-le}
 use lib.Seq.{sets, drop-cons}
-use borrow.Author.Tests.{le-leb}
+use borrow.Author.Tests.{le-leb, lt-leb}
 use Rattle.lists.specs.Lists.{ceiling}
 use Rattle.lists.specs.Decimal.{column}
 use Rattle.lists.proofs.Decimals.{column-length}
@@ -26,7 +26,7 @@ use Rattle.tables.specs.Rows.{row_at, dir_at, has}
 use Rattle.tables.specs.Model.{single, absolute, stored, path_in, File, Store, tabled, file_of, view_of}
 use Rattle.tables.proofs.Tabled.{length-tabled, get_or-tabled}
 use Rattle.listing_output.specs.Output.{listed, stopped, internal_path, file_line, file_lines, totals_line, printed}
-use Rattle.listing_output.specs.private.Lines.{four_columns, row_path, row_line, lines_of}
+use Rattle.listing_output.specs.private.Lines.{four_columns, row_path, row_line, lines_of, left_in}
 use Rattle.listing_output.specs.Printing.{bare, shown, put_text}
 
 -- texts in a row, each at the place after the one before
@@ -132,22 +132,32 @@ module _ (fs : FileStorage) (rows dirs text : List ℕ) (i : ℕ) where
       lines-turn fs.num_files (file_of (bare fs rows dirs text)) i h
       ∙ ap (λ (x : List ℕ). x ++ lines_from fs rows dirs text (i + 1)) (line-is (bare fs rows dirs text) i i)
 
-  pub next-length : i < fs.num_files → length (lines_from fs rows dirs text i) ≡ 39 + length (row_path dirs text (row_at rows i)) + length (lines_from fs rows dirs text (i + 1))
-  next-length h =
+  pub next_length : i < fs.num_files → length (lines_from fs rows dirs text i) ≡ 39 + length (row_path dirs text (row_at rows i)) + length (lines_from fs rows dirs text (i + 1))
+  next_length h =
       rw (next-line h, length-append (row_line dirs text i (row_at rows i)) (lines_from fs rows dirs text (i + 1)), row-line-length dirs text i (row_at rows i))
-
-  -- the same, by what was measured of a row that was read
-  pub measured : i < fs.num_files → (n : ℕ) (r : Row) → n ≡ length (row_path dirs text r) → r ≡ row_at rows i → length (lines_from fs rows dirs text i) ≡ 39 + n + length (lines_from fs rows dirs text (i + 1))
-  measured h n r e q = rw (e, q) (next-length h)
 
   pub no_line : fs.num_files ≤ i → lines_from fs rows dirs text i ≡ []
   no_line h = lines_end fs.num_files (file_of (bare fs rows dirs text)) i h
+
+  pub no_length : fs.num_files ≤ i → length (lines_from fs rows dirs text i) ≡ 0
+  no_length h = rw (no_line h)
 
   pub put_next : (l : List ℕ) (at : ℕ) → i < fs.num_files
       → sets (sets l at (row_line dirs text i (row_at rows i))) (at + (39 + length (row_path dirs text (row_at rows i)))) (lines_from fs rows dirs text (i + 1)) ≡ sets l at (lines_from fs rows dirs text i)
   put_next l at h =
       rw (next-line h)
       (sets-two l (row_line dirs text i (row_at rows i)) (lines_from fs rows dirs text (i + 1)) at (at + (39 + length (row_path dirs text (row_at rows i)))) (ap (λ (k : ℕ). at + k) (sym (row-line-length dirs text i (row_at rows i)))))
+
+-- what the lines leave of a room
+pub left_no : (needed room : ℕ) → room < needed → left_in needed room ≡ None
+left_no needed room h = rw (lt-leb needed room h)
+
+pub left_yes : (needed room left : ℕ) → left + needed ≡ room → left_in needed room ≡ Some left
+left_yes needed room left e = let q : room - needed ≡ left = omega arith in rw (le-leb needed room (omega arith), q)
+
+pub ruleset measuring = (next_length, no_length, left_no, left_yes)
+
+pub ruleset writing = (next_length, no_length, no_line, put_next)
 
 -- a text that is put where it fits, or refused
 module _ (text out : List ℕ) where

@@ -5,14 +5,15 @@ ghost use Rattle.std.proofs.lemmas.List.Edits.{sets};
 ghost use Rattle.types.specs.Refusals.{number_of, outcome};
 ghost use Rattle.path.specs.Join.{Joined, appended};
 ghost use Rattle.listing_output.specs.Output.{printed, listed, stopped};
-ghost use Rattle.listing_output.specs.private.Lines.{four_columns, row_directory, row_path, row_line};
-ghost use Rattle.listing_output.specs.private.Lines.{lines_of, left_in};
+ghost use Rattle.listing_output.specs.private.Lines.{four_columns, left_in};
+ghost use Rattle.listing_output.specs.private.Lent.{path_in, line_in, lines_in};
 ghost use Rattle.listing_output.specs.Printing.{shown, put_text};
 
-use tables::{FileStorage, Row};
+use tables::{FileStorage, Lent, LentSet};
 use types::Refusal;
 
 // Writes numbers in columns of 5, 15, 15 and `width` from position `at` on, and a byte after them.
+// Stays: a column keeps the last digits of a longer number, where `write!` with a width would write all of them.
 fn put_columns(out: &mut [u8], at: usize, a: u64, b: u64, c: u64, width: usize, d: u64, last: u8)
     requires { at + (35 + width) < length out.old }
     ensures { out.new ≡ sets out.old at (four_columns a b c width d last) }
@@ -26,6 +27,7 @@ fn put_columns(out: &mut [u8], at: usize, a: u64, b: u64, c: u64, width: usize, 
 
 // Writes the path of a directory and a name from position `at` on, and gives the position after it. The rest of
 // `out` is lent to the join, which has room there.
+// Stays: whether a separator stands between the two depends on both texts, which no format string says.
 fn put_path(out: &mut [u8], at: usize, dir: &[u8], name: &[u8]) -> usize
     requires { at + length (appended dir.now name.now) ≤ length out.old }
     ensures value { result ≡ at + length (appended dir.now name.now) }
@@ -35,31 +37,25 @@ fn put_path(out: &mut [u8], at: usize, dir: &[u8], name: &[u8]) -> usize
     at + path::join_path(dir, name, &mut out[at..]).unwrap_or(0)
 }
 
-// The text of a row's directory, of no bytes where the row has none.
-// Stays: its twin is in `lookup`, which this crate does not use; the body is one call.
-fn directory_in<'a>(dirs: &[u64], text: &'a [u8], row: Row) -> &'a [u8]
-    ensures { result.now ≡ row_directory dirs.now text.now row }
+// The length of the path of file i.
+fn path_length(lent: Lent<'_>, i: usize) -> usize
+    ensures { result ≡ length (path_in lent.entry i) }
 {
-    tables::text_at(text, tables::directory_span(dirs, row))
-}
-
-// The length of a file's path.
-fn path_length(dirs: &[u64], text: &[u8], row: Row) -> usize
-    ensures { result ≡ length (row_path dirs.now text.now row) }
-{
+    let row = tables::row_at(lent.rows, i);
     path::joined_length(
-        directory_in(dirs, text, row),
-        tables::text_at(text, row.name),
+        tables::directory_of(lent.dirs, lent.text, row),
+        tables::text_at(lent.text, row.name),
     )
 }
 
 // Writes the line of file i from position `at` on, and gives the position after it.
-fn put_row_line(out: &mut [u8], at: usize, i: usize, dirs: &[u64], text: &[u8], row: Row) -> usize
-    requires { at + (39 + length (row_path dirs.now text.now row)) ≤ length out.old }
-    ensures value { result ≡ at + (39 + length (row_path dirs.now text.now row)) }
-    ensures out_after { out.new ≡
-        sets out.old at (row_line dirs.now text.now i row) }
+// Stays: neither its columns nor its path can be written by a format string, for the reasons above.
+fn put_row_line(out: &mut [u8], at: usize, i: usize, lent: Lent<'_>) -> usize
+    requires { at + (39 + length (path_in lent i)) ≤ length out.old }
+    ensures value { result ≡ at + (39 + length (path_in lent.entry i)) }
+    ensures out_after { out.new ≡ sets out.old at (line_in lent.entry i) }
 {
+    let row = tables::row_at(lent.rows, i);
     put_columns(
         out,
         at,
@@ -73,8 +69,8 @@ fn put_row_line(out: &mut [u8], at: usize, i: usize, dirs: &[u64], text: &[u8], 
     let end = put_path(
         out,
         at + 38,
-        directory_in(dirs, text, row),
-        tables::text_at(text, row.name),
+        tables::directory_of(lent.dirs, lent.text, row),
+        tables::text_at(lent.text, row.name),
     );
     lists::put(out, end, b'\n');
     end + 1
@@ -82,32 +78,34 @@ fn put_row_line(out: &mut [u8], at: usize, i: usize, dirs: &[u64], text: &[u8], 
 
 // The number of `room` bytes that the lines of a set's files leave, if they fit there. 39 bytes of a line stand beside
 // its path.
-fn room_left(fs: FileStorage, rows: &[u64], dirs: &[u64], text: &[u8], room: usize) -> Option<usize>
-    ensures { result ≡ left_in (length (lines_of fs rows.now dirs.now text.now)) room }
+#[tactic(auto, using(crate::proofs::Printed::measuring))]
+fn room_left(set: LentSet<'_>, room: usize) -> Option<usize>
+    ensures { result ≡ left_in (length (lines_in set.entry)) room }
 {
     let mut left = room;
-    for i in 0..fs.num_files {
-        let n = path_length(dirs, text, tables::row_at(rows, i));
-        left = left.checked_sub(39)?.checked_sub(n)?;
+    for i in 0..set.fs.num_files {
+        left = left.checked_sub(39)?.checked_sub(path_length(set.lent, i))?;
     }
     Some(left)
 }
 
 // Writes the lines of a set's files to the start of `out`, and gives the position after them.
-fn put_lines(fs: FileStorage, rows: &[u64], dirs: &[u64], text: &[u8], out: &mut [u8]) -> usize
-    requires { length (lines_of fs rows.now dirs.now text.now) ≤ length out.old }
-    ensures value { result ≡ length (lines_of fs rows.now dirs.now text.now) }
-    ensures out_after { out.new ≡
-        sets out.old 0 (lines_of fs rows.now dirs.now text.now) }
+// Stays: the lines go one by one to a lent buffer that was found long enough for all of them.
+#[tactic(auto, using(crate::proofs::Printed::writing))]
+fn put_lines(set: LentSet<'_>, out: &mut [u8]) -> usize
+    requires { length (lines_in set) ≤ length out.old }
+    ensures value { result ≡ length (lines_in set.entry) }
+    ensures out_after { out.new ≡ sets out.old 0 (lines_in set.entry) }
 {
     let mut at = 0;
-    for i in 0..fs.num_files {
-        at = put_row_line(out, at, i, dirs, text, tables::row_at(rows, i));
+    for i in 0..set.fs.num_files {
+        at = put_row_line(out, at, i, set.lent);
     }
     at
 }
 
 // Writes what is printed of a set to the start of `out`, and gives its length.
+// Stays: a listing that is too long leaves `out` as it was, where `write!` would leave its beginning there.
 pub fn put_set(
     fs: FileStorage,
     rows: &[u64],
@@ -120,11 +118,13 @@ pub fn put_set(
         (printed (listed (shown fs rows.now dirs.now text.now)))
         out.old) }
 {
-    let left = room_left(fs, rows, dirs, text, out.len()).ok_or(Refusal::NoRoom)?;
+    let lent = Lent { rows, dirs, text };
+    let set = LentSet { fs, lent };
+    let left = room_left(set, out.len()).ok_or(Refusal::NoRoom)?;
     if left < 46 {
         return Err(Refusal::NoRoom);
     }
-    let at = put_lines(fs, rows, dirs, text, out);
+    let at = put_lines(set, out);
     let files = fs.num_files as u64;
     let total = fs.total_size;
     let disk = fs.size_on_disk;
@@ -134,6 +134,7 @@ pub fn put_set(
 }
 
 // Writes what is printed of a refusal at a line to the start of `out`, and gives its length.
+// Stays: both columns keep the last digits of a longer number, as those of `put_columns` do.
 pub fn put_refusal(refusal: Refusal, line: usize, out: &mut [u8]) -> Result<usize, Refusal>
     ensures { ◌≡◌ {A = Joined} (record { says = outcome result; buf = out.new })
         (put_text (printed (stopped (number_of refusal) line)) out.old) }

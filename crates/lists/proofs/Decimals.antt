@@ -3,16 +3,16 @@
 use mathlib.Core.Path.{◌≡◌, refl, sym, ap, ◌∙◌}
 use mathlib.Core.Logic.{⊎_elim}
 use mathlib.Core.List.{List, [], ◌∷◌, ◌++◌}
-use Prim.Native.Nat.{ℕ, zero, suc, ◌+◌, ◌-◌, ◌*◌, ◌/◌, ◌%◌, ◌^◌, ◌≤◌, ◌<◌}
+use Prim.Native.Nat.{ℕ, zero, suc, ◌+◌, ◌-◌, ◌*◌, ◌/◌, ◌%◌, ◌^◌, ◌≤◌, ◌<◌, min}
 use native.Mathlib.Nat.{sub-zero, mod-eq_of_lt, pow-suc}
 use native.Mathlib.Omega.{arith}
 use borrow.Author.Tests.{lt-ltb, le-ltb}
 use lib.ListN.{length, get_or, set, drop, replicate, length-append, length-replicate, length-drop, get_or-append}
-use lib.Seq.{sets, drop-append-le, drop-length, get_or-append_seam}
+use lib.Seq.{sets, length-sets, drop-append-le, drop-length, get_or-append_seam}
 use Rattle.lists.specs.Decimal.{digits_within, decimal, column, value_from}
 use Rattle.lists.proofs.Orders.{le-or-lt}
 use Rattle.lists.proofs.Parts.{drop-append, drop-replicate}
-use Rattle.lists.proofs.Runs.{last-first}
+use Rattle.lists.proofs.Runs.{sets-append, sets-past, last-first}
 
 -- a number below ten, and any other: the digits of a tenth of it, and then its last digit
 pub digits-one : (k n : ℕ) → n < 10 → digits_within k n ≡ (48 + n) ∷ []
@@ -34,6 +34,11 @@ digits-length-one k n h = rw (digits-one k n h)
 
 pub digits-length-more : (k n : ℕ) → 10 ≤ n → length (digits_within (suc k) n) ≡ length (digits_within k (n / 10)) + 1
 digits-length-more k n h = rw (digits_more k n h, length-append)
+
+-- a turn of a count of digits: one of the 21 - k that may be left is counted
+pub digits-length-turn : (k n : ℕ) → k < 20 → 10 ≤ n → length (digits_within (20 - k) n) ≡ length (digits_within (20 - (k + 1)) (n / 10)) + 1
+digits-length-turn k n h b =
+    let e : 20 - k ≡ suc (20 - (k + 1)) = omega arith in rw e (digits-length-more (20 - (k + 1)) n b)
 
 pub digits-length-least : (n : ℕ) → length (digits_within 0 n) ≡ 1
 digits-length-least n = rw (digits-least n)
@@ -169,6 +174,16 @@ pub digit-end : (l : List ℕ) (at i n : ℕ) → i ≤ 0 → sets l at (last_di
 unfolding last_digits
 digit-end l at i n h = let e : i ≡ 0 = omega arith in rw e
 
+-- the same as a loop's turns: no digit is written yet, and one more of a count
+pub digits-start : (c n : ℕ) → c ≤ length (decimal n) → last_digits (c - 0) n ≡ drop (length (decimal n) - c) (decimal n)
+digits-start c n h = rw (sub-zero c) (last_digits_lem 19 c n h)
+
+pub digits-turn : (l : List ℕ) (at c i n : ℕ) → i < c → sets (set l (at + (c - 1 - i)) (48 + n % 10)) at (last_digits (c - (i + 1)) (n / 10)) ≡ sets l at (last_digits (c - i) n)
+digits-turn l at c i n h =
+    let e : c - (i + 1) ≡ c - i - 1 = omega arith in
+    let f : c - 1 - i ≡ c - i - 1 = omega arith in
+    rw (e, f) (digit-turn l at (c - i) n (omega arith))
+
 -- a column: blanks, and the digits or the last of them
 pub column-is : (w n : ℕ) → column w n ≡ replicate (w - length (decimal n)) 32 ++ drop (length (decimal n) - w) (decimal n)
 column-is w n = rw (drop-append (length (decimal n)) (replicate w 32) (decimal n), length-replicate {A = ℕ} w 32, drop-replicate {A = ℕ} (length (decimal n)) w 32)
@@ -180,3 +195,26 @@ column-length w n =
 
 pub column_fits : (w n : ℕ) → length (decimal n) ≤ w → column w n ≡ replicate (w - length (decimal n)) 32 ++ decimal n
 column_fits w n h = let e : length (decimal n) - w ≡ 0 = omega arith in rw e at (column-is w n)
+
+-- blanks written, and then the end of the digits, or none of it where the blanks reach the end
+pub column-drawn : (l : List ℕ) (at w n : ℕ)
+    → sets (sets l at (replicate (w - length (decimal n)) 32)) (at + (w - length (decimal n))) (drop (length (decimal n) - min w (length (decimal n))) (decimal n)) ≡ sets l at (column w n)
+column-drawn l at w n =
+    let d = decimal n in
+    let g : length d - min w (length d) ≡ length d - w = omega arith in
+    rw (g, column-is w n, sets-append (replicate (w - length d) 32) (drop (length d - w) d) l at, length-replicate {A = ℕ} (w - length d) 32)
+
+pub column-blank : (l : List ℕ) (at w n : ℕ) → length l ≤ at + (w - length (decimal n))
+    → sets l at (replicate (w - length (decimal n)) 32) ≡ sets l at (column w n)
+column-blank l at w n h =
+    let d = decimal n in
+    let b = replicate (w - length d) 32 in
+    sym (sets-past (drop (length d - min w (length d)) d) (sets l at b) (at + (w - length d)) (omega (arith, length-sets l at b)))
+    ∙ column-drawn l at w n
+
+-- for a loop that counts digits, for one that writes them, and for a column
+pub ruleset counting = (digits-length-one, digits-length-turn, digits-length-least)
+
+pub ruleset writing = (decimal-few, digits-start, digits-turn, digit-end)
+
+pub ruleset drawing = (column-drawn, column-blank)

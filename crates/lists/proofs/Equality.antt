@@ -2,11 +2,9 @@
 use mathlib.Core.Path.{◌≡◌, refl, sym, ap, ◌∙◌}
 use mathlib.Core.Bool.{Bool, true, false, cond, false≢true}
 use mathlib.Core.List.{List, [], ◌∷◌}
-use Prim.Native.Nat.{ℕ, suc, ◌-◌, ◌≤◌, ◌<◌}
-use native.Mathlib.Omega.{arith}
+use Prim.Native.Nat.{ℕ}
 use lib.Dec.{eqb}
-use lib.ListN.{length, get_or, drop, drop_of_length-le}
-use lib.Seq.{drop-cons}
+use lib.ListN.{length, get_or}
 use borrow.Author.Tests.{eqb-true, eq-eqb}
 use Rattle.lists.specs.Lists.{equal}
 
@@ -34,7 +32,7 @@ equal-length a b h = at (equal a b) refl
     at true e = absurd (h (ap length (equal-true a b e)))
     at false e = refl
 
--- a comparison from the back: lists that are the same, lists that differ at a place, the start, and one place more
+-- lists that are the same, and lists that differ at a place
 pub equal-same : (a b : List ℕ) → a ≡ b → equal a b ≡ true
 equal-same a b e = rw e (equal-refl b)
 
@@ -45,10 +43,5 @@ equal-differs a b i h = at (equal a b) refl
     at true e = absurd (h (ap (λ (l : List ℕ). get_or l i 0) (equal-true a b e)))
     at false e = refl
 
-pub drop-ends : (a b : List ℕ) (i : ℕ) → length a ≤ i → length b ≤ i → drop i a ≡ drop i b
-drop-ends a b i h k = rw (drop_of_length-le a {i = i} h, drop_of_length-le b {i = i} k)
-
-pub drop-turn : (a b : List ℕ) (i : ℕ) → 0 < i → i ≤ length a → i ≤ length b → get_or a (i - 1) 0 ≡ get_or b (i - 1) 0 → drop i a ≡ drop i b → drop (i - 1) a ≡ drop (i - 1) b
-drop-turn a b i z h k e d =
-    let s : suc (i - 1) ≡ i = omega arith in
-    rw (drop-cons a (i - 1) 0 (omega arith), drop-cons b (i - 1) 0 (omega arith), s, e, d)
+-- for a comparison from the back
+pub ruleset comparing = (equal-length, equal-same, equal-differs)

@@ -3,12 +3,11 @@
 use mathlib.Core.Path.{◌≡◌, ap, ◌∙◌}
 use mathlib.Core.Logic.{⊎_elim}
 use mathlib.Core.List.{List, [], ◌∷◌, ◌++◌}
-use Prim.Native.Nat.{ℕ, zero, suc, ◌+◌, ◌-◌, ◌≤◌, ◌<◌, min}
+use Prim.Native.Nat.{ℕ, zero, suc, ◌+◌, ◌-◌, ◌≤◌, min}
 use native.Mathlib.Nat.{zero-min, min-zero, suc-min-suc, sub-zero, zero-sub, suc-sub-suc}
-use native.Mathlib.Numerals.{add-one}
 use native.Mathlib.Omega.{arith}
-use lib.ListN.{length, get_or, take, drop, replicate, length-take, length-drop}
-use lib.Seq.{take-nil, drop-nil, take_all, take-take, take-suc, drop-cons, drop-drop, get_or-drop, take-append-le, drop-append-le, drop-append-add}
+use lib.ListN.{length, take, drop, replicate, length-take, length-drop}
+use lib.Seq.{take-nil, drop-nil, take_all, take-take, drop-drop, take-append-le, drop-append-le, drop-append-add}
 use Rattle.lists.specs.Lists.{part_of}
 use Rattle.lists.proofs.Orders.{le-or-lt}
 
@@ -18,11 +17,6 @@ module _ {A : Type 0} where
   take-clipped zero l = rw (zero-min (length l))
   take-clipped (suc n) [] = rw (min-zero (suc n))
   take-clipped (suc n) (x ∷ xs) = rw (suc-min-suc n (length xs)) (ap (λ (r : List A). x ∷ r) (take-clipped n xs))
-
-  pub drop-clipped : (n : ℕ) (l : List A) → drop (min n (length l)) l ≡ drop n l
-  drop-clipped zero l = rw (zero-min (length l))
-  drop-clipped (suc n) [] = rw (min-zero (suc n))
-  drop-clipped (suc n) (x ∷ xs) = rw (suc-min-suc n (length xs)) (drop-clipped n xs)
 
   -- the first elements of two lists in a row, and what is left of them
   pub take-append : (n : ℕ) (a b : List A) → take n (a ++ b) ≡ take n a ++ take (n - length a) b
@@ -59,14 +53,6 @@ module _ {A : Type 0} where
 
   pub part-length-within : (l : List A) (at n : ℕ) → at + n ≤ length l → length (part_of l at n) ≡ n
   part-length-within l at n h = omega (arith, part_length l at n)
-
-  -- its first element, and its last
-  pub part-cons : (l : List A) (at n : ℕ) (d : A) → at < length l → part_of l at (n + 1) ≡ get_or l at d ∷ part_of l (at + 1) n
-  part-cons l at n d h = rw (add-one n, add-one at, drop-cons l at d h)
-
-  pub part-snoc : (l : List A) (at n : ℕ) (d : A) → at + n < length l → part_of l at (n + 1) ≡ part_of l at n ++ (get_or l (at + n) d ∷ [])
-  part-snoc l at n d h =
-      rw (add-one n, ← get_or-drop at l n d) (take-suc (drop at l) n d (omega (arith, length-drop at l)))
 
   -- the whole, and a part of a part
   pub part-whole : (l : List A) (n : ℕ) → length l ≤ n → part_of l 0 n ≡ l

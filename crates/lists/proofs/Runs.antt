@@ -75,6 +75,10 @@ module _ {A : Type 0} where
       let z = sets-none (drop n t) (sets l at (take n t)) (at + length (take n t)) (omega (arith, length-sets l at (take n t), length-drop n t)) in
       rw drop-drop (sym (rw (take-append-drop n t, z, e, k, append_assoc) at q))
 
+  -- the same at the list's start
+  pub sets-front : (t l : List A) (n : ℕ) → n ≡ min (length l) (length t) → take 0 l ++ (take n t ++ drop n (drop 0 l)) ≡ sets l 0 t
+  sets-front t l n h = sets-part t l 0 n (omega arith) (omega arith)
+
   pub sets-filled : (l : List A) (at m n k : ℕ) (a : A) → at ≤ length l → n ≡ min m (length l - at) → k ≡ n
       → take at l ++ (replicate k a ++ drop n (drop at l)) ≡ sets l at (replicate m a)
   sets-filled l at m n k a f h e =
@@ -154,3 +158,6 @@ module _ {A : Type 0} where
   sets_over (x ∷ t) [] l i h = absurd (omega arith)
   sets_over (x ∷ t) (y ∷ u) l i h =
       rw (← sets-set-below t (set l i x) (suc i) i y (omega arith), set-set l i x y) (sets_over t u (set l i y) (suc i) (omega arith))
+
+-- for copies to a part of a slice
+pub ruleset storing = (sets-past, sets-none, sets-front, sets-filled, sets-lent)

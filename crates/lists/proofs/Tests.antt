@@ -2,9 +2,9 @@
 use mathlib.Core.Path.{◌≡◌, refl}
 use mathlib.Core.Bool.{Bool, true, false, cond, ◌||◌}
 use mathlib.Core.List.{List, [], ◌∷◌, ◌++◌}
-use Prim.Native.Nat.{ℕ, ◌+◌, ◌≤◌, ◌<◌}
+use Prim.Native.Nat.{ℕ, ◌+◌, ◌<◌}
 use native.Mathlib.Numerals.{add-one}
-use lib.ListN.{length, get_or, drop, drop_of_length-le}
+use lib.ListN.{length, get_or, drop}
 use lib.Seq.{drop-cons}
 use Rattle.std.specs.List.{list_any}
 use Rattle.lists.specs.Lists.{any}
@@ -18,15 +18,9 @@ module _ {A : Type 0} (f : A → Bool) where
   any_append [] ys = refl
   any_append (x ∷ xs) ys = rw (any_append xs ys) (cond-or (f x) (any f xs) (any f ys))
 
-  -- one place of a scan: it fails, or passes; and the scan's end
+  -- one place of a scan fails
   pub any-turn : (xs : List A) (i : ℕ) (d : A) → i < length xs → f (get_or xs i d) ≡ false → any f (drop i xs) ≡ any f (drop (i + 1) xs)
   any-turn xs i d h e = rw (add-one i, drop-cons xs i d h, e)
-
-  pub any-stop : (xs : List A) (i : ℕ) (d : A) → i < length xs → f (get_or xs i d) ≡ true → any f (drop i xs) ≡ true
-  any-stop xs i d h e = rw (drop-cons xs i d h, e)
-
-  pub any-end : (xs : List A) (i : ℕ) → length xs ≤ i → any f (drop i xs) ≡ false
-  any-end xs i h = rw (drop_of_length-le xs {i = i} h)
 
   -- it is the kit's word for what an iterator's `any` answers
   or-cond : (a b : Bool) → (a || b) ≡ cond a true b

@@ -31,6 +31,7 @@ pub fn clear(bytes: &mut [u8])
 }
 
 // The n bytes from position `at` on, or as many of them as there are.
+// Stays: every place and count is allowed, also where the slice has no such bytes to be lent.
 pub fn part(bytes: &[u8], at: usize, n: usize) -> &[u8]
     ensures { result.now ≡ part_of bytes.now at n }
 {
@@ -41,6 +42,7 @@ pub fn part(bytes: &[u8], at: usize, n: usize) -> &[u8]
 
 // Whether two slices hold the same bytes. It goes from the back: texts of one set often begin alike.
 // Stays: tried, `a == b` takes 10.7 ns for two paths of 25 bytes whose names differ at the end, and this loop 8.0.
+#[tactic(auto, using(crate::proofs::Equality::comparing))]
 pub fn same(a: &[u8], b: &[u8]) -> bool
     ensures { result ≡ equal a.now b.now }
 {
@@ -57,6 +59,8 @@ pub fn same(a: &[u8], b: &[u8]) -> bool
 }
 
 // Copies `source` to the start of `target`, as much of it as there is room for.
+// Stays: it is std's `copy_from_slice`, which asks for two slices of one length, over what both have.
+#[tactic(auto, using(crate::proofs::Runs::storing))]
 pub fn copy_in(target: &mut [u8], source: &[u8])
     ensures { target.new ≡ sets target.old 0 source.now }
 {
@@ -66,6 +70,8 @@ pub fn copy_in(target: &mut [u8], source: &[u8])
 
 // Copies `source` to `target` after its first `used` bytes, as much of it as there is room for: the
 // rest of the buffer is lent to the copy.
+// Stays: `used` may lie past the end of `target`, where no slice of the rest can be lent.
+#[tactic(auto, using(crate::proofs::Runs::storing))]
 pub fn copy_after(target: &mut [u8], used: usize, source: &[u8])
     ensures { target.new ≡ sets target.old used source.now }
 {

@@ -1,5 +1,5 @@
 // Numbers as decimal digits, and right-justified in columns. It relies on access.rt and on the laws
-// of proofs/Decimals.antt.
+// of proofs/Decimals.antt and Runs.antt.
 ghost use Rattle.std.specs.Prelude.{◌≡◌, ◌+◌, ◌-◌, ◌≤◌, ◌<◌, length, drop, replicate};
 ghost use Rattle.std.proofs.lemmas.List.Edits.{sets};
 ghost use Rattle.lists.specs.Decimal.{decimal, column};
@@ -7,6 +7,7 @@ ghost use Rattle.lists.specs.Decimal.{decimal, column};
 use crate::access::put;
 
 // The number of digits of n.
+#[tactic(auto, using(crate::proofs::Decimals::counting))]
 pub fn digit_count(n: u64) -> usize
     ensures { result ≡ length (decimal n) }
 {
@@ -29,6 +30,8 @@ fn glyph(digit: u64) -> u8
 }
 
 // Writes the last `count` digits of n from position `at` on, the last of them first.
+// Stays: std writes a number to a heap's `String` or to a formatter, and `count` digits may pass the end of `target`.
+#[tactic(auto, using(crate::proofs::Decimals::writing))]
 fn put_digits(target: &mut [u8], at: usize, count: usize, n: u64)
     requires { (at < length target.old) × (count ≤ length (decimal n)) }
     ensures { target.new
@@ -42,6 +45,9 @@ fn put_digits(target: &mut [u8], at: usize, count: usize, n: u64)
 }
 
 // Writes the digits of n from position `at` on, and gives their number.
+// Stays: n is the number that is written, and no length of `target`; `write!` gives an error where digits don't fit,
+// and not their number.
+#[tactic(auto, using(crate::proofs::Runs::storing))]
 pub fn put_decimal(target: &mut [u8], at: usize, n: u64) -> usize
     ensures value { result ≡ length (decimal n) }
     ensures target_after { target.new ≡ sets target.old at (decimal n) }
@@ -54,6 +60,8 @@ pub fn put_decimal(target: &mut [u8], at: usize, n: u64) -> usize
 }
 
 // Writes `count` blanks from position `at` on, as many of them as there is room for.
+// Stays: it is std's `fill` over the blanks that fit, and `count` also counts those that don't.
+#[tactic(auto, using(crate::proofs::Runs::storing))]
 fn put_blanks(target: &mut [u8], at: usize, count: usize)
     ensures { target.new ≡ sets target.old at (replicate count 32) }
 {
@@ -64,6 +72,9 @@ fn put_blanks(target: &mut [u8], at: usize, count: usize)
 }
 
 // Writes n right-justified in `width` columns from position `at` on.
+// Stays: n is the number that is written, and no length of `target`; a column keeps the last digits of a longer number,
+// and `write!` with a width writes all.
+#[tactic(auto, using(crate::proofs::Decimals::drawing))]
 pub fn put_column(target: &mut [u8], at: usize, width: usize, n: u64)
     ensures { target.new ≡ sets target.old at (column width n) }
 {

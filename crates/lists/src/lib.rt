@@ -1,6 +1,6 @@
 // Total accessors over lent slices: each answers whatever the slice holds and however long it is.
 // What a function writes past a slice's end is dropped, and what it reads there is a default or nothing.
-// Beside them are quotients that answer for every pair of numbers, and decimal digits. The crate relies
+// Beside them are quotients that answer for every pair of numbers, powers of two, and decimal digits. The crate relies
 // on the kit only; its laws on lists and numbers are in proofs/, stated once for all crates.
 #![tactic(auto)]
 
@@ -10,4 +10,4 @@ mod number;
 
 pub use access::{clear, copy_after, copy_in, item_or, part, put, same};
 pub use decimal::{digit_count, put_column, put_decimal};
-pub use number::{div, div_ceil, rem};
+pub use number::{div, div_ceil, exponent, rem};

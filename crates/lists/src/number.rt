@@ -1,6 +1,6 @@
-// Quotients and remainders of `u64` that answer for every pair of numbers.
-// It relies on the laws of proofs/Quotients.antt.
-ghost use Rattle.std.specs.Prelude.{◌≡◌, ◌/◌, ◌%◌};
+// Quotients and remainders of `u64` that answer for every pair of numbers, and the exponent of a power of two.
+// It relies on the laws of proofs/Quotients.antt and proofs/Powers.antt.
+ghost use Rattle.std.specs.Prelude.{◌≡◌, ◌/◌, ◌%◌, ◌^◌, ◌<◌, ℕ, Some, IfSome};
 ghost use Rattle.lists.specs.Lists.{ceiling};
 
 // `n / d`, or 0 where d is 0.
@@ -25,4 +25,17 @@ pub fn div_ceil(n: u64, d: u64) -> u64
         return 0;
     }
     n.div_ceil(d)
+}
+
+// The exponent of d, where d is a power of two. The power is made from the number's low zero bits and compared with it,
+// so that nothing rests on their count.
+pub fn exponent(d: u64) -> Option<u32>
+    ensures power { IfSome result (λ bits. (bits < 64) × (d ≡ 2 ^ bits)) }
+    ensures only { (k : ℕ) → k < 64 → d ≡ 2 ^ k → result ≡ Some k }
+{
+    let bits = u64::trailing_zeros(d) % 64;
+    if 1u64 << bits == d {
+        return Some(bits);
+    }
+    None
 }

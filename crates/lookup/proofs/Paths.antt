@@ -1,14 +1,15 @@
--- Laws of the tests on parts of paths: a scan of a directory against a path, a join compared part by part, and a name
+-- Laws of the tests on parts of paths: a directory against a path, a join compared part by part, and a name
 -- at a path's end. They rely on the kit's laws of lists and the laws of `path` and `lists`.
-use Prim.Native.Nat.{ℕ, ◌+◌, ◌-◌, ◌<◌, ◌≤◌}
+use Prim.Native.Nat.{ℕ, suc, ◌+◌, ◌-◌, ◌<◌, ◌≤◌}
 use mathlib.Core.Path.{◌≡◌, refl, sym, ap, ◌∙◌}
-use mathlib.Core.Bool.{Bool, true, false, cond, true≢false}
+use mathlib.Core.Bool.{Bool, true, false, cond, true≢false, ◌&&◌, ◌||◌}
 use mathlib.Core.List.{List, [], ◌∷◌, ◌++◌, append-nil, append_assoc}
 use native.Mathlib.Omega.{arith}
 use lib.Dec.{eqb}
 use lib.ListN.{length, length-append, get_or, take, drop}
 use lib.Seq.{drop-append_seam, get_or-drop}
-use borrow.Author.Tests.{le-leb}
+use borrow.Author.Tests.{le-leb, eq-eqb, ne_eqb, eqb-true}
+use Rattle.std.specs.List.{starts_with}
 use Rattle.lists.specs.Lists.{equal}
 use Rattle.lists.proofs.Equality.{equal-true, equal-same, equal-differs}
 use Rattle.path.specs.Join.{is_alone, is_closed, appended}
@@ -25,6 +26,32 @@ covers_short (x ∷ d) [] h = absurd (omega arith)
 covers_short (x ∷ d) (y ∷ p) h = go (eqb x y) (covers_short d p (omega arith))
   where
     go : (t : Bool) → false ≡ covers d p → false ≡ cond t (covers d p) false
+    go true k = k
+    go false k = refl
+
+-- the library's test of a list's start decides, and what stands behind that start
+flip : (x y : ℕ) → eqb y x ≡ eqb x y
+flip x y = at (eqb x y) refl
+  where
+    at : (t : Bool) → eqb x y ≡ t → eqb y x ≡ t
+    at true e = eq-eqb y x (sym (eqb-true x y e))
+    at false e = ne_eqb y x (λ q. true≢false (sym (eq-eqb x y (sym q)) ∙ e))
+
+same-next : (m n : ℕ) → eqb m n ≡ eqb (suc m) (suc n)
+same-next m n = at (eqb m n) refl
+  where
+    at : (t : Bool) → eqb m n ≡ t → t ≡ eqb (suc m) (suc n)
+    at true e = let q = eqb-true m n e in sym (eq-eqb (suc m) (suc n) (omega arith))
+    at false e = sym (ne_eqb (suc m) (suc n) (λ q. true≢false (sym (eq-eqb m n (omega arith)) ∙ e)))
+
+pub covers_starts : (d p : List ℕ) → covers d p ≡ (starts_with eqb d p && (eqb (length d) (length p) || eqb (get_or d (length p) 0) 47))
+covers_starts [] [] = refl
+covers_starts [] (y ∷ p) = refl
+covers_starts (x ∷ d) [] = rw (ne_eqb (suc (length d)) 0 (λ e. omega arith))
+covers_starts (x ∷ d) (y ∷ p) = rw (flip x y, ← same-next (length d) (length p)) (go (eqb x y) (covers_starts d p))
+  where
+    go : (t : Bool) → covers d p ≡ (starts_with eqb d p && (eqb (length d) (length p) || eqb (get_or d (length p) 0) 47))
+        → cond t (covers d p) false ≡ ((t && starts_with eqb d p) && (eqb (length d) (length p) || eqb (get_or d (length p) 0) 47))
     go true k = k
     go false k = refl
 

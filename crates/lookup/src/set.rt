@@ -3,7 +3,7 @@
 ghost use Rattle.std.specs.Prelude.{◌≡◌, cond, [], take, drop};
 ghost use Rattle.lists.specs.Lists.{equal};
 ghost use Rattle.tables.specs.Span.{text_at};
-ghost use Rattle.tables.specs.Rows.{row_at, dir_at, directory_span, has, link_held_bit};
+ghost use Rattle.tables.specs.Rows.{row_at, dir_at, has, link_held_bit};
 ghost use Rattle.tables.specs.Model.{internal_path};
 ghost use Rattle.lookup.specs.Lookup.{covers, ends_with, is_directory, file_at, is_flagged};
 ghost use Rattle.lookup.specs.Lookup.{files_in, dirs_in};
@@ -50,14 +50,6 @@ pub fn link_text(text: &[u8], row: Row) -> &[u8]
     tables::text_at(text, Span { at: 0, len: 0 })
 }
 
-// The directory of the file with that row, nothing for a single name and an absolute path.
-// Stays: its twin is in `listing_output`, which does not use this crate; the body is one call.
-pub fn directory_of<'a>(dirs: &[u64], text: &'a [u8], row: Row) -> &'a [u8]
-    ensures { result.now ≡ text_at text.now (directory_span dirs.now row) }
-{
-    tables::text_at(text, tables::directory_span(dirs, row))
-}
-
 // Whether p ends with the name of file i.
 pub fn ends_with_name(rows: &[u64], text: &[u8], i: usize, p: &[u8]) -> bool
     ensures { result ≡ ends_with (text_at text.now (row_at rows.now i).name) p.now }
@@ -71,7 +63,7 @@ pub fn own_is(rows: &[u64], dirs: &[u64], text: &[u8], i: usize, p: &[u8]) -> bo
 {
     let row = tables::row_at(rows, i);
     joins_to(
-        directory_of(dirs, text, row),
+        tables::directory_of(dirs, text, row),
         tables::text_at(text, row.name),
         p,
     )
@@ -81,12 +73,7 @@ pub fn own_is(rows: &[u64], dirs: &[u64], text: &[u8], i: usize, p: &[u8]) -> bo
 pub fn is_directory(fs: FileStorage, dirs: &[u64], text: &[u8], p: &[u8]) -> bool
     ensures { result ≡ is_directory (dirs_in fs [] dirs.now text.now) p.now }
 {
-    for d in 0..fs.num_paths {
-        if is_covered(tables::text_at(text, tables::dir_at(dirs, d)), p) {
-            return true;
-        }
-    }
-    false
+    (0..fs.num_paths).any(|d| is_covered(tables::text_at(text, tables::dir_at(dirs, d)), p))
 }
 
 // Whether directory d covers the e bytes of the path from `at` on.

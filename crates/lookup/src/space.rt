@@ -2,11 +2,12 @@
 // off what is there link by link, since a sum could overflow. They rely on set.rt and the laws of proofs/Spaces.antt.
 ghost use Rattle.std.specs.Prelude.{◌≡◌, [], ◌-◌};
 ghost use Rattle.lookup.specs.Space.{space, link_count, lacks_space};
-ghost use Rattle.lookup.specs.Lookup.{files_in};
+ghost use Rattle.lookup.specs.Lookup.{files_in, entries_of};
 ghost use Rattle.lookup.specs.private.Rows.{row_space};
+ghost use Rattle.lookup.specs.private.Sets.{stored_in};
 
-use crate::set::{directory_of, is_link, link_count, link_text};
-use tables::FileStorage;
+use crate::set::{is_link, link_count, link_text};
+use tables::{FileStorage, Lent, LentSet};
 
 // How many flagged links the set has.
 pub fn count_links(fs: FileStorage, rows: &[u64]) -> usize
@@ -21,13 +22,13 @@ pub fn count_links(fs: FileStorage, rows: &[u64]) -> usize
 
 // What is left of `left` bytes after the space that file i needs: directory length + text length + 2 for a flagged
 // link, else nothing.
-fn left_after(rows: &[u64], dirs: &[u64], text: &[u8], i: usize, left: usize) -> usize
-    ensures { result ≡ left - row_space rows.now dirs.now text.now i }
+fn left_after(lent: Lent<'_>, i: usize, left: usize) -> usize
+    ensures { result ≡ left - row_space lent.entry.rows.now lent.entry.dirs.now lent.entry.text.now i }
 {
-    if is_link(rows, i) {
-        let row = tables::row_at(rows, i);
-        let directory = directory_of(dirs, text, row);
-        let target = link_text(text, row);
+    if is_link(lent.rows, i) {
+        let row = tables::row_at(lent.rows, i);
+        let directory = tables::directory_of(lent.dirs, lent.text, row);
+        let target = link_text(lent.text, row);
         let rest = left.saturating_sub(directory.len());
         return rest.saturating_sub(target.len()).saturating_sub(2);
     }
@@ -35,12 +36,12 @@ fn left_after(rows: &[u64], dirs: &[u64], text: &[u8], i: usize, left: usize) ->
 }
 
 // What is left of `room` bytes after the space that all links need.
-fn space_left(fs: FileStorage, rows: &[u64], dirs: &[u64], text: &[u8], room: usize) -> usize
-    ensures { result ≡ room - space (files_in fs rows.now dirs.now text.now) }
+fn space_left(set: LentSet<'_>, room: usize) -> usize
+    ensures { result ≡ room - space (entries_of (stored_in set.entry)) }
 {
     let mut left = room;
-    for i in 0..fs.num_files {
-        left = left_after(rows, dirs, text, i, left);
+    for i in 0..set.fs.num_files {
+        left = left_after(set.lent, i, left);
     }
     left
 }
@@ -63,5 +64,6 @@ pub fn lacks_space(
         return true;
     }
     let room = scratch.min(walk_path / 2) + 1;
-    space_left(fs, rows, dirs, text, room) == 0
+    let lent = Lent { rows, dirs, text };
+    space_left(LentSet { fs, lent }, room) == 0
 }

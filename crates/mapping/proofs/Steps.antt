@@ -50,3 +50,5 @@ module _ (rows : List ℕ) (files : ℕ) where
 pub taken : (rows : List ℕ) {xs all : List Slice} {s : Slice} {r : FileSlice} {c c' : Cursor}
     → xs ≡ all → xs ≡ s ∷ slices_from rows c → r ≡ record_of s → c' ≡ c → map record_of all ≡ r ∷ records_from rows c'
 taken rows e f g h = rw (← e, f, g, h)
+
+pub ruleset stepping = (size_low, some-file, some_bytes, pass, found, taken)

@@ -50,13 +50,14 @@ fn step_in(file: usize, files: usize, skip: u64, here: u64, left: u64) -> Step
 }
 
 // The next slice, past the files that have no byte of the block.
+#[tactic(auto, using(crate::proofs::Steps::stepping))]
 fn next_slice(rows: &[u64], at: Cursor) -> Step
     requires { 0 < length (slices_from rows.now at) }
     ensures { records_from rows.now at ≡ result.slice ∷ records_from rows.now result.rest }
 {
     let mut file = at.file;
     let mut skip = at.skip;
-    // Stays: a `for` over the files would want an answer behind the last one, which no call comes to.
+    // Stays: a `for` over the files would have to answer after the last one too, and no call gets there.
     loop {
         let size = tables::size_at(rows, file);
         if skip < size {
@@ -69,6 +70,8 @@ fn next_slice(rows: &[u64], at: Cursor) -> Step
 
 // The slices of a block of a piece, put into the table's first places. The search for the first file begins with a
 // window.
+// Stays: `map_block` of document 01 is asked by a piece, an offset and a size, and fills a table that is lent.
+#[tactic(auto, using(crate::proofs::Plans::stopping))]
 pub fn map_block(
     fs: FileStorage,
     rows: &[u64],
@@ -84,10 +87,9 @@ pub fn map_block(
 {
     let plan = layout::plan_block(fs, rows, window, piece, offset, size, out.len())?;
     let mut at = plan.from;
-    // Stays: the slices are made one from another; `iter_mut` over the table would need its end beside them.
-    for n in 0..plan.count {
+    for place in out[..plan.count].iter_mut() {
         let step = next_slice(rows, at);
-        out[n] = step.slice;
+        *place = step.slice;
         at = step.rest;
     }
     Ok(plan.count)

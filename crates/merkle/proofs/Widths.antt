@@ -1,9 +1,9 @@
 -- The tree width by doubling, against BEP 52's words and against the count of leading zeros. Assumes nothing.
---     digits           the digits of the count less one: the bounds that the code's shift asks for
+--     digits           the digits of the count less one
+--     shift            the code's shift is within its bounds
 --     width-counted    the width by leading zeros is the width by doubling
 --     width-least      the width is the smallest power of two at or above the count
---     tree-yes, tree-none, tree-many    which counts have a tree
---     from-width, from-refusal          the first node's answer from the width's
+--     from-width       the first node's answer from the width's
 use Prim.Native.Nat.{ℕ, zero, suc, ◌+◌, ◌-◌, ◌*◌, ◌^◌, ◌%◌, ◌<◌, ◌≤◌}
 use mathlib.Core.Path.{◌≡◌, refl, sym, ap}
 use mathlib.Core.Bool.{Bool, true, false, cond}
@@ -12,7 +12,7 @@ use native.Mathlib.Omega.{arith}
 use lib.Dec.{leb}
 use lib.Pow.{pow_mono, pow-lt}
 use lib.Count.{count_leading_zeros, leading_length}
-use borrow.Author.Tests.{leb-true, leb-false, le-leb, lt-leb}
+use borrow.Author.Tests.{leb-true, leb-false}
 use Rattle.types.specs.Refusals.{value, refused}
 use Rattle.merkle.specs.Width.{doubled, width_of, has_tree, num_leafs, first_node}
 
@@ -63,6 +63,9 @@ module _ (n : ℕ) (some : 1 ≤ n) (few : n ≤ 2 ^ 30) where
       let s : t.0 < 31 = pow-above t.0 31 (omega (arith, t.3)) in
       record { m = t.0; zeros = t.1; small = omega arith; high = omega (arith, t.2); low = omega (arith, t.3) }
 
+  pub shift : 64 - count_leading_zeros 64 (n - 1) < 64
+  shift = omega (arith, digits)
+
   width_power : width_of n ≡ 2 ^ digits.m
   width_power =
       let d = digits in
@@ -87,15 +90,6 @@ module _ (n : ℕ) (some : 1 ≤ n) (few : n ≤ 2 ^ 30) where
         least = λ j h. let i : d.m < suc j = pow-above d.m (suc j) (omega (arith, pow-succ' 2 j)) in pow_mono (omega arith);
       })
 
-pub tree-yes : (n : ℕ) → 1 ≤ n → n ≤ 1073741823 → has_tree n ≡ true
-tree-yes n p q = rw (le-leb 1 n p, le-leb n 1073741823 q)
-
-pub tree-none : (n : ℕ) → n < 1 → has_tree n ≡ false
-tree-none n p = rw (lt-leb 1 n p)
-
-pub tree-many : (n : ℕ) → 1073741823 < n → has_tree n ≡ false
-tree-many n q = let p : leb 1 n ≡ true = le-leb 1 n (omega arith) in rw (p, lt-leb n 1073741823 q)
-
 -- a count with a tree is not 0 and at most the limit
 tree-some : (n : ℕ) → has_tree n ≡ true → (1 ≤ n) × (n ≤ 1073741823)
 tree-some n = pick (leb 1 n) refl
@@ -115,9 +109,5 @@ from-width n w = pick (has_tree n) refl
         (omega (arith, l.above), ap (λ (v : ℕ). value (v - 1)) i)
     pick false t e = absurd (let z : ◌≡◌ {A = ℕ} 0 1 = cc in omega arith)
 
-pub from-refusal : (n k : ℕ) → refused k ≡ num_leafs n → refused k ≡ first_node n
-from-refusal n k = pick (has_tree n)
-  where
-    pick : (b : Bool) → refused k ≡ cond b (value (width_of n)) (refused 16) → refused k ≡ cond b (value (width_of n - 1)) (refused 16)
-    pick true e = absurd (let z : ◌≡◌ {A = ℕ} 0 1 = cc in omega arith)
-    pick false e = e
+-- for the width by leading zeros
+pub ruleset by_digits = (shift, width-counted)

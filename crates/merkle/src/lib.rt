@@ -9,7 +9,8 @@ ghost use Rattle.merkle.specs.Width.{width_of, num_leafs, first_node};
 use types::Refusal;
 
 // The tree width of an accepted count, from the leading zeros of the count less one.
-// Stays: document 01 asks for the width by leading zeros, not by the library's `next_power_of_two`.
+// Stays: document 01 asks for the width from the leading zeros of the count less one.
+#[tactic(auto, using(crate::proofs::Widths::by_digits))]
 fn width(count: usize) -> usize
     requires { (1 ≤ count) × (count ≤ 1073741823) }
     ensures { result ≡ width_of count }

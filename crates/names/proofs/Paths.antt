@@ -52,9 +52,9 @@ module _ (fs : FileStorage) (dirs text : List ℕ) (r : Row) where
   path-is save = path-if text save (name_of text r) fs.name (dir_at dirs r.path_index) (is_absolute r) (is_single r) (has r.flags 32)
 
   -- a path of parts that were read one by one
-  pub path-from : {save set dir name : List ℕ} {u v : Span} (given : List ℕ) → save ≡ cond (is_absolute r) [] given → set ≡ text_at text u → u ≡ set_span → dir ≡ text_at text v → v ≡ dir_span → name ≡ name_of text r
+  pub path-from : {save set dir name : List ℕ} {u : Span} (given : List ℕ) → save ≡ cond (is_absolute r) [] given → set ≡ text_at text u → u ≡ set_span → dir ≡ text_at text dir_span → name ≡ name_of text r
       → appended (appended (appended save set) dir) name ≡ file_path fs dirs text given r
-  path-from given e f g h i j = rw (e, f, g, h, i, j) (path-is given)
+  path-from given e f g h i = rw (e, f, g, h, i) (path-is given)
 
   pub hashed-is : (save : List ℕ) → led (cond (is_absolute r) [] save) ++ (cond (is_inside r && not (has r.flags 32)) (text_at text fs.name ++ (47 ∷ [])) [] ++ (led (text_at text dir_span) ++ name_of text r)) ≡ hashed_path fs dirs text save r
   hashed-is save = hashed-if text save (name_of text r) fs.name (dir_at dirs r.path_index) (is_absolute r) (is_single r) (has r.flags 32)

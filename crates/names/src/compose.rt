@@ -1,11 +1,13 @@
 // A path composed of four parts in a lent buffer, by the rule of `append_path`. Parts that a later join drops
 // are left out before anything is written, then the length is tested, and each part is written after those
 // before it. Relies on the joins of `path` and on the laws of proofs/Composed.antt.
-ghost use Rattle.std.specs.Prelude.{◌≡◌, cond, false, ◌+◌, ◌-◌, ◌≤◌, length, take};
+ghost use Rattle.std.specs.Prelude.{◌≡◌, cond, ◌+◌, ◌-◌, ◌≤◌, length, take};
 ghost use Rattle.std.proofs.lemmas.List.Edits.{sets};
-ghost use Rattle.path.specs.Join.{is_alone, is_empty, is_closed, appended};
+ghost use Rattle.path.specs.Join.{is_empty, is_closed, appended};
 ghost use Rattle.names.specs.Paths.{composed_of, path_written, written_into};
+ghost use Rattle.names.specs.private.Parts.{composed};
 
+use crate::kept::KeptParts;
 use path::{is_alone, is_closed};
 use types::Refusal;
 
@@ -35,19 +37,16 @@ fn left_after(left: usize, closed: bool, part: &[u8]) -> usize
 }
 
 // The room from the last byte of the composed path on, 0 where it doesn't fit.
-fn room_left(first: &[u8], second: &[u8], third: &[u8], last: &[u8], room: usize) -> usize
-    requires { is_alone first.now ≡ false }
-    ensures { result ≡ room
-        - (length (composed_of first.now second.now third.now last.now)
-        - 1) }
+fn room_left(parts: KeptParts<'_>, room: usize) -> usize
+    ensures { result ≡ room - (length (composed parts.entry) - 1) }
 {
-    let closed1 = is_closed(first);
-    let closed2 = is_closed_after(closed1, second);
-    let closed3 = is_closed_after(closed2, third);
-    let left1 = room.saturating_sub(first.len().saturating_sub(1));
-    let left2 = left_after(left1, closed1, second);
-    let left3 = left_after(left2, closed2, third);
-    left_after(left3, closed3, last)
+    let closed1 = is_closed(parts.first);
+    let closed2 = is_closed_after(closed1, parts.second);
+    let closed3 = is_closed_after(closed2, parts.third);
+    let left1 = room.saturating_sub(parts.first.len().saturating_sub(1));
+    let left2 = left_after(left1, closed1, parts.second);
+    let left3 = left_after(left2, closed2, parts.third);
+    left_after(left3, closed3, parts.last)
 }
 
 // Appends `part`, for which there is room, to the path in the first `used` bytes, and gives the new length.
@@ -60,39 +59,27 @@ fn grown(buf: &mut [u8], used: usize, part: &[u8]) -> usize
     path::append_path(buf, used, part).unwrap_or(used)
 }
 
-// Writes the composed path, whose first part is kept and for which there is room, and gives its length.
-// Stays: the path goes into a lent buffer, since no function here has a heap.
-fn put_kept(first: &[u8], second: &[u8], third: &[u8], last: &[u8], buf: &mut [u8]) -> usize
-    requires { (is_alone first.now ≡ false)
-        × (length (composed_of first.now second.now third.now last.now) ≤ length buf.old) }
-    ensures value { result ≡ length (composed_of first.now second.now third.now last.now) }
-    ensures buf_after { buf.new
-        ≡ sets buf.old 0
-        (composed_of first.now second.now third.now last.now) }
+// Writes the composed path, for which there is room, and gives its length.
+// Stays: the first part goes in by a copy of `lists`, the others by the joins of `path`; no byte is copied by hand.
+fn put_kept(parts: KeptParts<'_>, buf: &mut [u8]) -> usize
+    requires { length (composed parts) ≤ length buf.old }
+    ensures value { result ≡ length (composed parts.entry) }
+    ensures buf_after { buf.new ≡ sets buf.old 0 (composed parts.entry) }
 {
-    lists::copy_after(buf, 0, first);
-    let used2 = grown(buf, first.len(), second);
-    let used3 = grown(buf, used2, third);
-    grown(buf, used3, last)
+    lists::copy_after(buf, 0, parts.first);
+    let used2 = grown(buf, parts.first.len(), parts.second);
+    let used3 = grown(buf, used2, parts.third);
+    grown(buf, used3, parts.last)
 }
 
 // The composed path where its first part is kept.
-fn compose_kept(
-    first: &[u8],
-    second: &[u8],
-    third: &[u8],
-    last: &[u8],
-    buf: &mut [u8],
-) -> Result<usize, Refusal>
-    requires { is_alone first.now ≡ false }
-    ensures { path_written result buf.new
-        ≡ written_into (composed_of first.now second.now third.now last.now)
-        buf.old }
+fn compose_kept(parts: KeptParts<'_>, buf: &mut [u8]) -> Result<usize, Refusal>
+    ensures { path_written result buf.new ≡ written_into (composed parts.entry) buf.old }
 {
-    if room_left(first, second, third, last, buf.len()) == 0 {
+    if room_left(parts, buf.len()) == 0 {
         return Err(Refusal::NoRoom);
     }
-    Ok(put_kept(first, second, third, last, buf))
+    Ok(put_kept(parts, buf))
 }
 
 // Writes the path of four parts, each appended to those before it, to the start of `buf`, and gives its
@@ -109,10 +96,22 @@ pub fn compose_path(
         buf.old }
 {
     if !is_alone(first) {
-        return compose_kept(first, second, third, last, buf);
+        let parts = KeptParts {
+            first,
+            second,
+            third,
+            last,
+        };
+        return compose_kept(parts, buf);
     }
     if !is_alone(second) {
-        return compose_kept(second, b"", third, last, buf);
+        let parts = KeptParts {
+            first: second,
+            second: b"",
+            third,
+            last,
+        };
+        return compose_kept(parts, buf);
     }
     path::join_path(third, last, buf)
 }

@@ -6,12 +6,12 @@ ghost use Rattle.crc32c.specs.Crc.{crc_from, lower};
 ghost use Rattle.tables.specs.Rows.{path_is_absolute};
 ghost use Rattle.tables.specs.Span.{text_at};
 ghost use Rattle.rules.specs.Composed.{composed_if};
-ghost use Rattle.names.specs.Paths.{path_written, set_leads, file_path, led, hashed_path, hash_of, file_path_into};
-ghost use Rattle.names.specs.Paths.{file_path_hash};
+ghost use Rattle.names.specs.Paths.{path_written, set_leads, led, hash_of, file_path_into, file_path_hash};
+ghost use Rattle.names.specs.private.Sets.{path_of, hashed_of};
 
 use crate::compose::compose_path;
 use crate::decide::{are_held, file_in, is_led, set_span};
-use tables::{FileStorage, Row, directory_span};
+use tables::{FileStorage, Lent, LentSet, Row};
 use types::{FileIndex, Refusal};
 
 // The save path, or nothing for a file that was added by an absolute path.
@@ -27,23 +27,17 @@ fn save_of(save_path: &[u8], path_index: u64) -> &[u8]
 
 // Writes the whole path of the file of `row`.
 // Stays: the path goes into a lent buffer, since no function here has a heap.
-fn put_path(
-    fs: FileStorage,
-    dirs: &[u64],
-    text: &[u8],
-    row: Row,
-    save_path: &[u8],
-    buf: &mut [u8],
-) -> Result<usize, Refusal>
+fn put_path(set: LentSet<'_>, row: Row, save_path: &[u8], buf: &mut [u8]) -> Result<usize, Refusal>
     ensures { path_written result buf.new
-        ≡ composed_if 0 (file_path fs dirs.now text.now save_path.now row)
+        ≡ composed_if 0 (path_of set.entry save_path.now row)
         buf.old }
 {
+    let text = set.lent.text;
     let save = save_of(save_path, row.path_index);
-    let set = tables::text_at(text, set_span(fs, row));
-    let directory = tables::text_at(text, directory_span(dirs, row));
+    let lead = tables::text_at(text, set_span(set.fs, row));
+    let directory = tables::directory_of(set.lent.dirs, text, row);
     let name = tables::text_at(text, row.name);
-    compose_path(save, set, directory, name, buf)
+    compose_path(save, lead, directory, name, buf)
 }
 
 // The hash `crc` of the bytes so far, continued with `part` and a separator.
@@ -77,19 +71,21 @@ fn hash_set(crc: u32, fs: FileStorage, text: &[u8], row: Row) -> u32
 }
 
 // The hash of the whole path of the file of `row`.
-fn hash_path(fs: FileStorage, dirs: &[u64], text: &[u8], row: Row, save_path: &[u8]) -> u32
-    ensures { result ≡ hash_of (hashed_path fs dirs.now text.now save_path.now row) }
+fn hash_path(set: LentSet<'_>, row: Row, save_path: &[u8]) -> u32
+    ensures { result ≡ hash_of (hashed_of set.entry save_path.now row) }
 {
+    let text = set.lent.text;
     let save = save_of(save_path, row.path_index);
-    let directory = tables::text_at(text, directory_span(dirs, row));
+    let directory = tables::directory_of(set.lent.dirs, text, row);
     let name = tables::text_at(text, row.name);
     let crc1 = hash_led(0, save);
-    let crc2 = hash_set(crc1, fs, text, row);
+    let crc2 = hash_set(crc1, set.fs, text, row);
     let crc3 = hash_led(crc2, directory);
     crc32c::crc32c_append_lowercase(crc3, name)
 }
 
 // Writes the whole path of a file, after `save_path`, to `buf`.
+// Stays: it takes the tables as the other public questions do, of which most read fewer (docs/DECISIONS.md).
 pub fn file_path(
     fs: FileStorage,
     rows: &[u64],
@@ -105,7 +101,9 @@ pub fn file_path(
 {
     let held = are_held(fs, dirs.len(), text.len());
     let k = file_in(fs, rows, index, held)?;
-    put_path(fs, dirs, text, tables::row_at(rows, k), save_path, buf)
+    let lent = Lent { rows, dirs, text };
+    let row = tables::row_at(rows, k);
+    put_path(LentSet { fs, lent }, row, save_path, buf)
 }
 
 // The hash of a file's whole path, after `save_path`.
@@ -122,5 +120,7 @@ pub fn file_path_hash(
 {
     let held = are_held(fs, dirs.len(), text.len());
     let k = file_in(fs, rows, index, held)?;
-    Ok(hash_path(fs, dirs, text, tables::row_at(rows, k), save_path))
+    let lent = Lent { rows, dirs, text };
+    let row = tables::row_at(rows, k);
+    Ok(hash_path(LentSet { fs, lent }, row, save_path))
 }

@@ -5,6 +5,7 @@
 mod compose;
 mod decide;
 mod file;
+mod kept;
 
 pub use compose::compose_path;
 pub use decide::{are_held, file_in, set_span};

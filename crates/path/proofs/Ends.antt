@@ -5,11 +5,11 @@ use mathlib.Core.Path.{◌≡◌, refl, sym, ap, ◌∙◌}
 use mathlib.Core.Bool.{Bool, true, false, cond}
 use mathlib.Core.List.{List, [], ◌∷◌, ◌++◌}
 use native.Mathlib.Omega.{arith}
-use lib.ListN.{length, get_or, take, drop, length-drop}
-use lib.Seq.{take_all, take-length}
+use lib.ListN.{length, get_or, take, drop, length-append, length-drop}
+use lib.Seq.{take_all, take-length, take-append-le}
 use borrow.Author.Tests.{eq-eqb, ne_eqb}
 use Rattle.lists.specs.Lists.{part_of}
-use Rattle.path.specs.Split.{is_separator, trimmed_from, trimmed}
+use Rattle.path.specs.Split.{is_separator, is_either, trimmed_from, trimmed}
 use Rattle.path.specs.Join.{closed_from, is_closed}
 
 -- a path without its last byte, where that passes a test that 0 fails
@@ -33,12 +33,18 @@ module _ (f : ℕ → Bool) (z : f 0 ≡ false) (p : List ℕ) (k : ℕ) (e : k 
   pub trim-no : f (get_or p k 0) ≡ false → p ≡ trimmed f p
   trim-no h = rw h at (trimmed-is f z p k e)
 
-module _ (p : List ℕ) (k : ℕ) (z : k ≡ length p - 1) where
-  pub end-closed : get_or p k 0 ≡ 47 → (k ≤ length p) × (take k p ≡ trimmed is_separator p)
-  end-closed h = (omega arith, trim-yes is_separator refl p k z (eq-eqb (get_or p k 0) 47 h))
+-- the same of either test, as a last byte is told from the rest
+pub slash_last : (p : List ℕ) → get_or p (length p - 1) 0 ≡ 47 → take (length p - 1) p ≡ trimmed is_separator p
+slash_last p h = trim-yes is_separator refl p (length p - 1) refl (eq-eqb (get_or p (length p - 1) 0) 47 h)
 
-  pub end-open : (get_or p k 0 ≡ 47 → ⊥) → (length p ≤ length p) × (take (length p) p ≡ trimmed is_separator p)
-  end-open h = (omega arith, take-length p ∙ trim-no is_separator refl p k z (ne_eqb (get_or p k 0) 47 h))
+pub no_slash_last : (p : List ℕ) → (get_or p (length p - 1) 0 ≡ 47 → ⊥) → p ≡ trimmed is_separator p
+no_slash_last p h = trim-no is_separator refl p (length p - 1) refl (ne_eqb (get_or p (length p - 1) 0) 47 h)
+
+pub either_last : (p : List ℕ) → is_either (get_or p (length p - 1) 0) ≡ true → take (length p - 1) p ≡ trimmed is_either p
+either_last p h = trim-yes is_either refl p (length p - 1) refl h
+
+pub neither_last : (p : List ℕ) → is_either (get_or p (length p - 1) 0) ≡ false → p ≡ trimmed is_either p
+neither_last p h = trim-no is_either refl p (length p - 1) refl h
 
 -- what is trimmed stands at a path's end
 trimmed-rest-from : (f : ℕ → Bool) (c : ℕ) (t : List ℕ) → (r : List ℕ) × (c ∷ t ≡ trimmed_from f c t ++ r)
@@ -53,6 +59,14 @@ trimmed-rest-from f c (d ∷ t) =
 pub trimmed-rest : (f : ℕ → Bool) (p : List ℕ) → (r : List ℕ) × (p ≡ trimmed f p ++ r)
 trimmed-rest f [] = ([], refl)
 trimmed-rest f (c ∷ t) = trimmed-rest-from f c t
+
+-- so the length of what is left says where it ends
+pub trimmed_front : (p : List ℕ) → (length (trimmed is_separator p) ≤ length p) × (take (length (trimmed is_separator p)) p ≡ trimmed is_separator p)
+trimmed_front p =
+    let w = trimmed-rest is_separator p in
+    let t = trimmed is_separator p in
+    let e : take (length t) (t ++ w.0) ≡ t = take-append-le (length t) t w.0 (omega arith) ∙ take-length t in
+    (omega (arith, ap length w.1, length-append t w.0), ap (take (length t)) w.1 ∙ e)
 
 -- the last byte says whether a path is closed
 closed-from : (c : ℕ) (t : List ℕ) → is_separator (get_or (c ∷ t) (length t) 0) ≡ closed_from c t

@@ -1,26 +1,22 @@
 -- Laws of the joins: what a join answers, and that a branch and a leaf written in a row are the text that the definitions
 -- glue. They rely on the laws of runs of stores of `lists`.
-use Prim.Native.Nat.{ℕ, ◌+◌}
-use mathlib.Core.Path.{◌≡◌, refl, sym, ◌∙◌}
+use Prim.Native.Nat.{ℕ, ◌+◌, ◌-◌, ◌≤◌}
+use mathlib.Core.Path.{◌≡◌, refl, sym, ap, ◌∙◌}
 use mathlib.Core.Bool.{Bool, true, false, cond}
-use mathlib.Core.List.{List, [], ◌∷◌}
+use mathlib.Core.List.{List, [], ◌∷◌, ◌++◌}
 use native.Mathlib.Omega.{arith}
-use borrow.Author.Tests.{ne_eqb}
+use borrow.Author.Tests.{ne_eqb, leb-true}
 use lib.Dec.{eqb, leb}
-use lib.ListN.{length, length-append}
-use lib.Seq.{sets}
-use Rattle.lists.proofs.Runs.{sets-append}
+use lib.ListN.{length, take, drop, length-append}
+use lib.Seq.{sets, length-sets}
+use Rattle.lists.proofs.Runs.{sets-append, sets-lent}
 use Rattle.types.specs.Refusals.{value, refused}
 use Rattle.path.specs.Join.{is_empty, is_closed, glued, Joined, joined_if, fits}
 
--- whether there are no bytes, as a test of the length and by its two answers
+-- whether there are no bytes, as a test of the length, and that there are some
 pub empty-is : (l : List ℕ) → eqb (length l) 0 ≡ is_empty l
 empty-is [] = refl
 empty-is (c ∷ t) = ne_eqb (length (c ∷ t)) 0 (λ e. omega arith)
-
-pub no_bytes : (l : List ℕ) → length l ≡ 0 → is_empty l ≡ true
-no_bytes [] e = refl
-no_bytes (c ∷ t) e = absurd (omega arith)
 
 pub some_bytes : (l : List ℕ) → (length l ≡ 0 → ⊥) → is_empty l ≡ false
 some_bytes [] h = absurd (h refl)
@@ -49,16 +45,17 @@ module _ (branch leaf : List ℕ) (n : ℕ) (closed : Bool) (e : n ≡ length br
       let q : n ≡ 0 + length branch = omega arith in
       rw (q, h) (sym (sets-append branch (cond (is_closed branch) leaf (47 ∷ leaf)) buf 0))
 
-  -- where there was room for it or not
+  -- where there was room for it
   module _ (buf : List ℕ) (room : Bool) (f : room ≡ leb (n + cond closed (length leaf) (length leaf + 1)) (length buf)) where
-    pub glued-refused : room ≡ false
-        → ◌≡◌ {A = Joined} (record { says = refused 10; buf = buf }) (joined_if (fits (glued branch leaf) buf) (glued branch leaf) buf)
-    glued-refused q =
-        refused-is (fits (glued branch leaf) buf) (glued branch leaf) buf (rw length-glued at (sym f ∙ q))
-
-    pub glued-written : room ≡ true → (x : List ℕ) (r : ℕ) → r ≡ n + cond closed (length leaf) (length leaf + 1)
-        → x ≡ sets (sets buf 0 branch) n (cond closed leaf (47 ∷ leaf))
-        → ◌≡◌ {A = Joined} (record { says = value r; buf = x }) (joined_if (fits (glued branch leaf) buf) (glued branch leaf) buf)
-    glued-written q x r k w =
-        written_is (fits (glued branch leaf) buf) (glued branch leaf) buf r x
-        (rw length-glued at (sym f ∙ q)) (k ∙ length-glued) (w ∙ sets-glued buf)
+    -- l holds the branch, and the leaf is written to the start of its rest
+    pub glued-written : room ≡ true → (l rest : List ℕ) (m k : ℕ) → l ≡ sets buf 0 branch → k ≡ length l - n
+        → m ≡ cond closed (length leaf) (length leaf + 1) → rest ≡ sets (take k (drop n l)) 0 (cond closed leaf (47 ∷ leaf))
+        → ◌≡◌ {A = Joined} (record { says = value (n + m); buf = take n l ++ (rest ++ drop k (drop n l)) })
+        (joined_if (fits (glued branch leaf) buf) (glued branch leaf) buf)
+    glued-written q l rest m k a d g w =
+        let t = cond closed leaf (47 ∷ leaf) in
+        let o : leb (n + cond closed (length leaf) (length leaf + 1)) (length buf) ≡ true = sym f ∙ q in
+        let b : n ≤ length l = omega (arith, leb-true (n + cond closed (length leaf) (length leaf + 1)) (length buf) o, length-sets buf 0 branch, ap length a) in
+        let s : take n l ++ (rest ++ drop k (drop n l)) ≡ sets l n t = rw w (sets-lent l n k t b d) in
+        written_is (fits (glued branch leaf) buf) (glued branch leaf) buf (n + m) (take n l ++ (rest ++ drop k (drop n l)))
+        (rw length-glued at o) (rw g length-glued) (s ∙ rw a (sets-glued buf))

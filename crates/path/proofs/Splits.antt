@@ -1,11 +1,20 @@
 -- Laws of the splits. The last separator parts a path in `before_last` and `after_last`, the first one in `before_first` and
 -- `after_first`; a path without a separator is all leaf, and all first. They rely on the kit's laws of `eqb`.
-use Prim.Native.Nat.{ℕ}
-use mathlib.Core.Path.{◌≡◌, refl, ap}
+use Prim.Native.Nat.{ℕ, suc, ◌+◌, ◌-◌, ◌≤◌, ◌<◌, min}
+use mathlib.Core.Path.{◌≡◌, refl, sym, ap, ◌∙◌}
 use mathlib.Core.Bool.{Bool, true, false, cond, true≢false, false≢true}
 use mathlib.Core.List.{List, [], ◌∷◌, ◌++◌}
-use borrow.Author.Tests.{eqb-true}
+use native.Mathlib.Omega.{arith}
+use lib.ListN.{length, get_or, take, drop, drop_of_length-le}
+use lib.Seq.{split_at, take_all, take-add, drop-drop}
+use Rattle.std.specs.Prelude.{Option, Some, None}
+use Rattle.std.specs.List.{position_or_len}
+use Rattle.std.specs.Option.{unwrap_or}
+use borrow.Author.Tests.{eqb-true, ne_eqb, leb-true, leb-false}
+use lib.Dec.{leb, ltb}
 use Rattle.lists.specs.Lists.{any}
+use Rattle.lists.proofs.Searches.{found}
+use Rattle.lists.proofs.Tests.{any-turn}
 use Rattle.path.specs.Split.{is_separator, before_last, after_last, before_first, after_first}
 
 -- a test that a list fails is failed by its first element, and by the rest
@@ -65,6 +74,26 @@ pub leaf-only : (a b : List ℕ) → any is_separator b ≡ false → after_last
 leaf-only [] b e = rw e
 leaf-only (x ∷ a) b e = rw (any_at_lem a b, leaf-only a b e)
 
+-- where no separator stands from place i on: none from the place before on, if none stands there either
+pub leaf_before : (p : List ℕ) (i j : ℕ) → i ≡ suc j → j < length p → (get_or p j 0 ≡ 47 → ⊥) → any is_separator (drop i p) ≡ false
+    → any is_separator (drop j p) ≡ false
+leaf_before p i j e h q n =
+    let f : j + 1 ≡ i = omega arith in any-turn is_separator p j 0 h (ne_eqb (get_or p j 0) 47 q) ∙ rw f n
+
+-- the last separator stands there, and so the leaf begins at i; or it stands one place before that
+pub leaf_here : (p : List ℕ) (i : ℕ) → 0 < i → i ≤ length p → get_or p (i - 1) 0 ≡ 47 → any is_separator (drop i p) ≡ false
+    → (take (i - 1) p ≡ before_last p) × (drop i p ≡ after_last p)
+leaf_here p i z h q n =
+    let k : suc (i - 1) ≡ i = omega arith in
+    let s : p ≡ take (i - 1) p ++ (47 ∷ drop i p) = split_at p (i - 1) 0 (omega arith) ∙ rw (q, k) in
+    (sym (ap before_last s ∙ branch-only (take (i - 1) p) (drop i p) n), sym (ap after_last s ∙ leaf-only (take (i - 1) p) (drop i p) n))
+
+pub leaf_next : (p : List ℕ) (i : ℕ) → 1 < i → i ≤ length p → (get_or p (i - 1) 0 ≡ 47 → ⊥) → get_or p (i - 2) 0 ≡ 47
+    → any is_separator (drop i p) ≡ false → (take (i - 1 - 1) p ≡ before_last p) × (drop (i - 1) p ≡ after_last p)
+leaf_next p i z h o q n =
+    let k : i - 1 - 1 ≡ i - 2 = omega arith in
+    leaf_here p (i - 1) (omega arith) (omega arith) (rw k q) (leaf_before p i (i - 1) (omega arith) (omega arith) o n)
+
 -- the first separator
 first_step : (s b : Bool) (c : ℕ) (t u v : List ℕ) → (s ≡ true → c ≡ 47) → (b ≡ true → t ≡ u ++ (47 ∷ v)) → cond s true b ≡ true
     → c ∷ t ≡ cond s [] (c ∷ u) ++ (47 ∷ cond s t v)
@@ -93,3 +122,44 @@ pub rest-none : (p : List ℕ) → any is_separator p ≡ false → after_first 
 rest-none [] e = refl
 rest-none (c ∷ t) e =
     rw (none_first (is_separator c) (any is_separator t) e, rest-none t (none_rest (is_separator c) (any is_separator t) e))
+
+-- how far a search for the first separator goes
+search-step : (b : Bool) (c : ℕ) (f : List ℕ) → length (cond b [] (c ∷ f)) ≡ cond b 0 (1 + length f)
+search-step true c f = refl
+search-step false c f = omega arith
+
+pub separator_found : (t : List ℕ) (r : Option ℕ) → r ≡ cond (ltb (position_or_len is_separator t) (length t)) (Some (position_or_len is_separator t)) None
+    → unwrap_or r (length t) ≡ length (before_first t)
+separator_found t r e = (found (λ s. length (before_first s)) is_separator refl (λ c s. search-step (is_separator c) c (before_first s)) t r e).0
+
+-- where a list is parted by its first separator
+pub first-places : (t : List ℕ) → (take (length (before_first t)) t ≡ before_first t) × (drop (suc (length (before_first t))) t ≡ after_first t)
+first-places [] = (refl, refl)
+first-places (c ∷ t) = at (is_separator c) (first-places t)
+  where
+    at : (b : Bool) → (take (length (before_first t)) t ≡ before_first t) × (drop (suc (length (before_first t))) t ≡ after_first t)
+        → (take (length (cond b [] (c ∷ before_first t))) (c ∷ t) ≡ cond b [] (c ∷ before_first t))
+        × (drop (suc (length (cond b [] (c ∷ before_first t)))) (c ∷ t) ≡ cond b t (after_first t))
+    at true h = (refl, refl)
+    at false h = (ap (λ (l : List ℕ). c ∷ l) h.0, h.1)
+
+-- a place past the end parts a list as its end does
+end-places : (p : List ℕ) (i : ℕ) → (b : Bool) → leb i (length p) ≡ b → (take (min i (length p)) p ≡ take i p) × (drop (min i (length p)) p ≡ drop i p)
+end-places p i true e =
+    let h : min i (length p) ≡ i = omega (arith, leb-true i (length p) e) in
+    (rw h, rw h)
+end-places p i false e =
+    let k : length p < i = omega (arith, leb-false i (length p) e) in
+    let h : min i (length p) ≡ length p = omega arith in
+    (rw (h, take_all (length p) p (omega arith), take_all i p (omega arith)), rw (h, drop_of_length-le p {i = length p} (omega arith), drop_of_length-le p {i = i} (omega arith)))
+
+-- the first separator at or after a place, as a search finds it
+pub first-found : (p : List ℕ) (i k : ℕ) → k ≡ length (before_first (drop (min i (length p)) p))
+    → (take (min i (length p) + k) p ≡ take i p ++ before_first (drop i p)) × (drop (min i (length p) + k + 1) p ≡ after_first (drop i p))
+first-found p i k e =
+    let f = min i (length p) in
+    let d = first-places (drop f p) in
+    let q = end-places p i (leb i (length p)) refl in
+    let t : take (f + k) p ≡ take f p ++ before_first (drop f p) = rw e (take-add f (length (before_first (drop f p))) p ∙ ap (λ (l : List ℕ). take f p ++ l) d.0) in
+    let s : drop (f + k + 1) p ≡ after_first (drop f p) = ap (λ (j : ℕ). drop j p) (omega arith) ∙ (sym (drop-drop (suc k) f p) ∙ rw e d.1) in
+    (rw (q.0, q.1) at t, rw q.1 at s)

@@ -1,9 +1,9 @@
 // Joins of paths in a lent buffer: what is to be written is decided first, and the buffer's unwritten
-// rest is lent to the writer of the next part. Relies on `lists::copy_after` and the laws of proofs/Joins.antt.
-ghost use Rattle.std.specs.Prelude.{◌≡◌, cond, ◌∷◌, ◌+◌, ◌≤◌, leb, length};
+// rest is lent to the writer of the next part. Relies on the copies of `lists` and on the laws of proofs/Joins.antt.
+ghost use Rattle.std.specs.Prelude.{◌≡◌, cond, ◌∷◌, ◌+◌, leb, length};
 ghost use Rattle.std.proofs.lemmas.List.Edits.{sets};
 ghost use Rattle.types.specs.Refusals.{outcome};
-ghost use Rattle.path.specs.Join.{Joined, is_alone, appended, joined_if, fits, append_into, combine_into};
+ghost use Rattle.path.specs.Join.{Joined, is_alone, glued, appended, joined_if, fits, append_into, combine_into};
 
 use crate::split::is_closed;
 use types::Refusal;
@@ -45,24 +45,24 @@ fn has_room(room: usize, used: usize, closed: bool, more: usize) -> bool
     more < room - used
 }
 
-// Writes a leaf after the `used` bytes of a branch, with a separator where the branch lacks one, and
-// gives the length of both.
-fn put_after(buf: &mut [u8], used: usize, closed: bool, leaf: &[u8]) -> usize
-    requires { used + cond closed (length leaf.now) (length leaf.now + 1) ≤ length buf.old }
-    ensures value { result ≡ used + cond closed (length leaf.now) (length leaf.now + 1) }
-    ensures buf_after { buf.new
-        ≡ sets buf.old used (cond closed leaf.now (47 ∷ leaf.now)) }
+// Writes a leaf to the start of the rest of a buffer, after a separator where the branch before it lacks one, and
+// gives how many bytes that are.
+// Stays: it copies by two calls of `lists`, which drop what has no place.
+fn put_leaf(rest: &mut [u8], closed: bool, leaf: &[u8]) -> usize
+    ensures value { result ≡ cond closed (length leaf.now) (length leaf.now + 1) }
+    ensures rest_after { rest.new ≡ sets rest.old 0 (cond closed leaf.now (47 ∷ leaf.now)) }
 {
     if closed {
-        lists::copy_after(buf, used, leaf);
-        return used + leaf.len();
+        lists::copy_in(rest, leaf);
+        return leaf.len();
     }
-    lists::copy_after(buf, used, b"/");
-    lists::copy_after(buf, used + 1, leaf);
-    used + 1 + leaf.len()
+    lists::copy_in(rest, b"/");
+    lists::copy_after(rest, 1, leaf);
+    leaf.len() + 1
 }
 
 // Writes a text to the start of `buf`, and gives its length.
+// Stays: it copies by a call of `lists`, after a test of the room.
 fn put_alone(buf: &mut [u8], text: &[u8]) -> Result<usize, Refusal>
     ensures { ◌≡◌ {A = Joined} (record { says = outcome result; buf = buf.new })
         (joined_if (fits text.now buf.old) text.now buf.old) }
@@ -70,12 +70,30 @@ fn put_alone(buf: &mut [u8], text: &[u8]) -> Result<usize, Refusal>
     if buf.len() < text.len() {
         return Err(Refusal::NoRoom);
     }
-    lists::copy_after(buf, 0, text);
+    lists::copy_in(buf, text);
     Ok(text.len())
+}
+
+// Writes a branch and a leaf to the start of `buf`, with a separator between where the branch lacks one, and gives the
+// length of both.
+// Stays: after a test of the room it copies by a call of `lists`, and by `put_leaf`.
+fn put_glued(branch: &[u8], leaf: &[u8], buf: &mut [u8]) -> Result<usize, Refusal>
+    ensures { ◌≡◌ {A = Joined} (record { says = outcome result; buf = buf.new })
+        (joined_if (fits (glued branch.now leaf.now) buf.old) (glued branch.now leaf.now) buf.old) }
+{
+    let used = branch.len();
+    let closed = is_closed(branch);
+    if !has_room(buf.len(), used, closed, leaf.len()) {
+        return Err(Refusal::NoRoom);
+    }
+    lists::copy_in(buf, branch);
+    Ok(used + put_leaf(&mut buf[used..], closed, leaf))
 }
 
 // Appends `leaf` to the branch that stands in the first `used` bytes of `buf`, and gives the length
 // of the joined path.
+// Stays: document 01 asks that a part is written behind what stands in the lent buffer, and a leaf takes the place of
+// a branch that is empty or `.`, so that the whole buffer is needed.
 pub fn append_path(buf: &mut [u8], used: usize, leaf: &[u8]) -> Result<usize, Refusal>
     ensures { ◌≡◌ {A = Joined} (record { says = outcome result; buf = buf.new })
         (append_into buf.old used leaf.now) }
@@ -93,7 +111,7 @@ pub fn append_path(buf: &mut [u8], used: usize, leaf: &[u8]) -> Result<usize, Re
     if !has_room(buf.len(), used, closed, leaf.len()) {
         return Err(Refusal::NoRoom);
     }
-    Ok(put_after(buf, used, closed, leaf))
+    Ok(used + put_leaf(&mut buf[used..], closed, leaf))
 }
 
 // Writes the path of `left` and `right` to the start of `buf`, and gives its length.
@@ -107,12 +125,7 @@ pub fn combine_path(left: &[u8], right: &[u8], buf: &mut [u8]) -> Result<usize, 
     if is_alone(right) {
         return put_alone(buf, left);
     }
-    let closed = is_closed(left);
-    if !has_room(buf.len(), left.len(), closed, right.len()) {
-        return Err(Refusal::NoRoom);
-    }
-    lists::copy_after(buf, 0, left);
-    Ok(put_after(buf, left.len(), closed, right))
+    put_glued(left, right, buf)
 }
 
 // Writes `leaf` appended to `branch` to the start of `buf`, and gives its length: `append_path` where
@@ -129,10 +142,5 @@ pub fn join_path(branch: &[u8], leaf: &[u8], buf: &mut [u8]) -> Result<usize, Re
     if leaf.is_empty() {
         return put_alone(buf, branch);
     }
-    let closed = is_closed(branch);
-    if !has_room(buf.len(), branch.len(), closed, leaf.len()) {
-        return Err(Refusal::NoRoom);
-    }
-    lists::copy_after(buf, 0, branch);
-    Ok(put_after(buf, branch.len(), closed, leaf))
+    put_glued(branch, leaf, buf)
 }

@@ -229,3 +229,8 @@ module _ (pad : ℕ) (new : Bool) (d : List ℕ) (xs : List (List ℕ)) (n count
 -- the rows of a table have as many texts
 pub counted : (dirs text : List ℕ) (n : ℕ) → length (dir_texts dirs text n) ≡ n
 counted dirs text n = length-tabled n (row_text dirs text)
+
+-- what the search for a directory and the plan of a pad's directory need
+pub ruleset searching = (search-turn, search-found, search-end)
+
+pub ruleset padding = (pad-none, pad-own, pad-found, pad-missing, counted)

@@ -29,11 +29,11 @@ use Rattle.additions.specs.declared.parts.PathKind.{PathKind}
 use Rattle.additions.specs.declared.parts.PathKind.TheVariants.{Single, Absolute, Inside, Outside}
 use Rattle.additions.specs.declared.parts.PathParts.{PathParts}
 use Rattle.additions.specs.Addition.{Addition, addition_of, link_is_kept, optional_of, is_present, name_after, without_leading, directory_for, stored_name, bad_name, decides, is_left_open, keeps, is_v2, with_directory_of, pad_added, directory_added, added, lacks, size_rules, name_rules, version_rules, pad_rules, adding_rules, files_of, pad_of, file_added, size_added}
-use Rattle.additions.specs.private.Texts.{is_here, name_from, link_text_of, set_text_of, text_under, directory_at, outside_kind, PartsWithin}
+use Rattle.additions.specs.private.Texts.{is_here, name_from, link_text_of, set_text_of, text_under, directory_at, outside_kind}
 use Rattle.additions.specs.Parts.{kind_for, name_span, parts_of}
 use Rattle.additions.specs.private.Checks.{limited_length, sizes_for, number_rules}
 use Rattle.additions.proofs.Rules.{sum-in}
-use Rattle.additions.proofs.Texts.{set-read, directory-read, name-read, name-is, limited-is, bad-is, parts_within}
+use Rattle.additions.proofs.Texts.{set-read, directory-read, name-read, name-is, limited-is, bad-is}
 use Rattle.plan.specs.declared.dirs.DirPlan.{DirPlan}
 use Rattle.plan.specs.declared.counts.Counts.{Counts}
 use Rattle.plan.specs.declared.counts.FileFacts.{FileFacts}
@@ -305,7 +305,10 @@ module _ (s : Store) (a : Addition) where
 
 -- ---- the same by what a call brings and the parts of its path
 
-module _ (s : Store) (file : FileInfo) (filename path link : List ℕ) (p : PathParts) (e : p ≡ parts_of s.fs.num_files (view_of s).name path) where
+pub record Called (s : Store) (file : FileInfo) (filename path link : List ℕ) (p : PathParts) : Type 0 where
+  pub parts-are : p ≡ parts_of s.fs.num_files (view_of s).name path
+
+module _ {s : Store} {file : FileInfo} {filename path link : List ℕ} {p : PathParts} (k : Called s file filename path link p) where
   abbrev call : Addition
   call = addition_of file filename path link
 
@@ -316,15 +319,12 @@ module _ (s : Store) (file : FileInfo) (filename path link : List ℕ) (p : Path
       (sizes_for s.fs file.size link (is_here file.rooted))
 
   said-is : said ≡ outcome_of (before s call) (sizes_for s.fs file.size link (is_present call.root))
-  said-is = rw (e, here-is file.rooted file.root.bytes)
+  said-is = rw (k.parts-are, here-is file.rooted file.root.bytes)
 
   pub plan-stopped : (x : Refusal) → refused (number_of x) ≡ said → refused (number_of x) ≡ planned_for s call
   plan-stopped x h = add-stopped s call x (sizes_for s.fs file.size link (is_present call.root)) (h ∙ said-is)
 
-  pub plan-within : PartsWithin (length path) p
-  plan-within = rw e (parts_within s.fs.num_files (view_of s).name path)
-
-  module _ (z : Sizes) (h : value z ≡ said) where
+  module _ {z : Sizes} (h : value z ≡ said) where
     settled : (before s call ≡ 0) × (z ≡ sizes_for s.fs file.size link (is_present call.root))
     settled = outcome-value (before s call) z (sizes_for s.fs file.size link (is_present call.root)) (h ∙ said-is)
 
@@ -348,8 +348,8 @@ module _ (s : Store) (file : FileInfo) (filename path link : List ℕ) (p : Path
         (text_at path p.directory)
         (name_from file.given filename (text_at path p.name))
         (link_text_of s.fs.num_symlinks link)
-        p settled.1 facts-are e
-        (texts-of s call file.given filename p refl e)
+        p settled.1 facts-are k.parts-are
+        (texts-of s call file.given filename p refl k.parts-are)
       where
         facts-are : facts_of s.fs file link
             ≡ record { flags = file.flags; keeps_link = link_is_kept s.fs.num_symlinks link; has_root = is_present call.root; time = zigzag file.mtime }

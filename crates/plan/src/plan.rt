@@ -3,7 +3,6 @@
 // proofs/Plans.antt.
 ghost use Rattle.std.specs.Prelude.{◌≡◌, ◌+◌, ◌<◌, ◌≤◌, true, length, if◌then◌else◌, nat_eq};
 ghost use Rattle.types.specs.Refusals.{outcome};
-ghost use Rattle.tables.specs.Span.{text_at};
 ghost use Rattle.tables.specs.Model.{store_of};
 ghost use Rattle.rules.specs.Bounds.{limit, max_links};
 ghost use Rattle.change.specs.Rooms.{holds_in};
@@ -310,45 +309,9 @@ fn lengths_of(
     }
 }
 
-// The plan of an addition whose sizes are decided, to a set that its tables hold.
-fn plan_texts(
-    fs: FileStorage,
-    rooms: Rooms,
-    dirs: &[u64],
-    text: &[u8],
-    sizes: Sizes,
-    file: FileInfo,
-    filename: &[u8],
-    path: &[u8],
-    parts: PathParts,
-    symlink_path: &[u8],
-) -> Result<AddPlan, Refusal>
-    requires rooms_value { holds_in fs rooms ≡ true }
-    requires pad_bound { fs.total_size + sizes.size + sizes.pad ≤ limit }
-    requires parts_within { PartsWithin (length path.now) parts }
-    ensures { outcome result
-        ≡ planned_beside fs rooms (dir_texts dirs.now text.now fs.num_paths) sizes
-        (facts_of fs file symlink_path.now)
-        (outside_kind parts.kind)
-        (directory_at parts.kind (text_at path.now parts.directory))
-        (lengths_of fs.num_symlinks file.given
-        filename.now path.now parts symlink_path.now)
-        parts }
-{
-    let facts = facts_of(fs, file, symlink_path);
-    let lengths = lengths_of(
-        fs.num_symlinks,
-        file.given,
-        filename,
-        path,
-        parts,
-        symlink_path,
-    );
-    let dir = tables::text_at(path, parts.directory);
-    plan_dirs(fs, rooms, dirs, text, sizes, facts, dir, lengths, parts)
-}
-
 // The plan of an addition, or its refusal. Nothing is written.
+// Stays: the set's tables, and the texts that an addition brings, are lent one by one, as the C interface lends them.
+#[tactic(auto, using(additions::proofs::Texts::parts_within))]
 pub fn plan_add(
     fs: FileStorage,
     rows: &[u64],
@@ -373,16 +336,15 @@ pub fn plan_add(
     if is_full(fs, rooms, firsts.len(), sizes) {
         return Err(Refusal::NoRoom);
     }
-    plan_texts(
-        fs,
-        rooms,
-        dirs,
-        text,
-        sizes,
-        file,
+    let facts = facts_of(fs, file, symlink_path);
+    let lengths = lengths_of(
+        fs.num_symlinks,
+        file.given,
         filename,
         path,
         parts,
         symlink_path,
-    )
+    );
+    let dir = tables::text_at(path, parts.directory);
+    plan_dirs(fs, rooms, dirs, text, sizes, facts, dir, lengths, parts)
 }

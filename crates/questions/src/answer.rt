@@ -8,9 +8,9 @@ use std::io::Stdout;
 use tables::FileStorage;
 
 // A set and its renames, as a question is lent them: their records, their parts of the tables, and how many places an
-// answer has.
+// answer has; `entries` and `area` are the tables of the renames.
 #[derive(Clone, Copy)]
-pub(crate) struct Asked<'a> {
+pub struct Asked<'a> {
     pub fs: FileStorage,
     pub rows: &'a [u64],
     pub roots: &'a [u8],
@@ -23,39 +23,22 @@ pub(crate) struct Asked<'a> {
     pub lent: Lent,
 }
 
-// Answers a question on a set, or on none; `entries` and `area` are the tables of the set's renames, and an answer is
-// lent as many places as `lent` says.
-pub fn on_set(
-    out: Stdout,
-    line: &[u8],
-    fs: FileStorage,
-    rows: &[u64],
-    roots: &[u8],
-    firsts: &[u16],
-    dirs: &[u64],
-    text: &[u8],
-    held: RenamedFiles,
-    entries: &[u64],
-    area: &[u8],
-    lent: Lent,
-) -> io::Result<()> {
-    let set = Asked {
-        fs,
-        rows,
-        roots,
-        firsts,
-        dirs,
-        text,
-        held,
-        entries,
-        area,
-        lent,
-    };
-    if whole_set::answer(out, line, set)?
-        || file_rows::answer(out, line, set)?
-        || layouts::answer(out, line, set)?
-        || file_paths::answer(out, line, set)?
-        || renamed_files::answer(out, line, set)?
+// A question on a set: where its answer is written, its line, and the set.
+#[derive(Clone, Copy)]
+pub(crate) struct Question<'a> {
+    pub out: Stdout,
+    pub line: &'a [u8],
+    pub set: Asked<'a>,
+}
+
+// Answers a question on a set, or on none.
+pub fn on_set(out: Stdout, line: &[u8], set: Asked<'_>) -> io::Result<()> {
+    let question = Question { out, line, set };
+    if whole_set::answer(question)?
+        || file_rows::answer(question)?
+        || layouts::answer(question)?
+        || file_paths::answer(question)?
+        || renamed_files::answer(question)?
     {
         return Ok(());
     }

@@ -1,26 +1,26 @@
 // Questions on whole paths and their hashes. Relies on `names` and `hashes`, on `script` and on `replies`.
-use crate::answer::Asked;
+use crate::answer::Question;
 use crate::{file_words, first, large_buffer, room};
 use std::io;
-use std::io::Stdout;
 
 // Answers a line that has one of these forms, and says whether it has.
-pub(crate) fn answer(out: Stdout, line: &[u8], set: Asked<'_>) -> io::Result<bool> {
-    // Stays: the forms stand in one text, numbered by their order; an enum would need a second list in that order.
+pub(crate) fn answer(question: Question<'_>) -> io::Result<bool> {
+    // Stays: a form says the most words of a line too; a match on the first word would need that test in each arm.
     match script::form_of(
         b"file_path I :SAVE, file_path_hash I :SAVE, all_path_hashes",
-        line,
+        question.line,
     ) {
-        Some(0) => file_path(out, line, set)?,
-        Some(1) => file_path_hash(out, line, set)?,
-        Some(2) => all_path_hashes(out, set)?,
+        Some(0) => file_path(question)?,
+        Some(1) => file_path_hash(question)?,
+        Some(2) => all_path_hashes(question)?,
         _ => return Ok(false),
     }
     Ok(true)
 }
 
 // `file_path I :SAVE`.
-fn file_path(out: Stdout, line: &[u8], set: Asked<'_>) -> io::Result<()> {
+fn file_path(question: Question<'_>) -> io::Result<()> {
+    let Question { out, line, set } = question;
     let mut buffer = large_buffer();
     let Some((index, save)) = file_words::read(line, &mut buffer) else {
         return replies::bad_call(out);
@@ -32,7 +32,8 @@ fn file_path(out: Stdout, line: &[u8], set: Asked<'_>) -> io::Result<()> {
 }
 
 // `file_path_hash I :SAVE`.
-fn file_path_hash(out: Stdout, line: &[u8], set: Asked<'_>) -> io::Result<()> {
+fn file_path_hash(question: Question<'_>) -> io::Result<()> {
+    let Question { out, line, set } = question;
     let mut buffer = large_buffer();
     let Some((index, save)) = file_words::read(line, &mut buffer) else {
         return replies::bad_call(out);
@@ -42,7 +43,8 @@ fn file_path_hash(out: Stdout, line: &[u8], set: Asked<'_>) -> io::Result<()> {
 }
 
 // `all_path_hashes`. A set has no more of them than directories and bytes of text.
-fn all_path_hashes(out: Stdout, set: Asked<'_>) -> io::Result<()> {
+fn all_path_hashes(question: Question<'_>) -> io::Result<()> {
+    let Question { out, set, .. } = question;
     let mut hashes = hash_room();
     let target = first(&mut hashes, set.lent.hashes);
     let res = hashes::all_path_hashes(set.fs, set.dirs, set.text, target);

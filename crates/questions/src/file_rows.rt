@@ -1,26 +1,26 @@
 // Questions on what a file's row holds. Relies on `answers`, on `script` and on `replies`.
-use crate::answer::Asked;
+use crate::answer::Question;
 use crate::{first, room};
 use std::io;
-use std::io::Stdout;
 use types::FileIndex;
 
 // Answers a line that has one of this module's forms, and says whether it has.
-pub(crate) fn answer(out: Stdout, line: &[u8], set: Asked<'_>) -> io::Result<bool> {
-    let Some(n) = script::to_i32(script::word(line, 1)) else {
+pub(crate) fn answer(question: Question<'_>) -> io::Result<bool> {
+    let Some(n) = script::to_i32(script::word(question.line, 1)) else {
         return Ok(false);
     };
     let index = FileIndex(n);
-    Ok(on_row(out, line, index, set)? || on_text(out, line, index, set)?)
+    Ok(on_row(question, index)? || on_text(question, index)?)
 }
 
 // Answers a question on the numbers of a row; an arm stands for each form, in their order.
-fn on_row(out: Stdout, line: &[u8], index: FileIndex, set: Asked<'_>) -> io::Result<bool> {
+fn on_row(question: Question<'_>, index: FileIndex) -> io::Result<bool> {
+    let Question { out, line, set } = question;
     let forms =
         b"file_size I, file_offset I, pad_file_at I, file_flags I, mtime I, file_absolute_path I, root I";
     let fs = set.fs;
     let rows = set.rows;
-    // Stays: the forms stand in one text, numbered by their order; an enum would need a second list in that order.
+    // Stays: a form says the most words of a line too; a match on the first word would need that test in each arm.
     match script::form_of(forms, line) {
         Some(0) => replies::answer(out, answers::file_size(fs, rows, index))?,
         Some(1) => replies::answer(out, answers::file_offset(fs, rows, index))?,
@@ -35,26 +35,28 @@ fn on_row(out: Stdout, line: &[u8], index: FileIndex, set: Asked<'_>) -> io::Res
 }
 
 // Answers a question on the texts of a row; an arm stands for each form, in their order.
-fn on_text(out: Stdout, line: &[u8], index: FileIndex, set: Asked<'_>) -> io::Result<bool> {
+fn on_text(question: Question<'_>, index: FileIndex) -> io::Result<bool> {
+    let Question { out, line, set } = question;
     let fs = set.fs;
     let rows = set.rows;
     let text = set.text;
-    // Stays: the forms stand in one text, numbered by their order; an enum would need a second list in that order.
+    // Stays: a form says the most words of a line too; a match on the first word would need that test in each arm.
     match script::form_of(
         b"file_name I, internal_symlink I, internal_file_path I, symlink I",
         line,
     ) {
         Some(0) => replies::text(out, answers::file_name(fs, rows, text, index), text)?,
         Some(1) => replies::text(out, answers::internal_symlink(fs, rows, text, index), text)?,
-        Some(2) => internal_file_path(out, index, set)?,
-        Some(3) => symlink(out, index, set)?,
+        Some(2) => internal_file_path(question, index)?,
+        Some(3) => symlink(question, index)?,
         _ => return Ok(false),
     }
     Ok(true)
 }
 
 // `internal_file_path I`.
-fn internal_file_path(out: Stdout, index: FileIndex, set: Asked<'_>) -> io::Result<()> {
+fn internal_file_path(question: Question<'_>, index: FileIndex) -> io::Result<()> {
+    let Question { out, set, .. } = question;
     let mut joined = room();
     let target = first(&mut joined, set.lent.output);
     let res = answers::internal_file_path(set.fs, set.rows, set.dirs, set.text, index, target);
@@ -62,7 +64,8 @@ fn internal_file_path(out: Stdout, index: FileIndex, set: Asked<'_>) -> io::Resu
 }
 
 // `symlink I`.
-fn symlink(out: Stdout, index: FileIndex, set: Asked<'_>) -> io::Result<()> {
+fn symlink(question: Question<'_>, index: FileIndex) -> io::Result<()> {
+    let Question { out, set, .. } = question;
     let mut joined = room();
     let target = first(&mut joined, set.lent.output);
     let res = answers::symlink(set.fs, set.rows, set.text, index, target);

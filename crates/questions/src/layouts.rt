@@ -1,9 +1,8 @@
 // Questions on the layout of a set; those that search for a file begin by the set's table of first files. Relies on
 // `layout`, `files` and `blocks`, on `script` and on `replies`.
-use crate::answer::Asked;
+use crate::answer::Question;
 use crate::first;
 use std::io;
-use std::io::Stdout;
 use tables::Sha256Hash;
 use types::{FileIndex, PieceIndex};
 
@@ -11,42 +10,43 @@ use types::{FileIndex, PieceIndex};
 const COLUMN: usize = 1024;
 
 // Answers a line that has one of this module's forms, and says whether it has.
-pub(crate) fn answer(out: Stdout, line: &[u8], set: Asked<'_>) -> io::Result<bool> {
-    if on_number(out, line, set)? {
+pub(crate) fn answer(question: Question<'_>) -> io::Result<bool> {
+    if on_number(question)? {
         return Ok(true);
     }
     let forms = b"file_index_at_offset O, file_index_for_root ROOT, map_file I OFFSET SIZE, \
         map_block PIECE OFFSET SIZE";
-    // Stays: the forms stand in one text, numbered by their order; an enum would need a second list in that order.
-    match script::form_of(forms, line) {
-        Some(0) => at_offset(out, line, set)?,
-        Some(1) => for_root(out, line, set)?,
-        Some(2) => map_file(out, line, set)?,
-        Some(3) => map_block(out, line, set)?,
+    // Stays: a form says the most words of a line too; a match on the first word would need that test in each arm.
+    match script::form_of(forms, question.line) {
+        Some(0) => at_offset(question)?,
+        Some(1) => for_root(question)?,
+        Some(2) => map_file(question)?,
+        Some(3) => map_block(question)?,
         _ => return Ok(false),
     }
     Ok(true)
 }
 
 // Answers a question on a file or a piece by its number.
-fn on_number(out: Stdout, line: &[u8], set: Asked<'_>) -> io::Result<bool> {
-    let Some(n) = script::to_i32(script::word(line, 1)) else {
+fn on_number(question: Question<'_>) -> io::Result<bool> {
+    let Some(n) = script::to_i32(script::word(question.line, 1)) else {
         return Ok(false);
     };
     Ok(
-        range_of(out, line, FileIndex(n), set)?
-            || tree_of(out, line, FileIndex(n), set)?
-            || piece_of(out, line, PieceIndex(n), set)?,
+        range_of(question, FileIndex(n))?
+            || tree_of(question, FileIndex(n))?
+            || piece_of(question, PieceIndex(n))?,
     )
 }
 
 // Answers a question on the pieces of a file; an arm stands for each form, in their order.
-fn range_of(out: Stdout, line: &[u8], index: FileIndex, set: Asked<'_>) -> io::Result<bool> {
+fn range_of(question: Question<'_>, index: FileIndex) -> io::Result<bool> {
+    let Question { out, line, set } = question;
     let forms =
         b"exclusive I, inclusive I, file_piece_range I, piece_index_at_file I, last_piece_index_at_file I";
     let fs = set.fs;
     let rows = set.rows;
-    // Stays: the forms stand in one text, numbered by their order; an enum would need a second list in that order.
+    // Stays: a form says the most words of a line too; a match on the first word would need that test in each arm.
     match script::form_of(forms, line) {
         Some(0) => replies::answer(out, files::file_piece_range_exclusive(fs, rows, index))?,
         Some(1) => replies::answer(out, files::file_piece_range_inclusive(fs, rows, index))?,
@@ -59,12 +59,13 @@ fn range_of(out: Stdout, line: &[u8], index: FileIndex, set: Asked<'_>) -> io::R
 }
 
 // Answers a question on the tree of a file; an arm stands for each form, in their order.
-fn tree_of(out: Stdout, line: &[u8], index: FileIndex, set: Asked<'_>) -> io::Result<bool> {
+fn tree_of(question: Question<'_>, index: FileIndex) -> io::Result<bool> {
+    let Question { out, line, set } = question;
     let forms =
         b"file_num_pieces I, file_num_blocks I, file_first_piece_node I, file_first_block_node I";
     let fs = set.fs;
     let rows = set.rows;
-    // Stays: the forms stand in one text, numbered by their order; an enum would need a second list in that order.
+    // Stays: a form says the most words of a line too; a match on the first word would need that test in each arm.
     match script::form_of(forms, line) {
         Some(0) => replies::answer(out, files::file_num_pieces(fs, rows, index))?,
         Some(1) => replies::answer(out, files::file_num_blocks(fs, rows, index))?,
@@ -76,13 +77,14 @@ fn tree_of(out: Stdout, line: &[u8], index: FileIndex, set: Asked<'_>) -> io::Re
 }
 
 // Answers a question on a piece; an arm stands for each form, in their order.
-fn piece_of(out: Stdout, line: &[u8], piece: PieceIndex, set: Asked<'_>) -> io::Result<bool> {
+fn piece_of(question: Question<'_>, piece: PieceIndex) -> io::Result<bool> {
+    let Question { out, line, set } = question;
     let forms =
         b"piece_size P, piece_size2 P, blocks_in_piece2 P, file_index_at_piece P, last_file_index_at_piece P";
     let fs = set.fs;
     let rows = set.rows;
     let window = layout::window_for(fs, set.firsts, piece, 0);
-    // Stays: the forms stand in one text, numbered by their order; an enum would need a second list in that order.
+    // Stays: a form says the most words of a line too; a match on the first word would need that test in each arm.
     match script::form_of(forms, line) {
         Some(0) => replies::answer(out, layout::piece_size(fs, piece))?,
         Some(1) => replies::answer(out, layout::piece_size2(fs, rows, window, piece))?,
@@ -98,7 +100,8 @@ fn piece_of(out: Stdout, line: &[u8], piece: PieceIndex, set: Asked<'_>) -> io::
 }
 
 // `file_index_at_offset O`.
-fn at_offset(out: Stdout, line: &[u8], set: Asked<'_>) -> io::Result<()> {
+fn at_offset(question: Question<'_>) -> io::Result<()> {
+    let Question { out, line, set } = question;
     let Some(offset) = script::to_i64(script::word(line, 1)) else {
         return replies::bad_call(out);
     };
@@ -110,7 +113,8 @@ fn at_offset(out: Stdout, line: &[u8], set: Asked<'_>) -> io::Result<()> {
 }
 
 // `file_index_for_root ROOT`.
-fn for_root(out: Stdout, line: &[u8], set: Asked<'_>) -> io::Result<()> {
+fn for_root(question: Question<'_>) -> io::Result<()> {
+    let Question { out, line, set } = question;
     let Some(bytes) = script::to_root(script::word(line, 1)) else {
         return replies::bad_call(out);
     };
@@ -129,7 +133,8 @@ fn file_block_in(line: &[u8]) -> Option<(FileIndex, i64, i32)> {
 }
 
 // `map_file I OFFSET SIZE`.
-fn map_file(out: Stdout, line: &[u8], set: Asked<'_>) -> io::Result<()> {
+fn map_file(question: Question<'_>) -> io::Result<()> {
+    let Question { out, line, set } = question;
     let Some((index, offset, size)) = file_block_in(line) else {
         return replies::bad_call(out);
     };
@@ -145,10 +150,12 @@ fn block_in(line: &[u8]) -> Option<(PieceIndex, i64, i64)> {
 }
 
 // `map_block PIECE OFFSET SIZE`.
-fn map_block(out: Stdout, line: &[u8], set: Asked<'_>) -> io::Result<()> {
+fn map_block(question: Question<'_>) -> io::Result<()> {
+    let Question { out, line, set } = question;
     let Some((piece, offset, size)) = block_in(line) else {
         return replies::bad_call(out);
     };
+    // Stays: `blocks::map_block_core` fills columns, which the C interface lends.
     let mut files = [0u64; COLUMN];
     let mut offsets = [0u64; COLUMN];
     let mut sizes = [0u64; COLUMN];

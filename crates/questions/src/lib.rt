@@ -1,7 +1,7 @@
 // Questions of a script of calls: what only reads, on one set and its renames or on no set. Each is answered by a line
 // of standard output, and what is no question by `badcall`. So only whether the line was written is returned, and
-// nothing lent is changed: there is nothing to promise but that the functions are safe and end. Relies on the libraries'
-// answers, on `script` and on `replies`.
+// nothing lent is changed: there is nothing to promise but that the functions are safe and end. Relies on the
+// libraries' answers, on `script` and on `replies`.
 #![tactic(auto)]
 
 ghost use Rattle.std.specs.Prelude.{◌≡◌, replicate};
@@ -15,7 +15,7 @@ mod no_set;
 mod renamed_files;
 mod whole_set;
 
-pub use answer::on_set;
+pub use answer::{Asked, on_set};
 pub use no_set::on_no_set;
 
 // How many places the tables have that a question's answer is lent: bytes for a composed text, slices, and hashes.
@@ -39,6 +39,7 @@ pub(crate) fn room() -> [u8; 262144] {
 }
 
 // The first n places of a table, or as many as there are.
+// Stays: it makes the slice that a library is lent; n comes from the script, and may pass the table's end.
 pub(crate) fn first<T>(table: &mut [T], n: usize) -> &mut [T] {
     let to = n.min(table.len());
     &mut table[..to]

@@ -7,7 +7,7 @@ use std::io::Stdout;
 
 // Answers a question on no set; a line that is none is no call.
 pub fn on_no_set(out: Stdout, line: &[u8]) -> io::Result<()> {
-    // Stays: the forms stand in one text, numbered by their order; an enum would need a second list in that order.
+    // Stays: a form says the most words of a line too; a match on the first word would need that test in each arm.
     match script::form_of(
         b"lsplit_at :P N, append :A :B, combine :A :B, width N",
         line,
@@ -28,7 +28,7 @@ fn on_string(out: Stdout, line: &[u8]) -> io::Result<()> {
         return replies::bad_call(out);
     };
     let s = lists::part(&buffer, 0, n);
-    // Stays: the forms stand in one text, numbered by their order; an enum would need a second list in that order.
+    // Stays: a form says the most words of a line too; a match on the first word would need that test in each arm.
     match script::form_of(forms, line) {
         Some(0) => halves(out, path::rsplit_path_branch(s), path::rsplit_path_leaf(s)),
         Some(1) => halves(out, path::lsplit_path_first(s), path::lsplit_path_rest(s)),

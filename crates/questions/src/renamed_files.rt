@@ -1,22 +1,22 @@
 // Questions on a set through its renames, and the export of these. Relies on `renamed`, on `script` and on `replies`.
-use crate::answer::Asked;
+use crate::answer::Question;
 use crate::{file_words, first, large_buffer, room};
 use renamed::FileName;
 use replies::ByteString;
 use std::io;
-use std::io::Stdout;
 use types::FileIndex;
 
 // Answers a line that has one of these forms, and says whether it has.
-pub(crate) fn answer(out: Stdout, line: &[u8], set: Asked<'_>) -> io::Result<bool> {
-    // Stays: the forms stand in one text, numbered by their order; an enum would need a second list in that order.
+pub(crate) fn answer(question: Question<'_>) -> io::Result<bool> {
+    let Question { out, line, set } = question;
+    // Stays: a form says the most words of a line too; a match on the first word would need that test in each arm.
     match script::form_of(
         b"renamed_name I, renamed_absolute I, renamed_path I :SAVE, export",
         line,
     ) {
-        Some(0) => name(out, line, set)?,
-        Some(1) => absolute(out, line, set)?,
-        Some(2) => path(out, line, set)?,
+        Some(0) => name(question)?,
+        Some(1) => absolute(question)?,
+        Some(2) => path(question)?,
         Some(3) => replies::export(out, set.held, set.entries, set.area)?,
         _ => return Ok(false),
     }
@@ -24,7 +24,8 @@ pub(crate) fn answer(out: Stdout, line: &[u8], set: Asked<'_>) -> io::Result<boo
 }
 
 // `renamed_name I`.
-fn name(out: Stdout, line: &[u8], set: Asked<'_>) -> io::Result<()> {
+fn name(question: Question<'_>) -> io::Result<()> {
+    let Question { out, line, set } = question;
     let Some(n) = script::to_i32(script::word(line, 1)) else {
         return replies::bad_call(out);
     };
@@ -49,7 +50,8 @@ fn name(out: Stdout, line: &[u8], set: Asked<'_>) -> io::Result<()> {
 }
 
 // `renamed_absolute I`.
-fn absolute(out: Stdout, line: &[u8], set: Asked<'_>) -> io::Result<()> {
+fn absolute(question: Question<'_>) -> io::Result<()> {
+    let Question { out, line, set } = question;
     let Some(n) = script::to_i32(script::word(line, 1)) else {
         return replies::bad_call(out);
     };
@@ -61,7 +63,8 @@ fn absolute(out: Stdout, line: &[u8], set: Asked<'_>) -> io::Result<()> {
 }
 
 // `renamed_path I :SAVE`.
-fn path(out: Stdout, line: &[u8], set: Asked<'_>) -> io::Result<()> {
+fn path(question: Question<'_>) -> io::Result<()> {
+    let Question { out, line, set } = question;
     let mut buffer = large_buffer();
     let Some((index, save)) = file_words::read(line, &mut buffer) else {
         return replies::bad_call(out);

@@ -1,19 +1,19 @@
 // Questions on a set as a whole. Relies on `answers` and `layout`, on `script` and on `replies`.
-use crate::answer::Asked;
+use crate::answer::Question;
 use std::io;
-use std::io::Stdout;
 
 // Answers a line that has one of this module's forms, and says whether it has.
-pub(crate) fn answer(out: Stdout, line: &[u8], set: Asked<'_>) -> io::Result<bool> {
-    Ok(on_pieces(out, line, set)? || on_files(out, line, set)?)
+pub(crate) fn answer(question: Question<'_>) -> io::Result<bool> {
+    Ok(on_pieces(question)? || on_files(question)?)
 }
 
 // Answers a question on pieces and ranges; an arm stands for each form, in their order.
-fn on_pieces(out: Stdout, line: &[u8], set: Asked<'_>) -> io::Result<bool> {
+fn on_pieces(question: Question<'_>) -> io::Result<bool> {
+    let Question { out, line, set } = question;
     let forms =
         b"piece_length, num_pieces, last_piece, piece_range, file_range, blocks_per_piece, v2, first_files";
     let fs = set.fs;
-    // Stays: the forms stand in one text, numbered by their order; an enum would need a second list in that order.
+    // Stays: a form says the most words of a line too; a match on the first word would need that test in each arm.
     match script::form_of(forms, line) {
         Some(0) => replies::answer(out, answers::piece_length(fs))?,
         Some(1) => replies::answer(out, layout::num_pieces(fs))?,
@@ -29,10 +29,11 @@ fn on_pieces(out: Stdout, line: &[u8], set: Asked<'_>) -> io::Result<bool> {
 }
 
 // Answers a question on files, directories and text; an arm stands for each form, in their order.
-fn on_files(out: Stdout, line: &[u8], set: Asked<'_>) -> io::Result<bool> {
+fn on_files(question: Question<'_>) -> io::Result<bool> {
+    let Question { out, line, set } = question;
     let fs = set.fs;
     let text = set.text;
-    // Stays: the forms stand in one text, numbered by their order; an enum would need a second list in that order.
+    // Stays: a form says the most words of a line too; a match on the first word would need that test in each arm.
     match script::form_of(
         b"name, num_files, total_size, size_on_disk, text_bytes, dirs",
         line,

@@ -1,7 +1,7 @@
 -- Deciding over the decision of another answer: a question that needs more tables than another has the same refusals before its
 -- last one. They rely on what is known once no rule stopped an answer (proofs/Deciding.antt of `renames`).
 use Prim.Native.Nat.{ℕ}
-use mathlib.Core.Path.{◌≡◌, refl, ap, ◌∙◌}
+use mathlib.Core.Path.{◌≡◌, refl, ◌∙◌}
 use mathlib.Core.Bool.{Bool, true, false, not, ◌&&◌}
 use mathlib.Core.List.{[], ◌∷◌}
 use native.Mathlib.Omega.{arith}
@@ -11,7 +11,7 @@ use Rattle.tables.specs.declared.storage.FileStorage.{FileStorage}
 use Rattle.rules.specs.Rules.{when, first_of, outcome_of}
 use Rattle.rules.specs.Bounds.{bad_length, clamped_of, is_below}
 use Rattle.rules.specs.Questions.{few_entries, file_answer, short}
-use Rattle.renames.proofs.Deciding.{asked-good, asked-there, asked-held, asked-few, asked-own}
+use Rattle.renames.proofs.Deciding.{asked-good, asked-there, asked-held, asked-few}
 
 stops : {A B : Type 0} (bad below held more few : Bool) (m : ℕ) (x : A) (y : B)
     → refused m ≡ outcome_of (first_of (when bad 1 ∷ when (not below) 11 ∷ when (not (held && few)) 10 ∷ [])) x
@@ -37,9 +37,9 @@ module _ {A B : Type 0} (fs : FileStorage) (z : ℤ) (held more : Bool) (f : ℕ
 
 -- the number of a file, and then an answer about it that may lack room
 module _ {B : Type 0} (fs : FileStorage) (z : ℤ) (held more : Bool) (g : ℕ → B) (k : ℕ) (h : value k ≡ file_answer fs z held (λ k. k)) where
-  then_if : (b : Bool) → more ≡ b → outcome_of (first_of (short b ∷ [])) (g k) ≡ file_answer fs z (held && more) g
-  then_if true q = asked-value fs z held more (λ k. k) g k h q (g k) (ap g (asked-own fs z held (λ k. k) k h))
+  then_if : (b : Bool) → more ≡ b → outcome_of (first_of (short b ∷ [])) (g (clamped_of z)) ≡ file_answer fs z (held && more) g
+  then_if true q = asked-value fs z held more (λ k. k) g k h q (g (clamped_of z)) refl
   then_if false q = asked-disorder fs z held more (λ k. k) g k h q
 
-  pub asked-then : (o : Outcome B) → o ≡ outcome_of (first_of (short more ∷ [])) (g k) → o ≡ file_answer fs z (held && more) g
+  pub asked-then : (o : Outcome B) → o ≡ outcome_of (first_of (short more ∷ [])) (g (clamped_of z)) → o ≡ file_answer fs z (held && more) g
   asked-then o e = e ∙ then_if more refl

@@ -1,12 +1,15 @@
 -- Laws of a path through the renames: the text composed once nothing stops the question. They rely on what is known once no rule
 -- stops a question (proofs/Deciding.antt of `renames`).
+use Rattle.std.specs.Prelude.{Option, Some, None, Result, IsErrAnd}
 use Prim.Native.Nat.{ℕ}
-use mathlib.Core.Path.{◌≡◌, ◌∙◌}
+use mathlib.Core.Path.{◌≡◌, sym, ◌∙◌}
 use mathlib.Core.Bool.{Bool, true, false, cond, not, ◌&&◌}
 use mathlib.Core.List.{List}
 use lib.Dec.{eqb}
 use lib.IntN.{ℤ}
-use Rattle.types.specs.Refusals.{value, refused}
+use Rattle.types.specs.declared.refusal.Refusal.{Refusal}
+use Rattle.types.specs.Refusals.{number_of, outcome, value, refused}
+use Rattle.types.proofs.Refusals.{exit}
 use Rattle.path.specs.Join.{Joined}
 use Rattle.tables.specs.declared.storage.FileStorage.{FileStorage}
 use Rattle.rules.specs.Bounds.{bad_length, clamped_of, is_below}
@@ -15,6 +18,16 @@ use Rattle.rules.specs.Composed.{composed_if, composed_file}
 use Rattle.rules.proofs.Deciding.{denied}
 use Rattle.renames.proofs.Deciding.{asked-good, asked-there, asked-held, asked-few, asked-own}
 use Rattle.rules.proofs.Rules.{both_true}
+use Rattle.tables.specs.Rows.{row_at}
+use Rattle.tables.specs.Span.{text_at}
+use Rattle.names.specs.Paths.{file_path, names_held}
+use Rattle.renames.specs.declared.rename.Rename.{Rename}
+use Rattle.renames.specs.declared.rename.RenamedFiles.{RenamedFiles}
+use Rattle.renames.specs.Renames.{renames_of, in_order}
+use Rattle.renames.specs.Finding.{rename_for, rename_found}
+use Rattle.renames.proofs.Finding.{read_found}
+use Rattle.renamed.specs.Questions.{path_by, renamed_path, path_into}
+use Rattle.renamed.proofs.Questions.{listed}
 
 module _ {A : Type 0} (fs : FileStorage) (z : ℤ) (held order : Bool) (f : ℕ → A) (t : ℕ → List ℕ) (buf : List ℕ) where
   abbrev bad : Bool
@@ -53,3 +66,39 @@ module _ {A : Type 0} (fs : FileStorage) (z : ℤ) (held order : Bool) (f : ℕ 
     path-own s j h w =
         let b = both_true held order all_held in
         h ∙ rw (good, within, few, b.0, b.1, w)
+
+-- the path of file z through its rename, in a lent buffer
+module _ (fs : FileStorage) (rows dirs text : List ℕ) (rf : RenamedFiles) (e t : List ℕ) (z : ℤ) (save buf : List ℕ) where
+  abbrev held : Bool
+  held = names_held fs rows dirs text
+
+  abbrev order : Bool
+  order = in_order rf e t
+
+  abbrev own : ℕ → List ℕ
+  own k = file_path fs dirs text save (row_at rows k)
+
+  abbrev new : ℕ → List ℕ
+  new k = renamed_path (rename_for k (renames_of rf e t)) (own k) save (text_at text fs.name)
+
+  pub renamed-refused : (r : Result ℕ Refusal) (x : Refusal) → IsErrAnd r (λ y. y ≡ x)
+      → refused (number_of x) ≡ file_answer fs z (held && order) (rename_found rf e)
+      → ◌≡◌ {A = Joined} (record { says = outcome r; buf = buf }) (path_into fs rows dirs text rf e t z save buf)
+  renamed-refused r x i h = rw (exit r x i) (path-refused fs z held order (rename_found rf e) new buf (number_of x) h)
+
+  module _ (x : Option Rename) (h : value x ≡ file_answer fs z (held && order) (rename_found rf e)) where
+    there : (y : Option Rename) → x ≡ y → rename_for (clamped_of z) (renames_of rf e t) ≡ read_found t y
+    there y is =
+        let k = path-asked fs z held order (rename_found rf e) new buf x h in
+        listed rf e t (clamped_of z) k.0 y (sym k.1 ∙ is)
+
+    pub renamed-text : (r : Rename) → x ≡ Some r → (set name : List ℕ) → set ≡ text_at text fs.name → name ≡ text_at t r.name
+        → (j : Joined) → j ≡ composed_if 0 (path_by r.mode save set name) buf → j ≡ path_into fs rows dirs text rf e t z save buf
+    renamed-text r is set name a b j p =
+        let one = there (Some r) is in
+        path-text fs z held order (rename_found rf e) new buf x h j (path_by r.mode save set name) p (rw (one, a, b))
+
+    pub renamed-own : x ≡ None → (j : Joined) → j ≡ composed_file fs z held own buf → j ≡ path_into fs rows dirs text rf e t z save buf
+    renamed-own is j p =
+        let none = there None is in
+        path-own fs z held order (rename_found rf e) new buf x h own j p (rw none)

@@ -1,6 +1,6 @@
 -- Laws of the questions through the renames: what a rename that was found tells, a leaf's place, and what the name's place reads as
 -- in the list of renames. They rely on the laws of `renames` about renames that are read back.
-use Rattle.std.specs.Prelude.{Option, Some, None}
+use Rattle.std.specs.Prelude.{Option, Some, None, Result, Ok, Err, IsErrAnd}
 use Prim.Native.Nat.{ℕ, ◌+◌, ◌-◌, ◌≤◌}
 use mathlib.Core.Path.{◌≡◌, refl, sym, ap, ◌∙◌}
 use mathlib.Core.Bool.{Bool, true, false, cond, not, ◌&&◌}
@@ -15,11 +15,12 @@ use Rattle.lists.proofs.Parts.{drop-take, part-part-within, part_length}
 use Rattle.path.specs.Split.{is_separator, trimmed, before_last, after_last, rsplit_leaf}
 use Rattle.path.proofs.Ends.{trim-yes, trim-no}
 use Rattle.path.proofs.Splits.{last-parts, leaf-all}
-use Rattle.types.specs.Refusals.{value, refused}
+use Rattle.types.specs.declared.refusal.Refusal.{Refusal}
+use Rattle.types.specs.Refusals.{number_of, value, refused}
 use Rattle.tables.specs.declared.storage.FileStorage.{FileStorage}
 use Rattle.tables.specs.declared.span.Span.{Span}
 use Rattle.tables.specs.Span.{text_at}
-use Rattle.tables.specs.Rows.{row_at}
+use Rattle.tables.specs.Rows.{row_at, is_absolute}
 use Rattle.rules.specs.Rules.{outcome_of}
 use Rattle.rules.specs.Bounds.{bad_length, clamped_of, is_below}
 use Rattle.rules.specs.Questions.{few_entries, file_answer, rows_are_held, text_held}
@@ -28,7 +29,12 @@ use Rattle.renames.specs.declared.rename.RenamedFiles.{RenamedFiles}
 use Rattle.renames.specs.Renames.{Renamed, renames_of, in_order}
 use Rattle.renames.specs.Finding.{rename_for, rename_found, find_given}
 use Rattle.renames.proofs.Finding.{read_found, renamed-found, read_as, read-if}
-use Rattle.renamed.specs.Questions.{renamed_name, NameSpan, in_set, in_renames, leaf_span, name_span, name_given}
+use Rattle.renames.proofs.Deciding.{asked-own}
+use Rattle.answers.specs.Given.{file_absolute_path_given, file_name_given}
+use Rattle.renamed.specs.declared.result.FileName.{FileName}
+use Rattle.renamed.specs.Results.{name_says}
+use Rattle.renamed.proofs.Deciding.{asked-refused, asked-disorder, asked-value}
+use Rattle.renamed.specs.Questions.{renamed_name, renamed_absolute, is_by_itself, NameSpan, in_set, in_renames, leaf_span, name_span, name_given, absolute_given}
 
 -- ---- what a rename that was found tells
 
@@ -51,6 +57,61 @@ module _ (rf : RenamedFiles) (e t : List ℕ) (k : ℕ) where
   -- the rename in the list
   pub listed : in_order rf e t ≡ true → (x : Option Rename) → rename_found rf e k ≡ x → rename_for k (renames_of rf e t) ≡ read_found t x
   listed o x q = renamed-found rf e t k o ∙ ap (read_found t) q
+
+-- the set's own answer about a file first, then that of its rename
+module _ {A B : Type 0} (fs : FileStorage) (z : ℤ) (held : Bool) (rf : RenamedFiles) (e t : List ℕ) (own : ℕ → A) (new : ℕ → B) (v : A)
+    (h : value v ≡ file_answer fs z held own) where
+  rename-refused : (m : ℕ) → refused m ≡ find_given rf e (length t) (clamped_of z) → refused m ≡ file_answer fs z (held && in_order rf e t) new
+  rename-refused m p =
+      let w = found-refused rf e t (clamped_of z) m p in
+      ap refused w.1 ∙ asked-disorder fs z held (in_order rf e t) own new v h w.0
+
+  rename-told : (x y : Option Rename) → x ≡ y → value x ≡ find_given rf e (length t) (clamped_of z)
+      → (w : B) → (rename_for (clamped_of z) (renames_of rf e t) ≡ read_found t y → w ≡ new (clamped_of z)) → value w ≡ file_answer fs z (held && in_order rf e t) new
+  rename-told x y is p w q =
+      let f = found-value rf e t (clamped_of z) x p in
+      asked-value fs z held (in_order rf e t) own new v h f.0 w (q (listed rf e t (clamped_of z) f.0 y (f.1 ∙ is)))
+
+-- ---- whether a file's path is absolute
+
+module _ (fs : FileStorage) (rows : List ℕ) (rf : RenamedFiles) (e t : List ℕ) (z : ℤ) where
+  abbrev own_absolute : ℕ → Bool
+  own_absolute k = is_absolute (row_at rows k)
+
+  abbrev new_absolute : ℕ → Bool
+  new_absolute k = renamed_absolute (rename_for k (renames_of rf e t)) (own_absolute k)
+
+  module _ (own : Bool) (h : value own ≡ file_absolute_path_given fs rows z) where
+    pub absolute-renamed : (x : Option Rename) (r : Rename) → x ≡ Some r → value x ≡ find_given rf e (length t) (clamped_of z)
+        → (w : Bool) → w ≡ is_by_itself r.mode → value w ≡ absolute_given fs rows rf e t z
+    absolute-renamed x r is p w q =
+        rename-told fs z (rows_are_held fs rows) rf e t own_absolute new_absolute own h x (Some r) is p w (λ one. rw one q)
+
+    pub absolute-own : (x : Option Rename) → x ≡ None → value x ≡ find_given rf e (length t) (clamped_of z) → value own ≡ absolute_given fs rows rf e t z
+    absolute-own x is p =
+        rename-told fs z (rows_are_held fs rows) rf e t own_absolute new_absolute own h x None is p own
+        (λ none. rw none (asked-own fs z (rows_are_held fs rows) own_absolute own h))
+
+-- ---- where a file's name lies
+
+-- what the exit of a `?` says of a name
+pub exit_name : (r : Result FileName Refusal) (e : Refusal) → IsErrAnd r (λ x. x ≡ e) → name_says r ≡ refused (number_of e)
+exit_name (Ok a) e h = absurd h
+exit_name (Err x) e h = ap (λ y. refused (number_of y)) h
+
+module _ (fs : FileStorage) (rows text : List ℕ) (rf : RenamedFiles) (e t : List ℕ) (z : ℤ) where
+  abbrev own_name : ℕ → Span
+  own_name k = (row_at rows k).name
+
+  abbrev new_name : ℕ → NameSpan
+  new_name k = name_span t (own_name k) (rename_found rf e k)
+
+  pub name-refused : (m : ℕ) → refused m ≡ file_name_given fs rows text z → refused m ≡ name_given fs rows text rf e t z
+  name-refused = asked-refused fs z (rows_are_held fs rows && text_held fs text) (in_order rf e t) own_name new_name
+
+  pub name-disorder : (own : Span) → value own ≡ file_name_given fs rows text z
+      → (m : ℕ) → refused m ≡ find_given rf e (length t) (clamped_of z) → refused m ≡ name_given fs rows text rf e t z
+  name-disorder own h = rename-refused fs z (rows_are_held fs rows && text_held fs text) rf e t own_name new_name own h
 
 -- ---- a leaf's place
 
@@ -106,13 +167,6 @@ leaf-text l s =
     let f = trimmed-front (text_at l s) in
     leaf-place l s.at s.len (length (trimmed is_separator (text_at l s))) (rsplit_leaf (text_at l s)) f.0 f.1 refl
     (length (trimmed is_separator (text_at l s)) - length (rsplit_leaf (text_at l s))) refl
-
-pub leaf-is : (l : List ℕ) (s : Span) (k m : ℕ) (name leaf : List ℕ) → name ≡ text_at l s → leaf ≡ rsplit_leaf name
-    → (k ≤ length name) × (take k name ≡ trimmed is_separator name) → m ≡ k - length leaf
-    → ◌≡◌ {A = Span} (record { at = s.at + m; len = length leaf }) (leaf_span l s)
-leaf-is l s k m name leaf e h t d =
-    let q : k ≡ length (trimmed is_separator name) = sym (length-take-le k name t.0) ∙ ap length t.1 in
-    rw (d, q, h, e)
 
 -- ---- what the name's place reads as
 

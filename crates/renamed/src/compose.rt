@@ -1,4 +1,4 @@
-// A file's whole path through its rename, composed into a lent buffer. Relies on `renames` for the rename, on
+// A file's whole path through its rename, composed into a lent buffer. Relies on lent.rt for the rename, on
 // `names` and `path` for joins and on the laws of proofs/Paths.antt.
 ghost use Rattle.std.specs.Prelude.{◌&&◌, ◌≡◌};
 ghost use Rattle.types.specs.Refusals.{outcome};
@@ -9,30 +9,26 @@ ghost use Rattle.renames.specs.Renames.{in_order};
 ghost use Rattle.renames.specs.Finding.{rename_found};
 ghost use Rattle.renamed.specs.Questions.{path_by, path_into};
 
+use crate::lent::LentRenames;
 use names::are_held;
-use renames::{Rename, RenameMode, RenamedFiles, find_rename};
-use tables::FileStorage;
+use renames::{Rename, RenameMode, RenamedFiles};
+use tables::{FileStorage, Lent, LentSet};
 use types::{FileIndex, Refusal};
 
 // The rename of a file, if it has one, or why a question about the file's path isn't answered.
 fn find_through(
-    fs: FileStorage,
-    rows: &[u64],
-    dirs: &[u64],
-    text: &[u8],
-    renames: RenamedFiles,
-    rename_entries: &[u64],
-    rename_text: &[u8],
+    set: LentSet<'_>,
+    names: LentRenames<'_>,
     index: FileIndex,
 ) -> Result<Option<Rename>, Refusal>
-    ensures { outcome result ≡ file_answer fs index.0
-        (names_held fs rows.now dirs.now text.now
-        && in_order renames rename_entries.now rename_text.now)
-        (rename_found renames rename_entries.now) }
+    ensures { outcome result ≡ file_answer set.entry.fs index.0
+        (names_held set.entry.fs set.entry.lent.rows.now set.entry.lent.dirs.now set.entry.lent.text.now
+        && in_order names.entry.renames names.entry.entries.now names.entry.text.now)
+        (rename_found names.entry.renames names.entry.entries.now) }
 {
-    let held = are_held(fs, dirs.len(), text.len());
-    let k = names::file_in(fs, rows, index, held)?;
-    find_rename(renames, rename_entries, rename_text.len(), k as u64)
+    let held = are_held(set.fs, set.lent.dirs.len(), set.lent.text.len());
+    names::file_in(set.fs, set.lent.rows, index, held)?;
+    names.find(index)
 }
 
 // Writes the path that a rename's text `name` is read as by its mode; `set` is the set's name.
@@ -56,6 +52,8 @@ fn put_renamed(
 }
 
 // Writes the whole path of a file through its rename, after `save_path`, to `buf`.
+// Stays: it is public and is lent each table by itself, as those in question.rt are, which read fewer
+// (docs/DECISIONS.md).
 pub fn file_path(
     fs: FileStorage,
     rows: &[u64],
@@ -73,17 +71,13 @@ pub fn file_path(
         rename_entries.now rename_text.now index.0 save_path.now
         buf.old }
 {
-    let found = find_through(
-        fs,
-        rows,
-        dirs,
-        text,
+    let lent = Lent { rows, dirs, text };
+    let names = LentRenames {
         renames,
-        rename_entries,
-        rename_text,
-        index,
-    )?;
-    match found {
+        entries: rename_entries,
+        text: rename_text,
+    };
+    match find_through(LentSet { fs, lent }, names, index)? {
         Some(rename) => {
             let set = tables::text_at(text, fs.name);
             let name = tables::text_at(rename_text, rename.name);

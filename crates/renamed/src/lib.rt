@@ -3,6 +3,7 @@
 #![tactic(auto)]
 
 mod compose;
+mod lent;
 mod question;
 mod result;
 

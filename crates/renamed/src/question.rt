@@ -1,12 +1,13 @@
-// A file's name through its rename, and whether its path is absolute. Relies on `renames` for the rename, on
+// A file's name through its rename, and whether its path is absolute. Relies on lent.rt for the rename, on
 // `answers` for the set's own answers and on the laws of proofs/Questions.antt.
 ghost use Rattle.std.specs.Prelude.{◌≡◌};
 ghost use Rattle.types.specs.Refusals.{outcome};
 ghost use Rattle.renamed.specs.Results.{name_says};
 ghost use Rattle.renamed.specs.Questions.{leaf_span, is_by_itself, name_given, absolute_given};
 
+use crate::lent::LentRenames;
 use crate::result::FileName;
-use renames::{RenameMode, RenamedFiles, find_rename};
+use renames::{RenameMode, RenamedFiles};
 use tables::{FileStorage, Span};
 use types::{FileIndex, Refusal};
 
@@ -43,13 +44,12 @@ pub fn file_name(
         rename_text.now index.0 }
 {
     let own = answers::file_name(fs, rows, text, index)?;
-    let found = find_rename(
+    let names = LentRenames {
         renames,
-        rename_entries,
-        rename_text.len(),
-        index.get() as u64,
-    )?;
-    match found {
+        entries: rename_entries,
+        text: rename_text,
+    };
+    match names.find(index)? {
         Some(rename) => Ok(FileName::InRenames(leaf_of(rename_text, rename.name))),
         None => Ok(FileName::InSet(own)),
     }
@@ -68,13 +68,12 @@ pub fn file_absolute_path(
         rename_text.now index.0 }
 {
     let own = answers::file_absolute_path(fs, rows, index)?;
-    let found = find_rename(
+    let names = LentRenames {
         renames,
-        rename_entries,
-        rename_text.len(),
-        index.get() as u64,
-    )?;
-    match found {
+        entries: rename_entries,
+        text: rename_text,
+    };
+    match names.find(index)? {
         Some(rename) => Ok(is_by_itself(rename.mode)),
         None => Ok(own),
     }

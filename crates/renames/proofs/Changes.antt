@@ -15,7 +15,7 @@ use Rattle.renames.specs.Renames.{Renamed, mode_word, renames_from, ordered_from
 use Rattle.renames.specs.Finding.{bytes_from}
 use Rattle.renames.specs.private.Slots.{slot_of, spliced}
 use Rattle.renames.proofs.Ordered.{order-mode, order-bytes}
-use Rattle.renames.proofs.Slots.{below-le, same-le, same-one, bytes-slot, bytes_first}
+use Rattle.renames.proofs.Slots.{below_le, same-le, same-one, bytes-slot, bytes_first}
 use Rattle.renames.proofs.Readings.{length-renames, texts-back, words_back, words_append, texts-append, with-rename}
 use Rattle.renames.proofs.Splices.{sets-own}
 
@@ -29,13 +29,13 @@ module _ (n u file : ℕ) (e : List ℕ) (ordered : ordered_from n 0 0 u e ≡ t
   more = bytes_from (n - (p.entry + p.same)) (p.entry + p.same) e
 
   pub slot-entry : p.entry + p.same ≤ n
-  slot-entry = same-le n file p.entry e (below-le n 0 file e)
+  slot-entry = same-le n file p.entry e (below_le n 0 file e)
 
   pub slot-one : p.same ≤ 1
   slot-one = same-one n file p.entry e
 
   slot-bytes : u ≡ p.at + p.old + more
-  slot-bytes = sym (order-bytes n 0 0 u e ordered) ∙ bytes-slot n file p.entry e (below-le n 0 file e)
+  slot-bytes = sym (order-bytes n 0 0 u e ordered) ∙ bytes-slot n file p.entry e (below_le n 0 file e)
 
   pub slot-text : p.at + p.old ≤ u
   slot-text = omega (arith, slot-bytes)
@@ -70,7 +70,7 @@ module _ (n u : ℕ) (r : Renamed) (e t : List ℕ) (ordered : ordered_from n 0 
   words-before =
       let k = slot-entry n u r.file e ordered in
       words_back q.entry 0 e t (λ j a b. order-mode n 0 0 u e ordered j (omega arith) (omega arith)) (omega arith)
-      (omega (arith, bytes_first q.entry n e (below-le n 0 r.file e), order-bytes n 0 0 u e ordered))
+      (omega (arith, bytes_first q.entry n e (below_le n 0 r.file e), order-bytes n 0 0 u e ordered))
 
   words-behind : words_of behind ≡ drop (q.entry * 3 + q.same * 3) (take (n * 3) e)
   words-behind =

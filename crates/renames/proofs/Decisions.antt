@@ -1,16 +1,19 @@
 -- Deciding before a change: the order of the refusals, what is known once none stops the call, and that the decision on numbers is
 -- that of the change. These laws rely on those of proofs/Changes.antt.
+use Rattle.std.specs.Prelude.{Result, IsErrAnd}
 use Prim.Native.Nat.{ℕ, ◌+◌, ◌-◌, ◌*◌, ◌/◌, ◌≤◌}
-use mathlib.Core.Path.{◌≡◌, refl}
+use mathlib.Core.Path.{◌≡◌, refl, ◌∙◌}
 use mathlib.Core.Bool.{Bool, true, false, cond, not, ◌&&◌}
 use mathlib.Core.List.{List, [], ◌∷◌}
 use native.Mathlib.Omega.{arith}
 use borrow.Author.Tests.{leb-true, ltb-false, not-false}
 use lib.Dec.{eqb, ltb, leb}
 use lib.IntN.{ℤ}
-use lib.ListN.{length}
+use lib.ListN.{length, take}
 use lib.Seq.{sets}
-use Rattle.types.specs.Refusals.{value, refused}
+use Rattle.types.specs.declared.refusal.Refusal.{Refusal}
+use Rattle.types.specs.Refusals.{number_of, outcome, value, refused}
+use Rattle.types.proofs.Refusals.{exit}
 use Rattle.tables.specs.declared.storage.FileStorage.{FileStorage}
 use Rattle.rules.specs.Rules.{when, first_of, outcome_of}
 use Rattle.rules.specs.Bounds.{bad_length, clamped_of, is_below}
@@ -25,7 +28,8 @@ use Rattle.renames.specs.private.Slots.{slot_of}
 use Rattle.renames.specs.Renames.{in_order_in}
 use Rattle.renames.specs.private.Changing.{is_short, slot_number, slot_given, rename_of}
 use Rattle.renames.proofs.Ordered.{order-bytes}
-use Rattle.renames.proofs.Changes.{count-after, bytes_after}
+use Rattle.renames.proofs.Used.{slot_in_use}
+use Rattle.renames.proofs.Changes.{slot_in, count-after, bytes_after}
 
 -- what tables in order hold
 pub order-in : (rf : RenamedFiles) (e : List ℕ) (room : ℕ) → in_order_in rf e room ≡ true
@@ -34,6 +38,15 @@ order-in rf e room h =
     let a = both_true (leb rf.num_renames (length e / 3)) (leb rf.text_len room && ordered_from rf.num_renames 0 0 rf.text_len e) h in
     let b = both_true (leb rf.text_len room) (ordered_from rf.num_renames 0 0 rf.text_len e) a.1 in
     (leb-true _ _ a.0, leb-true _ _ b.0, b.1)
+
+-- what a slot among the entries in use asks of the room
+pub room_asked : (rf : RenamedFiles) (e : List ℕ) (room k : ℕ) (p : Slot) → in_order_in rf e room ≡ true
+    → p ≡ slot_of (length (take (rf.num_renames * 3) e) / 3) k (take (rf.num_renames * 3) e)
+    → (rf.num_renames ≤ length e / 3) × (rf.text_len ≤ room) × (p.old ≤ rf.text_len) × (p.same ≤ 1)
+room_asked rf e room k p h is =
+    let o = order-in rf e room h in
+    let s = slot_in rf.num_renames rf.text_len k e o.2 p (is ∙ slot_in_use rf.num_renames e (omega (arith, o.0)) k) in
+    (o.0, o.1, omega (arith, s.2), s.1)
 
 -- with the bytes of the texts
 pub ruleset orders = (order-in, order-bytes)
@@ -97,10 +110,11 @@ module _ (fs : FileStorage) (rf : RenamedFiles) (e t : List ℕ) (z : ℤ) (name
         → ◌≡◌ {A = RenamesChanged} (record { says = value rf'; entries = e'; text = t' }) (rename_file_answer fs rf e t z name)
     slot-changed rf' e' t' a b d = rw (number_is, known.0, a, b, d)
 
-  -- one stops it
-  pub slot-refused : (m : ℕ) → refused m ≡ slot_given fs rf e (length t) z (length name)
-      → ◌≡◌ {A = RenamesChanged} (record { says = refused m; entries = e; text = t }) (rename_file_answer fs rf e t z name)
-  slot-refused m h =
+  -- one stops it, and a `?` leaves with it
+  pub slot-refused : (r : Result RenamedFiles Refusal) (x : Refusal) → IsErrAnd r (λ y. y ≡ x)
+      → refused (number_of x) ≡ slot_given fs rf e (length t) z (length name)
+      → ◌≡◌ {A = RenamesChanged} (record { says = outcome r; entries = e; text = t }) (rename_file_answer fs rf e t z name)
+  slot-refused r x i h =
       let n = slot_number fs rf e (length t) z (length name) in
-      let r = denied n there (eqb n 0) m h in
-      rw (number_is, r.0, r.1)
+      let d = denied n there (eqb n 0) (number_of x) h in
+      rw (exit r x i, number_is, d.0, d.1)

@@ -7,7 +7,7 @@ use mathlib.Core.Logic.{⊎_elim}
 use mathlib.Core.List.{List}
 use native.Mathlib.Omega.{arith}
 use borrow.Author.Tests.{leb-true, eqb-true}
-use lib.Dec.{leb}
+use lib.Dec.{eqb, leb}
 use lib.ListN.{get_or}
 use Rattle.lists.proofs.Orders.{le-or-lt}
 use Rattle.renames.specs.Renames.{ordered_from}
@@ -55,6 +55,19 @@ module _ (n i least left : ℕ) (e : List ℕ) where
       → ordered_from n (i + 1) (get_or e (i * 3) 0 + 1) (left - get_or e (i * 3 + 2) 0) e ≡ true
   order-rest h =
       (both_true first (ordered_from n (i + 1) (get_or e (i * 3) 0 + 1) (left - get_or e (i * 3 + 2) 0) e) (sym order-step ∙ h)).1
+
+-- one entry of the check, or its end
+module _ (n i least left : ℕ) (e : List ℕ) where
+  pub order_turn : i < n → ordered_from (n - i) i least left e
+      ≡ (entry_ordered (get_or e (i * 3) 0) (get_or e (i * 3 + 1) 0) (get_or e (i * 3 + 2) 0) least left
+      && ordered_from (n - (i + 1)) (i + 1) (get_or e (i * 3) 0 + 1) (left - get_or e (i * 3 + 2) 0) e)
+  order_turn h = let m : n - i ≡ suc (n - (i + 1)) = omega arith in rw m (order-step (n - (i + 1)) i least left e)
+
+  pub order_end : n ≤ i → ordered_from (n - i) i least left e ≡ eqb left 0
+  unfolding ordered_from
+  order_end h = let m : n - i ≡ 0 = omega arith in rw m
+
+pub ruleset turns = (order_turn, order_end)
 
 -- each number is one of 31 bits, and each mode one of three
 pub order-entry : (n i least left : ℕ) (e : List ℕ) → ordered_from n i least left e ≡ true

@@ -13,41 +13,45 @@ use Rattle.renames.specs.private.Slots.{same_at, old_at}
 
 -- one entry of the search: it goes on, or stops; and the end
 module _ (n i k : ℕ) (e : List ℕ) where
-  pub below-turn : i < n → get_or e (i * 3) 0 < k → i + below_from (n - i) i k e ≡ i + 1 + below_from (n - (i + 1)) (i + 1) k e
+  pub below_turn : i < n → get_or e (i * 3) 0 < k → below_from (n - i) i k e ≡ below_from (n - (i + 1)) (i + 1) k e + 1
   unfolding below_from
-  below-turn h g =
+  below_turn h g =
       let m : n - i ≡ suc (n - (i + 1)) = omega arith in
-      rw (m, lt-ltb (get_or e (i * 3) 0) k g) (omega arith)
+      rw (m, lt-ltb (get_or e (i * 3) 0) k g)
 
-  pub below-stop : i < n → k ≤ get_or e (i * 3) 0 → i + below_from (n - i) i k e ≡ i
+  pub below_stop : i < n → k ≤ get_or e (i * 3) 0 → below_from (n - i) i k e ≡ 0
   unfolding below_from
-  below-stop h g =
+  below_stop h g =
       let m : n - i ≡ suc (n - (i + 1)) = omega arith in
-      rw (m, le-ltb (get_or e (i * 3) 0) k g) (omega arith)
+      rw (m, le-ltb (get_or e (i * 3) 0) k g)
 
-  pub below_end : n ≤ i → i + below_from (n - i) i k e ≡ i
+  pub below_end : n ≤ i → below_from (n - i) i k e ≡ 0
   unfolding below_from
-  below_end h = let m : n - i ≡ 0 = omega arith in rw m (omega arith)
+  below_end h = let m : n - i ≡ 0 = omega arith in rw m
+
+pub ruleset below = (below_turn, below_stop, below_end)
 
 -- one entry of the sum, and its end
-module _ (n i sum : ℕ) (e : List ℕ) where
-  pub bytes-turn : i < n → sum + bytes_from (n - i) i e ≡ sum + get_or e (i * 3 + 2) 0 + bytes_from (n - (i + 1)) (i + 1) e
+module _ (n i : ℕ) (e : List ℕ) where
+  pub bytes_turn : i < n → bytes_from (n - i) i e ≡ get_or e (i * 3 + 2) 0 + bytes_from (n - (i + 1)) (i + 1) e
   unfolding bytes_from
-  bytes-turn h = let m : n - i ≡ suc (n - (i + 1)) = omega arith in rw m (omega arith)
+  bytes_turn h = let m : n - i ≡ suc (n - (i + 1)) = omega arith in rw m
 
-  pub bytes-end : n ≤ i → sum + bytes_from (n - i) i e ≡ sum
+  pub bytes_end : n ≤ i → bytes_from (n - i) i e ≡ 0
   unfolding bytes_from
-  bytes-end h = let m : n - i ≡ 0 = omega arith in rw m (omega arith)
+  bytes_end h = let m : n - i ≡ 0 = omega arith in rw m
+
+pub ruleset bytes = (bytes_turn, bytes_end)
 
 -- the slot is one of n, or the end
 below_step : (b : Bool) (n m : ℕ) → m ≤ n → cond b (m + 1) 0 ≤ suc n
 below_step true n m h = omega arith
 below_step false n m h = omega arith
 
-pub below-le : (n i k : ℕ) (e : List ℕ) → below_from n i k e ≤ n
+pub below_le : (n i k : ℕ) (e : List ℕ) → below_from n i k e ≤ n
 unfolding below_from
-below-le zero i k e = omega arith
-below-le (suc n) i k e = below_step (ltb (get_or e (i * 3) 0) k) n (below_from n (i + 1) k e) (below-le n (i + 1) k e)
+below_le zero i k e = omega arith
+below_le (suc n) i k e = below_step (ltb (get_or e (i * 3) 0) k) n (below_from n (i + 1) k e) (below_le n (i + 1) k e)
 
 -- the bytes of some entries and of those behind them
 pub bytes-split : (k m i : ℕ) (e : List ℕ) → bytes_from (k + m) i e ≡ bytes_from k i e + bytes_from m (i + k) e

@@ -1,5 +1,5 @@
 // `rename_file`: a rename is decided first and written after. Relies on check.rt, slot.rt and splice.rt, on
-// `rules` for the set's refusals and on the laws of proofs/Changes.antt and proofs/Decisions.antt.
+// `rules` for the set's refusals and on the laws of proofs/Changes.antt, proofs/Decisions.antt and proofs/Used.antt.
 ghost use Rattle.std.specs.Prelude.{◌≡◌, true, ◌+◌, ◌-◌, ◌/◌, ◌≤◌, length};
 ghost use Rattle.types.specs.Refusals.{outcome};
 ghost use Rattle.std.proofs.lemmas.List.Edits.{sets};
@@ -27,7 +27,8 @@ fn is_short(renames: RenamedFiles, p: Slot, words: usize, room: usize, len: usiz
 }
 
 // The slot of a rename whose text has `len` bytes, or why the rename is refused; `room` is the length of the text area.
-#[tactic(auto, using(crate::proofs::Decisions::orders))]
+// Stays: neither is a length of `entries`; the text area is lent for writing, so its length alone comes here.
+#[tactic(auto, using(crate::proofs::Decisions::orders, crate::proofs::Used::in_use))]
 fn slot_in(
     fs: FileStorage,
     renames: RenamedFiles,
@@ -42,7 +43,7 @@ fn slot_in(
     if !is_in_order(renames, entries, room) {
         return Err(Refusal::NoRoom);
     }
-    let p = slot_of(entries, renames.num_renames, file as u64);
+    let p = slot_of(&entries[..renames.num_renames * 3], file as u64);
     if is_short(renames, p, entries.len(), room, len) {
         return Err(Refusal::NoRoom);
     }
@@ -61,6 +62,7 @@ fn mode_for(name: &[u8]) -> RenameMode
 }
 
 // Writes a rename, for which there is room, at its slot p, and gives the record.
+// Stays: std's `splice` is of `Vec`, which needs a heap.
 #[tactic(auto, using(crate::proofs::Changes::slot_in))]
 pub(crate) fn put_rename(
     renames: RenamedFiles,

@@ -1,5 +1,5 @@
 // A rename read back from the lent tables: that of a file, or rename i. Relies on check.rt and slot.rt and on
-// the laws of proofs/Finding.antt.
+// the laws of proofs/Finding.antt and proofs/Used.antt.
 ghost use Rattle.std.specs.Prelude.{◌≡◌, ◌+◌, ◌*◌, ◌≤◌, ◌%◌, ◌^◌, pos, length, get_or};
 ghost use Rattle.types.specs.Refusals.{outcome};
 ghost use Rattle.renames.specs.Renames.{mode_of};
@@ -30,7 +30,8 @@ fn rename_at(entries: &[u64], i: usize, at: usize) -> Rename
 }
 
 // The rename of a file, if it has one; `room` is the length of the text area.
-#[tactic(auto, using(crate::proofs::Decisions::orders))]
+// Stays: `room` is the length of the text area, of which nothing else is read.
+#[tactic(auto, using(crate::proofs::Decisions::orders, crate::proofs::Used::in_use))]
 pub fn find_rename(
     renames: RenamedFiles,
     rename_entries: &[u64],
@@ -42,7 +43,7 @@ pub fn find_rename(
     if !is_in_order(renames, rename_entries, room) {
         return Err(Refusal::NoRoom);
     }
-    let p = slot_of(rename_entries, renames.num_renames, file);
+    let p = slot_of(&rename_entries[..renames.num_renames * 3], file);
     if p.same == 0 {
         return Ok(None);
     }
@@ -50,7 +51,7 @@ pub fn find_rename(
 }
 
 // Rename i, ascending by file.
-#[tactic(auto, using(crate::proofs::Decisions::orders, crate::proofs::Slots::bytes_first))]
+#[tactic(auto, using(crate::proofs::Decisions::orders, crate::proofs::Used::in_use, crate::proofs::Slots::bytes_first))]
 pub fn export_filename(
     renames: RenamedFiles,
     rename_entries: &[u64],
@@ -65,5 +66,6 @@ pub fn export_filename(
     if !is_in_order(renames, rename_entries, rename_text.len()) {
         return Err(Refusal::NoRoom);
     }
-    Ok(rename_at(rename_entries, i, bytes_of(rename_entries, i)))
+    let at = bytes_of(&rename_entries[..i * 3]);
+    Ok(rename_at(rename_entries, i, at))
 }

@@ -1,6 +1,6 @@
 // The slot of a file's rename in the lent tables: where it stands, or would stand. Relies on the total accessors of
-// `lists` and on the laws of proofs/Slots.antt.
-ghost use Rattle.std.specs.Prelude.{◌≡◌, ◌*◌, ◌≤◌, ◌<◌, ◌^◌, length, get_or};
+// `lists` and on the laws of proofs/Slots.antt and proofs/Used.antt.
+ghost use Rattle.std.specs.Prelude.{◌≡◌, ◌*◌, ◌/◌, ◌≤◌, ◌<◌, ◌^◌, length, get_or};
 ghost use Rattle.renames.specs.Finding.{below_from, bytes_from, entry_is_named};
 ghost use Rattle.renames.specs.private.Slots.{slot_at, slot_of};
 
@@ -15,33 +15,36 @@ pub(crate) struct Slot {
     pub old: usize,
 }
 
-// The number of the first n entries that stand before the first whose number is `file` or above.
-// Stays: the entries in use are the first n of a longer table that the caller lends, here and below.
-fn entries_below(entries: &[u64], n: usize, file: u64) -> usize
-    requires { n * 3 ≤ length entries.now }
-    ensures { result ≡ below_from n 0 file entries.now }
+// How many of the entries in use stand before the first whose number is `file` or above.
+// Stays: document 01 says that a scan will do; the number of an entry is what is asked for.
+#[tactic(auto, using(crate::proofs::Slots::below))]
+fn entries_below(entries: &[u64], file: u64) -> usize
+    ensures { result ≡ below_from (length entries.now / 3) 0 file entries.now }
 {
-    for i in 0..n {
+    for i in 0..entries.len() / 3 {
         if file <= entries[i * 3] {
             return i;
         }
     }
-    n
+    entries.len() / 3
 }
 
-// The bytes of text that the first n entries have together.
-pub(crate) fn bytes_of(entries: &[u64], n: usize) -> usize
-    requires { (n * 3 ≤ length entries.now) × (bytes_from n 0 entries.now < 2 ^ 64) }
-    ensures { result ≡ bytes_from n 0 entries.now }
+// The bytes of text that entries have together.
+// Stays: tried, over `chunks_exact(3)` the loop has to say which chunks are left, and that is longer than the number.
+#[tactic(auto, using(crate::proofs::Slots::bytes))]
+pub(crate) fn bytes_of(entries: &[u64]) -> usize
+    requires { bytes_from (length entries.now / 3) 0 entries.now < 2 ^ 64 }
+    ensures { result ≡ bytes_from (length entries.now / 3) 0 entries.now }
 {
     let mut sum: usize = 0;
-    for i in 0..n {
+    for i in 0..entries.len() / 3 {
         sum += entries[i * 3 + 2] as usize;
     }
     sum
 }
 
 // The number of entry i, 0 past the end.
+// Stays: it reads one word of the table as it stands; nothing is converted.
 fn number_at(entries: &[u64], i: usize) -> u64
     ensures { result ≡ get_or entries.now (i * 3) 0 }
 {
@@ -53,19 +56,21 @@ fn number_at(entries: &[u64], i: usize) -> u64
 }
 
 // Whether entry i is one of n, and has the number `file`.
+// Stays: n may pass the table's end, where no slice of n entries can be lent.
 pub fn is_named(entries: &[u64], n: usize, file: u64, i: usize) -> bool
     ensures { result ≡ entry_is_named n file i entries.now }
 {
     i < n && number_at(entries, i) == file
 }
 
-// The slot of a file whose rename stands at entry i, or would stand there.
-fn slot_at(entries: &[u64], n: usize, file: u64, i: usize) -> Slot
-    requires { (n * 3 ≤ length entries.now) × (i ≤ n) × (bytes_from i 0 entries.now < 2 ^ 64) }
-    ensures { result ≡ slot_at n file i entries.now }
+// The slot of a file whose rename stands at entry i of those in use, or would stand there.
+#[tactic(auto, using(crate::proofs::Used::in_use))]
+fn slot_at(entries: &[u64], file: u64, i: usize) -> Slot
+    requires { (i ≤ length entries.now / 3) × (bytes_from i 0 entries.now < 2 ^ 64) }
+    ensures { result ≡ slot_at (length entries.now / 3) file i entries.now }
 {
-    let at = bytes_of(entries, i);
-    if is_named(entries, n, file, i) {
+    let at = bytes_of(&entries[..i * 3]);
+    if is_named(entries, entries.len() / 3, file, i) {
         Slot {
             entry: i,
             same: 1,
@@ -82,10 +87,11 @@ fn slot_at(entries: &[u64], n: usize, file: u64, i: usize) -> Slot
     }
 }
 
-// The slot of a file among n entries.
-pub(crate) fn slot_of(entries: &[u64], n: usize, file: u64) -> Slot
-    requires { (n * 3 ≤ length entries.now) × (bytes_from n 0 entries.now < 2 ^ 64) }
-    ensures { result ≡ slot_of n file entries.now }
+// The slot of a file among the entries in use.
+#[tactic(auto, using(crate::proofs::Slots::below_le, crate::proofs::Slots::bytes_first))]
+pub(crate) fn slot_of(entries: &[u64], file: u64) -> Slot
+    requires { bytes_from (length entries.now / 3) 0 entries.now < 2 ^ 64 }
+    ensures { result ≡ slot_of (length entries.now / 3) file entries.now }
 {
-    slot_at(entries, n, file, entries_below(entries, n, file))
+    slot_at(entries, file, entries_below(entries, file))
 }

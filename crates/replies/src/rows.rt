@@ -10,6 +10,7 @@ use tables::FileStorage;
 use types::Refusal;
 
 // The number of slices of a block, and the slices, which stand at the start of three columns: `file:offset:size`.
+// Stays: `blocks::map_block_core` fills columns, which the C interface lends.
 pub fn slices(
     out: Stdout,
     res: Result<usize, Refusal>,
@@ -63,7 +64,6 @@ pub fn directories(out: Stdout, fs: FileStorage, dirs: &[u64], text: &[u8]) -> i
         Err(refusal) => return refused(out, refusal),
     };
     let mut reply = Reply::ok(out)?;
-    // Stays: the library gives directories by number.
     for i in 0..n {
         if let Ok(place) = answers::path_at(fs, dirs, text, i) {
             ByteString(tables::text_at(text, place)).put(&mut reply)?;
@@ -75,7 +75,6 @@ pub fn directories(out: Stdout, fs: FileStorage, dirs: &[u64], text: &[u8]) -> i
 // All renames of a set, as pairs of number and name; a refusal, which no rename of a set gives, is left out.
 pub fn export(out: Stdout, held: RenamedFiles, entries: &[u64], area: &[u8]) -> io::Result<()> {
     let mut reply = Reply::ok(out)?;
-    // Stays: the library gives renames by number.
     for i in 0..held.num_renames {
         if let Ok(rename) = renames::export_filename(held, entries, area, i) {
             (

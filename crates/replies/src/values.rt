@@ -25,35 +25,35 @@ impl Shown for i64 {
     }
 }
 
-// Stays: each type of number needs its own; one impl for all that print would meet those of the records.
+// Stays: each type of number needs its own; one impl over `Display` would overlap with the records' impls.
 impl Shown for u8 {
     fn put(self, reply: &mut Reply) -> io::Result<()> {
         u64::from(self).put(reply)
     }
 }
 
-// Stays: each type of number needs its own; one impl for all that print would meet those of the records.
+// Stays: each type of number needs its own; one impl over `Display` would overlap with the records' impls.
 impl Shown for u16 {
     fn put(self, reply: &mut Reply) -> io::Result<()> {
         u64::from(self).put(reply)
     }
 }
 
-// Stays: each type of number needs its own; one impl for all that print would meet those of the records.
+// Stays: each type of number needs its own; one impl over `Display` would overlap with the records' impls.
 impl Shown for u32 {
     fn put(self, reply: &mut Reply) -> io::Result<()> {
         u64::from(self).put(reply)
     }
 }
 
-// Stays: each type of number needs its own; one impl for all that print would meet those of the records.
+// Stays: each type of number needs its own; one impl over `Display` would overlap with the records' impls.
 impl Shown for usize {
     fn put(self, reply: &mut Reply) -> io::Result<()> {
         (self as u64).put(reply)
     }
 }
 
-// Stays: each type of number needs its own; one impl for all that print would meet those of the records.
+// Stays: each type of number needs its own; one impl over `Display` would overlap with the records' impls.
 impl Shown for i32 {
     fn put(self, reply: &mut Reply) -> io::Result<()> {
         i64::from(self).put(reply)

@@ -1,13 +1,13 @@
 -- Laws of a path as frames: how long it is, where its bytes stand, and what is left of it behind its front frame. They
 -- rely on the kit's laws of lists and on proofs/Bytes.antt.
-use Prim.Native.Nat.{ℕ, zero, suc, ◌+◌, ◌-◌, ◌%◌, ◌≤◌, ◌<◌}
+use Prim.Native.Nat.{ℕ, zero, suc, ◌+◌, ◌-◌, ◌/◌, ◌%◌, ◌≤◌, ◌<◌}
 use mathlib.Core.Path.{◌≡◌, refl, sym, ap, ◌∙◌}
 use mathlib.Core.List.{List, [], ◌++◌}
 use native.Mathlib.Omega.{arith}
 use borrow.Author.Tests.{lt-ltb, le-ltb}
 use lib.ListN.{length, get_or, drop, replicate, length-append, length-replicate, get_or-replicate, get_or-append}
-use lib.Seq.{drop-append-add}
-use Rattle.rope.specs.Rope.{kind, unused, segment, flat, place_in}
+use lib.Seq.{drop-append-add, get_or-drop}
+use Rattle.rope.specs.Rope.{kind, start, unused, segment, flat, place_in}
 use Rattle.rope.specs.declared.place.Place.{Place}
 use Rattle.rope.proofs.Bytes.{get_or-right}
 
@@ -19,15 +19,18 @@ module _ (t : ℕ → List ℕ) (frames : List ℕ) where
       length-append (unused t frames k) (replicate (kind frames k % 2) 47)
       ∙ ap (λ (m : ℕ). length (unused t frames k) + m) (length-replicate (kind frames k % 2) 47)
 
-  pub segment-text : (k j : ℕ) → j < length (unused t frames k) → get_or (unused t frames k) j 0 ≡ get_or (segment t frames k) j 0
+  -- a byte of it, read from its text, or the separator behind that
+  pub segment_text : (k j from v : ℕ) → from ≡ start frames k → v ≡ kind frames k / 2 → j < length (unused t frames k) → get_or (t v) (from + j) 0 ≡ get_or (segment t frames k) j 0
   unfolding segment
-  segment-text k j h = sym (get_or-append (unused t frames k) (replicate (kind frames k % 2) 47) 0 j h)
+  segment_text k j from v p q h =
+      rw (p, q) (sym (get_or-drop (start frames k) (t (kind frames k / 2)) j 0)
+      ∙ sym (get_or-append (unused t frames k) (replicate (kind frames k % 2) 47) 0 j h))
 
-  pub segment-mark : (k j : ℕ) → length (unused t frames k) ≤ j → j < length (unused t frames k) + kind frames k % 2 → 47 ≡ get_or (segment t frames k) j 0
+  pub segment_mark : (k j : ℕ) → length (unused t frames k) ≤ j → j < length (segment t frames k) → 47 ≡ get_or (segment t frames k) j 0
   unfolding segment
-  segment-mark k j h l =
+  segment_mark k j h l =
       sym (get_or-right (unused t frames k) (replicate (kind frames k % 2) 47) j h
-      ∙ get_or-replicate (kind frames k % 2) (j - length (unused t frames k)) 47 0 (omega arith))
+      ∙ get_or-replicate (kind frames k % 2) (j - length (unused t frames k)) 47 0 (omega (arith, segment-length k)))
 
   -- the path: the front frame, and then the path of the others
   pub flat_step : (k : ℕ) → 0 < k → segment t frames (k - 1) ++ flat t frames (k - 1) ≡ flat t frames k
@@ -35,29 +38,17 @@ module _ (t : ℕ → List ℕ) (frames : List ℕ) where
   flat_step zero h = absurd (omega arith)
   flat_step (suc k) h = let e : suc k - 1 ≡ k = omega arith in rw e
 
-  pub flat-none : (k : ℕ) → k ≡ 0 → flat t frames k ≡ []
+  pub flat_none : (k : ℕ) → k ≡ 0 → flat t frames k ≡ []
   unfolding flat
-  flat-none zero h = refl
-  flat-none (suc k) h = absurd (omega arith)
+  flat_none zero h = refl
+  flat_none (suc k) h = absurd (omega arith)
 
-  pub flat-length : (k : ℕ) → 0 < k → length (flat t frames k) ≡ length (unused t frames (k - 1)) + kind frames (k - 1) % 2 + length (flat t frames (k - 1))
-  flat-length k h =
-      ap length (sym (flat_step k h))
-      ∙ length-append (segment t frames (k - 1)) (flat t frames (k - 1))
-      ∙ ap (λ (m : ℕ). m + length (flat t frames (k - 1))) (segment-length (k - 1))
+  pub flat-long : (k : ℕ) → 0 < k → length (segment t frames (k - 1)) ≤ length (flat t frames k)
+  flat-long k h = omega (arith, ap length (flat_step k h), length-append (segment t frames (k - 1)) (flat t frames (k - 1)))
 
-  pub flat-here : (k at : ℕ) → 0 < k → at < length (unused t frames (k - 1)) + kind frames (k - 1) % 2 → get_or (segment t frames (k - 1)) at 0 ≡ get_or (flat t frames k) at 0
-  flat-here k at h l =
-      sym (get_or-append (segment t frames (k - 1)) (flat t frames (k - 1)) 0 at (omega (arith, segment-length (k - 1))))
-      ∙ ap (λ (x : List ℕ). get_or x at 0) (flat_step k h)
-
-  pub flat_on : (k at n m : ℕ) → 0 < k → n ≡ length (unused t frames (k - 1)) → m ≡ kind frames (k - 1) % 2 → n + m ≤ at
-      → get_or (flat t frames (k - 1)) (at - n - m) 0 ≡ get_or (flat t frames k) at 0
-  flat_on k at n m h p q l =
-      let s = segment-length (k - 1) in
-      let e : at - n - m ≡ at - length (segment t frames (k - 1)) = omega arith in
-      ap (λ (j : ℕ). get_or (flat t frames (k - 1)) j 0) e
-      ∙ sym (get_or-right (segment t frames (k - 1)) (flat t frames (k - 1)) at (omega arith))
+  pub flat_here : (k at : ℕ) → 0 < k → at < length (segment t frames (k - 1)) → get_or (segment t frames (k - 1)) at 0 ≡ get_or (flat t frames k) at 0
+  flat_here k at h l =
+      sym (get_or-append (segment t frames (k - 1)) (flat t frames (k - 1)) 0 at l)
       ∙ ap (λ (x : List ℕ). get_or x at 0) (flat_step k h)
 
   -- a place in the front frame, behind it, and past all frames
@@ -70,11 +61,11 @@ module _ (t : ℕ → List ℕ) (frames : List ℕ) where
       let q : at < length (segment t frames k) = omega (arith, segment-length k, f) in
       rw (lt-ltb at (length (segment t frames k)) q)
 
-  pub place-on : (k at n m : ℕ) → 0 < k → n ≡ length (unused t frames (k - 1)) → m ≡ kind frames (k - 1) % 2 → n + m ≤ at
+  pub place_on : (k at n m : ℕ) → 0 < k → n ≡ length (unused t frames (k - 1)) → m ≡ kind frames (k - 1) % 2 → n + m ≤ at
       → place_in t frames (k - 1) (at - n - m) ≡ place_in t frames k at
   unfolding place_in
-  place-on zero at n m h p q l = absurd (omega arith)
-  place-on (suc k) at n m h p q l =
+  place_on zero at n m h p q l = absurd (omega arith)
+  place_on (suc k) at n m h p q l =
       let e : suc k - 1 ≡ k = omega arith in
       let u : n ≡ length (unused t frames k) = rw e at p in
       let w : m ≡ kind frames k % 2 = rw e at q in
@@ -89,11 +80,14 @@ module _ (t : ℕ → List ℕ) (frames : List ℕ) where
   place_none (suc k) at h = absurd (omega arith)
 
   -- a place behind the front frame is one in the path of the others
-  pub flat-dropped : (k at n m : ℕ) → 0 < k → n ≡ length (unused t frames (k - 1)) → m ≡ kind frames (k - 1) % 2 → n + m ≤ at
+  pub flat_dropped : (k at n m : ℕ) → 0 < k → n ≡ length (unused t frames (k - 1)) → m ≡ kind frames (k - 1) % 2 → n + m ≤ at
       → drop (at - n - m) (flat t frames (k - 1)) ≡ drop at (flat t frames k)
-  flat-dropped k at n m h p q l =
+  flat_dropped k at n m h p q l =
       let s = segment-length (k - 1) in
       let e : length (segment t frames (k - 1)) + (at - n - m) ≡ at = omega arith in
       sym (drop-append-add (segment t frames (k - 1)) (flat t frames (k - 1)) (at - n - m))
       ∙ ap (λ (i : ℕ). drop i (segment t frames (k - 1) ++ flat t frames (k - 1))) e
       ∙ ap (drop at) (flat_step k h)
+
+-- what a walk through frames needs, turn by turn and where it stops
+pub ruleset walking = (flat_dropped, place_on, place_here, place_none)

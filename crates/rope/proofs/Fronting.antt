@@ -27,15 +27,15 @@ module _ (t p : List ℕ) (e : ℕ) where
   front_long h = rw (eq-eqb (length t) e h)
 
   -- a path that ends before, and one of e bytes
-  pub front-short : length p < e → is_front t p e ≡ false
-  front-short h = at (eqb (length t) e) refl
+  pub front_short : length p < e → is_front t p e ≡ false
+  front_short h = at (eqb (length t) e) refl
     where
       at : (b : Bool) → eqb (length t) e ≡ b → (b && equal t (take e p)) ≡ false
       at true q = equal-length t (take e p) (λ l. omega (arith, l, eqb-true (length t) e q, length-take e p))
       at false q = refl
 
-  pub front-is : e ≤ length p → is_front t p e ≡ equal t (take e p)
-  front-is h = at (eqb (length t) e) refl
+  pub front_is : e ≤ length p → is_front t p e ≡ equal t (take e p)
+  front_is h = at (eqb (length t) e) refl
     where
       at : (b : Bool) → eqb (length t) e ≡ b → (b && equal t (take e p)) ≡ equal t (take e p)
       at true q = refl
@@ -51,8 +51,8 @@ module _ (d p : List ℕ) (e : ℕ) where
   covers-front h = rw (le-leb e (length p) h)
 
   -- a directory of fewer bytes
-  pub cover-short : length d < e → false ≡ covers_front d p e
-  cover-short l =
+  pub cover_short : length d < e → false ≡ covers_front d p e
+  cover_short l =
       ⊎_elim (λ (h : e ≤ length p). covers_short d (take e p) (omega (arith, length-take-le e p h)) ∙ sym (covers-front h))
       (λ (h : length p < e). sym (covers-past h))
       (le-or-lt e (length p))
@@ -61,12 +61,15 @@ module _ (d p : List ℕ) (e : ℕ) where
   module _ (l : e ≤ length d) where
     pub cover_on : covers (drop e d) [] ≡ true → is_front (take e d) p e ≡ covers_front d p e
     cover_on k =
-        ⊎_elim (λ (h : e ≤ length p). front-is (take e d) p e h ∙ covers-on d (take e p) e (length-take-le e p h) l k ∙ sym (covers-front h))
-        (λ (h : length p < e). front-short (take e d) p e h ∙ sym (covers-past h))
+        ⊎_elim (λ (h : e ≤ length p). front_is (take e d) p e h ∙ covers-on d (take e p) e (length-take-le e p h) l k ∙ sym (covers-front h))
+        (λ (h : length p < e). front_short (take e d) p e h ∙ sym (covers-past h))
         (le-or-lt e (length p))
 
-    pub cover-off : covers (drop e d) [] ≡ false → false ≡ covers_front d p e
-    cover-off k =
+    pub cover_off : covers (drop e d) [] ≡ false → false ≡ covers_front d p e
+    cover_off k =
         ⊎_elim (λ (h : e ≤ length p). covers-off d (take e p) e (length-take-le e p h) l k ∙ sym (covers-front h))
         (λ (h : length p < e). sym (covers-past h))
         (le-or-lt e (length p))
+
+-- the cases of a directory held against the first e bytes
+pub ruleset covering = (cover_short, cover_on, cover_off)

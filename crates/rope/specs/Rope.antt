@@ -2,11 +2,13 @@
 -- much of it is used. Three words a frame are enough, whatever the lengths of texts. Frames past the list's end are
 -- read as zeros, so every list and every count of frames hold a path. It relies on what a row says of a link
 -- (`lookup`) and on the joins of `path`.
-use Rattle.std.specs.Prelude.{ℕ, zero, suc, ◌+◌, ◌-◌, ◌*◌, ◌/◌, ◌%◌, Bool, cond, ◌&&◌, List, [], ◌++◌, eqb, leb, ltb, length, get_or, take, drop, replicate}
+use Rattle.std.specs.Prelude.{ℕ, zero, suc, ◌+◌, ◌-◌, ◌*◌, ◌/◌, ◌%◌, ◌^◌, ◌<◌, Bool, cond, ◌&&◌, List, [], ◌++◌, eqb, leb, ltb, length, get_or, take, drop, replicate}
 use Rattle.lists.specs.Lists.{equal}
 use Rattle.path.specs.Join.{appended}
 use Rattle.lookup.specs.Lookup.{covers}
 use Rattle.lookup.specs.private.Rows.{row_text, row_branch}
+use Rattle.tables.specs.declared.lent.Lent.{Lent}
+use Rattle.rope.specs.declared.frame.Path.{Path}
 use Rattle.rope.specs.declared.place.Place.{Place}
 
 -- ---- the texts by which links lead
@@ -19,6 +21,10 @@ row_lead rows dirs text i m =
 -- text v is that of file v / 4 with the lead v % 4
 unfoldable pub leads : List ℕ → List ℕ → List ℕ → ℕ → List ℕ
 leads rows dirs text v = row_lead rows dirs text (v / 4) (v % 4)
+
+-- those of lent tables as a value
+abbrev pub texts_of : Lent → ℕ → List ℕ
+texts_of l = leads l.rows.now l.dirs.now l.text.now
 
 -- ---- frames
 
@@ -59,6 +65,18 @@ place_in t frames (suc k) j =
 -- that path with the texts of the lent tables
 abbrev pub held_path : List ℕ → List ℕ → List ℕ → List ℕ → ℕ → List ℕ
 held_path rows dirs text frames depth = flat (leads rows dirs text) frames depth
+
+-- the path that the first k frames of a record hold, and the path that the record means
+abbrev pub held_to : Path → ℕ → List ℕ
+held_to p k = held_path p.lent.rows.now p.lent.dirs.now p.lent.text.now p.frames.now k
+
+abbrev pub held : Path → List ℕ
+held p = held_to p p.depth
+
+-- a place where a byte stands, in its front frame, unless no frame is left there
+pub record Stands (p : Path) (q : Place) : Type 0 where
+  pub there : 0 < q.k → q.at < length (segment (texts_of p.lent) p.frames.now (q.k - 1))
+  pub small : 0 < q.k → start p.frames.now (q.k - 1) + q.at < 2 ^ 64
 
 -- ---- the front of a path
 

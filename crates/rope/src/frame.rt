@@ -1,11 +1,21 @@
-// One frame of a path: which text it is, how much of it is left, and the bytes of that. They rely on lead.rt.
+// A path as frames hold it, and one frame of it: which text it is, how much of it is left, and the bytes of that. They
+// rely on lead.rt.
 ghost use Rattle.std.specs.Prelude.{◌≡◌, ◌+◌, ◌/◌, ◌%◌, ◌^◌, ◌<◌, ltb, length, get_or};
-ghost use Rattle.rope.specs.Rope.{leads, kind, start, unused, segment};
+ghost use Rattle.rope.specs.Rope.{texts_of, kind, start, unused, segment};
 
 use crate::lead::{lead_byte, lead_length};
+use tables::Lent;
 
 // The words of a frame.
 pub const FRAME_WIDTH: usize = 3;
+
+// The path that the first `depth` frames hold, with the texts of the lent tables.
+#[derive(Clone, Copy)]
+pub struct Path<'a> {
+    pub lent: Lent<'a>,
+    pub frames: &'a [u32],
+    pub depth: u32,
+}
 
 // The number of the text of frame k.
 fn lead_in(frames: &[u32], k: u32) -> u32
@@ -31,26 +41,6 @@ pub fn start_in(frames: &[u32], k: u32) -> usize
     low as usize + high as usize * 4294967296
 }
 
-// How many bytes of frame k's text are left. Start and that add up.
-pub fn text_left(rows: &[u64], dirs: &[u64], text: &[u8], frames: &[u32], k: u32) -> usize
-    ensures value { result ≡ length
-        (unused (leads rows.now dirs.now text.now) frames.now k) }
-    ensures result_bound { start frames.now k + result < 2 ^ 64 }
-{
-    let n = lead_length(rows, dirs, text, lead_in(frames, k));
-    n.saturating_sub(start_in(frames, k))
-}
-
-// Byte j of what is left of frame k's text.
-fn text_byte(rows: &[u64], dirs: &[u64], text: &[u8], frames: &[u32], k: u32, j: usize) -> u8
-    requires { start frames.now k + j < 2 ^ 64 }
-    ensures { result ≡ get_or (unused (leads rows.now dirs.now text.now) frames.now k) j
-        0 }
-{
-    let v = lead_in(frames, k);
-    lead_byte(rows, dirs, text, v, start_in(frames, k) + j)
-}
-
 // Whether byte j is one of n and then t bytes. The sum could overflow.
 pub fn is_in(j: usize, n: usize, t: usize) -> bool
     ensures { result ≡ ltb j (n + t) }
@@ -58,24 +48,40 @@ pub fn is_in(j: usize, n: usize, t: usize) -> bool
     j < n || j - n < t
 }
 
-// Byte j of frame k, whose text has n bytes left: of the text, or the separator after it.
-pub(crate) fn frame_byte(
-    rows: &[u64],
-    dirs: &[u64],
-    text: &[u8],
-    frames: &[u32],
-    k: u32,
-    n: usize,
-    j: usize,
-) -> u8
-    requires { (n ≡ length (unused (leads rows.now dirs.now text.now) frames.now k))
-        × (start frames.now k + n < 2 ^ 64)
-        × (j < n + kind frames.now k % 2) }
-    ensures { result ≡ get_or (segment (leads rows.now dirs.now text.now) frames.now k)
-        j 0 }
-{
-    if j < n {
-        return text_byte(rows, dirs, text, frames, k, j);
+impl<'a> Path<'a> {
+    // The path that the first `depth` of these frames hold.
+    pub fn new(lent: Lent<'a>, frames: &'a [u32], depth: u32) -> Path<'a>
+        ensures { result ≡ record { lent = lent.entry; frames = frames.entry; depth = depth } }
+    {
+        Path {
+            lent,
+            frames,
+            depth,
+        }
     }
-    b'/'
+}
+
+impl Path<'_> {
+    // How many bytes of frame k's text are left. Start and that add up.
+    pub fn text_left(self, k: u32) -> usize
+        ensures value { result ≡ length
+            (unused (texts_of self.entry.lent) self.entry.frames.now k) }
+        ensures result_bound { start self.entry.frames.now k + result < 2 ^ 64 }
+    {
+        let n = lead_length(self.lent, lead_in(self.frames, k));
+        n.saturating_sub(start_in(self.frames, k))
+    }
+
+    // Byte j of frame k: of the text, or the separator after it.
+    #[tactic(auto, using(crate::proofs::Flat::segment_text, crate::proofs::Flat::segment_mark))]
+    pub(crate) fn frame_byte(self, k: u32, j: usize) -> u8
+        requires { j < length (segment (texts_of self.lent) self.frames.now k) }
+        ensures { result ≡ get_or (segment (texts_of self.entry.lent) self.entry.frames.now k) j 0 }
+    {
+        if j < self.text_left(k) {
+            let from = start_in(self.frames, k);
+            return lead_byte(self.lent, lead_in(self.frames, k), from + j);
+        }
+        b'/'
+    }
 }

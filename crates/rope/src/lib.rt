@@ -1,5 +1,5 @@
 // The path of a walk through links, held as frames: its bytes are read where they stand, and nothing is composed.
-// Relies on `lookup` for what a row says of a link, and on `path` and `lists` for paths.
+// Relies on `tables` and `lookup` for what a row says of a link, and on `path` and `lists` for paths.
 #![tactic(auto)]
 
 mod frame;
@@ -7,7 +7,6 @@ mod lead;
 mod part;
 mod place;
 
-pub use frame::{FRAME_WIDTH, is_in, start_in, tail_in, text_left};
+pub use frame::{FRAME_WIDTH, Path, is_in, start_in, tail_in};
 pub use lead::{lead_byte, lead_length};
-pub use part::{covers_in, own_in};
-pub use place::{Place, has_byte, path_byte, seek};
+pub use place::Place;

@@ -64,6 +64,7 @@ pub fn count_pieces(fs: FileStorage) -> u64
 
 // Whether the set has more than k pieces: by a product where the length is in range, which costs less than
 // a quotient.
+#[tactic(auto, using(crate::proofs::Deciding::over_good))]
 fn has_over(fs: FileStorage, k: u64) -> bool
     requires { k < 2147483648 }
     ensures { result ≡ ltb k (num_pieces fs) }

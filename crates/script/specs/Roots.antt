@@ -1,6 +1,6 @@
 -- docs/CALLS.md: 'A root is 64 lower-case hex digits, or `*XX` for 32 bytes of that value'; the digits of `*XX` are of
 -- either case. 42 is `*`, 97 is `a`.
-use Rattle.std.specs.Prelude.{ℕ, ◌+◌, ◌*◌, cond, List, [], ◌∷◌, eqb, length, get_or, replicate, Option, None, Some, option_map}
+use Rattle.std.specs.Prelude.{ℕ, cond, List, [], ◌∷◌, eqb, length, get_or, replicate, Option, None, Some, option_map}
 use Rattle.std.specs.Option.{option_or}
 use Rattle.script.specs.Strings.{Text, ended, fault, led_by, hex_from, hex_of, byte_of}
 

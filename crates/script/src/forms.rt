@@ -6,8 +6,9 @@ ghost use Rattle.script.specs.Forms.{is_left_open, has_form, form_of};
 use crate::scan::before_first;
 use crate::words::{count, word};
 
-// Which of some forms a line has, counted from 0. Commas part the forms. A line has the form of its first word unless it
-// has more words than the form; a form that ends with a dot allows any number of words.
+// Which of some forms a line has, counted from 0. Commas part the forms. A line has the form of its first word unless
+// it has more words than the form; a form that ends with a dot allows any number of words.
+#[tactic(auto, using(crate::proofs::Scans::turns))]
 pub fn form_of(forms: &[u8], line: &[u8]) -> Option<usize>
     ensures { result ≡ form_of forms.now line.now }
 {

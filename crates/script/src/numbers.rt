@@ -5,6 +5,7 @@ ghost use Rattle.script.specs.Numbers.{digit_of, with_digit, digits_from, has_le
 ghost use Rattle.script.specs.Numbers.{number_of, signed_of, negative_of};
 
 // The number that a word is.
+// Stays: std reads a number from a `str`, and takes a `+` and leading zeros, which a script's form lacks.
 pub fn to_u64(word: &[u8]) -> Option<u64>
     ensures { result ≡ number_of word.now }
 {
@@ -51,6 +52,7 @@ fn digit_value(c: u8) -> Option<u8>
 }
 
 // The `i64` that a word is.
+// Stays: std reads a number from a `str`, and takes a `+` and leading zeros, which a script's form lacks.
 pub fn to_i64(word: &[u8]) -> Option<i64>
     ensures { result ≡ signed_of 63 word.now }
 {
@@ -69,6 +71,7 @@ fn minus(n: u64) -> Option<i64>
 }
 
 // The `i32` that a word is.
+// Stays: it is std's `TryFrom` of the `i64` that the word is.
 pub fn to_i32(word: &[u8]) -> Option<i32>
     ensures { result ≡ signed_of 31 word.now }
 {

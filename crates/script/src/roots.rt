@@ -6,6 +6,7 @@ ghost use Rattle.script.specs.Roots.{root_of, repeated_of, spelt_of, either_of};
 use crate::strings::{hex_byte, hex_value};
 
 // The root that a word is.
+// Stays: std reads no bytes from hex digits, and `*XX` is the script's own form.
 pub fn to_root(word: &[u8]) -> Option<[u8; 32]>
     ensures { result ≡ root_of word.now }
 {
@@ -34,6 +35,7 @@ fn spelt(word: &[u8]) -> Option<[u8; 32]>
         return None;
     }
     let mut root = [0u8; 32];
+    // Stays: tried, the proof didn't close: zipped with `chunks_exact`, both ends of the loop stayed open.
     for i in 0..32 {
         root[i] = hex_byte(
             hex_value(word[i * 2], b'a'),

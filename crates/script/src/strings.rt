@@ -7,6 +7,8 @@ ghost use Rattle.script.specs.Strings.{is_plain, hex_from, byte_of, fault, led, 
 // Writes the bytes that a word stands for after the first `used` bytes of `target`, and gives where they end. Where
 // the word is no string or `target` is too short, the bytes before the first fault are written, as far as there is
 // room for them.
+// Stays: `used` may lie past the end of `target`, where no slice of the rest can be lent.
+#[tactic(auto, using(lists::proofs::Runs::storing))]
 pub fn decode(word: &[u8], target: &mut [u8], used: usize) -> Option<usize>
     ensures result_value { result ≡ end_of (string_of word.now) used (length target.old) }
     ensures target_after { target.new ≡ sets target.old used (string_of word.now).bytes }

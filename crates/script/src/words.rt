@@ -22,6 +22,8 @@ pub fn after(line: &[u8], number: usize) -> &[u8]
 }
 
 // What stands from the word of a number on.
+// Stays: it converts nothing, but steps over words.
+#[tactic(auto, using(crate::proofs::Scans::turns))]
 fn from_word(line: &[u8], number: usize) -> &[u8]
     ensures { result.now ≡ from_word number line.now }
 {

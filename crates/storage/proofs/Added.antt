@@ -65,18 +65,22 @@ module _ (s : Store) (file : FileInfo) (filename path link : List ℕ) where
       (texts-of s call file.given filename plan.parts refl refl) in
       rw (rows_are s (view_of s) call, dirs-are s (view_of s) call, text)
 
-  module _ (p : AddPlan) (h : value p ≡ planned_for s call) where
-    planned : (number ≡ 0) × (p ≡ plan)
-    planned = outcome-value number p plan h
+-- the plan of a call
+pub record Planned (s : Store) (file : FileInfo) (filename path link : List ℕ) (p : AddPlan) : Type 0 where
+  pub is : value p ≡ planned_for s (addition_of file filename path link)
 
-    pub add-few : p.before.num_files ≤ 65535
-    add-few = subst (λ (q : AddPlan). q.before.num_files ≤ 65535) (sym planned.1) (add-held s call planned.0)
+module _ {s : Store} {file : FileInfo} {filename path link : List ℕ} {p : AddPlan} (k : Planned s file filename path link p) where
+  planned : (number s file filename path link ≡ 0) × (p ≡ plan s file filename path link)
+  planned = outcome-value (number s file filename path link) p (plan s file filename path link) k.is
 
-    pub add-within : PartsWithin (length path) p.parts
-    add-within = subst (λ (q : AddPlan). PartsWithin (length path) q.parts) (sym planned.1) (parts_within s.fs.num_files (view_of s).name path)
+  pub add-few : p.before.num_files ≤ 65535
+  add-few = subst (λ (q : AddPlan). q.before.num_files ≤ 65535) (sym planned.1) (add-held s (call s file filename path link) planned.0)
 
-    pub add-pieces : p.after.piece_length ≡ p.before.piece_length
-    add-pieces = subst (λ (q : AddPlan). q.after.piece_length ≡ q.before.piece_length) (sym planned.1) refl
+  pub add-within : PartsWithin (length path) p.parts
+  add-within = subst (λ (q : AddPlan). PartsWithin (length path) q.parts) (sym planned.1) (parts_within s.fs.num_files (view_of s).name path)
 
-    pub add-written : written_by p ≡ add_stored s call
-    add-written = ap written_by planned.1 ∙ all-written ∙ rw planned.0
+  pub add-pieces : p.after.piece_length ≡ p.before.piece_length
+  add-pieces = subst (λ (q : AddPlan). q.after.piece_length ≡ q.before.piece_length) (sym planned.1) refl
+
+  pub add-written : written_by s file filename path link p ≡ add_stored s (call s file filename path link)
+  add-written = ap (written_by s file filename path link) planned.1 ∙ all-written s file filename path link ∙ rw planned.0

@@ -2,13 +2,14 @@
 --     runs-join    a run that begins within another, or at its end, and ends no earlier
 --     grown        a run up to p, once the four places from p on are stored, or the last four
 --     whole        a run that ends with the table
+--     nothing, between   a run from one place up to another
 use mathlib.Core.Path.{◌≡◌, sym, ap, ◌∙◌}
 use mathlib.Core.List.{List, ◌++◌}
-use Prim.Native.Nat.{ℕ, ◌+◌, ◌-◌, ◌≤◌, min}
+use Prim.Native.Nat.{ℕ, ◌+◌, ◌-◌, ◌≤◌, ◌<◌, min}
 use native.Mathlib.Omega.{arith}
-use lib.ListN.{length, replicate, length-replicate, replicate-append-replicate}
+use lib.ListN.{length, replicate, take, drop, length-take, length-drop, length-replicate, replicate-append-replicate}
 use lib.Seq.{sets, length-sets}
-use Rattle.lists.proofs.Runs.{sets-append, sets_over, sets-whole}
+use Rattle.lists.proofs.Runs.{sets-append, sets-none, sets_over, sets-whole, sets-filled}
 
 module _ {A : Type 0} (v : A) where
   runs-join : (l : List A) (i a j b : ℕ) → i ≤ j → j ≤ i + a → i + a ≤ j + b
@@ -49,3 +50,13 @@ module _ {A : Type 0} (v : A) where
     whole h =
         let n : min p (length l) ≡ length l = omega arith in
         e ∙ ap (λ (i : ℕ). sets l 0 (replicate i v)) n ∙ sets-whole l (replicate (length l) v) (length-replicate (length l) v)
+
+-- a run up to place `to`, or to the table's end: nothing where that is not behind its begin, else the places between
+module _ {A : Type 0} (l : List A) (from to end : ℕ) (v : A) (e : end ≡ min to (length l)) where
+  pub nothing : end ≤ from → l ≡ sets l from (replicate (to - from) v)
+  nothing h = sym (sets-none (replicate (to - from) v) l from (omega (arith, length-replicate (to - from) v)))
+
+  pub between : from < end → take from l ++ (replicate (length (take (end - from) (drop from l))) v ++ drop (end - from) (drop from l)) ≡ sets l from (replicate (to - from) v)
+  between h =
+      let k : length (take (end - from) (drop from l)) ≡ end - from = omega (arith, length-take (end - from) (drop from l), length-drop from l) in
+      sets-filled l from (to - from) (end - from) (length (take (end - from) (drop from l))) v (omega arith) (omega arith) k

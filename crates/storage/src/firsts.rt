@@ -41,7 +41,8 @@ fn fill_begin(run: &mut [u16], file: u16)
 
 // Writes a file's number at four places or more, four at a time: how many pieces begin in a file is hard to foretell,
 // and a loop over them one by one would take the wrong turn at most additions.
-// Stays: `run.fill(file)` was tried; for runs of up to 64 places, as most files have, it took up to twice the time.
+// Stays: tried, `run.fill(file)` takes up to twice the time for runs of up to 64 places. Three functions ask for four
+// places, since each is lent the run and no record of it.
 fn fill_many(run: &mut [u16], file: u16)
     requires { 4 ≤ length run.old }
     ensures { run.new ≡ replicate (length run.old) file }
@@ -53,6 +54,7 @@ fn fill_many(run: &mut [u16], file: u16)
 }
 
 // Writes a file's number at the places from one up to another, as far as there are any.
+#[tactic(auto, using(crate::proofs::OneValue::nothing, crate::proofs::OneValue::between))]
 fn fill_places(firsts: &mut [u16], from: usize, to: usize, file: u16)
     ensures { firsts.new ≡ sets firsts.old from (replicate (to - from) file) }
 {
@@ -86,21 +88,19 @@ struct Places {
     to: u64,
 }
 
-// The pieces of two totals. A piece length that is a power of two, as most are, counts them by a shift; the power is
-// made from the length's low zero bits and compared with it, so that nothing rests on their count.
+// The pieces of two totals. A piece length that is a power of two, as most are, counts them by a shift.
 fn pieces_of(before: u64, after: u64, piece_length: u64) -> Places
     ensures { (result.from ≡ ceiling before piece_length) × (result.to ≡ ceiling after piece_length) }
 {
-    let bits = u64::trailing_zeros(piece_length) % 64;
-    if 1u64 << bits == piece_length {
-        return Places {
+    match lists::exponent(piece_length) {
+        Some(bits) => Places {
             from: pieces_by_shift(before, bits),
             to: pieces_by_shift(after, bits),
-        };
-    }
-    Places {
-        from: lists::div_ceil(before, piece_length),
-        to: lists::div_ceil(after, piece_length),
+        },
+        None => Places {
+            from: lists::div_ceil(before, piece_length),
+            to: lists::div_ceil(after, piece_length),
+        },
     }
 }
 

@@ -37,6 +37,7 @@ pub fn open(piece_length: i32) -> Result<FileStorage, Refusal>
 }
 
 // The same of a set that keeps the first file of each piece in a table, which its additions are lent.
+// Stays: both are calls of `open_with`; a flag as an argument would say less at a caller than the name.
 pub fn open_indexed(piece_length: i32) -> Result<FileStorage, Refusal>
     ensures { outcome result ≡ opened piece_length true }
 {

@@ -70,6 +70,8 @@ fn write_texts(
 }
 
 // Writes the pad of an addition, where there is one: its row, which is all of its record, its directory and its texts.
+// Stays: a writer promises what the tables that it writes hold; lent a record of all, it would have to say of each
+// other table that it stays.
 fn write_pad(rows: &mut [u64], dirs: &mut [u64], text: &mut [u8], plan: AddPlan)
     requires { plan.before.num_files ≤ max_entries }
     ensures rows_after { rows.new ≡ pad_row_written plan.before.num_files plan rows.old }
@@ -85,6 +87,9 @@ fn write_pad(rows: &mut [u64], dirs: &mut [u64], text: &mut [u8], plan: AddPlan)
 }
 
 // Writes an addition by its plan: row, root, directory row and texts, and then the pad.
+// Stays: document 01 lends texts as slices; `add_file`, which is public, is lent the three one by one and hands them on
+// to this function, which writes them. That files are few and that the parts stand in the path is known of the plan where it is made, and
+// the functions here are told it.
 pub(crate) fn write_all(
     rows: &mut [u64],
     roots: &mut [u8],

@@ -1,9 +1,9 @@
 -- Laws of lists of rows, w words a row: what a loop that writes row after row has done at each turn, and what the rows read
 -- afterwards. They rely on `lists` for the laws of runs.
-use mathlib.Core.Path.{◌≡◌, refl, sym, ◌∙◌}
+use mathlib.Core.Path.{◌≡◌, sym, ◌∙◌}
 use mathlib.Core.List.{List}
 use Prim.Native.Nat.{ℕ, zero, suc, ◌+◌, ◌-◌, ◌*◌, ◌≤◌, ◌<◌}
-use native.Mathlib.Nat.{sub-zero, mul-le-mul_right}
+use native.Mathlib.Nat.{mul-le-mul_right}
 use native.Mathlib.Omega.{arith}
 use lib.ListN.{length, get_or, drop, length-append, get_or-append}
 use lib.Seq.{sets, length-sets, get_or-append-add}
@@ -21,11 +21,6 @@ Writing w g n l₀ l i =
     × (sets l (i * w) (filled g i (n - i)) ≡ sets l₀ 0 (filled g 0 n))
 
 module _ (w : ℕ) (g : ℕ → List ℕ) (n : ℕ) (l₀ : List ℕ) where
-  pub writing_start : Writing w g n l₀ l₀ 0
-  writing_start =
-      let z : 0 * w ≡ 0 = omega arith in
-      (omega arith, refl, refl, rw (z, sub-zero n))
-
   pub writing-turn : (l : List ℕ) (i : ℕ) → length (g i) ≡ w → Writing w g n l₀ l i → i < n
       → {l' : List ℕ} → l' ≡ sets l (i * w) (g i) → Writing w g n l₀ l' (i + 1)
   unfolding filled

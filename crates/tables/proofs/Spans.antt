@@ -5,10 +5,10 @@ use mathlib.Core.Logic.{◌⊎◌, inl, inr}
 use mathlib.Core.List.{List, ◌++◌}
 use Prim.Native.Nat.{ℕ, ◌+◌, ◌-◌, ◌≤◌, ◌<◌, min, max}
 use native.Mathlib.Omega.{arith}
-use lib.ListN.{length, take, drop, length-append, length-drop, take-append-drop}
-use lib.Seq.{sets, take-append-le, drop-append-le, drop-append-add, drop-drop, length-take-le, length-slice, length-sets, take-take, take_at, sets-eq}
+use lib.ListN.{length, take, drop, length-append, length-take, length-drop, take-append-drop}
+use lib.Seq.{paste, sets, take-append-le, drop-append-le, drop-append-add, drop-drop, length-take-le, length-slice, length-sets, take-take, take_at, sets-eq}
 use Rattle.lists.proofs.Orders.{le-or-lt}
-use Rattle.lists.proofs.Parts.{drop-take}
+use Rattle.lists.proofs.Parts.{take-clipped, drop-take}
 use Rattle.lists.proofs.Runs.{part-sets-before, part-sets}
 use Rattle.tables.specs.declared.span.Span.{Span}
 use Rattle.tables.specs.Span.{end_of, text_at, Apart, lower, low, clip, slid}
@@ -111,6 +111,15 @@ read-cut c s text p hc hs = at (side c s p)
         let k : lower c s.at ≡ length (take c.at text) + (s.at - end_of c) = omega (arith, la) in
         let m : end_of c + (s.at - end_of c) ≡ s.at = omega arith in
         rw (k, drop-append-add, drop-drop, m)
+
+-- what follows a span of the used part, copied to its start; what lies past the area's end is in no used part
+pub slid_by : (l : List ℕ) (c : Span) (u : ℕ) → end_of c ≤ min u (length l) → paste l c.at (drop (end_of c) l) (min u (length l) - end_of c) ≡ slid c u l
+slid_by l c u h =
+    let m = min u (length l) in
+    let t = take (m - end_of c) (drop (end_of c) l) in
+    let n : length t ≡ m - end_of c = omega (arith, length-take (m - end_of c) (drop (end_of c) l), length-drop (end_of c) l) in
+    let s = sets-eq t l c.at (omega (arith, n)) in
+    rw (← take-clipped u l, drop-take (end_of c) m l) (sym (rw n at s))
 
 module _ (c : Span) (u : ℕ) (text : List ℕ) where
   -- the used part once a span of it is removed

@@ -1,27 +1,32 @@
 -- Laws of single rows, directory rows and roots: each is what its words are, so a row that is written reads back, and
 -- every other row stays. They rely on `lists` for the laws of runs.
-use mathlib.Core.Path.{◌≡◌, refl, sym, ◌∙◌}
+use mathlib.Core.Path.{◌≡◌, refl, sym, ap, ◌∙◌}
 use mathlib.Core.Logic.{◌⊎◌, inl, inr, ⊎_elim}
 use mathlib.Core.List.{List, [], ◌∷◌, ◌++◌}
 use Prim.Native.Nat.{ℕ, zero, suc, ◌+◌, ◌*◌, ◌/◌, ◌%◌, ◌^◌, ◌≤◌, ◌<◌}
 use native.Mathlib.Nat.{mul-le-mul_right, mod-eq_of_lt, mod-lt}
+use native.Mathlib.Numerals.{add-one}
 use native.Mathlib.Omega.{arith}
-use lib.ListN.{length, get_or, set, drop, replicate, length-append, length-take}
-use lib.Seq.{sets, length-sets, ext_get_or, get_or-take, get_or-drop}
+use lib.ListN.{length, get_or, set, take, drop, replicate, length-append, length-take}
+use lib.Seq.{sets, take_all, take-suc, length-take-le, length-sets, ext_get_or, get_or-take, get_or-drop}
+use Rattle.std.proofs.lemmas.List.{take-replicate}
 use Rattle.lists.proofs.Orders.{le-or-lt}
-use Rattle.lists.proofs.Runs.{get_or-sets, get_or-sets-below, get_or-sets-above}
+use Rattle.lists.proofs.Runs.{sets-after, sets-append, sets-past, get_or-sets, get_or-sets-below, get_or-sets-above}
 use Rattle.tables.specs.declared.span.Span.{Span}
 use Rattle.tables.specs.declared.rows.Row.{Row}
 use Rattle.tables.specs.Rows.{row_at, packed, words, put_row, dir_at, dir_words, put_dir, root_at, put_root}
 use Rattle.tables.proofs.Agree.{get_or-above}
 
--- four words stored side by side are one run
-pub four : (l : List ℕ) (b w0 w1 w2 w3 : ℕ) → set (set (set (set l b w0) (b + 1) w1) (b + 2) w2) (b + 3) w3 ≡ sets l b (w0 ∷ w1 ∷ w2 ∷ w3 ∷ [])
-four l b w0 w1 w2 w3 =
-    let e1 : b + 1 ≡ suc b = omega arith in
-    let e2 : b + 2 ≡ suc (suc b) = omega arith in
-    let e3 : b + 3 ≡ suc (suc (suc b)) = omega arith in
-    rw (e1, e2, e3)
+-- words stored side by side: one more of them, and all
+pub stored_more : (t l : List ℕ) (at k : ℕ) → k < length t → set (sets l at (take k t)) (at + k) (get_or t k 0) ≡ sets l at (take (k + 1) t)
+stored_more t l at k h =
+    let e = sets-append (take k t) (get_or t k 0 ∷ []) l at in
+    rw (add-one k, take-suc t k 0 h) (sym (rw (length-take-le k t (omega arith)) at e))
+
+pub stored_all : (t l : List ℕ) (at k : ℕ) → length t ≤ k → sets l at (take k t) ≡ sets l at t
+stored_all t l at k h = rw (take_all k t h)
+
+pub ruleset storing = (stored_more, stored_all, sets-past)
 
 -- two places that are not the same
 sides : (i k : ℕ) → (k ≡ i → ⊥) → (k < i) ⊎ (i < k)
@@ -131,6 +136,16 @@ padded : (n : ℕ) (xs : List ℕ) (k : ℕ) → get_or (xs ++ replicate n 0) k 
 padded n [] k = zeros n k
 padded n (x ∷ xs) zero = refl
 padded n (x ∷ xs) (suc k) = padded n xs k
+
+-- a copy to the front of n zeros is the copy, filled up with zeros
+copied : (n m : ℕ) (xs : List ℕ) → n ≤ m → sets (replicate n 0) 0 (take n xs) ≡ take n (xs ++ replicate m 0)
+copied zero m xs h = refl
+copied (suc n) m [] h = sym (take-replicate (suc n) m 0 h)
+copied (suc n) m (x ∷ xs) h =
+    sets-after (take n xs) (x ∷ []) (replicate n 0) 0 ∙ ap (λ (l : List ℕ). x ∷ l) (copied n m xs (omega arith))
+
+pub root_copied : (roots : List ℕ) (i : ℕ) → sets (replicate 32 0) 0 (take 32 (drop (i * 32) roots)) ≡ root_at roots i
+root_copied roots i = copied 32 32 (drop (i * 32) roots) (omega arith)
 
 module _ (roots : List ℕ) (i : ℕ) where
   pub root-byte : (j : ℕ) → j < 32 → get_or (root_at roots i) j 0 ≡ get_or roots (i * 32 + j) 0

@@ -17,7 +17,8 @@ fn lower_dir(dirs: &mut [u64], i: usize, c: Span)
 
 // Lowers the spans of the first n directory rows, or of as many as there are, once the bytes of the
 // span `c` are removed.
-// Stays: its twin of rows in `texts` calls another function in the same loop; with a closure the contract would be longer than both.
+// Stays: its twin of rows in `texts` calls another function in the same loop; with a closure the contract would be
+// longer than both. Here too n may pass the table's end.
 pub fn lower_dirs(dirs: &mut [u64], n: usize, c: Span)
     ensures { dirs.new ≡ dirs_lowered dirs.old n c }
 {
@@ -42,35 +43,53 @@ fn offset_moved(f: usize, i: usize, offset: u64, total: u64) -> u64
     if i < f { offset } else { total }
 }
 
-// Row `row` as row i, where row f is removed and the spans `c` and then `d` with it.
-fn moved(f: usize, total: u64, c: Span, d: Span, i: usize, row: Row) -> Row
-    ensures { result ≡ row_moved f total c d i row }
+// What is removed with a row: the row, and the spans of its name and then of its link; the rows after it begin at the
+// total.
+#[derive(Clone, Copy)]
+struct Removed {
+    row: usize,
+    total: u64,
+    name: Span,
+    link: Span,
+}
+
+// Row `row` as row i, once another one is removed.
+fn moved(gone: Removed, i: usize, row: Row) -> Row
+    ensures { result ≡ row_moved gone.row gone.total gone.name gone.link i row }
 {
     Row {
-        offset: offset_moved(f, i, row.offset, total),
-        name: low_span(d, low_span(c, row.name)),
-        link: low_span(d, low_span(c, row.link)),
+        offset: offset_moved(gone.row, i, row.offset, gone.total),
+        name: low_span(gone.link, low_span(gone.name, row.name)),
+        link: low_span(gone.link, low_span(gone.name, row.link)),
         ..row
     }
 }
 
-// Writes row i as it is once row f is removed.
-fn move_row(rows: &mut [u64], f: usize, total: u64, c: Span, d: Span, i: usize)
+// Writes row i as it is once another one is removed.
+fn move_row(rows: &mut [u64], gone: Removed, i: usize)
     requires { i + 1 < 2 ^ 64 }
     ensures { rows.new
-        ≡ put_row rows.old i (row_moved f total c d i (row_at rows.old (skip f i))) }
+        ≡ put_row rows.old i
+        (row_moved gone.row gone.total gone.name gone.link i (row_at rows.old (skip gone.row i))) }
 {
-    let row = row_at(rows, row_from(f, i));
-    put_row(rows, i, moved(f, total, c, d, i, row));
+    let row = row_at(rows, row_from(gone.row, i));
+    put_row(rows, i, moved(gone, i, row));
 }
 
 // Removes row f of n + 1 rows: the rows after it move down by one and begin at `total`, and every span is
 // lowered for the removed spans `c` and then `d`.
+// Stays: n may pass the table's end, and is cut here; the numbers are made one record at once.
 pub fn remove_row(rows: &mut [u64], n: usize, f: usize, total: u64, c: Span, d: Span)
     ensures { rows.new ≡ rows_without rows.old n f total c d }
 {
+    let gone = Removed {
+        row: f,
+        total,
+        name: c,
+        link: d,
+    };
     let m = n.min(rows.len() / ROW_WIDTH);
     for i in 0..m {
-        move_row(rows, f, total, c, d, i);
+        move_row(rows, gone, i);
     }
 }

@@ -1,12 +1,13 @@
 // File rows, roots and directory rows, read and written whole. Relies on `lists` and the laws of proofs/Words.antt.
-ghost use Rattle.std.specs.Prelude.{◌≡◌, [], ◌∷◌, ◌+◌, ◌*◌, ◌<◌, ◌^◌, get_or, replicate};
+ghost use Rattle.std.specs.Prelude.{◌≡◌, ◌+◌, ◌*◌, ◌<◌, ◌^◌, get_or, replicate};
 ghost use Rattle.std.proofs.lemmas.List.Edits.{sets};
 ghost use Rattle.tables.specs.Rows.{row_width, row_at, packed, put_row, dir_at, put_dir, is_stored, directory_span};
+ghost use Rattle.tables.specs.Span.{text_at};
 ghost use Rattle.tables.specs.Rows.{root_at, put_root, has};
 ghost use Rattle.tables.specs.Rows.{pad_bit, symlink_bit, link_held_bit, outside_bit, root_bit};
 ghost use Rattle.tables.specs.Entry.{presence_if, entry_at, rows_with, roots_with};
 
-use crate::span::Span;
+use crate::span::{Span, text_at};
 
 // The words of a file row.
 pub const ROW_WIDTH: usize = 8;
@@ -42,6 +43,7 @@ const SIZE_RANGE: u64 = 0x1_0000_0000_0000;
 const FLAGS_RANGE: u64 = 0x1_0000;
 
 // The path index of a single name, which has no directory.
+// Stays: a path index is a word of a lent row, and the Rust's rows have these two numbers too.
 pub const NO_PATH: u64 = 1073741823;
 
 // The path index of a file that was added by an absolute path.
@@ -64,7 +66,7 @@ impl Sha256Hash {
 }
 
 // Whether something that may be missing is there.
-// Stays: document 01 prescribes the root's bytes with its presence beside them, where other Rust has an `Option`.
+// Stays: document 01 asks for an enum of presence beside the root's bytes, in the place of `Option`.
 #[derive(Clone, Copy)]
 pub enum Presence {
     Absent,
@@ -139,6 +141,7 @@ fn word_at(rows: &[u64], i: usize, k: usize) -> u64
 }
 
 // The offset of row i.
+// Stays: it and the next name a word of a row; with one function of a word's place each caller would give the place.
 pub fn offset_at(rows: &[u64], i: usize) -> u64
     ensures { result ≡ (row_at rows.now i).offset }
 {
@@ -173,48 +176,37 @@ fn packed_word(size: u64, flags: u64) -> u64
     size % SIZE_RANGE + flags % FLAGS_RANGE * SIZE_RANGE
 }
 
-// Stores four words side by side from position `at` on; one test of the length serves all four where they fit.
-fn put_four(words: &mut [u64], at: usize, w0: u64, w1: u64, w2: u64, w3: u64)
-    requires { at + 3 < 2 ^ 64 }
-    ensures { words.new ≡ sets words.old at (w0 ∷ w1 ∷ w2 ∷ w3 ∷ []) }
+// Stores words side by side from position `at` on, as many of them as there is room for.
+// Stays: tried, `copy_from_slice` takes 15.0 ns for a row's eight words, and this loop, which is unrolled, 7.9.
+#[tactic(auto, using(crate::proofs::Words::storing))]
+fn put_words<const N: usize>(target: &mut [u64], at: usize, words: &[u64; N])
+    requires { (N < 2 ^ 63) × (at + N < 2 ^ 64) }
+    ensures { target.new ≡ sets target.old at words.now }
 {
-    if at + 3 < words.len() {
-        words[at] = w0;
-        words[at + 1] = w1;
-        words[at + 2] = w2;
-        words[at + 3] = w3;
-        return;
+    for k in 0..N {
+        lists::put(target, at + k, words[k]);
     }
-    lists::put(words, at, w0);
-    lists::put(words, at + 1, w1);
-    lists::put(words, at + 2, w2);
-    lists::put(words, at + 3, w3);
 }
 
 // Writes row i, nothing past the end.
+// Stays: a row is words of a lent table, and std copies no record into words; document 01 asks for lent tables.
 pub fn put_row(rows: &mut [u64], i: usize, row: Row)
     ensures { rows.new ≡ put_row rows.old i row }
 {
     if rows.len() <= i {
         return;
     }
-    let base = i * ROW_WIDTH;
-    put_four(
-        rows,
-        base,
+    let words = [
         row.offset,
         packed_word(row.size, row.flags),
         row.name.at as u64,
         row.name.len as u64,
-    );
-    put_four(
-        rows,
-        base + 4,
         row.link.at as u64,
         row.link.len as u64,
         row.path_index,
         row.time,
-    );
+    ];
+    put_words(rows, i * ROW_WIDTH, &words);
 }
 
 // Directory row i, zeros past the end; one test of the length serves both words of a whole row.
@@ -237,14 +229,14 @@ pub fn dir_at(dirs: &[u64], i: usize) -> Span
 }
 
 // Writes directory row i, nothing past the end.
+// Stays: a directory is two words of a lent table, as a row is eight.
 pub fn put_dir(dirs: &mut [u64], i: usize, s: Span)
     ensures { dirs.new ≡ put_dir dirs.old i s }
 {
     if dirs.len() <= i {
         return;
     }
-    lists::put(dirs, i * DIR_WIDTH, s.at as u64);
-    lists::put(dirs, i * DIR_WIDTH + 1, s.len as u64);
+    put_words(dirs, i * DIR_WIDTH, &[s.at as u64, s.len as u64]);
 }
 
 // Whether a path index is that of a stored directory.
@@ -264,7 +256,15 @@ pub fn directory_span(dirs: &[u64], row: Row) -> Span
     Span { at: 0, len: 0 }
 }
 
+// The text of a file's directory; no bytes for a single name and an absolute path.
+pub fn directory_of<'a>(dirs: &[u64], text: &'a [u8], row: Row) -> &'a [u8]
+    ensures { result.now ≡ text_at text.now (directory_span dirs.now row) }
+{
+    text_at(text, directory_span(dirs, row))
+}
+
 // The root of row i, zeros past the end.
+#[tactic(auto, using(crate::proofs::Words::root_copied))]
 pub fn root_at(roots: &[u8], i: usize) -> Sha256Hash
     ensures { result.bytes ≡ root_at roots.now i }
 {
@@ -277,6 +277,8 @@ pub fn root_at(roots: &[u8], i: usize) -> Sha256Hash
 }
 
 // Writes the root of row i, nothing past the end.
+// Stays: it is the copy of `lists`, which drops what has no place in the table, where `copy_from_slice` asks for it.
+#[tactic(auto, using(crate::proofs::Words::storing))]
 pub fn put_root(roots: &mut [u8], i: usize, root: Sha256Hash)
     ensures { roots.new ≡ put_root roots.old i root.bytes }
 {
@@ -296,6 +298,7 @@ fn has(flags: u64, bit: u64) -> bool
 }
 
 // Whether a row's flags have pad.
+// Stays: each of these five names a bit for its callers; with one function of a bit each caller would give the bit.
 pub fn is_pad(flags: u64) -> bool
     ensures { result ≡ has flags pad_bit }
 {
@@ -354,6 +357,7 @@ pub fn entry_at(rows: &[u64], roots: &[u8], i: usize) -> FileEntry
 }
 
 // Writes file i: its row, and its root where it is present.
+// Stays: a record goes to two lent tables, words to one and bytes to the other.
 pub fn put_entry(rows: &mut [u64], roots: &mut [u8], i: usize, entry: FileEntry)
     ensures rows_after { rows.new ≡ rows_with rows.old i entry }
     ensures roots_after { roots.new ≡ roots_with roots.old i entry }

@@ -45,6 +45,8 @@ pub fn clipped(used: usize, s: Span) -> Span
 }
 
 // Removes the bytes of a span from the first `used` bytes: what follows it slides down.
+// Stays: `used` may lie past the end of `text`, where no slice of the first `used` bytes can be lent.
+#[tactic(auto, using(crate::proofs::Spans::slid_by))]
 pub fn remove_text(text: &mut [u8], used: usize, c: Span)
     ensures { text.new ≡ slid c used text.old }
 {

@@ -38,9 +38,6 @@ join-length d l = ap length (join-parts d l) ∙ length-append (prefix_of d (len
 
 -- what stands before the leaf, in each case
 module _ (d : List ℕ) (n : ℕ) where
-  pub prefix-alone : is_alone d ≡ true → prefix_of d n ≡ []
-  prefix-alone e = rw e
-
   pub prefix-parted : is_alone d ≡ false → is_parted d n ≡ true → prefix_of d n ≡ d ++ (47 ∷ [])
   prefix-parted e h = rw (e, h)
 

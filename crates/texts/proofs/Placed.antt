@@ -1,7 +1,7 @@
 -- Laws of texts that are put behind the used part of the text area: a copy of a text that stands before it, and parts put
 -- in a row. They rely on the laws of parts and runs of `lists`.
 use Prim.Native.Nat.{ℕ, ◌+◌, ◌≤◌}
-use mathlib.Core.Path.{◌≡◌, refl, sym, ap, ◌∙◌}
+use mathlib.Core.Path.{◌≡◌, sym, ap, ◌∙◌}
 use mathlib.Core.Bool.{true, false}
 use mathlib.Core.List.{List, [], ◌∷◌}
 use native.Mathlib.Omega.{arith}
@@ -13,7 +13,7 @@ use Rattle.path.specs.Join.{is_alone, appended}
 use Rattle.tables.specs.declared.span.Span.{Span}
 use Rattle.tables.specs.Span.{end_of, text_at}
 use Rattle.texts.specs.private.Parts.{is_parted, prefix_of}
-use Rattle.texts.proofs.NewTexts.{join-parts, join-length, prefix-alone, prefix-parted}
+use Rattle.texts.proofs.NewTexts.{join-parts, join-length, prefix-parted}
 
 -- ---- parts in a row
 
@@ -29,9 +29,6 @@ module _ (l : List ℕ) (s : Span) (to n : ℕ) (e : n ≡ length (text_at l s))
 module _ (l d : List ℕ) (n to : ℕ) where
   abbrev pub Prefixed : ℕ → List ℕ → Type 0
   Prefixed k l' = (k ≡ length (prefix_of d n)) × (l' ≡ sets l to (prefix_of d n))
-
-  pub put_alone : is_alone d ≡ true → Prefixed 0 l
-  put_alone e = rw (prefix-alone d n e) (refl, refl)
 
   pub put-parted : is_alone d ≡ false → is_parted d n ≡ true → {k : ℕ} {l' l'' : List ℕ} → k ≡ length d → l' ≡ sets l to d → l'' ≡ set l' (to + k) 47
       → Prefixed (k + 1) l''

@@ -35,7 +35,8 @@ fn lower_row(rows: &mut [u64], i: usize, c: Span)
 }
 
 // Lowers the spans of the first n rows, or of as many as there are, as the removal of span `c` asks.
-// Stays: its twin of directories in `tables` calls another function in the same loop; with a closure the contract would be longer than both.
+// Stays: its twin of directories in `tables` calls another function in the same loop; with a closure the contract would
+// be longer than both. n may pass the table's end.
 fn lower_rows(rows: &mut [u64], n: usize, c: Span)
     ensures { rows.new ≡ rows_lowered rows.old n c }
 {

@@ -1,16 +1,16 @@
 // The parts of a link's text: the separator between them, the text's span, and whether a part lies in the used
 // text. Relies on `path` and the accessors of `tables`.
-ghost use Rattle.std.specs.Prelude.{◌≡◌};
+ghost use Rattle.std.specs.Prelude.{◌≡◌, length};
 ghost use Rattle.texts.specs.Texts.{is_within, link_span};
 ghost use Rattle.texts.specs.private.Parts.{is_parted};
 
 use tables::{Row, Span};
 
-// Whether a separator stands between a branch and a leaf of n bytes.
-pub(crate) fn is_parted(branch: &[u8], n: usize) -> bool
-    ensures { result ≡ is_parted branch.now n }
+// Whether a separator stands between a branch and a leaf.
+pub(crate) fn is_parted(branch: &[u8], leaf: &[u8]) -> bool
+    ensures { result ≡ is_parted branch.now (length leaf.now) }
 {
-    n != 0 && !path::is_closed(branch)
+    !leaf.is_empty() && !path::is_closed(branch)
 }
 
 // The span of a link's text: one of no bytes where it holds none.

@@ -4,18 +4,18 @@ ghost use Rattle.std.specs.Prelude.{◌&&◌, ◌≡◌, [], ◌+◌, ◌-◌, �
 ghost use Rattle.std.proofs.lemmas.List.Edits.{sets};
 ghost use Rattle.path.specs.Join.{appended};
 ghost use Rattle.tables.specs.Span.{end_of, text_at};
-ghost use Rattle.tables.specs.Rows.{row_at, put_row, directory_span};
+ghost use Rattle.tables.specs.Rows.{row_at, put_row};
 ghost use Rattle.lookup.specs.Lookup.{lent};
 ghost use Rattle.texts.specs.Texts.{storage_with, row_with, gone_at, relinked, is_within, with_own, with_beside};
-ghost use Rattle.texts.specs.Texts.{staged_beside, link_span};
-ghost use Rattle.texts.specs.private.Parts.{prefix_of, scratch_joined, joined_into};
+ghost use Rattle.texts.specs.Texts.{staged_beside};
+ghost use Rattle.texts.specs.private.Parts.{prefix_of};
 
 use crate::cut::{cut_out, row_with, storage_with};
 use crate::parts::{is_parted, is_within, link_span};
-use tables::{FileStorage, Row, Span};
-use types::Refusal;
+use tables::{FileStorage, Span};
 
 // Copies the text of a span to `to`, which is after it, and gives its length.
+// Stays: the library's `copy_within` copies; what of the span lies behind the text area's end is left out first.
 fn copy_span(text: &mut [u8], s: Span, to: usize) -> usize
     requires { (end_of s ≤ to) × (length (text_at text.old s) ≤ length text.old - to) }
     ensures value { result ≡ length (text_at text.old s) }
@@ -28,17 +28,20 @@ fn copy_span(text: &mut [u8], s: Span, to: usize) -> usize
     n
 }
 
-// Puts what a join has before its leaf of n bytes to `to`, which is after the branch, and gives its length.
-fn put_prefix(text: &mut [u8], branch: Span, n: usize, to: usize) -> usize
-    requires { (end_of branch ≤ to) × (length (prefix_of (text_at text.old branch) n) ≤ length text.old - to) }
-    ensures value { result ≡ length (prefix_of (text_at text.old branch) n) }
-    ensures text_after { text.new ≡ sets text.old to (prefix_of (text_at text.old branch) n) }
+// Puts what a join has before its leaf to `to`, which is after the branch, and gives its length.
+// Stays: the branch goes by `copy_span`, and one separator is written behind it; no bytes are copied by hand.
+fn put_prefix(text: &mut [u8], branch: Span, leaf: Span, to: usize) -> usize
+    requires { (end_of branch ≤ to)
+        × (length (prefix_of (text_at text.old branch) (length (text_at text.old leaf))) ≤ length text.old - to) }
+    ensures value { result ≡ length (prefix_of (text_at text.old branch) (length (text_at text.old leaf))) }
+    ensures text_after { text.new
+        ≡ sets text.old to (prefix_of (text_at text.old branch) (length (text_at text.old leaf))) }
 {
     let part = tables::text_at(text, branch);
     if path::is_alone(part) {
         return 0;
     }
-    let parted = is_parted(part, n);
+    let parted = is_parted(part, tables::text_at(text, leaf));
     let k = copy_span(text, branch, to);
     if parted {
         lists::put(text, to + k, b'/');
@@ -48,6 +51,7 @@ fn put_prefix(text: &mut [u8], branch: Span, n: usize, to: usize) -> usize
 }
 
 // Puts a branch and a leaf, joined, to `to`, which is after both, and gives the length.
+// Stays: it is the two copies in turn, within one slice, which the joins of `path` into a buffer of their own can't do.
 fn put_joined(text: &mut [u8], branch: Span, leaf: Span, to: usize) -> usize
     requires { (end_of branch ≤ to)
         × (end_of leaf ≤ to)
@@ -57,13 +61,12 @@ fn put_joined(text: &mut [u8], branch: Span, leaf: Span, to: usize) -> usize
     ensures text_after { text.new
         ≡ sets text.old to (appended (text_at text.old branch) (text_at text.old leaf)) }
 {
-    let part = tables::text_at(text, leaf);
-    let n = part.len();
-    let k = put_prefix(text, branch, n, to);
+    let k = put_prefix(text, branch, leaf, to);
     k + copy_span(text, leaf, to + k)
 }
 
 // Makes the n bytes after the used part the link text of file i, and gives the set's record with them.
+// Stays: n counts bytes of the text area, and not rows; it only sets a row's link.
 fn put_link(fs: FileStorage, rows: &mut [u64], i: usize, n: usize) -> FileStorage
     requires { fs.text_len + n < 2 ^ 64 }
     ensures value { result ≡ storage_with fs fs.name (fs.text_len + n) }
@@ -104,6 +107,7 @@ fn relink(
 }
 
 // Whether the parts of a link's own path lie in the used part, and the path fits after it.
+// Stays: the parts lie in the first `used` bytes and the room is what follows them; a slice of either lacks the other.
 fn own_fits(text: &[u8], used: usize, branch: Span, name: Span) -> bool
     ensures { result ≡ (is_within used branch
         && (is_within used name
@@ -142,19 +146,10 @@ pub fn write_own(
     put_link(fs, rows, i, n)
 }
 
-// Puts the text of the link of `row` from its directory into the scratch space, and gives its length.
-fn stage_text(dirs: &[u64], text: &[u8], row: Row, scratch: &mut [u8]) -> Result<usize, Refusal>
-    ensures { scratch_joined result scratch.new
-        ≡ joined_into (text_at text.now (directory_span dirs.now row))
-        (text_at text.now (link_span row)) scratch.old }
-{
-    let directory = tables::text_at(text, tables::directory_span(dirs, row));
-    let leaf = tables::text_at(text, link_span(row));
-    path::join_path(directory, leaf, scratch)
-}
-
 // Replaces the text of link i by that from the link's directory, where it fits. The scratch space then begins with it,
 // where it fits there.
+// Stays: it is public and is lent each table by itself, as the cleaning is; a record would be made for each link, and
+// clauses would name its fields before and after.
 pub fn write_beside(
     fs: FileStorage,
     rows: &mut [u64],
@@ -174,7 +169,9 @@ pub fn write_beside(
     let room = text
         .len()
         .saturating_sub(fs.text_len.saturating_sub(gone.len));
-    let Ok(n) = stage_text(dirs, text, row, scratch) else {
+    let directory = tables::directory_of(dirs, text, row);
+    let leaf = tables::text_at(text, link_span(row));
+    let Ok(n) = path::join_path(directory, leaf, scratch) else {
         return fs;
     };
     if room < n {
@@ -184,6 +181,7 @@ pub fn write_beside(
 }
 
 // Removes the text of link i: the link then has a text of no bytes.
+// Stays: it is public and is lent each table by itself, as `write_beside` is.
 pub fn empty_text(
     fs: FileStorage,
     rows: &mut [u64],

@@ -1,7 +1,7 @@
 -- Laws of a trim: the search for the pad, which from the back on the rows finds what `tail_pad` finds on what the tables
 -- mean; what the removal of a file leaves; and the outcomes. They rely on the laws of `tabled`.
 use Rattle.std.specs.Prelude.{Option, Some, None}
-use Prim.Native.Nat.{ℕ, zero, suc, ◌+◌, ◌-◌, ◌/◌, ◌%◌, ◌<◌, ◌≤◌}
+use Prim.Native.Nat.{ℕ, zero, suc, ◌+◌, ◌-◌, ◌*◌, ◌/◌, ◌%◌, ◌<◌, ◌≤◌}
 use mathlib.Core.Path.{◌≡◌, refl, ap, ◌∙◌}
 use Rattle.std.specs.Bool.{then_some}
 use mathlib.Core.Bool.{Bool, true, false, cond}
@@ -9,16 +9,21 @@ use mathlib.Core.List.{List, [], ◌∷◌, ◌++◌}
 use native.Mathlib.Nat.{zero-add, add-zero}
 use native.Mathlib.Omega.{arith}
 use lib.Dec.{eqb}
-use lib.ListN.{length}
+use lib.ListN.{length, take, length-take}
+use lib.Seq.{get_or-take}
 use borrow.Author.Tests.{eq-eqb, ne_eqb}
+use Rattle.tables.proofs.Words.{row-ext}
 use Rattle.tables.proofs.Tabled.{length-tabled, tabled-more}
 use Rattle.types.specs.Refusals.{value}
+use Rattle.tables.specs.declared.rows.Row.{Row}
 use Rattle.tables.specs.Rows.{row_at, has}
 use Rattle.tables.specs.Model.{present_if, File, Store, tabled, file_of}
 use Rattle.rules.specs.Bounds.{bad_length}
 use Rattle.trim.specs.Removal.{store_trimmed, trimmed_by, trim_stored}
 use Rattle.change.specs.Changes.{answering}
-use Rattle.change.specs.Rooms.{rooms_of, holds}
+use Rattle.tables.specs.declared.storage.FileStorage.{FileStorage}
+use Rattle.change.specs.declared.rooms.Rooms.{Rooms}
+use Rattle.change.specs.Rooms.{holds, holds_in, rooms_of}
 use Rattle.change.proofs.Held.{held}
 use Rattle.trim.specs.Trim.{tail_pad_from, tail_pad}
 use Rattle.trim.specs.private.Search.{tail_pad_in}
@@ -70,7 +75,7 @@ module _ (rows : List ℕ) (i : ℕ) (some : 0 < i) where
   search-stop h t e = decide rows (i - 1) h t e ∙ ap (tail_pad_in rows) next
 
 -- what is found is one of the rows
-pub found_below : (rows : List ℕ) (n f : ℕ) → tail_pad_in rows n ≡ Some f → f < n
+found_below : (rows : List ℕ) (n f : ℕ) → tail_pad_in rows n ≡ Some f → f < n
 unfolding tail_pad_in
 found_below rows zero f e = absurd (let z : ◌≡◌ {A = ℕ} 0 1 = cc in omega arith)
 found_below rows (suc n) f e = at (eqb (row_at rows n).size 0) (has (row_at rows n).flags 1) (found_below rows n f) e
@@ -81,23 +86,51 @@ found_below rows (suc n) f e = at (eqb (row_at rows n).size 0) (has (row_at rows
     at false true before e = let h : n ≡ f = cc in omega arith
     at false false before e = absurd (let z : ◌≡◌ {A = ℕ} 0 1 = cc in omega arith)
 
+-- the search reads nothing behind the rows that it counts: the first n rows alone, as the code lends them, and all
+-- others with them hold the same pad
+module _ (rows : List ℕ) (n : ℕ) where
+  row-taken : (k : ℕ) → k < n → row_at (take (n * 8) rows) k ≡ row_at rows k
+  row-taken k h =
+      row-ext (take (n * 8) rows) rows k k
+      (λ j b. (let p : k * 8 + j < n * 8 = omega arith in get_or-take (n * 8) rows (k * 8 + j) 0 p))
+
+  pad-taken : (m : ℕ) → m ≤ n → tail_pad_in (take (n * 8) rows) m ≡ tail_pad_in rows m
+  unfolding tail_pad_in
+  pad-taken zero h = refl
+  pad-taken (suc m) h =
+      ap (λ (r : Row). cond (eqb r.size 0) (tail_pad_in (take (n * 8) rows) m) (present_if (has r.flags 1) m)) (row-taken m (omega arith))
+      ∙ ap (λ (o : Option ℕ). cond (eqb (row_at rows m).size 0) o (present_if (has (row_at rows m).flags 1) m)) (pad-taken m (omega arith))
+
+  pub pad_front : n ≤ length rows / 8 → tail_pad_in (take (n * 8) rows) (length (take (n * 8) rows) / 8) ≡ tail_pad_in rows n
+  pad_front h =
+      let c : length (take (n * 8) rows) / 8 ≡ n = omega (arith, length-take (n * 8) rows) in rw c (pad-taken n (omega arith))
+
+  pub found_front : (f : ℕ) → tail_pad_in (take (n * 8) rows) (length (take (n * 8) rows) / 8) ≡ Some f → f < n
+  found_front f e =
+      omega (arith, length-take (n * 8) rows, found_below (take (n * 8) rows) (length (take (n * 8) rows) / 8) f e)
+
 -- ---- outcomes
 
 -- a set that its tables hold has at most 65535 files
-pub few-files : (s : Store) → holds s ≡ true → s.fs.num_files ≤ 65535
-few-files s e = let h = held s.fs (rooms_of s) e in omega arith
+pub few_files : (fs : FileStorage) (rooms : Rooms) → holds_in fs rooms ≡ true → fs.num_files ≤ 65535
+few_files fs rooms e = let h = held fs rooms e in omega arith
 
 module _ (s : Store) where
-  module _ (good : bad_length s.fs.piece_length ≡ false) where
-    module _ (held : holds s ≡ true) where
-      trim-found : (found : Option ℕ) → found ≡ tail_pad_in s.rows s.fs.num_files
-          → answering (value (trimmed_by found s).fs) (trimmed_by found s) ≡ trim_stored s
-      trim-found found e = rw (good, held, tail-pad-rows s s.fs.num_files, ← e)
+  -- what the search finds in the rows that are lent to it
+  abbrev pad_lent : Option ℕ
+  pad_lent = tail_pad_in (take (s.fs.num_files * 8) s.rows) (length (take (s.fs.num_files * 8) s.rows) / 8)
 
-      pub trim-none : None ≡ tail_pad_in s.rows s.fs.num_files → answering (value s.fs) s ≡ trim_stored s
+  module _ (good : bad_length s.fs.piece_length ≡ false) where
+    module _ (held_in : holds s ≡ true) where
+      trim-found : (found : Option ℕ) → found ≡ pad_lent → answering (value (trimmed_by found s).fs) (trimmed_by found s) ≡ trim_stored s
+      trim-found found e =
+          let h = (held s.fs (rooms_of s) held_in).files in
+          let f : found ≡ tail_pad_in s.rows s.fs.num_files = e ∙ pad_front s.rows s.fs.num_files (omega arith) in
+          rw (good, held_in, tail-pad-rows s s.fs.num_files, ← f)
+
+      pub trim-none : None ≡ pad_lent → answering (value s.fs) s ≡ trim_stored s
       trim-none e = trim-found None e
 
-      pub trim-done : (f : ℕ) (t : Store) → Some f ≡ tail_pad_in s.rows s.fs.num_files
-          → t ≡ store_trimmed s f → answering (value t.fs) t ≡ trim_stored s
+      pub trim-done : (f : ℕ) (t : Store) → Some f ≡ pad_lent → t ≡ store_trimmed s f → answering (value t.fs) t ≡ trim_stored s
       trim-done f t e h =
           ap (λ (x : Store). answering (value x.fs) x) h ∙ trim-found (Some f) e

@@ -1,6 +1,6 @@
 // The search for the pad, and what its removal writes. Relies on the writers of `tables` and the laws of
 // proofs/Trims.antt.
-ghost use Rattle.std.specs.Prelude.{◌≡◌, List, ℕ, ◌<◌, ◌≤◌};
+ghost use Rattle.std.specs.Prelude.{◌≡◌, List, ℕ, ◌/◌, ◌<◌, ◌≤◌, length};
 ghost use Rattle.types.specs.Refusals.{outcome};
 ghost use Rattle.tables.specs.Model.{store_of};
 ghost use Rattle.rules.specs.Bounds.{max_entries};
@@ -8,15 +8,14 @@ ghost use Rattle.trim.specs.Removal.{first_gone, second_gone, storage_without, s
 ghost use Rattle.change.specs.Changes.{changed_of};
 ghost use Rattle.trim.specs.private.Search.{tail_pad_in};
 
-use tables::{FileStorage, ROOT_WIDTH, Row, Span};
+use tables::{FileStorage, ROOT_WIDTH, ROW_WIDTH, Row, Span};
 use types::Refusal;
 
-// The last of the first n rows that is not empty, where it is a pad.
-// Stays: the table is lent, and the set's record counts its rows.
-fn find_tail_pad(rows: &[u64], n: usize) -> Option<usize>
-    ensures { result ≡ tail_pad_in rows.now n }
+// The last of the rows that is not empty, where it is a pad.
+fn find_tail_pad(rows: &[u64]) -> Option<usize>
+    ensures { result ≡ tail_pad_in rows.now (length rows.now / 8) }
 {
-    for i in (0..n).rev() {
+    for i in (0..rows.len() / ROW_WIDTH).rev() {
         if 0 < tables::size_at(rows, i) {
             return tables::is_pad(tables::flags_at(rows, i)).then_some(i);
         }
@@ -57,6 +56,7 @@ fn storage_without(fs: FileStorage, row: Row, c: Span, d: Span) -> FileStorage
 }
 
 // Removes file f from the tables, and gives the set's record after it.
+// Stays: of the private functions this one alone takes all four tables to write; a record for it is no plainer.
 fn remove_file(
     fs: FileStorage,
     rows: &mut [u64],
@@ -93,6 +93,7 @@ fn remove_file(
 
 // Removes the last file that is not empty, where it is a pad. A table of first files is not lent: whatever it holds, a
 // trim leaves it, and the set has fewer pieces in it.
+#[tactic(auto, using(crate::proofs::Trims::found_front, crate::proofs::Trims::few_files))]
 pub fn remove_tail_padding(
     fs: FileStorage,
     rows: &mut [u64],
@@ -114,7 +115,7 @@ pub fn remove_tail_padding(
     if !change::holds(fs, rooms) {
         return Err(Refusal::NoRoom);
     }
-    match find_tail_pad(rows, fs.num_files) {
+    match find_tail_pad(&rows[..fs.num_files * ROW_WIDTH]) {
         Some(f) => Ok(remove_file(fs, rows, roots, dirs, text, f)),
         None => Ok(fs),
     }

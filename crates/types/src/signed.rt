@@ -7,6 +7,7 @@ use crate::index::{FileIndex, PieceIndex};
 use crate::refusal::Refusal;
 
 // A signed number as an unsigned one, where it is not negative.
+// Stays: it is std's `TryFrom` with the error left out, for the functions here that have no use for it.
 pub fn unsigned(x: i64) -> Option<u64>
     ensures { result ≡ unsigned_of x }
 {
@@ -14,6 +15,7 @@ pub fn unsigned(x: i64) -> Option<u64>
 }
 
 // A signed number as an unsigned one, 0 where it is negative.
+// Stays: it is `unsigned` with std's `unwrap_or`.
 pub fn clamped(x: i64) -> u64
     ensures { result ≡ clamped_of x }
 {
@@ -28,7 +30,7 @@ pub fn is_negative(x: i64) -> bool
 }
 
 // The low 63 bits of a number as an `i64`: the number itself below 2^63.
-// Stays: no trait casts to both `i64` and `i32`, so one generic body would need a trait of its own for these two lines.
+// Stays: after the remainder `as` is exact, and `TryFrom` would add an error that can't come, here and below.
 pub fn signed64(n: u64) -> i64
     ensures { result ≡ pos (n % 2 ^ 63) }
 {
@@ -36,6 +38,7 @@ pub fn signed64(n: u64) -> i64
 }
 
 // The low 31 bits of a number as an `i32`: the number itself below 2^31.
+// Stays: one function for both types would need a trait that gives the modulus, for two lines.
 pub fn signed32(n: u64) -> i32
     ensures { result ≡ pos (n % 2 ^ 31) }
 {
@@ -44,6 +47,7 @@ pub fn signed32(n: u64) -> i32
 
 // An `i64` as a word, by zigzag: 0, −1, 1, −2, … are 0, 1, 2, 3, …. Below 0 the word is 2n + 1, with n = −1 − x; as a
 // difference from the largest word the compiler makes it without a branch.
+// Stays: std has no zigzag, and `unsigned_abs` doubled passes 64 bits at the least number.
 pub fn zigzag64(x: i64) -> u64
     ensures { result ≡ zigzag x }
 {
@@ -55,6 +59,7 @@ pub fn zigzag64(x: i64) -> u64
 }
 
 // The `i64` of a word.
+// Stays: std has no zigzag; half a word is below 2^63, so `as` is exact.
 pub fn unzigzag64(word: u64) -> i64
     ensures { result ≡ unzigzag word }
 {

@@ -24,9 +24,7 @@ loop-k-init c = record { low = omega arith; in_f = refl; in-o = refl; in-s = ref
 
 pub returns-then-left-eq0 : goal.returns-then-left-eq0
 returns-then-left-eq0 c =
-    let l = c.loop-k in
-    let a = c.args in
-    let whole = over l.invariant (walk_none a.rows.now (a.at.files - l.k) l.k l.s l.left c.if-left-eq0.true) in
+    let whole = over c.loop-k.invariant (walk_none c.args.rows.now (c.args.at.files - c.loop-k.k) c.loop-k.k c.loop-k.s c.loop-k.left c.if-left-eq0.true) in
     record {
       value = whole.0;
       out_file_after = whole.1.0;
@@ -41,10 +39,9 @@ pub loop-k-preserved : goal.loop-k-preserved
 loop-k-preserved c =
     let p = c.put_slice in
     let l = c.loop-k in
-    let a = c.args in
     let x = before (record { file = l.k; offset = l.s; size = c.min-part.result }) [] in
     let e =
-    walk_turn a.rows.now a.at.files l.k l.s l.left c.loop-k-test.true c.size_at-size.ensures c.saturating_sub-here.ensures c.min-part.ensures c.saturating_sub-left.ensures c.saturating_sub-s.ensures
+    walk_turn c.args.rows.now c.args.at.files l.k l.s l.left c.loop-k-test.true c.size_at-size.ensures c.saturating_sub-here.ensures c.min-part.ensures c.saturating_sub-left.ensures c.saturating_sub-s.ensures
     in
     let m : l.n + c.slice_count-n.result ≡ l.n + length x = ap (λ (j : ℕ). l.n + j) (c.slice_count-n.ensures ∙ sym (before-length (record { file = l.k; offset = l.s; size = c.min-part.result }))) in
     record {
@@ -57,9 +54,7 @@ loop-k-preserved c =
 
 pub returns : goal.returns
 returns c =
-    let l = c.loop-k in
-    let a = c.args in
-    let whole = over l.invariant (walk_end a.rows.now a.at.files l.k l.s l.left c.loop-k-test.false) in
+    let whole = over c.loop-k.invariant (walk_end c.args.rows.now c.args.at.files c.loop-k.k c.loop-k.s c.loop-k.left c.loop-k-test.false) in
     record {
       value = whole.0;
       out_file_after = whole.1.0;

@@ -1,6 +1,6 @@
 -- The addition's own promise, at the record and the presences that were read.
 use Rattle.types.specs.Refusals.{outcome}
-use Rattle.std.proofs.Common.{◌∙◌, ap, ℤ, w64, to_z, of_z, to_z-of_z}
+use Rattle.std.proofs.Common.{◌≡◌, ◌∙◌, ap, ℤ, w64, to_z, of_z, to_z-of_z}
 use Rattle.tables.specs.declared.rows.Presence.{Presence}
 use Rattle.tables.specs.declared.storage.FileStorage.{FileStorage}
 use Rattle.tables.specs.Model.{store_of}
@@ -30,17 +30,12 @@ returns c =
     let rooted = presence_of c.args.rooted in
     let size = to_z w64 (of_z w64 c.args.file_size) in
     let time = to_z w64 (of_z w64 c.args.mtime) in
-    answered
-    c.args.state.now
-    c.put_answer.new.state
-    c.put_answer.result
-    (changed_of (outcome c.add_file-answer.result) c.add_file-answer.new.rows c.add_file-answer.new.roots c.add_file-answer.new.firsts c.add_file-answer.new.dirs c.add_file-answer.new.text)
-    (added fs given rooted c.args.file_size c.args.mtime)
-    (c.add_file-answer.ensures
+    let made : changed_of (outcome c.add_file-answer.result) c.add_file-answer.new.rows c.add_file-answer.new.roots c.add_file-answer.new.firsts c.add_file-answer.new.dirs c.add_file-answer.new.text
+    ≡ added fs given rooted c.args.file_size c.args.mtime =
+    c.add_file-answer.ensures
     ∙ ap (λ (x : FileStorage). added x c.presence_of.result c.presence_of-2.result size time) c.storage_at.ensures
     ∙ ap (λ (x : Presence). added fs x c.presence_of-2.result size time) c.presence_of.ensures
     ∙ ap (λ (x : Presence). added fs given x size time) c.presence_of-2.ensures
     ∙ ap (λ (x : ℤ). added fs given rooted x time) (to_z-of_z c.ranges.file_size)
-    ∙ ap (λ (x : ℤ). added fs given rooted c.args.file_size x) (to_z-of_z c.ranges.mtime))
-    c.put_answer.ensures.value
-    c.put_answer.ensures.state_after
+    ∙ ap (λ (x : ℤ). added fs given rooted c.args.file_size x) (to_z-of_z c.ranges.mtime) in
+    answered c.args.state.now made c.put_answer.ensures.value c.put_answer.ensures.state_after

@@ -1,24 +1,13 @@
 -- The trim's own promise, at the record that was read.
-use Rattle.types.specs.Refusals.{outcome}
 use Rattle.std.proofs.Common.{◌∙◌, ap}
 use Rattle.tables.specs.declared.storage.FileStorage.{FileStorage}
 use Rattle.change.specs.Changes.{Changed}
 use Rattle.trim.specs.Removal.{trim_stored}
-use Rattle.exports.specs.State.{storage_of}
 use Rattle.exports.proofs.Exported.{answered}
 use Rattle.exports.proofs.niflathen_remove_tail_padding.Goals as goal
 
 pub returns : goal.returns
 returns c firsts =
-    let left : Changed =
-    record {
-      says = outcome c.remove_tail_padding-answer.result;
-      rows = c.remove_tail_padding-answer.new.rows;
-      roots = c.remove_tail_padding-answer.new.roots;
-      firsts = firsts;
-      dirs = c.remove_tail_padding-answer.new.dirs;
-      text = c.remove_tail_padding-answer.new.text;
-    } in
     let trimmed : FileStorage → Changed =
     λ fs. trim_stored
     (record {
@@ -29,12 +18,4 @@ returns c firsts =
       dirs = c.args.dirs.now;
       text = c.args.text.now;
     }) in
-    answered
-    c.args.state.now
-    c.put_answer.new.state
-    c.put_answer.result
-    left
-    (trimmed (storage_of c.args.state.now))
-    (c.remove_tail_padding-answer.ensures firsts ∙ ap trimmed c.storage_at.ensures)
-    c.put_answer.ensures.value
-    c.put_answer.ensures.state_after
+    answered c.args.state.now (c.remove_tail_padding-answer.ensures firsts ∙ ap trimmed c.storage_at.ensures) c.put_answer.ensures.value c.put_answer.ensures.state_after

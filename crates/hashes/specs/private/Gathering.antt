@@ -1,6 +1,6 @@
 -- How `all_path_hashes` finds its hashes in order without work space of its own: hashes at or above a bound are put
 -- into a table, in order, and those that it has no room for fall off its end. It relies on Hashes.antt for what is due.
-use Rattle.std.specs.Prelude.{ℕ, suc, ◌+◌, ◌/◌, ◌≤◌, min, ◌≡◌, cond, not, List, [], ◌∷◌, map, ltb, leb, length, take}
+use Rattle.std.specs.Prelude.{ℕ, ◌+◌, ◌/◌, ◌≤◌, min, ◌≡◌, cond, not, List, [], ◌∷◌, map, ltb, leb, length, take}
 use Rattle.std.proofs.lemmas.List.Edits.{sets}
 use Rattle.crc32c.specs.Crc.{crc_from, lower}
 use Rattle.tables.specs.Span.{text_at}
@@ -46,10 +46,6 @@ hashes_after state d = map (λ (b : List ℕ). crc_from state (map lower b)) (be
 -- those of the first n directories
 abbrev pub hashes_within : ℕ → List ℕ → List ℕ → ℕ → List ℕ
 hashes_within state dirs text n = joined_lists (map (hashes_after state) (tabled n (λ i. text_at text (dir_at dirs i))))
-
--- the beginnings of the first n directories, repeats included
-abbrev pub beginnings_within : List ℕ → List ℕ → ℕ → List (List ℕ)
-beginnings_within dirs text n = joined_lists (map beginnings (tabled n (λ i. text_at text (dir_at dirs i))))
 
 -- in order, each once
 abbrev pub ascending_within : ℕ → List ℕ → List ℕ → ℕ → List ℕ

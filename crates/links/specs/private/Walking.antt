@@ -2,13 +2,35 @@
 -- needs. The meaning is that of Clean.antt; the marks are those of Judging.antt.
 use Rattle.std.specs.Prelude.{ℕ, zero, suc, ◌+◌, ◌*◌, ◌/◌, ◌%◌, ◌^◌, ◌<◌, ◌≤◌, Bool, true, false, cond, ◌≡◌, List, [], ◌∷◌, map, eqb, ltb, length, get_or, set, drop}
 use Rattle.lists.specs.Lists.{equal}
-use Rattle.tables.specs.Model.{path_in, Store}
-use Rattle.lookup.specs.Lookup.{Entry, own_path, is_directory, known, entries_of, directories_of}
+use Rattle.tables.specs.declared.lent.Lent.{Lent}
+use Rattle.tables.specs.declared.lent.LentSet.{LentSet}
+use Rattle.tables.specs.declared.storage.FileStorage.{FileStorage}
+use Rattle.tables.specs.Rows.{row_at}
+use Rattle.tables.specs.Model.{path_in, internal_path, Store}
+use Rattle.lookup.specs.Lookup.{Entry, own_path, is_directory, known, lent, entries_of, directories_of}
 use Rattle.lookup.specs.private.Rows.{entry_at}
 use Rattle.lookup.specs.Space.{space}
 use Rattle.links.specs.Clean.{Link, links_of, goes, resolves, weight}
-use Rattle.rope.specs.Rope.{held_path, front, frame_width, half_word}
+use Rattle.rope.specs.declared.frame.Path.{Path}
+use Rattle.rope.specs.Rope.{held_path, held, front, frame_width, half_word}
 use Rattle.links.specs.Judging.{verdict_keep, verdict_own_path, verdict_walk, first_mark}
+
+-- ---- a set as private functions pass it
+
+-- the set that a record and the tables lent with it hold
+abbrev pub store_in : FileStorage → Lent → Store
+store_in fs l = lent fs l.rows.now l.dirs.now l.text.now
+
+abbrev pub set_of : LentSet → Store
+set_of s = store_in s.fs s.lent
+
+-- the internal path of file i
+abbrev pub own_text : Lent → ℕ → List ℕ
+own_text l i = internal_path l.dirs.now l.text.now (row_at l.rows.now i)
+
+-- the first e bytes of a path
+abbrev pub front_of : Path → ℕ → List ℕ
+front_of p e = front p.lent.rows.now p.lent.dirs.now p.lent.text.now p.frames.now p.depth e
 
 -- ---- marks
 
@@ -89,9 +111,9 @@ abbrev pub with_frame : List ℕ → ℕ → ℕ → List ℕ
 with_frame frames k w = with_start (set frames (k * frame_width) w) k 0
 
 -- the path has e bytes, and h is its front: all e bytes, or as many as fit
-pub record Fronted (rows dirs text frames : List ℕ) (depth e : ℕ) (h : List ℕ) : Type 0 where
-  pub long : e ≤ length (held_path rows dirs text frames depth)
-  pub head : h ≡ front rows dirs text frames depth (length h)
+pub record Fronted (p : Path) (e : ℕ) (h : List ℕ) : Type 0 where
+  pub long : e ≤ length (held p)
+  pub head : h ≡ front_of p (length h)
 
 -- ---- walks
 
@@ -116,8 +138,9 @@ pub record Bounded (s : Store) (frames : ℕ) : Type 0 where
   pub small : 2 * space (entries_of s) < 2 ^ 64
   pub room : 65536 * frame_width ≤ frames
 
--- what the walk of link i needs besides: the first pass's leads
-pub record WalksFrom (s : Store) (marks : List ℕ) (i : ℕ) : Type 0 where
+-- what the walk of link i needs, with so many words of frames: what the passes need, and the first pass's leads
+pub record WalksFrom (s : Store) (marks : List ℕ) (i frames : ℕ) : Type 0 where
+  pub bounded : Bounded s frames
   pub row : i < s.fs.num_files
   pub flag : (entry_at s i).flagged ≡ true
   pub marked : map lead marks ≡ map lead (first_marks (entries_of s) (directories_of s) (entries_of s))

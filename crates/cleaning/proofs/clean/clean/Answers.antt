@@ -1,6 +1,5 @@
 -- `cleaning::clean::clean` meets its contract: a refusal of the judgement, no flagged link, or links that are judged with
 -- 65535 marks.
-use Prim.Native.Nat.{ℕ}
 use mathlib.Core.Path.{sym, ◌∙◌}
 use lib.ListN.{length}
 use Rattle.tables.specs.Model.{Store}
@@ -14,15 +13,13 @@ use Rattle.cleaning.proofs.clean.clean.Goals as goal
 pub returns-then-n-eq0 : goal.returns-then-n-eq0
 returns-then-n-eq0 c =
     let a = c.args in
-    let s : Store = lent a.fs a.rows.now a.dirs.now a.text.now in
-    let number : ℕ = judging_number s a.marks (length a.scratch.now) a.walk_path in
-    let told = outcome-value number c.in_ok-n.n (link_count (entries_of s)) c.in_ok-n.ensures in
-    within_none s a.marks a.scratch.now a.walk_path told.0 (sym told.1 ∙ c.if-n-eq0.true) c.clear.ensures
+    let the_set : Store = lent a.fs a.rows.now a.dirs.now a.text.now in
+    let told = outcome-value (judging_number the_set a.marks (length a.scratch.now) a.walk_path) c.in_ok-n.n (link_count (entries_of the_set)) c.in_ok-n.ensures in
+    within_none the_set a.marks a.scratch.now a.walk_path told.0 (sym told.1 ∙ c.if-n-eq0.true) c.clear.ensures
 
 pub returns : goal.returns
 returns c =
     let a = c.args in
-    let s : Store = lent a.fs a.rows.now a.dirs.now a.text.now in
-    let number : ℕ = judging_number s a.marks (length a.scratch.now) a.walk_path in
-    let told = outcome-value number c.in_ok-n.n (link_count (entries_of s)) c.in_ok-n.ensures in
-    c.clean_links.ensures ∙ within-local s a.marks a.scratch.now a.walk_path told.0
+    let the_set : Store = lent a.fs a.rows.now a.dirs.now a.text.now in
+    let told = outcome-value (judging_number the_set a.marks (length a.scratch.now) a.walk_path) c.in_ok-n.n (link_count (entries_of the_set)) c.in_ok-n.ensures in
+    c.clean_links.ensures ∙ within-local the_set a.marks a.scratch.now a.walk_path told.0

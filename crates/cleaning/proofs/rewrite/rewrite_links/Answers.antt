@@ -7,8 +7,7 @@ use Rattle.cleaning.proofs.rewrite.rewrite_links.Goals as goal
 
 pub returns : goal.returns
 returns c =
-    let a = c.args in
     let first = c.empty_links-without in
-    let s = lent a.fs a.rows.now a.dirs.now a.text.now in
-    let t = lent first.result first.new.rows first.new.dirs first.new.text in
-    c.write_links.ensures ∙ both-passes (length a.scratch.now) a.n a.marks.now s t first.ensures
+    c.write_links.ensures
+    ∙ both-passes (length c.args.scratch.now) c.args.marks.now (lent c.args.fs c.args.rows.now c.args.dirs.now c.args.text.now)
+    (lent first.result first.new.rows first.new.dirs first.new.text) first.ensures

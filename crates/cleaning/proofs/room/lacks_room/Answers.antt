@@ -1,17 +1,16 @@
 -- `cleaning::room::lacks_room` meets its contract.
-use Rattle.lookup.specs.Lookup.{lent}
-use Rattle.cleaning.specs.private.Writing.{all_verdicts}
+use mathlib.Core.Path.{◌∙◌}
+use lib.ListN.{length}
+use borrow.Author.Tests.{lt-ltb}
+use Rattle.cleaning.specs.private.Judged.{store_in, verdicts_on}
 use Rattle.cleaning.proofs.Rooms.{lacks-now, lacks-more}
 use Rattle.cleaning.proofs.room.lacks_room.Goals as goal
 
-pub returns-then-text-kept : goal.returns-then-text-kept
-returns-then-text-kept c =
-    let a = c.args in
-    let s = lent a.fs a.rows.now a.dirs.now a.text.now in
-    lacks-now (all_verdicts s a.marks.now) s c.kept_after-kept.result c.kept_after-kept.ensures c.if-text-kept.true
+pub returns-then-room-kept : goal.returns-then-room-kept
+returns-then-room-kept c =
+    lt-ltb (length c.args.judged.set.lent.text.now) c.kept_after-kept.result c.if-room-kept.true
+    ∙ lacks-now (verdicts_on c.args.judged) (store_in c.args.judged) c.kept_after-kept.result c.kept_after-kept.ensures c.if-room-kept.true
 
-pub returns : goal.returns
-returns c =
-    let a = c.args in
-    let s = lent a.fs a.rows.now a.dirs.now a.text.now in
-    lacks-more (all_verdicts s a.marks.now) s c.kept_after-kept.result c.kept_after-kept.ensures c.if-text-kept.false c.lacks_bytes.ensures
+pub returns-else-room-kept : goal.returns-else-room-kept
+returns-else-room-kept c =
+    lacks-more (verdicts_on c.args.judged) (store_in c.args.judged) c.kept_after-kept.result c.kept_after-kept.ensures c.if-room-kept.false c.lacks_bytes.ensures

@@ -24,22 +24,18 @@ started bound state n x k m d table after b h e s t =
 
 pub returns-then-is_empty : goal.returns-then-is_empty
 returns-then-is_empty c =
-    let a = c.args in
-    let e = empty-list a.d.now (search rules) in
-    (rw e (kept a.n a.table.now c.requires.within), rw e (sym (crc-none a.state)))
+    let e = empty-list c.args.d.now (search rules) in
+    (rw e (kept c.args.n c.args.table.now c.requires.within), rw e (sym (crc-none c.args.state)))
 
 pub slice_bounds-crc32c_append_lowercase-end : goal.slice_bounds-crc32c_append_lowercase-end
 slice_bounds-crc32c_append_lowercase-end c =
-    let k = c.next_separator-end in
-    sym (length-take-le k.result c.args.d.now (scan-within c.args.d.now 0 k.result k.ensures (omega arith)).1)
+    sym (length-take-le c.next_separator-end.result c.args.d.now (scan-within c.args.d.now 0 _ c.next_separator-end.ensures (omega arith)).1)
 
 pub loop-end-init : goal.loop-end-init
 loop-end-init c =
-    let a = c.args in
-    let x = c.crc32c_append_lowercase-x in
     let k = c.next_separator-end in
-    let s = started a.bound a.state a.n x.result k.result c.keep-m.result a.d.now a.table.now c.keep-m.new.table c.requires (search rules) x.ensures k.ensures c.keep-m.ensures in
-    ((scan-within a.d.now 0 k.result k.ensures (omega arith)).1, refl, x.ensures, going a.bound (hashes_from a.state a.d.now k.result) c.keep-m.result c.keep-m.new.table s.begun)
+    let s = started _ _ _ _ _ _ _ _ _ c.requires (search rules) c.crc32c_append_lowercase-x.ensures k.ensures c.keep-m.ensures in
+    ((scan-within c.args.d.now 0 k.result k.ensures (omega arith)).1, refl, c.crc32c_append_lowercase-x.ensures, going c.args.bound (hashes_from c.args.state c.args.d.now k.result) c.keep-m.result c.keep-m.new.table s.begun)
 
 pub slice_bounds-crc32c_append_lowercase-end-in-loop-end : goal.slice_bounds-crc32c_append_lowercase-end-in-loop-end
 slice_bounds-crc32c_append_lowercase-end-in-loop-end c = omega (arith, scan-within c.args.d.now (c.loop-end.end + 1) c.next_separator-next.result c.next_separator-next.ensures (omega arith))
@@ -62,9 +58,6 @@ pub returns : goal.returns
 returns c =
     let l = c.loop-end in
     let a = c.args in
-    let x = c.crc32c_append_lowercase-x in
-    let k = c.next_separator-end in
-    let s = started a.bound a.state a.n x.result k.result c.keep-m.result a.d.now a.table.now c.keep-m.new.table c.requires (search rules) x.ensures k.ensures c.keep-m.ensures in
-    let g = rw (hashes-end a.state a.d.now l.end c.loop-end-test.false) at l.invariant.3 in
-    let r = arrived a.bound l.m g in
+    let s = started _ _ _ _ _ _ _ _ _ c.requires (search rules) c.crc32c_append_lowercase-x.ensures c.next_separator-end.ensures c.keep-m.ensures in
+    let r = arrived a.bound l.m (rw (hashes-end a.state a.d.now l.end c.loop-end-test.false) at l.invariant.3) in
     (record { stored = r.0 ∙ s.stored; count = r.1 ∙ s.counted }, l.invariant.2 ∙ hash-all a.state a.d.now l.end c.loop-end-test.false)

@@ -9,11 +9,11 @@ use Rattle.imports.proofs.give.count_given.Given as goal
 
 abbrev pub invariant-loop-i : goal.invariant-loop-i
 invariant-loop-i l = record {
-  within : l.at ≤ length l.names;
+  within : l.at ≤ length l.list.names.now;
   few : l.count ≤ l.i;
   short : l.bytes ≤ l.at;
-  counted : l.count + length (renames_given l.files (drop l.i l.numbers) (drop l.i l.lengths) (drop l.at l.names))
-      ≡ length (renames_given l.files l.numbers l.lengths l.names);
-  summed : l.bytes + length (texts_of (renames_given l.files (drop l.i l.numbers) (drop l.i l.lengths) (drop l.at l.names)))
-      ≡ length (texts_of (renames_given l.files l.numbers l.lengths l.names));
+  counted : l.count + length (renames_given l.files (drop l.i l.list.numbers.now) (drop l.i l.list.lengths.now) (drop l.at l.list.names.now))
+      ≡ length (renames_given l.files l.list.numbers.now l.list.lengths.now l.list.names.now);
+  summed : l.bytes + length (texts_of (renames_given l.files (drop l.i l.list.numbers.now) (drop l.i l.list.lengths.now) (drop l.at l.list.names.now)))
+      ≡ length (texts_of (renames_given l.files l.list.numbers.now l.list.lengths.now l.list.names.now));
 }

@@ -1,5 +1,7 @@
 -- `imports::keep::keep_entries` meets its contract.
+use Prim.Native.Nat.{◌/◌}
 use mathlib.Core.Path.{sym, ◌∙◌}
+use lib.ListN.{length}
 use Rattle.imports.specs.private.Merging.{is_noted}
 use Rattle.imports.proofs.Keeping.{moved-skip, moved-keep}
 use Rattle.imports.proofs.keep.keep_entries.Goals as goal
@@ -13,8 +15,8 @@ loop-i-preserved c =
     elim c.if-not-is_noted.branch [
       | then-not-is_noted w ↦
           rw (w.entries-is, w.to-is, w.keep_entry.ensures)
-          (moved-keep f a.n a.entries.now l.entries l.i l.to l.invariant c.loop-i-test.true (sym c.is_noted.ensures ∙ w.if-not-is_noted.true))
+          (moved-keep f (length a.entries.now / 3) a.entries.now l.entries l.i l.to l.invariant c.loop-i-test.true (sym c.is_noted.ensures ∙ w.if-not-is_noted.true))
       | else-not-is_noted w ↦
           rw (w.entries-is, w.to-is)
-          (moved-skip f a.n a.entries.now l.entries l.i l.to l.invariant c.loop-i-test.true (sym c.is_noted.ensures ∙ w.if-not-is_noted.false))
+          (moved-skip f (length a.entries.now / 3) a.entries.now l.entries l.i l.to l.invariant c.loop-i-test.true (sym c.is_noted.ensures ∙ w.if-not-is_noted.false))
     ]

@@ -1,8 +1,10 @@
 -- `imports::keep::keep_texts` meets its contract. The loop's invariant: the texts from `from` on are as they were, and what is left
 -- of them behind those that were moved gives the whole.
+use Prim.Native.Nat.{◌/◌}
+use lib.ListN.{length}
 use Rattle.imports.specs.private.Merging.{is_noted}
 use Rattle.imports.proofs.Keeping.{Joined}
 use Rattle.imports.proofs.keep.keep_texts.Given as goal
 
 abbrev pub invariant-loop-i : goal.invariant-loop-i
-invariant-loop-i l = Joined (is_noted l.files l.notes) l.n l.entries l.initial.text l.text l.i l.from l.to
+invariant-loop-i l = Joined (is_noted l.files l.notes) (length l.entries / 3) l.entries l.initial.text l.text l.i l.from l.to

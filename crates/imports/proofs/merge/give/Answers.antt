@@ -1,17 +1,35 @@
 -- `imports::merge::give` meets its contract.
+use mathlib.Core.Path.{◌≡◌, ap, ◌∙◌}
+use mathlib.Core.List.{List}
+use lib.Seq.{sets}
+use Rattle.renames.specs.Renames.{Renamed, renames_of, texts_of}
+use Rattle.renames.proofs.Used.{renames_in_use}
+use Rattle.imports.specs.private.Importing.{renames_kept}
 use Rattle.imports.specs.private.Listed.{named_in, given_in}
+use Rattle.imports.proofs.Keeping.{moved-front}
 use Rattle.imports.proofs.Raising.{merge-ready, merge-done}
 use Rattle.imports.proofs.merge.give.Goals as goal
+use Rattle.imports.proofs.merge.give.Goals.{After-keep_texts}
+
+-- the texts that are kept are those of the entries in use
+kept-texts : (c : After-keep_texts) → c.keep_texts.new.text
+    ≡ sets c.args.text.now 0 (texts_of (renames_kept (named_in c.args.list) (renames_of c.args.renames c.args.entries.now c.args.text.now)))
+kept-texts c =
+    c.keep_texts.ensures
+    ∙ ap (λ (rs : List Renamed). sets c.args.text.now 0 (texts_of (renames_kept (named_in c.args.list) rs)))
+    (renames_in_use c.args.renames.num_renames c.args.entries.now c.requires.0 c.args.text.now)
 
 pub merge-requires : goal.merge-requires
 merge-requires c =
-    let a = c.args in
-    merge-ready (named_in a.list) (given_in a.list) a.list.files a.renames a.stay a.come a.entries.now a.text.now c.requires.0 c.requires.1 c.requires.2 c.requires.3 c.requires.4 c.requires.5 _ _ c.keep_entries.ensures c.keep_texts.ensures _ _ c.copy_within-2.ensures.after c.copy_within.ensures.after c.requires.6 c.requires.7
+    merge-ready (named_in c.args.list) (given_in c.args.list) c.args.list.files c.args.renames c.args.stay c.args.come c.args.entries.now c.args.text.now
+    c.requires.0 c.requires.1 c.requires.2 c.requires.3 c.requires.4 c.requires.5 _ _ (moved-front (named_in c.args.list) c.args.renames.num_renames c.args.entries.now _ c.requires.0 c.keep_entries.ensures)
+    (kept-texts (goal.at.merge-requires c).After-keep_texts)
+    _ _ c.copy_within-2.ensures.after c.copy_within.ensures.after c.requires.6 c.requires.7
 
 pub returns : goal.returns
 returns c =
-    let a = c.args in
-    let whole = merge-done (named_in a.list) (given_in a.list) a.list.files a.renames a.stay a.come a.entries.now a.text.now c.requires.0 c.requires.1 c.requires.2 c.requires.3 c.requires.4 c.requires.5 _ _ c.keep_entries.ensures c.keep_texts.ensures _ _ c.copy_within-2.ensures.after c.copy_within.ensures.after c.requires.6 c.requires.7 _ _ c.merge.ensures.entries_after c.merge.ensures.text_after in record {
-      entries_after = whole.0;
-      text_after = whole.1;
-    }
+    let whole = merge-done (named_in c.args.list) (given_in c.args.list) c.args.list.files c.args.renames c.args.stay c.args.come c.args.entries.now c.args.text.now
+    c.requires.0 c.requires.1 c.requires.2 c.requires.3 c.requires.4 c.requires.5 _ _ (moved-front (named_in c.args.list) c.args.renames.num_renames c.args.entries.now _ c.requires.0 c.keep_entries.ensures)
+    (kept-texts (goal.at.returns c).After-keep_texts)
+    _ _ c.copy_within-2.ensures.after c.copy_within.ensures.after c.requires.6 c.requires.7 _ _ c.merge.ensures.entries_after c.merge.ensures.text_after in
+    record { entries_after = whole.0; text_after = whole.1 }

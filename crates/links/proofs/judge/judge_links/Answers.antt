@@ -1,7 +1,6 @@
 -- `links::judge::judge_links` meets its contract.
 use Prim.Native.Nat.{ℕ}
 use lib.ListN.{length}
-use Rattle.tables.specs.Model.{Store}
 use Rattle.lookup.specs.Lookup.{lent}
 use Rattle.links.proofs.Judgements.{judged-none, judged-count, judged-fits, verdicts-set, judged-yes}
 use Rattle.links.proofs.judge.judge_links.Goals as goal
@@ -9,9 +8,9 @@ use Rattle.links.proofs.judge.judge_links.Goals as goal
 pub returns : goal.returns
 returns c =
     let a = c.args in
-    let s : Store = lent a.fs a.rows.now a.dirs.now a.text.now in
+    let whole = lent a.fs a.rows.now a.dirs.now a.text.now in
     let m : ℕ = length a.marks.now in
     let n = c.in_ok-n.n in
-    let count = judged-count s m a.scratch a.walk_path n c.in_ok-n.ensures in
-    judged-yes s a.marks.now a.scratch a.walk_path n _ (judged-none s m a.scratch a.walk_path n c.in_ok-n.ensures) count
-    (verdicts-set s a.marks.now c.judge.new.marks n count (judged-fits s m a.scratch a.walk_path n c.in_ok-n.ensures) c.judge.ensures)
+    let count = judged-count whole m a.scratch a.walk_path n c.in_ok-n.ensures in
+    judged-yes whole a.marks.now a.scratch a.walk_path n _ (judged-none whole m a.scratch a.walk_path n c.in_ok-n.ensures) count
+    (verdicts-set whole a.marks.now c.judge.new.marks n count (judged-fits whole m a.scratch a.walk_path n c.in_ok-n.ensures) c.judge.ensures)

@@ -2,7 +2,6 @@
 use mathlib.Core.Path.{◌≡◌, refl, sym, ◌∙◌}
 use mathlib.Core.Bool.{false, true, ◌&&◌}
 use mathlib.Core.List.{[]}
-use Rattle.tables.specs.Model.{Store}
 use Rattle.rules.specs.Bounds.{bad_length}
 use Rattle.rules.specs.Questions.{rows_are_held, dirs_held, text_held, few_entries}
 use Rattle.lookup.specs.Lookup.{lent}
@@ -11,9 +10,10 @@ use Rattle.links.proofs.judge.links_to_judge.Goals as goal
 
 pub returns : goal.returns
 returns c =
-    let the_set : Store = lent c.args.fs c.args.rows.now c.args.dirs.now c.args.text.now in
     let is-good : bad_length c.args.fs.piece_length ≡ false = sym c.is_bad_length.ensures ∙ c.if-is_bad_length.false in
-    let is_whole : ((rows_are_held c.args.fs c.args.rows.now && (dirs_held c.args.fs c.args.dirs.now && text_held c.args.fs c.args.text.now)) && few_entries c.args.fs) ≡ true = sym c.is_held.ensures ∙ c.if-not-is_held.false in
-    let e = sym c.lacks_space.ensures ∙ c.if-lacks_space.false in
-    let k = c.count_links.ensures ∙ count-rows (lent c.args.fs c.args.rows.now [] []) the_set refl refl in
-    rw (is-good, is_whole, e, k)
+    let is_whole : ((rows_are_held c.args.fs c.args.rows.now && (dirs_held c.args.fs c.args.dirs.now && text_held c.args.fs c.args.text.now)) &&
+    few_entries c.args.fs) ≡ true = sym c.is_held.ensures ∙ c.if-not-is_held.false in
+    let roomy = sym c.lacks_space.ensures ∙ c.if-lacks_space.false in
+    let counted = c.count_links.ensures ∙ count-rows (lent c.args.fs c.args.rows.now [] [])
+    (lent c.args.fs c.args.rows.now c.args.dirs.now c.args.text.now) refl refl in
+    rw (is-good, is_whole, roomy, counted)

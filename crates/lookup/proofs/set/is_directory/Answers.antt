@@ -1,31 +1,16 @@
--- `lookup::set::is_directory` meets its contract.
-use Prim.Native.Nat.{ℕ}
-use mathlib.Core.Path.{◌≡◌, refl, sym, ap, ◌∙◌}
-use mathlib.Core.Bool.{true, false}
-use mathlib.Core.List.{List, []}
-use Rattle.tables.specs.Model.{Store, directory_text}
-use Rattle.lookup.specs.Lookup.{covers, is_directory, lent}
-use Rattle.lookup.proofs.Rows.{directories-start, directories-turn, directories-hit, directories-end}
+-- `lookup::set::is_directory` meets its contract: the chain asks each directory.
+use mathlib.Core.Path.{refl, ◌∙◌}
+use mathlib.Core.List.{[]}
+use native.Mathlib.Nat.{sub-zero}
+use Rattle.std.proofs.Common.{rules}
+use Rattle.std.proofs.lemmas.Iterator.{YieldsList-from_range}
+use Rattle.std.proofs.lemmas.Iterator.Search.{any_from_yields_List}
+use Rattle.tables.specs.Model.{directory_text}
+use Rattle.lookup.specs.Lookup.{covers, lent}
+use Rattle.lookup.proofs.Rows.{any-directory}
 use Rattle.lookup.proofs.set.is_directory.Goals as goal
-
-pub loop-d-init : goal.loop-d-init
-loop-d-init c =
-    let s : Store = lent c.args.fs [] c.args.dirs.now c.args.text.now in
-    ap (λ (l : List (List ℕ)). is_directory l c.args.p.now) (directories-start s c.args.fs.num_paths refl)
-
-pub returns-then-is_covered : goal.returns-then-is_covered
-returns-then-is_covered c =
-    let s : Store = lent c.args.fs [] c.args.dirs.now c.args.text.now in
-    let e : covers (directory_text s c.loop-d.d) c.args.p.now ≡ true = cc in
-    sym (directories-hit s c.args.p.now c.args.fs.num_paths c.loop-d.d c.loop-d-test.true e) ∙ c.loop-d.invariant
-
-pub loop-d-preserved : goal.loop-d-preserved
-loop-d-preserved c =
-    let s : Store = lent c.args.fs [] c.args.dirs.now c.args.text.now in
-    let e : covers (directory_text s c.loop-d.d) c.args.p.now ≡ false = cc in
-    directories-turn s c.args.p.now c.args.fs.num_paths c.loop-d.d c.loop-d-test.true e ∙ c.loop-d.invariant
 
 pub returns : goal.returns
 returns c =
-    let s : Store = lent c.args.fs [] c.args.dirs.now c.args.text.now in
-    sym (directories-end s c.args.p.now c.args.fs.num_paths c.loop-d.d c.loop-d-test.false) ∙ c.loop-d.invariant
+    any_from_yields_List (λ k. covers (directory_text (lent c.args.fs [] c.args.dirs.now c.args.text.now) k) c.args.p.now) _ _ _ c.any.ensures.ran (YieldsList-from_range 0 c.args.fs.num_paths c.args.fs.num_paths refl (sub-zero c.args.fs.num_paths)) (λ x b q k. search rules)
+    ∙ any-directory (lent c.args.fs [] c.args.dirs.now c.args.text.now) c.args.p.now

@@ -12,9 +12,7 @@ use Rattle.lookup.proofs.Spaces.{count_turn, count-end}
 use Rattle.lookup.proofs.space.count_links.Goals as goal
 
 pub loop-i-init : goal.loop-i-init
-loop-i-init c =
-    let s : Store = lent c.args.fs c.args.rows.now [] [] in
-    (omega arith, omega (arith, ap link_count (entries-start s c.args.fs.num_files refl)))
+loop-i-init c = (omega arith, omega (arith, ap link_count (entries-start (lent c.args.fs c.args.rows.now [] []) c.args.fs.num_files refl)))
 
 pub loop-i-preserved : goal.loop-i-preserved
 loop-i-preserved c =
@@ -26,5 +24,4 @@ loop-i-preserved c =
 
 pub returns : goal.returns
 returns c =
-    let s : Store = lent c.args.fs c.args.rows.now [] [] in
-    omega (arith, c.loop-i.invariant.1, count-end s c.args.fs.num_files c.loop-i.i c.loop-i-test.false)
+    omega (arith, c.loop-i.invariant.1, count-end (lent c.args.fs c.args.rows.now [] []) c.args.fs.num_files c.loop-i.i c.loop-i-test.false)

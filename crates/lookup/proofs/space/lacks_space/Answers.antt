@@ -1,24 +1,26 @@
--- `lookup::space::lacks_space` meets its contract.
+-- `lookup::space::lacks_space` meets its contract: links are counted by the rows alone.
 use Prim.Native.Nat.{ℕ, ◌+◌, ◌-◌}
 use mathlib.Core.Path.{◌≡◌, refl, ap, ◌∙◌}
-use mathlib.Core.List.{[]}
+use mathlib.Core.List.{List, []}
 use native.Mathlib.Omega.{arith}
-use Rattle.tables.specs.Model.{Store}
+use Rattle.tables.specs.declared.storage.FileStorage.{FileStorage}
 use Rattle.lookup.specs.Space.{space, link_count}
-use Rattle.lookup.specs.Lookup.{lent, entries_of}
+use Rattle.lookup.specs.Lookup.{lent, files_in}
 use Rattle.lookup.proofs.Spaces.{count-rows, lacks-marks, lacks-room}
 use Rattle.lookup.proofs.space.lacks_space.Goals as goal
 
+counted : (fs : FileStorage) (rows dirs text : List ℕ) (n : ℕ) → n ≡ link_count (files_in fs rows [] []) → n ≡ link_count (files_in fs rows dirs text)
+counted fs rows dirs text n e = e ∙ count-rows (lent fs rows [] []) (lent fs rows dirs text) refl refl
+
 pub returns-then-marks-count_links : goal.returns-then-marks-count_links
 returns-then-marks-count_links c =
-    let the_set : Store = lent c.args.fs c.args.rows.now c.args.dirs.now c.args.text.now in
-    let counted : c.count_links.result ≡ link_count (entries_of the_set) = c.count_links.ensures ∙ count-rows (lent c.args.fs c.args.rows.now [] []) the_set refl refl in
     let a = c.args in
-    lacks-marks (entries_of the_set) a.marks a.scratch a.walk_path (omega (arith, counted, c.if-marks-count_links.true))
+    let k = counted a.fs a.rows.now a.dirs.now a.text.now c.count_links.result c.count_links.ensures in
+    lacks-marks (files_in a.fs a.rows.now a.dirs.now a.text.now) a.marks a.scratch a.walk_path (omega (arith, k, c.if-marks-count_links.true))
 
 pub returns : goal.returns
 returns c =
-    let the_set : Store = lent c.args.fs c.args.rows.now c.args.dirs.now c.args.text.now in
-    let counted : c.count_links.result ≡ link_count (entries_of the_set) = c.count_links.ensures ∙ count-rows (lent c.args.fs c.args.rows.now [] []) the_set refl refl in
     let a = c.args in
-    lacks-room (entries_of the_set) a.marks a.scratch a.walk_path (omega (arith, counted, c.if-marks-count_links.false)) c.space_left.result (c.space_left.ensures ∙ ap (λ (k : ℕ). k + 1 - space (entries_of the_set)) c.min-room.ensures)
+    let k = counted a.fs a.rows.now a.dirs.now a.text.now c.count_links.result c.count_links.ensures in
+    let files = files_in a.fs a.rows.now a.dirs.now a.text.now in
+    lacks-room files a.marks a.scratch a.walk_path (omega (arith, k, c.if-marks-count_links.false)) c.space_left.result (c.space_left.ensures ∙ ap (λ (j : ℕ). j + 1 - space files) c.min-room.ensures)

@@ -8,19 +8,18 @@ use Rattle.names.proofs.compose.room_left.Goals as goal
 
 pub returns : goal.returns
 returns c =
-    let a = c.args in
-    let k = c.requires in
-    let k2 = kept-appended a.first.now a.second.now k in
-    let k3 = kept-appended (appended a.first.now a.second.now) a.third.now k2 in
+    let p = c.args.parts in
+    let k2 = kept-appended p.first.now p.second.now p.kept in
+    let k3 = kept-appended (appended p.first.now p.second.now) p.third.now k2 in
     let s1 = c.is_closed-closed1 in
     let s2 = c.is_closed_after-closed2 in
     let s3 = c.is_closed_after-closed3 in
-    let q2 = closed_is a.first.now a.second.now s1.result k s1.ensures s2.result s2.ensures in
-    let q3 = closed_is (appended a.first.now a.second.now) a.third.now s2.result k2 q2 s3.result s3.ensures in
+    let q2 = closed_is p.first.now p.second.now s1.result p.kept s1.ensures s2.result s2.ensures in
+    let q3 = closed_is (appended p.first.now p.second.now) p.third.now s2.result k2 q2 s3.result s3.ensures in
     let l1 = c.saturating_sub-left1 in
     let l2 = c.left_after-left2 in
     let l3 = c.left_after-left3 in
-    let r1 : l1.result ≡ a.room - (length a.first.now - 1) = l1.ensures ∙ rw c.saturating_sub.ensures in
-    let r2 = room-behind a.first.now a.second.now s1.result k s1.ensures a.room l1.result l2.result r1 l2.ensures in
-    let r3 = room-behind (appended a.first.now a.second.now) a.third.now s2.result k2 q2 a.room l2.result l3.result r2 l3.ensures in
-    room-behind (appended (appended a.first.now a.second.now) a.third.now) a.last.now s3.result k3 q3 a.room l3.result c.left_after.result r3 c.left_after.ensures
+    let r1 : l1.result ≡ c.args.room - (length p.first.now - 1) = l1.ensures ∙ rw c.saturating_sub.ensures in
+    let r2 = room-behind p.first.now p.second.now s1.result p.kept s1.ensures c.args.room l1.result l2.result r1 l2.ensures in
+    let r3 = room-behind (appended p.first.now p.second.now) p.third.now s2.result k2 q2 c.args.room l2.result l3.result r2 l3.ensures in
+    room-behind (appended (appended p.first.now p.second.now) p.third.now) p.last.now s3.result k3 q3 c.args.room l3.result c.left_after.result r3 c.left_after.ensures

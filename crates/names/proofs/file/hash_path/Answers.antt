@@ -17,12 +17,12 @@ fed a b c d x y z r e f g h = rw (h, g, f, e) (hash-four a b c d)
 
 pub returns : goal.returns
 returns c =
-    let a = c.args in
-    let t = a.text.now in
-    let r = a.row in
-    fed (led (cond (is_absolute r) [] a.save_path.now)) (cond (is_inside r && not (has r.flags 32)) (text_at t a.fs.name ++ (47 ∷ [])) []) (led (text_at t (dir_span a.fs a.dirs.now t r))) (name_of t r)
+    let s = c.args.set in
+    let r = c.args.row in
+    fed (led (cond (is_absolute r) [] c.args.save_path.now)) (cond (is_inside r && not (has r.flags 32)) (text_at s.lent.text.now s.fs.name ++ (47 ∷ [])) [])
+    (led (text_at s.lent.text.now (dir_span s.fs s.lent.dirs.now s.lent.text.now r))) (name_of s.lent.text.now r)
     c.hash_led-crc1.result c.hash_set-crc2.result c.hash_led-crc3.result c.crc32c_append_lowercase.result
     (c.hash_led-crc1.ensures ∙ rw c.save_of-save.ensures) c.hash_set-crc2.ensures
-    (c.hash_led-crc3.ensures ∙ rw (c.text_at-directory.ensures, c.directory_span.ensures))
+    (c.hash_led-crc3.ensures ∙ rw c.directory_of-directory.ensures)
     (c.crc32c_append_lowercase.ensures ∙ rw c.text_at-name.ensures)
-    ∙ ap hash_of (hashed-is a.fs a.dirs.now t r a.save_path.now)
+    ∙ ap hash_of (hashed-is s.fs s.lent.dirs.now s.lent.text.now r c.args.save_path.now)

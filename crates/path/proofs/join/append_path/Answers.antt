@@ -1,8 +1,8 @@
 -- `path::join::append_path` meets its contract: the branch is not written again, since it stands in the buffer already.
-use Prim.Native.Nat.{ℕ, ◌≤◌}
-use mathlib.Core.Path.{◌≡◌, sym, ap, ◌∙◌}
-use mathlib.Core.Bool.{true, false, cond}
-use mathlib.Core.List.{List, ◌∷◌}
+use Prim.Native.Nat.{ℕ, ◌-◌, ◌≤◌}
+use mathlib.Core.Path.{◌≡◌, refl, sym, ◌∙◌}
+use mathlib.Core.Bool.{true, false}
+use mathlib.Core.List.{List}
 use native.Mathlib.Nat.{zero-add}
 use native.Mathlib.Omega.{arith}
 use lib.ListN.{length, take, take-append-drop}
@@ -39,18 +39,16 @@ module _ (buf : List ℕ) (used : ℕ) (leaf : List ℕ) (h : used ≤ length bu
 
 pub returns-then-is_empty : goal.returns-then-is_empty
 returns-then-is_empty c =
-    let a = c.args in
-    branch-is a.buf.now a.used a.leaf.now c.if-buf-used.false (sym c.is_alone.ensures ∙ c.if-is_alone.false) (sym (empty-is a.leaf.now) ∙ sym c.is_empty.ensures ∙ c.if-is_empty.true)
+    branch-is c.args.buf.now c.args.used c.args.leaf.now c.if-buf-used.false (sym c.is_alone.ensures ∙ c.if-is_alone.false)
+    (sym (empty-is c.args.leaf.now) ∙ sym c.is_empty.ensures ∙ c.if-is_empty.true)
 
 pub returns : goal.returns
 returns c =
-    let w = c.put_after in
-    let r = c.has_room in
     let a = c.args in
     let h = c.if-buf-used.false in
-    let tail = cond c.is_closed-closed.result a.leaf.now (47 ∷ a.leaf.now) in
-    glued-written (take a.used a.buf.now) a.leaf.now a.used c.is_closed-closed.result
-    (sym (length-take-le a.used a.buf.now h)) c.is_closed-closed.ensures a.buf.now r.result r.ensures c.if-not-has_room.false
-    w.new.buf w.result w.ensures.value
-    (w.ensures.buf_after ∙ ap (λ (l : List ℕ). sets l a.used tail) (sym (kept a.buf.now a.used a.leaf.now h)))
-    ∙ glued-is a.buf.now a.used a.leaf.now h (sym c.is_alone.ensures ∙ c.if-is_alone.false) (sym (empty-is a.leaf.now) ∙ sym c.is_empty.ensures ∙ c.if-is_empty.false)
+    glued-written (take a.used a.buf.now) a.leaf.now a.used c.is_closed-closed.result (sym (long a.buf.now a.used a.leaf.now h))
+    c.is_closed-closed.ensures a.buf.now c.has_room.result c.has_room.ensures c.if-not-has_room.false a.buf.now
+    c.put_leaf.new.rest c.put_leaf.result (length a.buf.now - a.used) (sym (kept a.buf.now a.used a.leaf.now h)) refl
+    c.put_leaf.ensures.value c.put_leaf.ensures.rest_after
+    ∙ glued-is a.buf.now a.used a.leaf.now h (sym c.is_alone.ensures ∙ c.if-is_alone.false)
+    (sym (empty-is a.leaf.now) ∙ sym c.is_empty.ensures ∙ c.if-is_empty.false)

@@ -9,6 +9,5 @@ use Rattle.path.proofs.split.has_either.Goals as goal
 
 pub returns : goal.returns
 returns c =
-    let p = c.args.path.now in
-    any_from_yields_List is_either _ _ _ c.any.ensures.ran (YieldsList-from_slice p cc) (λ x b q k. search rules)
-    ∙ list-any is_either p
+    any_from_yields_List is_either _ _ _ c.any.ensures.ran (YieldsList-from_slice c.args.path.now cc) (λ x b q k. search rules)
+    ∙ list-any is_either c.args.path.now

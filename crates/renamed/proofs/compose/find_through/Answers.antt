@@ -2,7 +2,6 @@
 use Prim.Native.Nat.{ℕ}
 use mathlib.Core.Path.{ap, ◌∙◌}
 use mathlib.Core.Bool.{Bool, ◌&&◌}
-use Rattle.types.specs.Refusals.{number_of}
 use Rattle.types.proofs.Refusals.{exit}
 use Rattle.rules.specs.Questions.{file_answer, rows_are_held}
 use Rattle.names.specs.Paths.{names_held}
@@ -13,15 +12,15 @@ use Rattle.renamed.proofs.compose.find_through.Goals as goal
 
 pub returns : goal.returns
 returns c =
-    let a = c.args in
-    let h = ap (λ (b : Bool). file_answer a.fs a.index.0 (rows_are_held a.fs a.rows.now && b) (λ (k : ℕ). k)) c.are_held-held.ensures in
-    asked-then a.fs a.index.0 (names_held a.fs a.rows.now a.dirs.now a.text.now) (in_order a.renames a.rename_entries.now a.rename_text.now) (rename_found a.renames a.rename_entries.now)
-    c.in_ok-k.k (c.in_ok-k.ensures ∙ h) _ c.find_rename.ensures
+    let h = ap (λ (b : Bool). file_answer c.args.set.fs c.args.index.0 (rows_are_held c.args.set.fs c.args.set.lent.rows.now && b) (λ (k : ℕ). k)) c.are_held-held.ensures in
+    asked-then c.args.set.fs c.args.index.0 (names_held c.args.set.fs c.args.set.lent.rows.now c.args.set.lent.dirs.now c.args.set.lent.text.now)
+    (in_order c.args.names.renames c.args.names.entries.now c.args.names.text.now) (rename_found c.args.names.renames c.args.names.entries.now)
+    _ (c.in_ok-file_in.ensures ∙ h) _ c.find.ensures
 
-pub returns-in_err-k : goal.returns-in_err-k
-returns-in_err-k c =
-    let a = c.args in
-    let h = ap (λ (b : Bool). file_answer a.fs a.index.0 (rows_are_held a.fs a.rows.now && b) (λ (k : ℕ). k)) c.are_held-held.ensures in
-    exit c.from_residual.result _ c.from_residual.ensures.1
-    ∙ asked-refused a.fs a.index.0 (names_held a.fs a.rows.now a.dirs.now a.text.now) (in_order a.renames a.rename_entries.now a.rename_text.now) (λ k. k) (rename_found a.renames a.rename_entries.now)
-    (number_of c.in_err-k.field-0.0) (c.in_err-k.ensures ∙ h)
+pub returns-in_err-file_in : goal.returns-in_err-file_in
+returns-in_err-file_in c =
+    let h = ap (λ (b : Bool). file_answer c.args.set.fs c.args.index.0 (rows_are_held c.args.set.fs c.args.set.lent.rows.now && b) (λ (k : ℕ). k)) c.are_held-held.ensures in
+    exit c.from_residual.result _ c.from_residual.ensures.1 ∙ asked-refused c.args.set.fs c.args.index.0
+    (names_held c.args.set.fs c.args.set.lent.rows.now c.args.set.lent.dirs.now c.args.set.lent.text.now)
+    (in_order c.args.names.renames c.args.names.entries.now c.args.names.text.now) (λ k. k) (rename_found c.args.names.renames c.args.names.entries.now)
+    _ (c.in_err-file_in.ensures ∙ h)

@@ -1,9 +1,10 @@
 -- `renames::check::are_in_order` meets its contract. The loop's invariant: the check of the entries from i on, with what is
 -- asked of them by then, says what the whole check says.
-use Prim.Native.Nat.{◌-◌}
+use Prim.Native.Nat.{◌-◌, ◌/◌}
 use mathlib.Core.Path.{◌≡◌}
+use lib.ListN.{length}
 use Rattle.renames.specs.Renames.{ordered_from}
 use Rattle.renames.proofs.check.are_in_order.Given as goal
 
 abbrev pub invariant-loop-i : goal.invariant-loop-i
-invariant-loop-i l = ordered_from (l.n - l.i) l.i l.least l.left l.entries ≡ ordered_from l.n 0 0 l.len l.entries
+invariant-loop-i l = ordered_from (length l.entries / 3 - l.i) l.i l.least l.left l.entries ≡ ordered_from (length l.entries / 3) 0 0 l.len l.entries

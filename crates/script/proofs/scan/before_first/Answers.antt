@@ -3,7 +3,8 @@ use Rattle.std.proofs.Common.{eqb, rules, tests, refl, ◌∙◌}
 use Rattle.std.proofs.lemmas.Iterator.{YieldsList-from_slice}
 use Rattle.std.proofs.lemmas.Iterator.Search.{position_from_yields_List}
 use Rattle.script.specs.Words.{count_before}
-use Rattle.script.proofs.Scans.{found, before-more}
+use Rattle.lists.proofs.Searches.{found}
+use Rattle.script.proofs.Scans.{before-more}
 use Rattle.script.proofs.scan.before_first.Goals as goal
 
 pub returns : goal.returns

@@ -3,7 +3,8 @@ use Rattle.std.proofs.Common.{eqb, not, rules, tests, refl, ◌∙◌}
 use Rattle.std.proofs.lemmas.Iterator.{YieldsList-from_slice}
 use Rattle.std.proofs.lemmas.Iterator.Search.{position_from_yields_List}
 use Rattle.script.specs.Words.{blanks_of}
-use Rattle.script.proofs.Scans.{found, blanks-more}
+use Rattle.lists.proofs.Searches.{found}
+use Rattle.script.proofs.Scans.{blanks-more}
 use Rattle.script.proofs.scan.blanks.Goals as goal
 
 pub returns : goal.returns

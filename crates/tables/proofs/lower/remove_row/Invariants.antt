@@ -13,4 +13,4 @@ abbrev pub new : List ℕ → ℕ → ℕ → Span → Span → ℕ → List ℕ
 new rows f total c d k = words (row_moved f total c d k (row_at rows (skip f k)))
 
 abbrev pub invariant-loop-i : goal.invariant-loop-i
-invariant-loop-i l = (l.m ≡ min l.n (length l.initial.rows / 8)) × Writing 8 (new l.initial.rows l.f l.total l.c l.d) l.m l.initial.rows l.rows l.i
+invariant-loop-i l = (l.m ≡ min l.n (length l.initial.rows / 8)) × Writing 8 (new l.initial.rows l.gone.row l.gone.total l.gone.name l.gone.link) l.m l.initial.rows l.rows l.i

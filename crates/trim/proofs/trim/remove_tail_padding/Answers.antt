@@ -1,19 +1,11 @@
 -- `trim::trim::remove_tail_padding` meets its contract.
 use mathlib.Core.Path.{◌≡◌, sym, ◌∙◌}
 use mathlib.Core.Bool.{true, false}
-use mathlib.Core.List.{[]}
 use Rattle.tables.specs.Model.{store_of}
 use Rattle.rules.specs.Bounds.{bad_length}
 use Rattle.change.specs.Rooms.{holds}
-use Rattle.trim.proofs.Trims.{found_below, few-files, trim-none, trim-done}
+use Rattle.trim.proofs.Trims.{trim-none, trim-done}
 use Rattle.trim.proofs.trim.remove_tail_padding.Goals as goal
-
-pub remove_file-requires : goal.remove_file-requires
-remove_file-requires c =
-    let a = c.args in
-    let s = store_of a.fs a.rows.now a.roots.now [] a.dirs.now a.text.now in
-    let held : holds s ≡ true = sym (rw c.rooms_in-rooms.ensures at c.holds.ensures) ∙ c.if-not-holds.false in
-    (found_below a.rows.now a.fs.num_files c.in-Some.f (sym c.in-Some.ensures), few-files s held)
 
 pub returns-in-Some : goal.returns-in-Some
 returns-in-Some c firsts =

@@ -1,0 +1,3 @@
+-- Definitions that only private functions cite.
+pub mod Parts
+pub mod Sets

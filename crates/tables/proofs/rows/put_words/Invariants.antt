@@ -1,0 +1,8 @@
+-- `tables::rows::put_words` meets its contract. The loop's invariant: the first k words are stored.
+use mathlib.Core.Path.{◌≡◌}
+use lib.ListN.{take}
+use lib.Seq.{sets}
+use Rattle.tables.proofs.rows.put_words.Given as goal
+
+abbrev pub invariant-loop-k : goal.invariant-loop-k
+invariant-loop-k g l = l.target ≡ sets l.initial.target l.at (take l.k l.words)
