@@ -53,37 +53,32 @@ module _ (fs : FileStorage) (given : Option (List ℕ)) (parts : PathParts) (z :
   abbrev Left : Refusal → Type 0
   Left e = (r : Result Sizes Refusal) → IsErrAnd r (λ x. x ≡ e) → outcome r ≡ result
 
-  -- the number's sign and its size, as the code reads them
-  module _ (negative : Bool) (size : ℕ) (n : negative ≡ is_negative z) (m : size ≡ clamped_of z) where
-    as_sized : {k : ℕ} → k ≡ first_of (size_rules fs.piece_length fs.total_size negative size) → k ≡ first_of sized
-    as_sized k = k ∙ rw (n, m)
+  pub stop-size : (e : Refusal) → number_of e ≡ first_of sized → Left e
+  stop-size e k r h = exit r e h ∙ stopped sized (named ++ (kinds ++ padded)) e (sizes_for fs z link root) refl k
 
-    pub stop-size : (e : Refusal) → number_of e ≡ first_of (size_rules fs.piece_length fs.total_size negative size) → Left e
-    stop-size e k r h = exit r e h ∙ stopped sized (named ++ (kinds ++ padded)) e (sizes_for fs z link root) refl (as_sized k)
+  module _ (p : 0 ≡ first_of sized) where
+    past-size : first_of (number_rules fs given parts z link root) ≡ first_of (named ++ (kinds ++ padded))
+    past-size = after sized (named ++ (kinds ++ padded)) refl p
 
-    module _ (p : 0 ≡ first_of (size_rules fs.piece_length fs.total_size negative size)) where
-      past-size : first_of (number_rules fs given parts z link root) ≡ first_of (named ++ (kinds ++ padded))
-      past-size = after sized (named ++ (kinds ++ padded)) refl (as_sized p)
+    pub stop-name : (e : Refusal) → number_of e ≡ first_of named → Left e
+    stop-name e k r h = exit r e h ∙ rw past-size (stopped named (kinds ++ padded) e (sizes_for fs z link root) refl k)
 
-      pub stop-name : (e : Refusal) → number_of e ≡ first_of named → Left e
-      stop-name e k r h = exit r e h ∙ rw past-size (stopped named (kinds ++ padded) e (sizes_for fs z link root) refl k)
+    module _ (q : 0 ≡ first_of named) where
+      past-name : first_of (number_rules fs given parts z link root) ≡ first_of (kinds ++ padded)
+      past-name = past-size ∙ after named (kinds ++ padded) refl q
 
-      module _ (q : 0 ≡ first_of named) where
-        past-name : first_of (number_rules fs given parts z link root) ≡ first_of (kinds ++ padded)
-        past-name = past-size ∙ after named (kinds ++ padded) refl q
+      -- the size, whether the file decides, the set is open and a root is there, as the code reads them
+      module _ (size : ℕ) (plain free there : Bool) (m : size ≡ clamped_of z) (a : plain ≡ decides size link) (b : free ≡ is_left_open fs.total_size fs.num_symlinks fs.num_files) (c : there ≡ root) where
+        as_kinds : {k : ℕ} → k ≡ first_of (version_rules fs.v2 plain free there) → k ≡ first_of kinds
+        as_kinds k = k ∙ rw (a, b, c, m)
 
-        -- whether the file decides, the set is open and a root is there, as the code reads them
-        module _ (plain free there : Bool) (a : plain ≡ decides size link) (b : free ≡ is_left_open fs.total_size fs.num_symlinks fs.num_files) (c : there ≡ root) where
-          as_kinds : {k : ℕ} → k ≡ first_of (version_rules fs.v2 plain free there) → k ≡ first_of kinds
-          as_kinds k = k ∙ rw (a, b, c, m)
+        pub stop-kind : (e : Refusal) → number_of e ≡ first_of (version_rules fs.v2 plain free there) → Left e
+        stop-kind e k r h = exit r e h ∙ rw past-name (stopped kinds padded e (sizes_for fs z link root) refl (as_kinds k))
 
-          pub stop-kind : (e : Refusal) → number_of e ≡ first_of (version_rules fs.v2 plain free there) → Left e
-          stop-kind e k r h = exit r e h ∙ rw past-name (stopped kinds padded e (sizes_for fs z link root) refl (as_kinds k))
-
-          pub stop-pad : 0 ≡ first_of (version_rules fs.v2 plain free there) → limit < fs.total_size + size + (sizes_for fs z link root).pad → refused 4 ≡ result
-          stop-pad r h =
-              let k : limit < fs.total_size + clamped_of z + (sizes_for fs z link root).pad = omega (arith, h, m) in
-              rw (past-name, after kinds padded refl (as_kinds r), lt-ltb limit (fs.total_size + clamped_of z + (sizes_for fs z link root).pad) k)
+        pub stop-pad : 0 ≡ first_of (version_rules fs.v2 plain free there) → limit < fs.total_size + size + (sizes_for fs z link root).pad → refused 4 ≡ result
+        stop-pad r h =
+            let k : limit < fs.total_size + clamped_of z + (sizes_for fs z link root).pad = omega (arith, h, m) in
+            rw (past-name, after kinds padded refl (as_kinds r), lt-ltb limit (fs.total_size + clamped_of z + (sizes_for fs z link root).pad) k)
 
 -- the total stays in range with file and pad
 pub sum-in : (fs : FileStorage) (given : Option (List ℕ)) (parts : PathParts) (z : ℤ) (link : List ℕ) (root : Bool) (x : Sizes)

@@ -1,7 +1,8 @@
 // The tests of an addition on numbers and on the parts of its path, in document 01's order. Relies on the laws of
 // proofs/Rules.antt.
-ghost use Rattle.std.specs.Prelude.{◌≡◌, ◌≤◌};
+ghost use Rattle.std.specs.Prelude.{◌≡◌, ◌≤◌, IfOk};
 ghost use Rattle.types.specs.Refusals.{outcome};
+ghost use Rattle.rules.specs.Bounds.{is_negative, clamped_of};
 ghost use Rattle.rules.specs.Rules.{first_of, outcome_of};
 ghost use Rattle.rules.specs.Results.{check_number};
 ghost use Rattle.additions.specs.Addition.{optional_of, decides, is_left_open};
@@ -13,7 +14,7 @@ ghost use Rattle.additions.specs.private.Checks.{names_of, sizes_for, number_rul
 use crate::info::{FileInfo, is_given, is_here};
 use crate::parts::{PathParts, is_absolute};
 use tables::{FileStorage, Presence};
-use types::{Refusal, clamped, is_negative};
+use types::{Refusal, unsigned};
 
 // The largest size, offset and total.
 const LIMIT: u64 = 281474976710655;
@@ -30,24 +31,23 @@ pub struct Sizes {
     pub pad: u64,
 }
 
-// Refusals 1, 2, 3, 4.
-// Stays: `decide_sizes` goes on with the number after these tests, and would have to open an `Option` a second time.
-fn check_size(piece_length: u64, total: u64, negative: bool, size: u64) -> Result<(), Refusal>
-    ensures { check_number result ≡ first_of (size_rules piece_length total negative size) }
+// The size as an unsigned number, or refusal 1, 2, 3 or 4.
+fn check_size(piece_length: u64, total: u64, size: i64) -> Result<u64, Refusal>
+    ensures refusal { check_number result
+        ≡ first_of (size_rules piece_length total (is_negative size) (clamped_of size)) }
+    ensures number { IfOk result (λ n. n ≡ clamped_of size) }
 {
     if rules::is_bad_length(piece_length) {
         return Err(Refusal::InvalidPieceLength);
     }
-    if negative {
-        return Err(Refusal::NegativeSize);
-    }
+    let size = unsigned(size).ok_or(Refusal::NegativeSize)?;
     if LIMIT < size {
         return Err(Refusal::FileTooLarge);
     }
     if LIMIT - size < total {
         return Err(Refusal::TorrentInvalidLength);
     }
-    Ok(())
+    Ok(size)
 }
 
 // The length of the name that refusal 5 looks at; `leaf` is that of the path's last part.
@@ -152,8 +152,7 @@ pub fn decide_sizes(
         (is_here file.rooted)))
         (sizes_for fs file.size link.now (is_here file.rooted)) }
 {
-    let size = clamped(file.size);
-    check_size(fs.piece_length, fs.total_size, is_negative(file.size), size)?;
+    let size = check_size(fs.piece_length, fs.total_size, file.size)?;
     check_names(fs.num_files, file.given, filename, parts)?;
     let plain = is_plain(size, link);
     let free = is_open(fs.total_size, fs.num_symlinks, fs.num_files);

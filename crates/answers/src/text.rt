@@ -2,9 +2,10 @@
 // They rely on the refusals of `rules`, on the total accessors of `tables` and on the joins of `path`.
 ghost use Rattle.std.specs.Prelude.{◌&&◌, ◌≡◌, ◌/◌, leb};
 ghost use Rattle.types.specs.Refusals.{outcome};
+ghost use Rattle.path.specs.Join.{joined_says};
 ghost use Rattle.tables.specs.Rows.{row_at, has, link_held_bit};
 ghost use Rattle.rules.specs.Questions.{link_answer, no_link, row_there};
-ghost use Rattle.rules.specs.Composed.{composed_says, composed_if};
+ghost use Rattle.rules.specs.Composed.{composed_if};
 ghost use Rattle.answers.specs.Answers.{internal_path, symlink_path};
 ghost use Rattle.answers.specs.Given.{file_name_given, internal_symlink_given, symlink_given, internal_file_path_given};
 
@@ -12,7 +13,8 @@ use rules::file_in;
 use tables::{FileStorage, Lent, Row, Span};
 use types::{FileIndex, Refusal};
 
-// Whether a table of rows with `words` words and a text area of `bytes` bytes are long enough for the set.
+// Whether a table of rows with `words` words and a text area of `bytes` bytes are long enough for the set. `names`
+// has such a test of directories and text.
 fn are_held(fs: FileStorage, words: usize, bytes: usize) -> bool
     ensures { result ≡ (leb fs.num_files (words / 8) && leb fs.text_len bytes) }
 {
@@ -27,7 +29,8 @@ fn is_unlinked(rows: &[u64], k: usize) -> bool
 }
 
 // The number of the file whose link text a question is about, or its refusal; `held` says whether the lent tables are
-// long enough.
+// long enough. It is no call of `file_in`: whether the file is a link is tested between that function's two last tests,
+// since a file that is none is refused before tables that are too short.
 fn link_in(fs: FileStorage, rows: &[u64], index: FileIndex, held: bool) -> Result<usize, Refusal>
     ensures { outcome result
         ≡ link_answer fs index.0
@@ -49,7 +52,7 @@ fn link_in(fs: FileStorage, rows: &[u64], index: FileIndex, held: bool) -> Resul
 // Writes the path within the set of file k.
 // Stays: the separator between the two texts depends on both, and the buffer is lent, so no format string writes it.
 fn put_internal(lent: Lent<'_>, k: usize, buf: &mut [u8]) -> Result<usize, Refusal>
-    ensures { composed_says result buf.new
+    ensures { joined_says result buf.new
         ≡ composed_if 0
         (internal_path lent.entry.dirs.now lent.entry.text.now (row_at lent.entry.rows.now k))
         buf.old }
@@ -61,9 +64,9 @@ fn put_internal(lent: Lent<'_>, k: usize, buf: &mut [u8]) -> Result<usize, Refus
 }
 
 // Writes the path that the link of the file in `row` leads to; nothing where it holds no link text.
-// Stays: it is a join, as `put_internal` is, of the set's name and the link text.
+// Stays: whether a separator stands between the set's name and the link text depends on both, as in `put_internal`.
 fn put_link(fs: FileStorage, text: &[u8], row: Row, buf: &mut [u8]) -> Result<usize, Refusal>
-    ensures { composed_says result buf.new
+    ensures { joined_says result buf.new
         ≡ composed_if 0 (symlink_path fs text.now row) buf.old }
 {
     if !tables::holds_link(row.flags) {
@@ -111,7 +114,7 @@ pub fn symlink(
     index: FileIndex,
     buf: &mut [u8],
 ) -> Result<usize, Refusal>
-    ensures { composed_says result buf.new
+    ensures { joined_says result buf.new
         ≡ symlink_given fs rows.now text.now index.0 buf.old }
 {
     let held = are_held(fs, rows.len(), text.len());
@@ -129,7 +132,7 @@ pub fn internal_file_path(
     index: FileIndex,
     buf: &mut [u8],
 ) -> Result<usize, Refusal>
-    ensures { composed_says result buf.new
+    ensures { joined_says result buf.new
         ≡ internal_file_path_given fs rows.now dirs.now text.now index.0
         buf.old }
 {

@@ -1,8 +1,8 @@
 // Questions: the set that is spoken of is lent its part of every table, and `questions` answers. Relies on it, and on
 // compat.rt for the question on two sets.
+use crate::compat;
 use crate::places::{Tables, part};
 use crate::sets::Sets;
-use crate::{compat, sets};
 use questions::Asked;
 use std::io;
 use std::io::Stdout;
@@ -12,7 +12,7 @@ pub(crate) fn answer(out: Stdout, line: &[u8], all: Sets, tables: &Tables) -> io
     if compat::answer(out, line, all, tables)? {
         return Ok(());
     }
-    let Some(set) = sets::current(all) else {
+    let Some(set) = all.current() else {
         return questions::on_no_set(out, line);
     };
     let p = set.parts;

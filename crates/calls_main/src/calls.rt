@@ -4,7 +4,7 @@
 use crate::input::Buffer;
 use crate::places::Tables;
 use crate::sets::{Call, Made, Sets};
-use crate::{asking, changes, opening, sets, words};
+use crate::{asking, changes, opening, words};
 use std::io;
 use std::io::Stdout;
 
@@ -32,7 +32,7 @@ pub(crate) fn answer(
     if let Some(made) = opening::make(content, all.at) {
         return Ok(made);
     }
-    if let Some(set) = sets::current(all) {
+    if let Some(set) = all.current() {
         let call = Call { line: content, set };
         if let Some(made) = changes::make(call, tables) {
             return Ok(made);
@@ -54,9 +54,9 @@ pub(crate) fn noted(out: Stdout, made: Made, before: Sets) -> io::Result<Sets> {
             replies::value(out, replies::ByteString(b"spoilt"))?;
             return Ok(before);
         }
-        Made::Changed(set) => sets::with(before, set),
-        Made::Use(place) => sets::turned_to(before, place),
-        Made::Reset => sets::none(),
+        Made::Changed(set) => before.with(set),
+        Made::Use(place) => before.turned_to(place),
+        Made::Reset => Sets::new(),
     };
     replies::done(out)?;
     Ok(after)

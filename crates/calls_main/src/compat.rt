@@ -2,7 +2,7 @@
 // `script` and `replies`, and on the module for sets.
 use crate::places::{Tables, part};
 use crate::sets::{Set, Sets};
-use crate::{sets, words};
+use crate::words;
 use std::io;
 use std::io::Stdout;
 
@@ -25,7 +25,7 @@ fn set_in(line: &[u8], number: usize, all: Sets) -> Option<Set> {
     if 3 < n {
         return None;
     }
-    sets::set_at(all, n as usize)
+    all.set_at(n as usize)
 }
 
 // Answers whether two sets are compatible.

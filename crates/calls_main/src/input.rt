@@ -40,6 +40,7 @@ impl Input {
     // nothing where the input ends. The last line may lack its line feed.
     pub(crate) fn next_line(&mut self, line: &mut Buffer) -> io::Result<Option<usize>> {
         let mut length: usize = 0;
+        // Stays: a `loop` has to be proved to end, and nothing says how long the input is, so no measure goes down.
         for _ in 0..u64::MAX {
             let block = &self.block[..];
             let rest = &block[self.at..self.end];

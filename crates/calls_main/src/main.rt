@@ -19,6 +19,7 @@ mod words;
 
 use crate::input::Input;
 use crate::places::Tables;
+use crate::sets::Sets;
 use std::io;
 
 // Answers line by line. The tables have four parts each, one for each set. A proved loop has to end, and nothing
@@ -29,7 +30,8 @@ fn main(rt: HostRuntime) -> io::Result<()> {
     let mut input = Input::new(rt.stdin());
     let mut line = questions::large_buffer();
     let mut tables = Tables::new();
-    let mut all = sets::none();
+    let mut all = Sets::new();
+    // Stays: a `loop` has to be proved to end, and nothing says how long the input is, so no measure goes down.
     for _ in 0..u64::MAX {
         let Some(length) = input.next_line(&mut line)? else {
             break;

@@ -1,8 +1,8 @@
 // `open`, `use` and `reset`: opening a set, turning to another, and forgetting all. Relies on `storage` and
 // `script`, and on the module for sets.
 use crate::places::Places;
-use crate::sets::{Made, Work};
-use crate::{places, sets, words};
+use crate::sets::{Made, Set, Work};
+use crate::{places, words};
 use questions::Lent;
 
 // What a line says of one kind of room: whether a word names it, and how many places it has.
@@ -51,7 +51,7 @@ fn open(line: &[u8], at: usize) -> Option<Made> {
     let parts = rooms.parts;
     let lent = rooms.lent;
     let work = rooms.work;
-    Some(Made::from(res.map(|fs| sets::opened(parts, lent, work, fs))))
+    Some(Made::from(res.map(|fs| Set::opened(parts, lent, work, fs))))
 }
 
 // The rooms that a line names, of the set at a place.

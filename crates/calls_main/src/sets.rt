@@ -60,49 +60,49 @@ impl From<Result<Set, Refusal>> for Made {
     }
 }
 
-// No set was opened, and the first is spoken of.
-pub(crate) fn none() -> Sets {
-    Sets {
-        at: 0,
-        sets: [None; 4],
+impl Set {
+    // A set that is opened with its parts of the tables, and what its questions and its cleanings are lent.
+    pub(crate) fn opened(parts: Places, lent: Lent, work: Work, fs: FileStorage) -> Set {
+        Set {
+            parts,
+            fs,
+            held: RenamedFiles {
+                num_renames: 0,
+                text_len: 0,
+            },
+            lent,
+            work,
+        }
     }
 }
 
-// A set that is opened with its parts of the tables, and what its questions and its cleanings are lent.
-pub(crate) fn opened(parts: Places, lent: Lent, work: Work, fs: FileStorage) -> Set {
-    Set {
-        parts,
-        fs,
-        held: RenamedFiles {
-            num_renames: 0,
-            text_len: 0,
-        },
-        lent,
-        work,
+impl Sets {
+    // No set was opened, and the first is spoken of.
+    pub(crate) fn new() -> Sets {
+        Sets {
+            at: 0,
+            sets: [None; 4],
+        }
     }
-}
 
-// The set that is spoken of.
-pub(crate) fn current(sets: Sets) -> Option<Set> {
-    set_at(sets, sets.at)
-}
+    // The set that is spoken of.
+    pub(crate) fn current(self) -> Option<Set> {
+        self.set_at(self.at)
+    }
 
-// The set at a place; places are counted modulo four.
-pub(crate) fn set_at(sets: Sets, place: usize) -> Option<Set> {
-    sets.sets[place % 4]
-}
+    // The set at a place; places are counted modulo four.
+    pub(crate) fn set_at(self, place: usize) -> Option<Set> {
+        self.sets[place % 4]
+    }
 
-// The sets with another one in place of the one that is spoken of.
-pub(crate) fn with(before: Sets, set: Set) -> Sets {
-    let mut sets = before;
-    sets.sets[before.at % 4] = Some(set);
-    sets
-}
+    // The sets with another one in place of the one that is spoken of.
+    pub(crate) fn with(mut self, set: Set) -> Sets {
+        self.sets[self.at % 4] = Some(set);
+        self
+    }
 
-// The sets where another one is spoken of.
-pub(crate) fn turned_to(before: Sets, place: usize) -> Sets {
-    Sets {
-        at: place,
-        ..before
+    // The sets where another one is spoken of.
+    pub(crate) fn turned_to(self, place: usize) -> Sets {
+        Sets { at: place, ..self }
     }
 }

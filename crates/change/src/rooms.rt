@@ -25,6 +25,8 @@ pub fn rooms_in(rows: usize, roots: usize, dirs: usize, text: usize) -> Rooms
 }
 
 // How many files a set may have: no more than 65535, and what the tables can hold.
+// Stays: it and the next each cap a field; capped in `rooms_in`, a `Rooms` would not be what the tables can hold, as
+// its definition in specs/ says.
 pub fn files_room(rooms: Rooms) -> usize
     ensures { result ≡ files_room rooms }
 {

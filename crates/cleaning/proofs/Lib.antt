@@ -1,4 +1,5 @@
 -- Laws of cleanings.
 pub mod Passes
 pub mod Rooms
+pub mod Links
 pub mod Cleans

@@ -6,8 +6,8 @@ use mathlib.Core.Bool.{Bool, true, false, cond}
 use mathlib.Core.Logic.{⊎_elim}
 use mathlib.Core.List.{List, [], ◌∷◌}
 use native.Mathlib.Omega.{arith}
-use lib.ListN.{length, get_or, get_or-eq_default}
-use lib.Seq.{sets, length-sets}
+use lib.ListN.{length, get_or, drop, get_or-eq_default}
+use lib.Seq.{sets, length-sets, get_or-drop}
 use Rattle.lists.proofs.Orders.{le-or-lt}
 use Rattle.lists.proofs.Runs.{get_or-sets}
 use Rattle.tables.specs.declared.span.Span.{Span}
@@ -19,6 +19,7 @@ use Rattle.tables.proofs.Filled.{word-filled, word-behind}
 use Rattle.lookup.specs.Lookup.{is_flagged}
 use Rattle.links.specs.declared.mark.LinkVerdict.{LinkVerdict}
 use Rattle.links.specs.declared.mark.LinkVerdict.TheVariants.{Keep, OwnPath, FromDirectory}
+use Rattle.links.specs.Judging.{verdict_read}
 use Rattle.texts.specs.Texts.{row_lowered, rows_lowered, linked, cut_out, gone_at, relinked, own_fits, beside_fits, own_text, text_beside}
 use Rattle.cleaning.specs.Cleaning.{emptied_at, emptied, rewritten_at, rewritten}
 use Rattle.cleaning.specs.private.Writing.{flags_in, verdict_by, mark_after, verdicts_by, all_verdicts, passed}
@@ -123,57 +124,91 @@ both-passes size marks s t e =
     ∙ ap (λ (ws : List LinkVerdict). rewritten size ws 0 t) (verdicts-same (flags_in t.rows) (flags_in s.rows) same marks s.fs.num_files 0 0)
     ∙ ap (rewritten size vs 0) e
 
--- the verdicts still to come, file by file; marks are no more than files
-module _ (g : ℕ → ℕ) (marks : List ℕ) (n : ℕ) where
-  pub verdicts-turn : (i k : ℕ) → i < n → verdicts_by g marks (n - i) i k ≡ verdict_by (g i) marks k ∷ verdicts_by g marks (n - (i + 1)) (i + 1) (mark_after (g i) k)
+-- the verdicts still to come, file by file
+module _ (g : ℕ → ℕ) where
+  -- a mark that is read is done with
+  verdicts-next : (marks : List ℕ) (n i k : ℕ) → verdicts_by g marks n i (k + 1) ≡ verdicts_by g (drop 1 marks) n i k
   unfolding verdicts_by
-  verdicts-turn i k h = let e : n - i ≡ suc (n - (i + 1)) = omega arith in rw e
+  verdicts-next marks zero i k = refl
+  verdicts-next marks (suc n) i k =
+      let z : k + 1 ≡ 1 + k = omega arith in
+      let read : get_or marks (k + 1) 0 ≡ get_or (drop 1 marks) k 0 = rw z (sym (get_or-drop 1 marks k 0)) in
+      rw read (ap (λ (vs : List LinkVerdict). verdict_by (g i) (drop 1 marks) k ∷ vs) (at (is_flagged (g i)) (λ j. verdicts-next marks n (i + 1) j)))
+    where
+      at : (b : Bool) → ((j : ℕ) → verdicts_by g marks n (i + 1) (j + 1) ≡ verdicts_by g (drop 1 marks) n (i + 1) j)
+          → verdicts_by g marks n (i + 1) (cond b (k + 1 + 1) (k + 1)) ≡ verdicts_by g (drop 1 marks) n (i + 1) (cond b (k + 1) k)
+      at true others = others (k + 1)
+      at false others = others k
 
-  pub verdicts-end : (i k : ℕ) → n ≤ i → verdicts_by g marks (n - i) i k ≡ []
+  verdicts-turn : (marks : List ℕ) (n i : ℕ) → i < n → verdicts_by g marks (n - i) i 0 ≡ verdict_by (g i) marks 0 ∷ verdicts_by g marks (n - (i + 1)) (i + 1) (mark_after (g i) 0)
   unfolding verdicts_by
-  verdicts-end i k h = let e : n - i ≡ 0 = omega arith in rw e
+  verdicts-turn marks n i h = let e : n - i ≡ suc (n - (i + 1)) = omega arith in rw e
 
-pub mark-behind : (flags : ℕ) (k i : ℕ) → k ≤ i → mark_after flags k ≤ i + 1
-mark-behind flags k i h = at (is_flagged flags)
-  where
-    at : (b : Bool) → cond b (k + 1) k ≤ i + 1
-    at true = omega arith
-    at false = omega arith
+  verdicts-end : (marks : List ℕ) (n i : ℕ) → n ≤ i → verdicts_by g marks (n - i) i 0 ≡ []
+  unfolding verdicts_by
+  verdicts-end marks n i h = let e : n - i ≡ 0 = omega arith in rw e
 
--- i files are passed, k flagged links among them: the flags are those at the start, and what is still to do gives the whole
+-- i files are passed: the flags are those at the start, and what is still to do with the marks that are left gives the whole
 module _ (f : LinkVerdict → Store → ℕ → Store) (marks : List ℕ) (n : ℕ) (s₀ : Store) where
-  pub record Going (s : Store) (i k : ℕ) : Type 0 where
+  pub record Going (s : Store) (i : ℕ) (left : List ℕ) : Type 0 where
     pub within : i ≤ n
-    pub counted : k ≤ i
     pub rows_long : length s.rows ≡ length s₀.rows
     pub dirs-long : length s.dirs ≡ length s₀.dirs
     pub text-long : length s.text ≡ length s₀.text
     pub flags : (j : ℕ) → flags_in s.rows j ≡ flags_in s₀.rows j
-    pub rest : passed f (verdicts_by (flags_in s₀.rows) marks (n - i) i k) i s ≡ passed f (verdicts_by (flags_in s₀.rows) marks n 0 0) 0 s₀
+    pub rest : passed f (verdicts_by (flags_in s₀.rows) left (n - i) i 0) i s ≡ passed f (verdicts_by (flags_in s₀.rows) marks n 0 0) 0 s₀
 
-  pub going_end : (s : Store) (i k : ℕ) → Going s i k → n ≤ i → s ≡ passed f (verdicts_by (flags_in s₀.rows) marks n 0 0) 0 s₀
-  going_end s i k p h =
-      ap (λ (vs : List LinkVerdict). passed f vs i s) (sym (verdicts-end (flags_in s₀.rows) marks n i k h)) ∙ p.rest
+  pub going_end : (s : Store) (i : ℕ) (left : List ℕ) → Going s i left → n ≤ i → s ≡ passed f (verdicts_by (flags_in s₀.rows) marks n 0 0) 0 s₀
+  going_end s i left p h = ap (λ (vs : List LinkVerdict). passed f vs i s) (sym (verdicts-end (flags_in s₀.rows) left n i h)) ∙ p.rest
 
-  pub going-turn : Keeps f → (s : Store) (i k : ℕ) → Going s i k → i < n → (s' : Store) {verdict : LinkVerdict} {k' : ℕ}
-      → verdict ≡ verdict_by (flags_in s.rows i) marks k → s' ≡ f verdict s i → k' ≡ mark_after (flags_in s.rows i) k
-      → length s'.rows ≡ length s.rows → length s'.dirs ≡ length s.dirs → length s'.text ≡ length s.text
-      → Going s' (i + 1) k'
-  going-turn keeps s i k p h s' {verdict} {k'} e step mark rows dirs text =
-      let g = flags_in s₀.rows in
-      let q : s' ≡ f (verdict_by (g i) marks k) s i =
-      step ∙ ap (λ (v : LinkVerdict). f v s i) (e ∙ ap (λ (x : ℕ). verdict_by x marks k) (p.flags i)) in
-      let m : k' ≡ mark_after (g i) k = mark ∙ ap (λ (x : ℕ). mark_after x k) (p.flags i) in
-      let done = ap (λ (vs : List LinkVerdict). passed f vs i s) (sym (verdicts-turn g marks n i k h)) ∙ p.rest in
-      record {
-        within = omega arith;
-        counted = rw m (mark-behind (g i) k i p.counted);
-        rows_long = rows ∙ p.rows_long;
-        dirs-long = dirs ∙ p.dirs-long;
-        text-long = text ∙ p.text-long;
-        flags = λ j. ap (λ (x : Store). flags_in x.rows j) step ∙ keeps verdict s i j ∙ p.flags j;
-        rest =
-            ap (λ (x : ℕ). passed f (verdicts_by g marks (n - (i + 1)) (i + 1) x) (i + 1) s') m
-            ∙ ap (passed f (verdicts_by g marks (n - (i + 1)) (i + 1) (mark_after (g i) k)) (i + 1)) q
-            ∙ done;
-      }
+  module _ (keeps : Keeps f) (still : (s : Store) (i : ℕ) → f Keep s i ≡ s) (s : Store) (i : ℕ) (left : List ℕ) (p : Going s i left) (h : i < n) where
+    -- the flags of file i decide whether the next mark is its own
+    after : (b : Bool) → is_flagged (flags_in s.rows i) ≡ b
+        → passed f (verdicts_by (flags_in s₀.rows) left (n - (i + 1)) (i + 1) (cond b 1 0)) (i + 1) (f (cond b (verdict_read (get_or left 0 0)) Keep) s i)
+        ≡ passed f (verdicts_by (flags_in s₀.rows) marks n 0 0) 0 s₀
+    after b e =
+        let g = flags_in s₀.rows in
+        let q : is_flagged (g i) ≡ b = ap is_flagged (sym (p.flags i)) ∙ e in
+        ap (λ (c : Bool). passed f (verdicts_by g left (n - (i + 1)) (i + 1) (cond c 1 0)) (i + 1) (f (cond c (verdict_read (get_or left 0 0)) Keep) s i)) (sym q)
+        ∙ ap (λ (vs : List LinkVerdict). passed f vs i s) (sym (verdicts-turn g left n i h))
+        ∙ p.rest
+
+    next : (s' : Store) (left' : List ℕ) → length s'.rows ≡ length s.rows → length s'.dirs ≡ length s.dirs → length s'.text ≡ length s.text
+        → ((j : ℕ) → flags_in s'.rows j ≡ flags_in s.rows j)
+        → passed f (verdicts_by (flags_in s₀.rows) left' (n - (i + 1)) (i + 1) 0) (i + 1) s' ≡ passed f (verdicts_by (flags_in s₀.rows) marks n 0 0) 0 s₀
+        → Going s' (i + 1) left'
+    next s' left' rows dirs text flags rest =
+        record {
+          within = omega arith;
+          rows_long = rows ∙ p.rows_long;
+          dirs-long = dirs ∙ p.dirs-long;
+          text-long = text ∙ p.text-long;
+          flags = λ j. flags j ∙ p.flags j;
+          rest = rest;
+        }
+
+    -- it is no flagged link
+    pub going-on : is_flagged (flags_in s.rows i) ≡ false → Going s (i + 1) left
+    going-on e = next s left refl refl refl (λ j. refl) (rw (still s i) at (after false e))
+
+    -- it is one, and no mark is left
+    pub going-bare : is_flagged (flags_in s.rows i) ≡ true → length left ≡ 0 → Going s (i + 1) left
+    going-bare e z = next s left refl refl refl (λ j. refl) (at left z (after true e))
+      where
+        at : (left : List ℕ) → length left ≡ 0
+            → passed f (verdicts_by (flags_in s₀.rows) left (n - (i + 1)) (i + 1) 1) (i + 1) (f (verdict_read (get_or left 0 0)) s i) ≡ passed f (verdicts_by (flags_in s₀.rows) marks n 0 0) 0 s₀
+            → passed f (verdicts_by (flags_in s₀.rows) left (n - (i + 1)) (i + 1) 0) (i + 1) s ≡ passed f (verdicts_by (flags_in s₀.rows) marks n 0 0) 0 s₀
+        at [] z a =
+            ap (λ (vs : List LinkVerdict). passed f vs (i + 1) s) (sym (verdicts-next (flags_in s₀.rows) [] (n - (i + 1)) (i + 1) 0))
+            ∙ ap (passed f (verdicts_by (flags_in s₀.rows) [] (n - (i + 1)) (i + 1) 1) (i + 1)) (sym (still s i))
+            ∙ a
+        at (m ∷ ms) z a = absurd (omega arith)
+
+    -- it is one, and the next mark is its own
+    pub going-link : is_flagged (flags_in s.rows i) ≡ true → (m : ℕ) (left' : List ℕ) → left ≡ m ∷ left' → (s' : Store) → s' ≡ f (verdict_read m) s i
+        → length s'.rows ≡ length s.rows → length s'.dirs ≡ length s.dirs → length s'.text ≡ length s.text → Going s' (i + 1) left'
+    going-link e m left' q s' step rows dirs text =
+        next s' left' rows dirs text (λ j. ap (λ (x : Store). flags_in x.rows j) step ∙ keeps (verdict_read m) s i j)
+        (ap (passed f (verdicts_by (flags_in s₀.rows) left' (n - (i + 1)) (i + 1) 0) (i + 1)) step
+        ∙ ap (λ (vs : List LinkVerdict). passed f vs (i + 1) (f (verdict_read m) s i)) (sym (verdicts-next (flags_in s₀.rows) (m ∷ left') (n - (i + 1)) (i + 1) 0))
+        ∙ (rw q at (after true e)))

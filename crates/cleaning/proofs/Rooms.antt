@@ -2,7 +2,7 @@
 -- verdicts and of a new text's parts.
 use Prim.Native.Nat.{ℕ, ◌+◌, ◌-◌, ◌≤◌, ◌<◌}
 use mathlib.Core.Path.{◌≡◌, refl, sym, ap, ◌∙◌}
-use mathlib.Core.Bool.{Bool, true, false}
+use mathlib.Core.Bool.{Bool, true}
 use mathlib.Core.Logic.{⊎_elim}
 use mathlib.Core.List.{List, [], ◌∷◌}
 use native.Mathlib.Omega.{arith}
@@ -18,8 +18,7 @@ use Rattle.links.specs.declared.mark.LinkVerdict.TheVariants.{Keep, OwnPath, Fro
 use Rattle.links.specs.Judging.{text_by}
 use Rattle.texts.proofs.NewTexts.{own-parts, beside-parts}
 use Rattle.cleaning.specs.Cleaning.{if_changed, kept_after, new_bytes}
-use Rattle.cleaning.specs.private.Writing.{verdict_by, mark_after, verdicts_by, gone_bytes, new_length, left_by, sum_by, needed_by}
-use Rattle.cleaning.proofs.Passes.{verdicts-turn, verdicts-end, mark-behind}
+use Rattle.cleaning.specs.private.Writing.{gone_bytes, new_length, left_by, sum_by, needed_by}
 
 -- ---- a room less a number, and what is left of it
 
@@ -32,41 +31,6 @@ ltb-less r a b h =
 
 pub ltb-over : (r a b : ℕ) → r < a → true ≡ ltb r (a + b)
 ltb-over r a b h = sym (lt-ltb r (a + b) (omega arith))
-
--- ---- file by file
-
-module _ (h : LinkVerdict → ℕ → ℕ) (g : ℕ → ℕ) (marks : List ℕ) (n : ℕ) where
-  -- i files are passed, k flagged links among them, and so many bytes are left
-  module _ (u : ℕ) where
-    abbrev pub Leaving : ℕ → ℕ → ℕ → Type 0
-    Leaving left i k = (i ≤ n) × (k ≤ i) × (left_by h (verdicts_by g marks (n - i) i k) i left ≡ left_by h (verdicts_by g marks n 0 0) 0 u)
-
-    pub leaving-turn : (left i k : ℕ) → Leaving left i k → i < n → {left' k' : ℕ}
-        → left' ≡ left - h (verdict_by (g i) marks k) i → k' ≡ mark_after (g i) k → Leaving left' (i + 1) k'
-    leaving-turn left i k (b, m, e) t p q =
-        (omega arith, rw q (mark-behind (g i) k i m), rw (p, q) (ap (λ (vs : List LinkVerdict). left_by h vs i left) (sym (verdicts-turn g marks n i k t)) ∙ e))
-
-    pub leaving-end : (left i k : ℕ) → Leaving left i k → n ≤ i → left ≡ left_by h (verdicts_by g marks n 0 0) 0 u
-    leaving-end left i k (b, m, e) t = ap (λ (vs : List LinkVerdict). left_by h vs i left) (sym (verdicts-end g marks n i k t)) ∙ e
-
-    -- the same for a sum that is taken off
-    abbrev pub Taking : ℕ → ℕ → ℕ → Type 0
-    Taking left i k = (i ≤ n) × (k ≤ i) × (ltb left (sum_by h (verdicts_by g marks (n - i) i k) i) ≡ ltb u (sum_by h (verdicts_by g marks n 0 0) 0))
-
-    module _ (left i k : ℕ) (p : Taking left i k) where
-      taking-next : i < n → ltb left (h (verdict_by (g i) marks k) i + sum_by h (verdicts_by g marks (n - (i + 1)) (i + 1) (mark_after (g i) k)) (i + 1)) ≡ ltb u (sum_by h (verdicts_by g marks n 0 0) 0)
-      taking-next t = ap (λ (vs : List LinkVerdict). ltb left (sum_by h vs i)) (sym (verdicts-turn g marks n i k t)) ∙ p.2
-
-      pub taking-stop : i < n → left < h (verdict_by (g i) marks k) i → true ≡ ltb u (sum_by h (verdicts_by g marks n 0 0) 0)
-      taking-stop t o = ltb-over left _ _ o ∙ taking-next t
-
-      pub taking-turn : i < n → h (verdict_by (g i) marks k) i ≤ left → {left' k' : ℕ}
-          → left' ≡ left - h (verdict_by (g i) marks k) i → k' ≡ mark_after (g i) k → Taking left' (i + 1) k'
-      taking-turn t o a q =
-          (omega arith, rw q (mark-behind (g i) k i p.1), rw (a, q) (ltb-less left _ _ o ∙ taking-next t))
-
-      pub taking-end : n ≤ i → false ≡ ltb u (sum_by h (verdicts_by g marks n 0 0) 0)
-      taking-end t = sym (le-ltb left 0 (omega arith)) ∙ ap (λ (vs : List LinkVerdict). ltb left (sum_by h vs i)) (sym (verdicts-end g marks n i k t)) ∙ p.2
 
 -- ---- the definitions
 

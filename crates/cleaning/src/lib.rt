@@ -5,6 +5,5 @@
 mod clean;
 mod rewrite;
 mod room;
-mod verdicts;
 
 pub use clean::sanitize_symlinks;

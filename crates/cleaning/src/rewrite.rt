@@ -1,12 +1,11 @@
 // The texts of all links, by their verdicts: first the old text of each link whose verdict is its own path is removed,
-// then each new text is written. Relies on `texts` for one link's text, on verdicts.rt and on the laws of
-// proofs/Passes.antt.
+// then each new text is written. Relies on `texts` for one link's text, on `lookup` for a flagged link, on `links` for
+// a mark's verdict and on the laws of proofs/Passes.antt.
 ghost use Rattle.std.specs.Prelude.{◌≡◌, length};
 ghost use Rattle.lookup.specs.Lookup.{lent};
 ghost use Rattle.cleaning.specs.Cleaning.{emptied_at, emptied, rewritten_at, rewritten};
 ghost use Rattle.cleaning.specs.private.Writing.{verdicts_in};
 
-use crate::verdicts::{mark_after, verdict_of};
 use links::LinkVerdict;
 use tables::FileStorage;
 
@@ -51,6 +50,8 @@ fn empty_link(
 }
 
 // Removes the old text of each file whose verdict is the link's own path.
+// Stays: it counts the files, since a step writes the rows, which an iterator over the flagged links would hold
+// borrowed.
 fn empty_links(
     fs: FileStorage,
     rows: &mut [u64],
@@ -63,19 +64,22 @@ fn empty_links(
         (lent fs rows.old dirs.old text.old) }
 {
     let mut set = fs;
-    let mut k = 0;
+    let mut marks_left = marks.iter();
     for i in 0..fs.num_files {
-        let flags = tables::flags_at(rows, i);
-        let verdict = verdict_of(flags, marks, k);
-        set = empty_link(set, rows, dirs, text, i, verdict);
-        k = mark_after(flags, k);
+        if lookup::is_link(rows, i)
+            && let Some(mark) = marks_left.next()
+        {
+            let verdict = LinkVerdict::from(*mark);
+            set = empty_link(set, rows, dirs, text, i, verdict);
+        }
     }
     set
 }
 
 // Writes the new texts of all files.
-// Stays: this pass and the one before differ in their step alone, but a step takes all lent slices, so a closure for it
-// is no plainer.
+// Stays: it counts the files for the same reason as the pass before. The two differ in their step alone; one loop for
+// both would be given the step as a closure of the set, three lent tables, a file and its verdict, and what the step
+// does to the set as an argument of its clause.
 fn write_links(
     fs: FileStorage,
     rows: &mut [u64],
@@ -89,12 +93,14 @@ fn write_links(
         (lent fs rows.old dirs.old text.old) }
 {
     let mut set = fs;
-    let mut k = 0;
+    let mut marks_left = marks.iter();
     for i in 0..fs.num_files {
-        let flags = tables::flags_at(rows, i);
-        let verdict = verdict_of(flags, marks, k);
-        set = write_link(set, rows, dirs, text, scratch, i, verdict);
-        k = mark_after(flags, k);
+        if lookup::is_link(rows, i)
+            && let Some(mark) = marks_left.next()
+        {
+            let verdict = LinkVerdict::from(*mark);
+            set = write_link(set, rows, dirs, text, scratch, i, verdict);
+        }
     }
     set
 }

@@ -1,16 +1,16 @@
 // The room that a cleaning needs, taken off the text area's length text by text, since a sum could be too
-// large. Relies on verdicts.rt, `texts` and the laws of proofs/Passes.antt.
+// large. Relies on `lookup` for a flagged link, on `links` for a mark's verdict, on `texts` and on the laws of
+// proofs/Links.antt.
 ghost use Rattle.std.specs.Prelude.{◌≡◌, ◌-◌, ltb, length};
 ghost use Rattle.tables.specs.Span.{clip};
 ghost use Rattle.cleaning.specs.Cleaning.{if_changed};
 ghost use Rattle.cleaning.specs.private.Writing.{joined_bytes, new_length, needed_by};
 ghost use Rattle.cleaning.specs.private.Judged.{store_in, verdicts_on, kept_in, added_in};
 
-use crate::verdicts::{mark_after, verdict_of};
 use links::LinkVerdict;
 use tables::{Lent, LentSet, Row, Span};
 
-// A set whose links are judged, with a mark for each of them.
+// A set whose links are judged, with a mark for each of them; a link past the last mark keeps its text.
 #[derive(Clone, Copy)]
 pub(crate) struct JudgedSet<'a, 'm> {
     pub set: LentSet<'a>,
@@ -34,15 +34,14 @@ fn kept_after(judged: JudgedSet<'_, '_>) -> usize
     ensures { result ≡ kept_in judged.entry }
 {
     let used = judged.set.fs.text_len;
-    let mut left = used;
-    let mut k = 0;
-    for i in 0..judged.set.fs.num_files {
-        let row = tables::row_at(judged.set.lent.rows, i);
-        let verdict = verdict_of(row.flags, judged.marks, k);
-        left = left_after(used, row.link, verdict, left);
-        k = mark_after(row.flags, k);
-    }
-    left
+    let rows = judged.set.lent.rows;
+    (0..judged.set.fs.num_files)
+        .map(|i| tables::row_at(rows, i))
+        .filter(|row| lookup::is_flagged(row.flags))
+        .zip(judged.marks)
+        .fold(used, |left, (row, mark)| {
+            left_after(used, row.link, LinkVerdict::from(*mark), left)
+        })
 }
 
 // The length of a leaf joined to a row's directory.
@@ -69,19 +68,14 @@ fn new_length(lent: Lent<'_>, row: Row, verdict: LinkVerdict) -> usize
 fn lacks_bytes(judged: JudgedSet<'_, '_>, room: usize) -> bool
     ensures { result ≡ ltb room (added_in judged.entry) }
 {
-    let mut left = room;
-    let mut k = 0;
-    for i in 0..judged.set.fs.num_files {
-        let row = tables::row_at(judged.set.lent.rows, i);
-        let verdict = verdict_of(row.flags, judged.marks, k);
-        let more = new_length(judged.set.lent, row, verdict);
-        if left < more {
-            return true;
-        }
-        left -= more;
-        k = mark_after(row.flags, k);
-    }
-    false
+    let lent = judged.set.lent;
+    (0..judged.set.fs.num_files)
+        .map(|i| tables::row_at(lent.rows, i))
+        .filter(|row| lookup::is_flagged(row.flags))
+        .zip(judged.marks)
+        .map(|(row, mark)| new_length(lent, row, LinkVerdict::from(*mark)))
+        .try_fold(room, usize::checked_sub)
+        .is_none()
 }
 
 // Whether the text area is shorter than all texts held after the cleaning.

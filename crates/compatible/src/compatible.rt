@@ -75,7 +75,7 @@ fn same_named(a: LentSet<'_>, row_a: Row, b: LentSet<'_>, row_b: Row) -> bool
 }
 
 // Whether both files are relevant or neither is, and where they are relevant they are the same.
-// Stays: it says which files are compared; `same_named` compares them.
+// Stays: two files that are not relevant are the same here whatever their rows say, and a derived `==` compares them.
 fn same_file(a: LentSet<'_>, row_a: Row, b: LentSet<'_>, row_b: Row) -> bool
     ensures { result ≡ same_file (set_of a.entry) (set_of b.entry) row_a row_b }
 {
@@ -87,19 +87,15 @@ fn same_file(a: LentSet<'_>, row_a: Row, b: LentSet<'_>, row_b: Row) -> bool
 }
 
 // Whether each file of the first set is the same as the second set's file of its number.
-// Stays: it goes over the files of both sets; `same_file` compares each two.
+// Stays: the rows are lent as words, and those past the count or that are not relevant are not to be compared.
 fn same_files(a: LentSet<'_>, b: LentSet<'_>) -> bool
     ensures { result ≡ same_from a.entry.fs.num_files 0 (set_of a.entry) (set_of b.entry) }
 {
-    // Stays: a row is read by its number, which `tables::row_at` takes, from both sets.
-    for k in 0..a.fs.num_files {
+    (0..a.fs.num_files).all(|k| {
         let row_a = tables::row_at(a.lent.rows, k);
         let row_b = tables::row_at(b.lent.rows, k);
-        if !same_file(a, row_a, b, row_b) {
-            return false;
-        }
-    }
-    true
+        same_file(a, row_a, b, row_b)
+    })
 }
 
 // Whether counts, totals and piece lengths are the same, and each file is.

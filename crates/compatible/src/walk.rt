@@ -8,7 +8,8 @@ ghost use Rattle.compatible.specs.private.Walk.{whole_of, end_of, same_each};
 use path::{is_alone, is_closed};
 
 // A composed path in pieces: its parts, and what stands behind the first and the second, which is a separator or
-// nothing.
+// nothing. Each piece has a name, which says whether it is a part or what stands behind one; in an array of five only
+// the place would.
 #[derive(Clone, Copy)]
 pub(crate) struct Pieces<'a> {
     pub first: &'a [u8],
@@ -74,7 +75,7 @@ pub(crate) fn compose<'a>(first: &'a [u8], second: &'a [u8], last: &'a [u8]) -> 
 }
 
 // Whether the pieces of two paths are the same, one by one.
-// Stays: `lists::same` compares each pair; it is faster than `==` where names differ near their ends.
+// Stays: `lists::same` compares each pair; the figures beside `==` stand at that function.
 fn same_each(a: Pieces<'_>, b: Pieces<'_>) -> bool
     ensures { result ≡ same_each a.entry b.entry }
 {

@@ -3,7 +3,7 @@
 // another. Relies on the laws of proofs/.
 #![tactic(auto)]
 
-ghost use Rattle.std.specs.Prelude.{◌≡◌, map};
+ghost use Rattle.std.specs.Prelude.{◌≡◌, cond, map};
 ghost use Rattle.crc32c.specs.Crc.{byte_step, feed, crc_of, crc_from, lower};
 ghost use Rattle.crc32c.specs.private.Table.{IsTable};
 
@@ -20,33 +20,23 @@ fn byte_step(table: &[u32; 256], state: u32, b: u8) -> u32
     table[i as usize] ^ (state >> 8)
 }
 
-// The register after the bytes of `data`. The table is lent to each step: it is stored once a call.
+// The register after the bytes of `data`, where `LOWER` is true in lower case. The table is lent to each step: it is
+// stored once a call.
 #[tactic(auto, using(crate::proofs::Parts::feeding))]
-fn feed_part(state: u32, data: &[u8]) -> u32
-    ensures { result ≡ feed state «data».now }
+fn feed_part<const LOWER: bool>(state: u32, data: &[u8]) -> u32
+    ensures { result ≡ feed state (cond LOWER (map lower «data».now) «data».now) }
 {
     let mut x = state;
     for &b in data {
-        x = byte_step(&TABLE, x, b);
-    }
-    x
-}
-
-// The register after the bytes of `data` in lower case.
-// Stays: one function over a closure for each byte is no plainer, since its contract must say what the closure answers.
-#[tactic(auto, using(crate::proofs::Parts::feeding))]
-fn feed_lowercase(state: u32, data: &[u8]) -> u32
-    ensures { result ≡ feed state (map lower «data».now) }
-{
-    let mut x = state;
-    for &b in data {
-        x = byte_step(&TABLE, x, to_ascii_lowercase(b));
+        let c = if LOWER { to_ascii_lowercase(b) } else { b };
+        x = byte_step(&TABLE, x, c);
     }
     x
 }
 
 // A byte with the letters A to Z in lower case.
-// Stays: it is a call of std's method, and public.
+// Stays: it says `lower` of std's method, as the law of a turn of `feed_part` does; with the method itself in the loop,
+// the turn needs an answer by hand.
 pub fn to_ascii_lowercase(b: u8) -> u8
     ensures { result ≡ lower b }
 {
@@ -54,17 +44,19 @@ pub fn to_ascii_lowercase(b: u8) -> u8
 }
 
 // The CRC of the bytes so far, whose CRC is `crc`, and of `data`.
+// Stays: it and the next share `feed_part`; as one public function each caller would write `::<false>` or `::<true>`.
 pub fn crc32c_append(crc: u32, data: &[u8]) -> u32
     ensures { result ≡ crc_from crc «data».now }
 {
-    feed_part(crc ^ 0xffff_ffff, data) ^ 0xffff_ffff
+    feed_part::<false>(crc ^ 0xffff_ffff, data) ^ 0xffff_ffff
 }
 
 // The same, of `data` in lower case.
+// Stays: it and `crc32c_append` share `feed_part`; as one public function each caller would write the parameter.
 pub fn crc32c_append_lowercase(crc: u32, data: &[u8]) -> u32
     ensures { result ≡ crc_from crc (map lower «data».now) }
 {
-    feed_lowercase(crc ^ 0xffff_ffff, data) ^ 0xffff_ffff
+    feed_part::<true>(crc ^ 0xffff_ffff, data) ^ 0xffff_ffff
 }
 
 // The CRC of `data`.

@@ -28,7 +28,8 @@ use tables::{FileStorage, Presence, Sha256Hash, Span};
 use types::Refusal;
 
 // A set's record, as words.
-// Stays: the C interface lends a set's record as an array of words.
+// Stays: the C interface is these twelve words, and the clauses speak of them as a list. A reference to an array is a
+// pointer alone, as one to a `#[repr(C)]` struct is, and the struct's clauses would be said anew of its fields.
 pub type State = [u64; 12];
 
 // A root.
@@ -36,7 +37,7 @@ pub type State = [u64; 12];
 pub type Root = [u8; 32];
 
 // The record that a set's words hold.
-// Stays: the C interface lends a set as an array of words, and neither type is this crate's, as `From` would need.
+// Stays: `State` says why a set comes as an array; neither type is this crate's, as `From` would need.
 pub(crate) fn storage_at(state: &State) -> FileStorage
     ensures { result ≡ storage_of state.now }
 {
@@ -59,7 +60,7 @@ pub(crate) fn storage_at(state: &State) -> FileStorage
 }
 
 // The words of a set's record.
-// Stays: the C interface lends a set as an array of words, and neither type is this crate's, as `From` would need.
+// Stays: `State` says why a set comes as an array; neither type is this crate's, as `From` would need.
 fn words_of(fs: FileStorage) -> State
     ensures { result ≡ words_of fs }
 {

@@ -1,6 +1,7 @@
 // The C interface: each function calls that of `exports` of the same name and states its clauses again. A C program
 // links the archive, and passes a slice as a pointer and a length, and an array, whose size is in its type, as a
-// pointer. Relies on `exports`.
+// pointer. It is a crate of its own since a crate is built as a library or as a static library, and no crate can depend
+// on a static library. Relies on `exports`.
 #![tactic(auto)]
 
 ghost use Rattle.std.specs.Prelude.{◌≡◌, List, ℕ, pos};

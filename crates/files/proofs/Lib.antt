@@ -1,5 +1,6 @@
--- Laws of decisions about a file, of requests and of the words of an answer.
+-- Laws of decisions about a file, of requests, of questions in columns and of the words of an answer.
 pub mod Deciding
 pub mod Roots
 pub mod Requests
 pub mod Words
+pub mod Columns

@@ -1,6 +1,6 @@
 // Answers about files' pieces, blocks and trees, and `map_file`. They rely on `merkle` for the nodes, on `types` for
 // signed numbers and on `rules`: each decides its refusals first.
-ghost use Rattle.std.specs.Prelude.{◌≡◌, ◌+◌, ◌*◌, ◌/◌, ◌%◌, ◌^◌, ◌<◌, ◌≤◌, ◌&&◌, ◌==◌};
+ghost use Rattle.std.specs.Prelude.{◌≡◌, ◌+◌, ◌*◌, ◌^◌, ◌<◌, ◌≤◌, ◌&&◌, ◌==◌};
 ghost use Rattle.std.specs.Prelude.{false, not, [], ◌∷◌, length, pos, IfOk};
 ghost use Rattle.types.specs.Refusals.{number_of, outcome};
 ghost use Rattle.lists.specs.Lists.{equal};
@@ -25,7 +25,7 @@ ghost use Rattle.files.specs.Files.{position_of, exclusive_begin, end_or_begin, 
 ghost use Rattle.files.specs.Files.{exclusive_range, inclusive_range};
 
 use crate::number::file_or_past;
-use lists::{div, div_ceil};
+use lists::{div, div_ceil, rem};
 use rules::{
     DEFAULT_BLOCK_SIZE, are_held, ask_file, ask_set, count_pieces, has_many, is_bad_length,
     is_bad_range, is_no_file, is_no_tree,
@@ -71,33 +71,8 @@ fn last_quotient(n: u64, d: u64) -> PieceIndex
     PieceIndex::new(after - 1)
 }
 
-// A position in the set's bytes: its piece, and its start in that piece.
-#[derive(Drop)]
-struct Cut {
-    piece: u64,
-    start: u64,
-}
-
-// Position `at` as its piece and its start in it. A piece length that is a power of two, as most are, cuts by a shift.
-fn cut_at(at: u64, piece_length: u64) -> Cut
-    requires { 0 < piece_length }
-    ensures { (result.piece ≡ at / piece_length) × (result.start ≡ at % piece_length) }
-{
-    match lists::exponent(piece_length) {
-        Some(bits) => Cut {
-            piece: at >> bits,
-            start: at % (1 << bits),
-        },
-        None => Cut {
-            piece: at / piece_length,
-            start: at % piece_length,
-        },
-    }
-}
-
 // The piece and the start of position `at` of the set's bytes, and how many of `size` bytes the set has from there on.
 fn request_at(fs: FileStorage, at: u64, size: u64) -> UnsignedRequest
-    requires { 0 < fs.piece_length }
     ensures { request_of result ≡ request_at fs at size }
 {
     if fs.total_size <= at {
@@ -107,10 +82,9 @@ fn request_at(fs: FileStorage, at: u64, size: u64) -> UnsignedRequest
             length: 0,
         };
     }
-    let c = cut_at(at, fs.piece_length);
     UnsignedRequest {
-        piece: c.piece,
-        start: c.start,
+        piece: div(at, fs.piece_length),
+        start: rem(at, fs.piece_length),
         length: size.min(fs.total_size - at),
     }
 }
@@ -189,15 +163,11 @@ fn inclusive(fs: FileStorage, rows: &[u64], k: usize) -> PieceIndexRange
     }
 }
 
-// The most leaves of a tree.
-const MAX_LEAVES: u64 = 1073741823;
-
 // Whether no tree has that number of leaves.
-// Stays: `merkle` makes the same test within its answer, of a count as `usize`.
 fn is_no_width(leaves: u64) -> bool
     ensures { result ≡ not (has_tree leaves) }
 {
-    leaves < 1 || MAX_LEAVES < leaves
+    merkle::merkle_num_leafs(leaves as usize).is_err()
 }
 
 // Whether the row of file k is there and no tree has that number of leaves.
@@ -286,12 +256,13 @@ pub fn piece_index_at_file(
 ) -> Result<PieceIndex, Refusal>
     ensures { piece_says result ≡ piece_at_file_given fs rows.now index.0 }
 {
-    let k = file_of_pieces(fs, rows, index)?;
-    Ok(PieceIndex::new(div(tables::offset_at(rows, k), fs.piece_length)))
+    file_of_pieces(fs, rows, index).map(|k| {
+        let begin = tables::offset_at(rows, k);
+        PieceIndex::new(div(begin, fs.piece_length))
+    })
 }
 
 // The last piece of a file, −1 for an empty file at 0 where the piece length is 1.
-// Stays: only the form is that of the other questions about a file's pieces; its value is another.
 pub fn last_piece_index_at_file(
     fs: FileStorage,
     rows: &[u64],
@@ -299,9 +270,10 @@ pub fn last_piece_index_at_file(
 ) -> Result<PieceIndex, Refusal>
     ensures { piece_says result ≡ last_piece_at_file_given fs rows.now index.0 }
 {
-    let k = file_of_pieces(fs, rows, index)?;
-    let end = tables::offset_at(rows, k) + tables::size_at(rows, k);
-    Ok(last_quotient(end, fs.piece_length))
+    file_of_pieces(fs, rows, index).map(|k| {
+        let end = tables::offset_at(rows, k) + tables::size_at(rows, k);
+        last_quotient(end, fs.piece_length)
+    })
 }
 
 // The number of pieces of a file that starts on a piece.
@@ -385,7 +357,7 @@ fn signed_request(r: UnsignedRequest) -> PeerRequest
 
 // The offset of row k, which the table has.
 // Stays: tried, `tables::offset_at` tests for the row again, so that `map_file` is too long for the loop of `map_files`
-// to take in, and a question takes 16 ns there for 5.
+// to take in, and a question takes 16 ns there for 5; the Rust's takes 6.
 fn offset_of(rows: &[u64], k: usize) -> u64
     requires { k * 8 < length rows.now }
     ensures { result ≡ (row_at rows.now k).offset }
@@ -455,7 +427,7 @@ pub fn map_file(
 }
 
 // The pieces that lie wholly in a file.
-// Stays: only the form is that of the other questions about a file's pieces; its value is another.
+// Stays: this and the next each map the file's number, which is asked for in one place, to a range of their own.
 pub fn file_piece_range_exclusive(
     fs: FileStorage,
     rows: &[u64],
@@ -463,12 +435,11 @@ pub fn file_piece_range_exclusive(
 ) -> Result<PieceIndexRange, Refusal>
     ensures { piece_range_says result ≡ exclusive_given fs rows.now index.0 }
 {
-    let k = file_of_pieces(fs, rows, index)?;
-    Ok(exclusive(fs, rows, k))
+    file_of_pieces(fs, rows, index).map(|k| exclusive(fs, rows, k))
 }
 
 // The pieces that have a byte of a file.
-// Stays: only the form is that of the other questions about a file's pieces; its value is another.
+// Stays: as the one before.
 pub fn file_piece_range_inclusive(
     fs: FileStorage,
     rows: &[u64],
@@ -476,6 +447,5 @@ pub fn file_piece_range_inclusive(
 ) -> Result<PieceIndexRange, Refusal>
     ensures { piece_range_says result ≡ inclusive_given fs rows.now index.0 }
 {
-    let k = file_of_pieces(fs, rows, index)?;
-    Ok(inclusive(fs, rows, k))
+    file_of_pieces(fs, rows, index).map(|k| inclusive(fs, rows, k))
 }

@@ -1,6 +1,7 @@
 // `map_file` for a list of questions: one call of it for each, in a loop that the compiler sees whole. It relies on
-// file.rt and on the laws of rows written one after another (tables, proofs/Filled.antt).
-ghost use Rattle.std.specs.Prelude.{◌≡◌, ◌+◌, ◌*◌, ◌/◌, ◌<◌, ◌≤◌, length};
+// file.rt, on the laws of rows written one after another (tables, proofs/Filled.antt) and on those of
+// proofs/Columns.antt and proofs/Words.antt.
+ghost use Rattle.std.specs.Prelude.{◌≡◌, ◌/◌, ◌≤◌, length};
 ghost use Rattle.std.proofs.lemmas.List.Edits.{sets};
 ghost use Rattle.tables.specs.Rows.{filled};
 ghost use Rattle.rules.specs.Bounds.{clamped_of};
@@ -18,17 +19,15 @@ fn word32(x: i32) -> u32
     clamped(i64::from(x)) as u32
 }
 
-// Puts the four words of the answer to question i.
+// The words of an answer.
 // Stays: an answer is four words of the table that the C interface lends.
-fn put_answer(answers: &mut [u32], i: usize, answer: Result<PeerRequest, Refusal>)
-    requires { i * 4 + 3 < length answers.old }
-    ensures { answers.new ≡ sets answers.old (i * 4) (answer_words (request_says answer)) }
+fn answer_words(answer: Result<PeerRequest, Refusal>) -> [u32; 4]
+    ensures { result ≡ answer_words (request_says answer) }
 {
-    let words = match answer {
+    match answer {
         Ok(r) => [0, word32(r.piece.0), word32(r.start), word32(r.length)],
         Err(e) => [u32::from(e), 0, 0, 0],
-    };
-    answers[i * 4..i * 4 + 4].copy_from_slice(&words);
+    }
 }
 
 // Answers each question.
@@ -49,9 +48,12 @@ fn answer_each(
         (filled (answer_at fs rows.now files.now offsets.now sizes.now) 0
         (length files.now)) }
 {
-    for i in 0..files.len() {
-        let answer = map_file(fs, rows, FileIndex(files[i]), offsets[i], sizes[i]);
-        put_answer(answers, i, answer);
+    // Stays: the answers are cut by number. Tried, with `answers.chunks_exact_mut(4)` in the zip, and with the table
+    // walked down by `split_at_mut(4)`, `returns` stayed open: after both loops only the table's length is known.
+    for (i, ((file, offset), size)) in files.iter().zip(offsets).zip(sizes).enumerate() {
+        let words = answer_words(map_file(fs, rows, FileIndex(*file), *offset, *size));
+        let at = i * 4;
+        answers[at..at + 4].copy_from_slice(&words);
     }
 }
 

@@ -10,7 +10,5 @@ use types::FileIndex;
 pub(crate) fn file_or_past(index: FileIndex) -> usize
     ensures { result ≡ of_z w64 index.0 }
 {
-    let x = index.0;
-    let above = (x as i64 + 0x8000_0000) as u64;
-    std::num::wrapping_sub_u64(above, 0x8000_0000) as usize
+    i64::from(index.0).cast_unsigned() as usize
 }

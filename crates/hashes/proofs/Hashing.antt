@@ -1,6 +1,6 @@
 -- Laws of a directory's beginnings and of their hashes. A running hash goes on from one separator to the next, and starts anew
 -- with each directory. They rely on the laws of `crc32c` about parts.
---     before_position, scan-within                  the scan for the next separator
+--     scan-within                                   the scan for the next separator
 --     beginning_number                              one beginning more than separators
 --     begin-first, begin-next, begin-end            a directory's beginnings, one after the other
 --     hashes-first, hashes-next, hashes-end         a directory's hashes, one after the other; hash-next gives the next one,
@@ -8,16 +8,17 @@
 --     dirs-turn, dirs-end                           the directories, one after the other
 --     dirs-cut                                      those that a longer table begins with
 --     all-within                                    the hashes of what stands behind the set's name
-use Prim.Native.Nat.{ℕ, suc, ◌+◌, ◌-◌, ◌*◌, ◌/◌, ◌≤◌, ◌<◌}
+use Prim.Native.Nat.{ℕ, ◌+◌, ◌-◌, ◌*◌, ◌/◌, ◌≤◌, ◌<◌}
 use mathlib.Core.Path.{◌≡◌, refl, sym, ap, ◌∙◌}
-use mathlib.Core.Bool.{Bool, true, false, cond, not}
+use mathlib.Core.Bool.{Bool, true, false, cond}
 use mathlib.Core.List.{List, [], ◌∷◌, ◌++◌, map, append-nil, append_assoc}
 use native.Mathlib.Numerals.{add-one}
 use native.Mathlib.Omega.{arith}
-use lib.ListN.{length, take, drop, length-drop, drop_of_length-le}
+use lib.ListN.{length, take, drop, length-take, length-drop, drop_of_length-le}
 use lib.Seq.{drop-cons, drop-drop, take-suc, take-add, take_all, get_or-take, length-take-le}
-use Rattle.std.specs.List.{filter, position_or_len}
+use Rattle.std.specs.List.{filter}
 use Rattle.path.specs.Split.{is_separator, before_first}
+use Rattle.path.proofs.Splits.{first-places}
 use Rattle.crc32c.specs.Crc.{crc_from, lower}
 use Rattle.crc32c.proofs.Parts.{crc-lower}
 use Rattle.tables.specs.declared.storage.FileStorage.{FileStorage}
@@ -60,38 +61,16 @@ beginning_number seen (c ∷ t) = at (is_separator c) (beginning_number (seen ++
     at true e = omega arith
     at false e = e
 
--- as many bytes stand before the first separator as a search for it passes
-pub before_position : (t : List ℕ) → position_or_len is_separator t ≡ length (before_first t)
-before_position [] = refl
-before_position (c ∷ t) = at (is_separator c) (before_position t)
-  where
-    at : (b : Bool) → position_or_len is_separator t ≡ length (before_first t) → cond (not b) (1 + position_or_len is_separator t) 0 ≡ length (cond b [] (c ∷ before_first t))
-    at true e = refl
-    at false e = omega arith
-
--- what stands before a separator is the list's first part
-before-part : (t : List ℕ) → before_first t ≡ take (length (before_first t)) t
-before-part [] = refl
-before-part (c ∷ t) = at (is_separator c) (before-part t)
-  where
-    at : (b : Bool) → before_first t ≡ take (length (before_first t)) t → cond b [] (c ∷ before_first t) ≡ take (length (cond b [] (c ∷ before_first t))) (c ∷ t)
-    at true e = refl
-    at false e = ap (λ (l : List ℕ). c ∷ l) e
-
-pub before-le : (t : List ℕ) → length (before_first t) ≤ length t
-before-le [] = omega arith
-before-le (c ∷ t) = at (is_separator c) (before-le t)
-  where
-    at : (b : Bool) → length (before_first t) ≤ length t → length (cond b [] (c ∷ before_first t)) ≤ suc (length t)
-    at true e = omega arith
-    at false e = omega arith
+-- what stands before the first separator is no longer than the list
+before-le : (t : List ℕ) → length (before_first t) ≤ length t
+before-le t = let m = length (before_first t) in omega (arith, ap length (first-places t).0, length-take m t)
 
 -- the beginning that ends at place k, where a scan from place i came to
 module _ (d : List ℕ) (i k : ℕ) (e : k ≡ i + length (before_first (drop i d))) where
   from_place : beginnings_from (take i d) (drop i d) ≡ take k d ∷ beginnings_behind (take k d) (drop k d)
   from_place =
       let m = length (before_first (drop i d)) in
-      let p : take k d ≡ take i d ++ before_first (drop i d) = rw e (take-add i m d ∙ ap (λ (l : List ℕ). take i d ++ l) (sym (before-part (drop i d)))) in
+      let p : take k d ≡ take i d ++ before_first (drop i d) = rw e (take-add i m d ∙ ap (λ (l : List ℕ). take i d ++ l) (first-places (drop i d)).0) in
       let q : drop k d ≡ drop m (drop i d) = rw e (sym (drop-drop m i d)) in
       rw (p, q) (one-first (take i d) (drop i d))
 

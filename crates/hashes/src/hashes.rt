@@ -32,7 +32,8 @@ fn push(table: &mut [u32], p: usize, n: usize, h: u32)
 }
 
 // Puts h among the first n hashes unless it is there, and gives the number of hashes after it.
-// Stays: the table is lent and its hashes are counted beside it, since no function here has a heap.
+// Stays: a record of table and count would hold a `&mut`, and its contract would still say what the lent table and the
+// count become, as this one does; `gather`, which alone would make it, is asked for the count.
 fn insert(table: &mut [u32], n: usize, h: u32) -> usize
     requires { Begun n table.old }
     ensures { TableHolds table.old (inserted h (take n table.old)) table.new result }
@@ -47,7 +48,7 @@ fn insert(table: &mut [u32], n: usize, h: u32) -> usize
 }
 
 // The same where h is at or above `bound`; else nothing changes.
-// Stays: the first n places hold hashes, and a slice of these alone would lack the place that one more takes.
+// Stays: as `insert`, to which it hands table and count on.
 fn keep(table: &mut [u32], n: usize, bound: u64, h: u32) -> usize
     requires { Begun n table.old }
     ensures { TableHolds table.old (gathered bound (h ∷ []) (take n table.old)) table.new result }
@@ -59,7 +60,8 @@ fn keep(table: &mut [u32], n: usize, bound: u64, h: u32) -> usize
 }
 
 // The position of the first separator at or after `from`, or the length.
-// Stays: its twin in `path` is that crate's own, and takes a place past the end too.
+// `path` has such a search of its own, whose contract gives the texts before and behind a separator, where `keep_dir`
+// needs the position as a number.
 fn next_separator(path: &[u8], from: usize) -> usize
     requires { from ≤ length path.now }
     ensures { result ≡ from + length (before_first (drop from path.now)) }
@@ -77,8 +79,9 @@ struct Kept {
 
 // Keeps the hashes of a directory's beginnings; `state` is the hash of what stands before the directory, and
 // each directory starts from it.
-// Stays: the first n places hold hashes, and those of the directory may take the ones behind them.
-// Stays: a turn hashes a separator and the part behind it in one call; over the parts of `split` it would need two.
+// Stays: table and count stand apart as in `insert`.
+// Stays: a turn hashes a separator with the part behind it, in one call; over the parts of `split` the first, which has
+// no separator before it, would have to be told from the others, and each of these would take two calls.
 fn keep_dir(table: &mut [u32], n: usize, bound: u64, state: u32, d: &[u8]) -> Kept
     requires { Begun n table.old }
     ensures { TableHolds table.old
@@ -151,20 +154,18 @@ impl Listed<'_> {
     fn fill(self, out: &mut [u32]) -> usize
         ensures { TableHolds out.old (ascending (above 0 (due self.entry))) out.new result }
     {
-        let mut at = 0;
         let mut bound = 0;
-        // Stays: a pass asks for the last hash of the one before, and may end the whole; over `chunks_mut` both would
-        // need values of their own beside the window.
-        while at < out.len() {
+        // The windows are cut by number: the contract of std's `chunks_mut` doesn't say what the slice holds after
+        // them.
+        for at in (0..out.len()).step_by(8192) {
             let end = at + 8192.min(out.len() - at);
             let n = self.fill_window(out, at, end, bound);
             if n < end - at {
                 return at + n;
             }
             bound = u64::from(out[end - 1]) + 1;
-            at = end;
         }
-        at
+        out.len()
     }
 
     // Whether a table of `room` places holds the hashes. They are counted by passes, the least first, each of as many

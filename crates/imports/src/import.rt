@@ -29,7 +29,7 @@ fn is_full(words: usize, room: usize, stay: RenamedFiles, come: RenamedFiles) ->
 }
 
 // The record of the renames that are kept, or why the list is refused; `room` is the length of the text area.
-// Stays: `room` is the length of a table that is lent for writing, so it comes alone.
+// Stays: no byte of the text area is read, so its length alone is asked for.
 fn decide(
     fs: FileStorage,
     renames: RenamedFiles,
@@ -67,7 +67,7 @@ fn decide(
 // Records other paths for many files, or why not: file `numbers[i]` gets the name of `lengths[i]` bytes, the names
 // stand one after the other. Numbers past the end are skipped, and of repeats the last counts. A list with fewer
 // lengths than numbers, or fewer bytes of names than the lengths say, is refused.
-// Stays: it is public, and without a heap no caller that has numbers and lengths could make a list of records of them.
+// Stays: it is public, and its clause speaks of the three lists; within, `NameList` is the record of them.
 pub fn import_filenames(
     fs: FileStorage,
     renames: RenamedFiles,

@@ -1,8 +1,7 @@
 // The renames that are kept when a list of names is imported: counting them, and moving them together in both
 // tables. Relies on notes.rt and on the laws of proofs/Keeping.antt.
-ghost use Rattle.std.specs.Prelude.{◌≡◌, [], ◌∷◌, ◌+◌, ◌*◌, ◌/◌, ◌≤◌, ◌<◌, ◌^◌, length, get_or};
+ghost use Rattle.std.specs.Prelude.{◌≡◌, ◌*◌, ◌/◌, ◌≤◌, ◌<◌, ◌^◌, length};
 ghost use Rattle.std.proofs.lemmas.List.Edits.{sets};
-ghost use Rattle.lists.specs.Lists.{part_of};
 ghost use Rattle.renames.specs.Renames.{renames_from, texts_of};
 ghost use Rattle.renames.specs.Finding.{bytes_from};
 ghost use Rattle.imports.specs.private.Importing.{renames_kept, kept_state, kept_words};
@@ -25,10 +24,10 @@ pub(crate) fn count_kept(
 {
     let mut count = 0;
     let mut bytes: usize = 0;
-    for i in 0..renames.num_renames {
-        if !is_noted(notes, files, entries[i * 3]) {
+    for entry in entries.chunks_exact(3).take(renames.num_renames) {
+        if !is_noted(notes, files, entry[0]) {
             count += 1;
-            bytes += entries[i * 3 + 2] as usize;
+            bytes += entry[2] as usize;
         }
     }
     RenamedFiles {
@@ -37,21 +36,8 @@ pub(crate) fn count_kept(
     }
 }
 
-// Moves entry i down to entry `to`.
-#[tactic(auto, using(crate::proofs::Keeping::kept_entry))]
-pub(crate) fn keep_entry(entries: &mut [u64], i: usize, to: usize)
-    requires { (to ≤ i) × (i * 3 + 3 ≤ length entries.old) }
-    ensures { entries.new
-        ≡ sets entries.old (to * 3)
-        (get_or entries.old (i * 3) 0
-        ∷ get_or entries.old (i * 3 + 1) 0
-        ∷ get_or entries.old (i * 3 + 2) 0
-        ∷ []) }
-{
-    entries.copy_within(i * 3..i * 3 + 3, to * 3);
-}
-
 // Moves the kept ones of the entries in use together.
+// Stays: it moves entries within the table that it goes over, and an iterator over the table would hold it borrowed.
 #[tactic(auto, using(crate::proofs::Keeping::moving))]
 pub(crate) fn keep_entries(entries: &mut [u64], notes: &[u64], files: usize)
     ensures { entries.new
@@ -61,20 +47,10 @@ pub(crate) fn keep_entries(entries: &mut [u64], notes: &[u64], files: usize)
     let mut to = 0;
     for i in 0..entries.len() / 3 {
         if !is_noted(notes, files, entries[i * 3]) {
-            keep_entry(entries, i, to);
+            entries.copy_within(i * 3..i * 3 + 3, to * 3);
             to += 1;
         }
     }
-}
-
-// Moves a text of `len` bytes from position `from` down to position `to`.
-// Stays: other texts stand before and behind it, so `from` and `len` say which bytes of the area it has.
-#[tactic(auto, using(crate::proofs::Keeping::kept_text))]
-pub(crate) fn keep_text(text: &mut [u8], from: usize, len: usize, to: usize)
-    requires { (to ≤ from) × (from + len ≤ length text.old) }
-    ensures { text.new ≡ sets text.old to (part_of text.old from len) }
-{
-    text.copy_within(from..from + len, to);
 }
 
 // Moves the texts of the kept ones of the entries in use together.
@@ -89,10 +65,10 @@ pub(crate) fn keep_texts(text: &mut [u8], entries: &[u64], notes: &[u64], files:
 {
     let mut from = 0;
     let mut to = 0;
-    for i in 0..entries.len() / 3 {
-        let len = entries[i * 3 + 2] as usize;
-        if !is_noted(notes, files, entries[i * 3]) {
-            keep_text(text, from, len, to);
+    for entry in entries.chunks_exact(3) {
+        let len = entry[2] as usize;
+        if !is_noted(notes, files, entry[0]) {
+            text.copy_within(from..from + len, to);
             to += len;
         }
         from += len;

@@ -11,7 +11,7 @@ ghost use Rattle.imports.specs.private.Merging.{kept_in};
 ghost use Rattle.imports.specs.private.Listed.{named_in, given_in, merged_with};
 ghost use Rattle.imports.specs.private.Merging.{step_words, step_text, after_given, after_kept, step_place};
 
-use crate::keep::{keep_entries, keep_entry, keep_text, keep_texts};
+use crate::keep::{keep_entries, keep_texts};
 use crate::notes::is_noted;
 use renames::{RenameMode, RenamedFiles, is_named};
 
@@ -69,7 +69,8 @@ fn put_given(entries: &mut [u64], text: &mut [u8], p: Place, file: usize, name: 
 }
 
 // Moves the next entry that is kept and its text, and gives the place after them.
-// Stays: the copying is std's `copy_within`, in `keep_entry` and `keep_text`; only the place is moved on here.
+// Stays: the copying is std's `copy_within`; only the place is moved on here.
+#[tactic(auto, using(crate::proofs::Keeping::kept_entry, crate::proofs::Keeping::kept_text))]
 fn put_kept(entries: &mut [u64], text: &mut [u8], p: Place) -> Place
     requires { (p.to ≤ p.next)
         × (p.next * 3 + 3 ≤ length entries.old)
@@ -87,8 +88,8 @@ fn put_kept(entries: &mut [u64], text: &mut [u8], p: Place) -> Place
         (part_of text.old p.from (get_or entries.old (p.next * 3 + 2) 0)) }
 {
     let len = entries[p.next * 3 + 2] as usize;
-    keep_text(text, p.from, len, p.at);
-    keep_entry(entries, p.next, p.to);
+    text.copy_within(p.from..p.from + len, p.at);
+    entries.copy_within(p.next * 3..p.next * 3 + 3, p.to * 3);
     Place {
         to: p.to + 1,
         at: p.at + len,
@@ -98,7 +99,7 @@ fn put_kept(entries: &mut [u64], text: &mut [u8], p: Place) -> Place
 }
 
 // Writes what a file gets: the name that is noted, or its own rename, which is the next of `total` entries, or nothing.
-// Stays: it chooses between the list's name and the file's own rename.
+// Stays: it copies nothing itself: it chooses between `put_given` and `put_kept`, in which std copies.
 fn put_file(
     entries: &mut [u64],
     text: &mut [u8],

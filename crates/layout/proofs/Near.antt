@@ -2,11 +2,11 @@
 -- share.
 --     first-least                    the file found is not before the first one looked at
 --     first_has                      a file found there has the byte
---     first_here, first_next, first_none   one file more, and none left
+--     first_is                       the file found, as a search over a list of numbers gives it
 --     byte_above, first_alike        files behind the rows that differ
 --     near-least, near_has           the same of a window's first files
---     looking                        what a loop needs that looks at the files one by one
-use Rattle.std.proofs.Common.{◌≡◌, ℕ, zero, suc, ◌+◌, ◌-◌, ◌*◌, ◌<◌, ◌≤◌, Bool, true, false, cond, ◌&&◌, ltb, leb, List, drop, refl, ap, ◌∙◌, arith, ltb-true}
+use Rattle.std.proofs.Common.{◌≡◌, ℕ, zero, suc, ◌+◌, ◌-◌, ◌*◌, ◌<◌, ◌≤◌, Bool, true, false, cond, ◌&&◌, ltb, leb, List, drop, Option, Some, None, option_map, unwrap_or, sym, refl, ap, ◌∙◌, arith, ltb-true}
+use Rattle.std.specs.List.{find, range_with_len}
 use Rattle.tables.specs.declared.rows.Row.{Row}
 use Rattle.tables.specs.Rows.{row_width}
 use Rattle.tables.proofs.Words.{row-above}
@@ -34,23 +34,29 @@ first_has rows (suc n) k t h = by (has_byte rows k t) refl h (first_has rows n (
     by true e l f = e
     by false e l f = f (omega arith)
 
--- one file more, before file `to`: it has the byte, or the search goes on behind it; and none left
-module _ (rows : List ℕ) (k to t : ℕ) where
-  pub first_here : k < to → has_byte rows k t ≡ true → first_with rows (to - k) k t ≡ k
-  unfolding first_with
-  first_here h e =
-      let d : to - k ≡ suc (to - (k + 1)) = omega arith in
-      rw d (ap (λ (b : Bool). cond b k (first_with rows (to - (k + 1)) (k + 1) t)) e)
+-- the first that passes in a list of n files' numbers, k + n where none does
+first-listed : (rows : List ℕ) (n k t : ℕ) → unwrap_or (find (λ i. has_byte rows i t) (range_with_len k n)) (k + n) ≡ first_with rows n k t
+unfolding first_with
+first-listed rows zero k t = omega arith
+first-listed rows (suc n) k t =
+    let e : k + suc n ≡ k + 1 + n = omega arith in
+    rw e (by (has_byte rows k t) (first-listed rows n (k + 1) t))
+  where
+    by : (b : Bool) → unwrap_or (find (λ i. has_byte rows i t) (range_with_len (k + 1) n)) (k + 1 + n) ≡ first_with rows n (k + 1) t
+        → unwrap_or (cond b (Some k) (find (λ i. has_byte rows i t) (range_with_len (k + 1) n))) (k + 1 + n) ≡ cond b k (first_with rows n (k + 1) t)
+    by true h = refl
+    by false h = h
 
-  pub first_next : k < to → has_byte rows k t ≡ false → first_with rows (to - k) k t ≡ first_with rows (to - (k + 1)) (k + 1) t
-  unfolding first_with
-  first_next h e =
-      let d : to - k ≡ suc (to - (k + 1)) = omega arith in
-      rw d (ap (λ (b : Bool). cond b k (first_with rows (to - (k + 1)) (k + 1) t)) e)
-
-  pub first_none : to ≤ k → first_with rows (to - k) k t ≡ k
-  unfolding first_with
-  first_none h = let d : to - k ≡ 0 = omega arith in rw d
+-- so a search over the numbers gives it
+pub first_is : (rows : List ℕ) (from to t : ℕ) (r : Option ℕ) → from ≤ to → option_map (λ (k : ℕ). k) r ≡ find (λ k. has_byte rows k t) (range_with_len from (to - from))
+    → unwrap_or r to ≡ first_with rows (to - from) from t
+first_is rows from to t r h e =
+    let d : from + (to - from) ≡ to = omega arith in
+    sym (same r) ∙ rw e (rw d at (first-listed rows (to - from) from t))
+  where
+    same : (o : Option ℕ) → unwrap_or (option_map (λ (k : ℕ). k) o) to ≡ unwrap_or o to
+    same None = refl
+    same (Some k) = refl
 
 -- ---- two tables that hold the same from file m on
 
@@ -77,5 +83,3 @@ near_has rows w t e =
   where
     behind : (k end low : ℕ) → low ≤ k → k < end → k < low + (end - low)
     behind k end low a b = omega arith
-
-pub ruleset looking = (first_here, first_next, first_none)

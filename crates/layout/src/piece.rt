@@ -1,9 +1,10 @@
 // Answers about pieces, and about files at offsets and pieces. They rely on the search, on `types` for signed numbers
 // and on `rules`: each decides its refusals first. Those that search for a file begin with a window; the answer is the
 // same for every window, on rows that lie end to end (proofs/Starting.antt).
-ghost use Rattle.std.specs.Prelude.{◌≡◌, ◌*◌, ◌/◌, ◌^◌, ◌<◌, ◌≤◌, length};
+ghost use Rattle.std.specs.Prelude.{◌≡◌, ◌*◌, ◌/◌, ◌^◌, ◌<◌, ◌≤◌, length, [], ◌∷◌, IfOk};
 ghost use Rattle.types.specs.Refusals.{outcome};
 ghost use Rattle.rules.specs.Bounds.{max_pieces};
+ghost use Rattle.rules.specs.Questions.{num_pieces, answered, bad_piece_length, many_pieces, short, few_entries};
 ghost use Rattle.rules.specs.Results.{piece_says, file_says, piece_range_says, file_range_says};
 ghost use Rattle.layout.specs.Pieces.{less_one, start_of, piece_size, piece_size2};
 ghost use Rattle.layout.specs.Given.{num_pieces_given, last_piece_given, piece_range_given, file_range_given};
@@ -65,32 +66,38 @@ fn size2_of(fs: FileStorage, rows: &[u64], window: Window, p: u32, start: u64) -
         .min(fs.piece_length)
 }
 
+// How many pieces the set has, or the refusal of a question about them.
+fn pieces_asked(fs: FileStorage) -> Result<u64, Refusal>
+    ensures answer { outcome result
+        ≡ answered (bad_piece_length fs ∷ many_pieces fs ∷ short (few_entries fs) ∷ []) (num_pieces fs) }
+    ensures known { IfOk result (λ n. n ≤ max_pieces) }
+{
+    ask_pieces(fs)?;
+    Ok(count_pieces(fs))
+}
+
 // How many pieces the set has.
-// Stays: only the form is that of the other questions about the set's pieces; its value is another.
 pub fn num_pieces(fs: FileStorage) -> Result<i32, Refusal>
     ensures { outcome result ≡ num_pieces_given fs }
 {
-    ask_pieces(fs)?;
-    Ok(types::signed32(count_pieces(fs)))
+    Ok(types::signed32(pieces_asked(fs)?))
 }
 
 // The last piece, −1 where there is none.
-// Stays: only the form is that of the other questions about the set's pieces; its value is another.
 pub fn last_piece(fs: FileStorage) -> Result<PieceIndex, Refusal>
     ensures { piece_says result ≡ last_piece_given fs }
 {
-    ask_pieces(fs)?;
-    Ok(last_of(count_pieces(fs)))
+    Ok(last_of(pieces_asked(fs)?))
 }
 
 // All pieces.
 pub fn piece_range(fs: FileStorage) -> Result<PieceIndexRange, Refusal>
     ensures { piece_range_says result ≡ piece_range_given fs }
 {
-    ask_pieces(fs)?;
+    let n = pieces_asked(fs)?;
     Ok(PieceIndexRange {
         begin: PieceIndex::new(0),
-        end: PieceIndex::new(count_pieces(fs)),
+        end: PieceIndex::new(n),
     })
 }
 

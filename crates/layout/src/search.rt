@@ -3,7 +3,7 @@
 // that of the slice. It relies on `tables` for the offsets and on the laws of proofs/Halving.antt, proofs/Levels.antt,
 // proofs/Near.antt and proofs/Front.antt.
 ghost use Rattle.std.specs.Prelude.{◌≡◌, ◌+◌, ◌-◌, ◌/◌, ◌%◌, ◌^◌, ◌<◌, ◌≤◌};
-ghost use Rattle.std.specs.Prelude.{length, if◌then◌else◌, cond, nat_le, slice_index};
+ghost use Rattle.std.specs.Prelude.{length, if◌then◌else◌, cond, nat_le, slice_index, IfSome, unwrap_or};
 ghost use Rattle.layout.specs.Search.{partition_point, file_found, first_with, found_far, has_byte, found_within};
 ghost use Rattle.layout.specs.Steps.{reach};
 ghost use Rattle.layout.specs.private.Level.{Level};
@@ -12,6 +12,8 @@ use crate::window::Window;
 use tables::FileStorage;
 
 // `step` words on, where the offset there is at or before the target.
+// The offset is taken from its word here: `tables::offset_at`, which answers 0 past the end, tests for the row, and
+// that test would stand in each step.
 fn past(rows: &[u64], target: u64, at: usize, step: usize) -> usize
     requires { at + step < length rows.now }
     ensures { result ≡ (if nat_le (slice_index rows.now (at + step) % 2 ^ 48) target then at + step else at) }
@@ -53,6 +55,10 @@ fn turn(rows: &[u64], target: u64, j: usize, at: usize) -> usize
 
 // The steps of the search from `top` down to `low`. Both are constants, so that the compiler writes
 // the steps out and makes each without a branch.
+// Stays: it is no `partition_point` of std, which says what it finds only where the rows are in order; the contract of
+// `find` says it of rows in any order. The steps' number and lengths depend on the count of rows alone, and the
+// lengths are a little short of powers of two: rows that are powers of two apart would share few places of a
+// processor's cache (docs/DECISIONS.md, Layout answers 4).
 #[tactic(auto, using(crate::proofs::Levels::skipped, crate::proofs::Halving::reach_mono))]
 fn turns(rows: &[u64], target: u64, top: usize, low: usize, at: usize) -> usize
     requires { (low ≤ top) × (top ≤ 60) × Level rows.now (length rows.now / 8) target top at }
@@ -91,7 +97,8 @@ pub(crate) fn find_near(rows: &[u64], target: u64) -> usize
     find(rows, target)
 }
 
-// Whether file k has the byte at the target: the difference begins anew below 0, and is then past every size.
+// Whether file k has the byte at the target: the difference begins anew below 0, and is then past every size. Offset
+// and size are taken from their words, as in `past`: the row is known to be there.
 fn has_byte(rows: &[u64], k: usize, target: u64) -> bool
     requires { k < length rows.now / 8 }
     ensures { result ≡ has_byte rows.now k target }
@@ -102,18 +109,13 @@ fn has_byte(rows: &[u64], k: usize, target: u64) -> bool
     std::num::wrapping_sub_u64(target, offset) < size
 }
 
-// The first file from one on and before another that has the byte at the target; the other where none has it.
-#[tactic(auto, using(crate::proofs::Near::looking))]
-fn first_with(rows: &[u64], from: usize, to: usize, target: u64) -> usize
+// The first file from one on and before another that has the byte at the target.
+fn first_with(rows: &[u64], from: usize, to: usize, target: u64) -> Option<usize>
     requires { (from ≤ to) × (to ≤ length rows.now / 8) }
-    ensures { result ≡ first_with rows.now (to - from) from target }
+    ensures bound { IfSome result (λ k. k < to) }
+    ensures value { unwrap_or result to ≡ first_with rows.now (to - from) from target }
 {
-    for k in from..to {
-        if has_byte(rows, k, target) {
-            return k;
-        }
-    }
-    to
+    (from..to).find(|k| has_byte(rows, *k, target))
 }
 
 // The file found at the target by halving over a window's rows, if it has the byte there; else the one found among all.
@@ -147,8 +149,7 @@ fn find_within(rows: &[u64], window: Window, target: u64) -> usize
         return find(rows, target);
     }
     let end = (window.low + 4).min(window.high);
-    let k = first_with(rows, window.low, end, target);
-    if k < end {
+    if let Some(k) = first_with(rows, window.low, end, target) {
         return k;
     }
     find_far(rows, window, target)

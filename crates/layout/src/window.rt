@@ -1,6 +1,6 @@
 // Where a search begins, by a table of the file in which each piece begins. Relies on `rules` for the range of piece
 // lengths and on `types` for signed numbers.
-ghost use Rattle.std.specs.Prelude.{◌≡◌, ◌/◌, ◌<◌, ◌≤◌, false, slice_index};
+ghost use Rattle.std.specs.Prelude.{◌≡◌, ◌<◌, false, slice_index};
 ghost use Rattle.rules.specs.Bounds.{max_pieces, bad_length};
 ghost use Rattle.layout.specs.Window.{no_window, high_of, window_at, window_for};
 
@@ -9,7 +9,9 @@ use tables::FileStorage;
 use types::{PieceIndex, clamped};
 
 // The files with which a search begins: from `low` on and before `high`; none where `high` is no larger.
-// Stays: a lent table may say anything, so low and high are compared in any case, and an `Option` would add one more.
+// Stays: a lent table may say anything, so low and high are compared in any case, and an `Option` would add one more. A
+// `Range<usize>` would hold the same two numbers, but the public promises (specs/Window.antt) name them low and high,
+// and none of its methods but `is_empty` would be called.
 #[derive(Drop)]
 pub struct Window {
     pub low: usize,
@@ -28,21 +30,6 @@ fn first_at(firsts: &[u16], p: usize) -> usize
     ensures { result ≡ slice_index firsts.now p }
 {
     lists::item_or(firsts, p, 0) as usize
-}
-
-// A quotient, without a division where it is 0 or the divisor is a power of two, as most piece lengths are: then by a
-// shift.
-fn quotient(n: u64, d: u64) -> u64
-    requires { 0 < d }
-    ensures { result ≡ n / d }
-{
-    if n < d {
-        return 0;
-    }
-    match lists::exponent(d) {
-        Some(bits) => n >> bits,
-        None => n / d,
-    }
 }
 
 // Where the files end that can have a byte of piece p: behind the first file of the next piece, or with the last file.
@@ -82,6 +69,6 @@ pub fn window_for(fs: FileStorage, firsts: &[u16], piece: PieceIndex, offset: i6
     if !fs.indexed || rules::is_bad_length(fs.piece_length) {
         return no_window();
     }
-    let more = quotient(clamped(offset), fs.piece_length);
+    let more = lists::div(clamped(offset), fs.piece_length);
     window_at(fs, firsts, clamped(i64::from(piece.0)) + more)
 }

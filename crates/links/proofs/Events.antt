@@ -1,9 +1,9 @@
 -- What happens in a turn of a walk: ms are the leads, p is the path and e the end of the part looked at. The scan of directories
--- is at directory d, that of links at file i with mark k. These laws rely on those of proofs/Turns.antt and proofs/Scans.antt.
+-- is at directory d, that of links at link i with mark k. These laws rely on those of proofs/Turns.antt and proofs/Scans.antt.
 use Prim.Native.Nat.{ℕ, suc, ◌+◌, ◌-◌, ◌<◌, ◌≤◌}
 use mathlib.Core.Path.{◌≡◌, refl, sym, ap, ◌∙◌}
-use mathlib.Core.Bool.{Bool, true, false, cond}
-use mathlib.Core.List.{List, ◌∷◌, map}
+use mathlib.Core.Bool.{Bool, true, false}
+use mathlib.Core.List.{List, [], ◌∷◌, map}
 use native.Mathlib.Omega.{arith}
 use lib.ListN.{length, get_or, set, take, drop, length-drop}
 use lib.Seq.{map-set_same}
@@ -11,7 +11,7 @@ use Rattle.path.specs.Join.{combined}
 use Rattle.tables.specs.Model.{Store, directory_text}
 use Rattle.lookup.specs.Lookup.{is_directory, covers, known, entries_of, directories_of}
 use Rattle.lookup.specs.private.Rows.{entry_at, entries_from, directories_from}
-use Rattle.lookup.proofs.Rows.{entries-cons, entries_none, directories-hit, directories-end}
+use Rattle.lookup.proofs.Rows.{directories-hit, directories-end}
 use Rattle.links.specs.Clean.{Link, to, lead_at, without_link, part_end, weight, left}
 use Rattle.links.specs.private.Walking.{any_at, lead_mark, lead_text, open_of, walk_of, untraversed}
 use Rattle.links.proofs.Walk.{combine-short, lead-less, link-fewer}
@@ -57,26 +57,20 @@ module _ (s : Store) (ms p : List ℕ) (e : ℕ) where
       dir-stop q = turn-dir-stop (is_directory (directories_of s)) (known (entries_of s) (directories_of s)) ls p e h d (omega arith)
 
     -- no directory, and no link among those that are left: a stop
-    pub link-none : (i k : ℕ) → dir_here ≡ false → Scan (entries_of s) (entries_from s (n - i) i) ms (take e p) k → n ≤ i → goes_on ≡ false
-    link-none i k o c q =
-        turn-link-stop (is_directory (directories_of s)) (known (entries_of s) (directories_of s)) ls p e h o
-        (scan-none (entries_of s) ms (take e p) k (rw (entries_none s n i q) at c))
+    pub link-none : (k : ℕ) → dir_here ≡ false → Scan (entries_of s) [] ms (take e p) k → goes_on ≡ false
+    link-none k o c = turn-link-stop (is_directory (directories_of s)) (known (entries_of s) (directories_of s)) ls p e h o (scan-none (entries_of s) ms (take e p) k c)
 
-  -- no directory, and the scan of the links is at file i with mark k, whose lead at the part is m
+  -- no directory, and the scan of the links is at link i with mark k, whose lead at the part is m
   pub record Met (i k m : ℕ) : Type 0 where
     pub before-end : e < length p
     pub no-directory : dir_here ≡ false
-    pub scanned : Scan (entries_of s) (entries_from s (n - i) i) ms (take e p) k
-    pub row : i < n
+    pub scanned : Scan (entries_of s) (entry_at s i ∷ entries_from s (n - (i + 1)) (i + 1)) ms (take e p) k
     pub is : m ≡ lead_mark (entry_at s i) (get_or ms k 0) (take e p) (any_at (entries_from s (n - (i + 1)) (i + 1)) (drop (k + 1) ms) (take e p))
 
   module _ (i k m : ℕ) (x : Met i k m) where
-    whole : Scan (entries_of s) (entry_at s i ∷ entries_from s (n - (i + 1)) (i + 1)) ms (take e p) k
-    whole = rw (entries-cons s n i x.row) at x.scanned
-
     -- a link that isn't taken
-    pub link-past : (j : ℕ) → m ≡ 0 → j ≡ cond (entry_at s i).flagged 1 0 → Scan (entries_of s) (entries_from s (n - (i + 1)) (i + 1)) ms (take e p) (k + j)
-    link-past j z y = scan-turn (entries_of s) (entry_at s i) (entries_from s (n - (i + 1)) (i + 1)) ms (take e p) k j (sym z ∙ x.is) y whole
+    pub link-past : m ≡ 0 → (entry_at s i).flagged ≡ true → Scan (entries_of s) (entries_from s (n - (i + 1)) (i + 1)) ms (take e p) (k + 1)
+    link-past z f = scan-turn (entries_of s) ms (take e p) k (entry_at s i) (entries_from s (n - (i + 1)) (i + 1)) (sym z ∙ x.is) f x.scanned
 
     module _ (z : m ≡ 0 → ⊥) where
       taken : Here (entry_at s i) (get_or ms k 0) (take e p) (any_at (entries_from s (n - (i + 1)) (i + 1)) (drop (k + 1) ms) (take e p)) m
@@ -88,7 +82,7 @@ module _ (s : Store) (ms p : List ℕ) (e : ℕ) where
           rw g.is
           (scan-hit (entries_of s) (entry_at s i) (entries_from s (n - (i + 1)) (i + 1)) ms (take e p) k (get_or ms k 0 + 2)
           (record { flag = g.flag; leads = g.leads; at = g.at; last = g.last; is = refl })
-          (in-marks ms k (λ y. z (g.is ∙ y))) (used-off (get_or ms k 0) g.leads) (used-some (get_or ms k 0)) whole)
+          (in-marks ms k (λ y. z (g.is ∙ y))) (used-off (get_or ms k 0) g.leads) (used-some (get_or ms k 0)) x.scanned)
 
       -- one open link less
       pub open-fewer : length (open_of (entries_of s) (set ms k (m + 2))) + 1 ≡ length ls

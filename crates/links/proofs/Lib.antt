@@ -12,6 +12,7 @@ pub mod Scans
 pub mod Heads
 pub mod Fronts
 pub mod Cuts
+pub mod Passing
 pub mod Packed
 pub mod Walked
 pub mod Walks

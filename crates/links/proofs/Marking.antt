@@ -1,7 +1,7 @@
 -- Laws of the first pass: what the text from a link's directory says of its mark, and the pass over all files, which sets
 -- the marks of those still to come. They rely on the definitions of Judging.antt and on the laws of frames in Leads.antt and
 -- Fronts.antt.
-use Prim.Native.Nat.{ℕ, ◌+◌, ◌-◌, ◌*◌, ◌/◌, ◌<◌, ◌≤◌}
+use Prim.Native.Nat.{ℕ, ◌+◌, ◌*◌, ◌/◌, ◌≤◌}
 use mathlib.Core.Path.{◌≡◌, refl, sym, ap, ◌∙◌}
 use mathlib.Core.Bool.{Bool, true, false, cond, not, false≢true, ◌&&◌}
 use mathlib.Core.List.{List, [], ◌∷◌}
@@ -18,11 +18,11 @@ use Rattle.tables.specs.Rows.{dir_at, has, is_inside}
 use Rattle.tables.specs.Model.{single, absolute, stored, Store, directory_of}
 use Rattle.lookup.specs.Lookup.{Entry, file_at, is_directory, entries_of, directories_of}
 use Rattle.lookup.specs.Space.{link_count}
-use Rattle.lookup.specs.private.Rows.{entry_at, entries_from, row_text}
-use Rattle.lookup.proofs.Rows.{branch_in, branch_at, text_at_lem, entries-cons, entries_none}
+use Rattle.lookup.specs.private.Rows.{entry_at, row_text}
+use Rattle.lookup.proofs.Rows.{branch_in, branch_at, text_at_lem}
 use Rattle.links.specs.Judging.{settled_mark, relative_mark, first_mark}
 use Rattle.rope.specs.Rope.{frame_width, leads}
-use Rattle.links.specs.private.Walking.{first_marks, first_mark_in, with_frame, path_of}
+use Rattle.links.specs.private.Walking.{first_marks, with_frame, path_of}
 use Rattle.rope.proofs.Leads.{lead-beside}
 use Rattle.links.proofs.Fronts.{flat-alone}
 
@@ -66,27 +66,14 @@ length-marks files ds (f ∷ fs) = at f.flagged (length-marks files ds fs)
     at true e = omega arith
     at false e = omega arith
 
--- one file: what is set then, and what is set of the rest, is the whole
-pub marks-turn : (files : List Entry) (ds : List (List ℕ)) (f : Entry) (rest : List Entry) (ms ms' w : List ℕ) (k j : ℕ)
-    → j ≡ cond f.flagged 1 0 → ms' ≡ cond f.flagged (set ms k (first_mark files ds f)) ms
-    → sets ms k (first_marks files ds (f ∷ rest)) ≡ w → sets ms' (k + j) (first_marks files ds rest) ≡ w
-marks-turn files ds f rest ms ms' w k j e q h = at f.flagged e q h
-  where
-    at : (b : Bool) → j ≡ cond b 1 0 → ms' ≡ cond b (set ms k (first_mark files ds f)) ms
-        → sets ms k (cond b (first_mark files ds f ∷ first_marks files ds rest) (first_marks files ds rest)) ≡ w
-        → sets ms' (k + j) (first_marks files ds rest) ≡ w
-    at true e q h = rw (e, q, add-one) h
-    at false e q h = let n : k + 0 ≡ k = omega arith in rw (e, q, n) h
+-- setting the marks of these files from mark k on gives w
+module _ (s : Store) (w : List ℕ) where
+  abbrev pub SetsLeft : List ℕ → List Entry → ℕ → Type 0
+  SetsLeft ms fs k = sets ms k (first_marks (entries_of s) (directories_of s) fs) ≡ w
 
--- the same of the files from the i-th on
-module _ (s : Store) (n i : ℕ) where
-  abbrev pub marks_left : ℕ → ℕ → List ℕ
-  marks_left m j = first_marks (entries_of s) (directories_of s) (entries_from s m j)
+  -- past a file that is no flagged link, and once a flagged link's mark is set
+  pub sets-past : (ms : List ℕ) (k : ℕ) (f : Entry) (fs : List Entry) → f.flagged ≡ false → SetsLeft ms (f ∷ fs) k → SetsLeft ms fs k
+  sets-past ms k f fs e h = rw e at h
 
-  pub marks-on : i < n → (ms ms' w : List ℕ) (k j : ℕ) → j ≡ cond (entry_at s i).flagged 1 0 → ms' ≡ cond (entry_at s i).flagged (set ms k (first_mark_in s i)) ms
-      → sets ms k (marks_left (n - i) i) ≡ w → sets ms' (k + j) (marks_left (n - (i + 1)) (i + 1)) ≡ w
-  marks-on h ms ms' w k j e q r =
-      marks-turn (entries_of s) (directories_of s) (entry_at s i) (entries_from s (n - (i + 1)) (i + 1)) ms ms' w k j e q (rw (entries-cons s n i h) at r)
-
-  pub marks-end : (ms : List ℕ) (k : ℕ) → n ≤ i → ms ≡ sets ms k (marks_left (n - i) i)
-  marks-end ms k h = rw (entries_none s n i h)
+  pub sets-link : (ms ms' : List ℕ) (k : ℕ) (f : Entry) (fs : List Entry) → ms' ≡ set ms k (first_mark (entries_of s) (directories_of s) f) → f.flagged ≡ true → SetsLeft ms (f ∷ fs) k → SetsLeft ms' fs (k + 1)
+  sets-link ms ms' k f fs q e h = rw (q, add-one) (rw e at h)

@@ -1,14 +1,15 @@
 -- The scan of the links for the one at a path, with the leads that say which are open. These laws rely on those
 -- of `lookup` about rows.
-use Prim.Native.Nat.{ℕ, zero, suc, ◌+◌, ◌-◌, ◌<◌, ◌≤◌}
+use Prim.Native.Nat.{ℕ, zero, suc, ◌+◌, ◌<◌, ◌≤◌}
 use mathlib.Core.Path.{◌≡◌, refl, sym, ap, ◌∙◌}
-use mathlib.Core.Bool.{Bool, true, false, cond, true≢false, false≢true}
+use mathlib.Core.Bool.{Bool, true, false, cond, true≢false, false≢true, ◌||◌}
 use mathlib.Core.List.{List, [], ◌∷◌}
 use native.Mathlib.Omega.{arith}
 use lib.Dec.{ltb}
 use lib.ListN.{length, get_or, set, take, drop, get_or-eq_default}
 use lib.Seq.{drop-drop, take-set-le, drop-set-lt, get_or-set_same, get_or-drop, get_or-take, take-take}
 use borrow.Author.Tests.{lt-ltb, ltb-true, ltb-false}
+use Rattle.std.specs.List.{list_any}
 use Rattle.lists.specs.Lists.{equal}
 use Rattle.lists.proofs.Equality.{equal-true}
 use Rattle.tables.specs.Rows.{row_at}
@@ -16,9 +17,10 @@ use Rattle.tables.specs.Model.{Store, internal_path}
 use Rattle.lookup.specs.Lookup.{Entry, own_path, is_flagged}
 use Rattle.lookup.specs.Space.{directory_length, space}
 use Rattle.lookup.specs.private.Rows.{entry_at, entries_from}
-use Rattle.lookup.proofs.Rows.{flagged-at, own_at, entries-cons, entries_none}
+use Rattle.lookup.proofs.Rows.{flagged-at}
+use Rattle.links.proofs.Passing.{links_from}
 use Rattle.links.specs.Clean.{Link, none, to, lead_at, without_link}
-use Rattle.links.specs.private.Walking.{any_at, but_later, link_at, leading, lead_mark, lead_text, open_link, open_of, untraversed}
+use Rattle.links.specs.private.Walking.{any_at, but_later, leading, lead_mark, lead_text, open_link, open_of, untraversed}
 
 -- ---- one link
 
@@ -110,54 +112,32 @@ any-no f rest ms q b = cond_no (cond (ltb 0 (get_or ms 0 0)) (cond (equal (own_p
 
 -- ---- the search for a later link
 
--- a link that leads on, traversed or not, at p: what its row says
-pub link-at : (s : Store) (i m : ℕ) (p : List ℕ) → cond (is_flagged (row_at s.rows i).flags) (cond (ltb 0 m) (equal (internal_path s.dirs s.text (row_at s.rows i)) p) false) false ≡ link_at (entry_at s i) m p
-link-at s i m p = rw (flagged-at s i, own_at s i)
+either : (a b r : Bool) → (cond a b false || r) ≡ cond a (cond b true r) r
+either true true r = refl
+either true false r = refl
+either false b r = refl
 
--- past f
-pub any-turn : (f : Entry) (rest : List Entry) (ms p : List ℕ) (k j : ℕ) → false ≡ link_at f (get_or ms k 0) p → j ≡ cond f.flagged 1 0 → any_at rest (drop (k + j) ms) p ≡ any_at (f ∷ rest) (drop k ms) p
-any-turn f rest ms p k j e q = go f.flagged refl q
-  where
-    here-not : (b c : Bool) → false ≡ cond b c false → any_at rest (drop (k + 1) ms) p ≡ cond b (cond c true (any_at rest (drop (k + 1) ms) p)) (any_at rest (drop (k + 1) ms) p)
-    here-not true true h = absurd (false≢true h)
-    here-not true false h = refl
-    here-not false c h = refl
+-- the flagged links from file i and mark k on: whether one leads on, traversed or not, at p
+module _ (s : Store) (ms p : List ℕ) where
+  abbrev pub leads_at : ℕ × ℕ → Bool
+  leads_at x = cond (ltb 0 (get_or ms x.0 0)) (equal (internal_path s.dirs s.text (row_at s.rows x.1)) p) false
 
-    go : (b : Bool) → f.flagged ≡ b → j ≡ cond b 1 0 → any_at rest (drop (k + j) ms) p ≡ any_at (f ∷ rest) (drop k ms) p
-    go true b i = rw i (here-not (ltb 0 (get_or ms k 0)) (equal (own_path f) p) (e ∙ cond_yes (cond (ltb 0 (get_or ms k 0)) (equal (own_path f) p) false) false f.flagged b) ∙ sym (any-yes f rest ms p k b))
-    go false b i = let n : k + 0 ≡ k = omega arith in rw (i, n) (sym (any-no f rest (drop k ms) p b))
-
--- at f
-pub any-hit : (f : Entry) (rest : List Entry) (ms p : List ℕ) (k : ℕ) → true ≡ link_at f (get_or ms k 0) p → any_at (f ∷ rest) (drop k ms) p ≡ true
-any-hit f rest ms p k e = go f.flagged refl
-  where
-    here-is : (b c : Bool) → true ≡ cond b c false → cond b (cond c true (any_at rest (drop (k + 1) ms) p)) (any_at rest (drop (k + 1) ms) p) ≡ true
-    here-is true true h = refl
-    here-is true false h = absurd (true≢false h)
-    here-is false c h = absurd (true≢false h)
-
-    go : (b : Bool) → f.flagged ≡ b → any_at (f ∷ rest) (drop k ms) p ≡ true
-    go true b = any-yes f rest ms p k b ∙ here-is (ltb 0 (get_or ms k 0)) (equal (own_path f) p) (e ∙ cond_yes (cond (ltb 0 (get_or ms k 0)) (equal (own_path f) p) false) false f.flagged b)
-    go false b = absurd (true≢false (e ∙ cond_no (cond (ltb 0 (get_or ms k 0)) (equal (own_path f) p) false) false f.flagged b))
-
--- the links from file i and mark k on: one that doesn't stand at p, one that does, and no more of them
-module _ (s : Store) (ms p : List ℕ) (n i k : ℕ) where
-  -- what row i says of a link at p
-  abbrev pub link_row : ℕ → Bool
-  link_row m = cond (is_flagged (row_at s.rows i).flags) (cond (ltb 0 m) (equal (internal_path s.dirs s.text (row_at s.rows i)) p) false) false
-
-  links-cons : i < n → any_at (entries_from s (n - i) i) (drop k ms) p ≡ any_at (entry_at s i ∷ entries_from s (n - (i + 1)) (i + 1)) (drop k ms) p
-  links-cons h = rw (entries-cons s n i h)
-
-  pub links-turn : i < n → (j : ℕ) → false ≡ link_row (get_or ms k 0) → j ≡ cond (entry_at s i).flagged 1 0
-      → any_at (entries_from s (n - (i + 1)) (i + 1)) (drop (k + j) ms) p ≡ any_at (entries_from s (n - i) i) (drop k ms) p
-  links-turn h j e q = any-turn (entry_at s i) (entries_from s (n - (i + 1)) (i + 1)) ms p k j (e ∙ link-at s i (get_or ms k 0) p) q ∙ sym (links-cons h)
-
-  pub links-hit : i < n → true ≡ link_row (get_or ms k 0) → any_at (entries_from s (n - i) i) (drop k ms) p ≡ true
-  links-hit h e = links-cons h ∙ any-hit (entry_at s i) (entries_from s (n - (i + 1)) (i + 1)) ms p k (e ∙ link-at s i (get_or ms k 0) p)
-
-  pub links-end : n ≤ i → any_at (entries_from s (n - i) i) (drop k ms) p ≡ false
-  links-end h = rw (entries_none s n i h)
+  pub any-links : (n i k : ℕ) → list_any leads_at (links_from s.rows n i k) ≡ any_at (entries_from s n i) (drop k ms) p
+  unfolding entries_from
+  any-links zero i k = refl
+  any-links (suc n) i k = go (is_flagged (row_at s.rows i).flags) refl (any-links n (i + 1))
+    where
+      go : (b : Bool) → is_flagged (row_at s.rows i).flags ≡ b
+          → ((j : ℕ) → list_any leads_at (links_from s.rows n (i + 1) j) ≡ any_at (entries_from s n (i + 1)) (drop j ms) p) → list_any leads_at (links_from s.rows (suc n) i k) ≡ any_at (entry_at s i ∷ entries_from s n (i + 1)) (drop k ms) p
+      go true e r =
+          ap (list_any leads_at) (cond_yes ((k, i) ∷ links_from s.rows n (i + 1) (k + 1)) (links_from s.rows n (i + 1) k) (is_flagged (row_at s.rows i).flags) e)
+          ∙ ap (λ (b : Bool). leads_at (k, i) || b) (r (k + 1))
+          ∙ either (ltb 0 (get_or ms k 0)) (equal (own_path (entry_at s i)) p) (any_at (entries_from s n (i + 1)) (drop (k + 1) ms) p)
+          ∙ sym (any-yes (entry_at s i) (entries_from s n (i + 1)) ms p k (sym (flagged-at s i) ∙ e))
+      go false e r =
+          ap (list_any leads_at) (cond_no ((k, i) ∷ links_from s.rows n (i + 1) (k + 1)) (links_from s.rows n (i + 1) k) (is_flagged (row_at s.rows i).flags) e)
+          ∙ r k
+          ∙ sym (any-no (entry_at s i) (entries_from s n (i + 1)) (drop k ms) p (sym (flagged-at s i) ∙ e))
 
 -- the first k + 1 of two lists are the same
 take_more : (k : ℕ) (a b : List ℕ) → take (k + 1) a ≡ take (k + 1) b → (take k a ≡ take k b) × (get_or a k 0 ≡ get_or b k 0)
@@ -168,33 +148,30 @@ take_more k a b h = (
 
 -- ---- the scan by its turns
 
--- past f
-pub scan-turn : (all : List Entry) (f : Entry) (rest : List Entry) (ms p : List ℕ) (k j : ℕ) → 0 ≡ lead_mark f (get_or ms k 0) p (any_at rest (drop (k + 1) ms) p) → j ≡ cond f.flagged 1 0 → Scan all (f ∷ rest) ms p k → Scan all rest ms p (k + j)
-scan-turn all f rest ms p k j e q s = go f.flagged refl q
-  where
-    go : (b : Bool) → f.flagged ≡ b → j ≡ cond b 1 0 → Scan all rest ms p (k + j)
-    go true b i =
-        let z : 0 ≡ cond (leading (get_or ms k 0)) (cond (equal (own_path f) p) (cond (any_at rest (drop (k + 1) ms) p) 0 (get_or ms k 0)) 0) 0 = e ∙ cond_yes (cond (leading (get_or ms k 0)) (cond (equal (own_path f) p) (cond (any_at rest (drop (k + 1) ms) p) 0 (get_or ms k 0)) 0) 0) 0 f.flagged b in
-        let y = skipped f (get_or ms k 0) p (any_at rest (drop (k + 1) ms)) z in
-        let x : lead_at (open_of (f ∷ rest) (drop k ms)) p ≡ lead_at (open_of rest (drop (k + 1) ms)) p =
-        ap (λ (l : List Link). lead_at l p) (open-yes f rest ms k b) ∙ skip-lead f (get_or ms k 0) p (open_of rest (drop (k + 1) ms)) (but_later (any_at rest (drop (k + 1) ms) (own_path f)) (leading (get_or ms k 0))) y in
-        rw i
-        (record {
-          same-lead = sym x ∙ s.same-lead;
-          closing = λ ms' t a w.
-              s.closing ms' (take_more k ms' ms t).0
-              (λ q. any-yes f rest ms' q k b ∙ rw ((take_more k ms' ms t).1, a q) (sym (any-yes f rest ms q k b)))
-              (ap (without_link p) (open-yes f rest ms k b)
-              ∙ skip-without f (get_or ms k 0) p (open_of rest (drop (k + 1) ms)) (open_of rest (drop (k + 1) ms')) (but_later (any_at rest (drop (k + 1) ms) (own_path f)) (leading (get_or ms k 0))) y w
-              ∙ sym (open-yes f rest ms' k b ∙ rw ((take_more k ms' ms t).1, a (own_path f))));
-        })
-    go false b i =
-        let n : k + 0 ≡ k = omega arith in
-        rw (i, n)
-        (record {
-          same-lead = sym (ap (λ (l : List Link). lead_at l p) (open_no f rest (drop k ms) b)) ∙ s.same-lead;
-          closing = λ ms' t a w. s.closing ms' t (λ q. any-no f rest (drop k ms') q b ∙ a q ∙ sym (any-no f rest (drop k ms) q b)) (ap (without_link p) (open_no f rest (drop k ms) b) ∙ w ∙ sym (open_no f rest (drop k ms') b));
-        })
+-- past a file that is no flagged link
+pub scan-past : (all : List Entry) (ms p : List ℕ) (k : ℕ) (f : Entry) (rest : List Entry) → f.flagged ≡ false → Scan all (f ∷ rest) ms p k → Scan all rest ms p k
+scan-past all ms p k f rest b s =
+    record {
+      same-lead = sym (ap (λ (l : List Link). lead_at l p) (open_no f rest (drop k ms) b)) ∙ s.same-lead;
+      closing = λ ms' t a w. s.closing ms' t (λ q. any-no f rest (drop k ms') q b ∙ a q ∙ sym (any-no f rest (drop k ms) q b)) (ap (without_link p) (open_no f rest (drop k ms) b) ∙ w ∙ sym (open_no f rest (drop k ms') b));
+    }
+
+-- past a flagged link that isn't taken
+pub scan-turn : (all : List Entry) (ms p : List ℕ) (k : ℕ) (f : Entry) (rest : List Entry) → 0 ≡ lead_mark f (get_or ms k 0) p (any_at rest (drop (k + 1) ms) p) → f.flagged ≡ true → Scan all (f ∷ rest) ms p k → Scan all rest ms p (k + 1)
+scan-turn all ms p k f rest e b s =
+    let z : 0 ≡ cond (leading (get_or ms k 0)) (cond (equal (own_path f) p) (cond (any_at rest (drop (k + 1) ms) p) 0 (get_or ms k 0)) 0) 0 = e ∙ cond_yes (cond (leading (get_or ms k 0)) (cond (equal (own_path f) p) (cond (any_at rest (drop (k + 1) ms) p) 0 (get_or ms k 0)) 0) 0) 0 f.flagged b in
+    let y = skipped f (get_or ms k 0) p (any_at rest (drop (k + 1) ms)) z in
+    let x : lead_at (open_of (f ∷ rest) (drop k ms)) p ≡ lead_at (open_of rest (drop (k + 1) ms)) p =
+    ap (λ (l : List Link). lead_at l p) (open-yes f rest ms k b) ∙ skip-lead f (get_or ms k 0) p (open_of rest (drop (k + 1) ms)) (but_later (any_at rest (drop (k + 1) ms) (own_path f)) (leading (get_or ms k 0))) y in
+    record {
+      same-lead = sym x ∙ s.same-lead;
+      closing = λ ms' t a w.
+          s.closing ms' (take_more k ms' ms t).0
+          (λ q. any-yes f rest ms' q k b ∙ rw ((take_more k ms' ms t).1, a q) (sym (any-yes f rest ms q k b)))
+          (ap (without_link p) (open-yes f rest ms k b)
+          ∙ skip-without f (get_or ms k 0) p (open_of rest (drop (k + 1) ms)) (open_of rest (drop (k + 1) ms')) (but_later (any_at rest (drop (k + 1) ms) (own_path f)) (leading (get_or ms k 0))) y w
+          ∙ sym (open-yes f rest ms' k b ∙ rw ((take_more k ms' ms t).1, a (own_path f))));
+    }
 
 -- at a link that stands at p
 pub scan-hit : (all : List Entry) (f : Entry) (rest : List Entry) (ms p : List ℕ) (k v : ℕ) → Here f (get_or ms k 0) p (any_at rest (drop (k + 1) ms) p) (get_or ms k 0) → k < length ms → leading v ≡ false → ltb 0 v ≡ true → Scan all (f ∷ rest) ms p k → (lead_at (open_of all ms) p ≡ to (lead_text (get_or ms k 0) f)) × (without_link p (open_of all ms) ≡ open_of all (set ms k v))
@@ -259,7 +236,3 @@ in-marks ms k h = go (ltb k (length ms)) refl
     go : (b : Bool) → ltb k (length ms) ≡ b → k < length ms
     go true b = ltb-true k (length ms) b
     go false b = absurd (h (get_or-eq_default ms 0 {n = k} (ltb-false k (length ms) b)))
-
--- ---- for the function that scans links
-
-pub ruleset link_scan = (links-hit, links-end)

@@ -4,7 +4,7 @@
 use Prim.Native.Nat.{ℕ, zero, suc, ◌+◌, ◌-◌, ◌*◌, ◌/◌, ◌%◌, ◌^◌, ◌<◌, ◌≤◌}
 use mathlib.Core.Path.{◌≡◌, refl, sym, ap, ◌∙◌}
 use mathlib.Core.Bool.{Bool, true, false}
-use mathlib.Core.List.{List, map}
+use mathlib.Core.List.{List, [], map}
 use native.Mathlib.Omega.{arith}
 use borrow.Author.Tests.{le-ltb}
 use lib.ListN.{length, take, drop, set}
@@ -12,7 +12,7 @@ use lib.Seq.{take_all}
 use Rattle.path.specs.Join.{appended, combined}
 use Rattle.tables.specs.Model.{Store, directory_text}
 use Rattle.lookup.specs.Lookup.{covers, is_directory, known, entries_of, directories_of}
-use Rattle.lookup.specs.private.Rows.{entry_at, entries_from, directories_from}
+use Rattle.lookup.specs.private.Rows.{entry_at, directories_from}
 use Rattle.lookup.proofs.Rows.{text_at_lem, branch_at, beside_at}
 use Rattle.links.specs.Clean.{part_end, weight, left}
 use Rattle.rope.specs.Rope.{row_lead, leads, frame_width}
@@ -172,7 +172,7 @@ module _ {s : Store} {marks₀ frames₀ : List ℕ} {answer : Bool} {marks fram
       over-is (λ h. sym (dir-stop s (map lead marks) p e h next (is-dir s (map lead marks) p e d x q c) m n) ∙ w.goes)
 
   -- at no directory and at no link
-  pub left_link : (d f n : ℕ) → is_directory (directories_from s (s.fs.num_paths - d) d) (take e (path_of s frames depth)) ≡ dir_here s (map lead marks) (path_of s frames depth) e → s.fs.num_paths ≤ d → Scan (entries_of s) (entries_from s (s.fs.num_files - f) f) (map lead marks) (take e (path_of s frames depth)) n → s.fs.num_files ≤ f → Over s marks₀ frames₀ answer marks' frames' depth' e'
-  left_link d f n x q c y =
+  pub left_link : (d n : ℕ) → is_directory (directories_from s (s.fs.num_paths - d) d) (take e (path_of s frames depth)) ≡ dir_here s (map lead marks) (path_of s frames depth) e → s.fs.num_paths ≤ d → Scan (entries_of s) [] (map lead marks) (take e (path_of s frames depth)) n → Over s marks₀ frames₀ answer marks' frames' depth' e'
+  left_link d n x q c =
       let p = path_of s frames depth in
-      over-is (λ h. sym (link-none s (map lead marks) p e h f n (no-dir s (map lead marks) p e d x q) c y) ∙ w.goes)
+      over-is (λ h. sym (link-none s (map lead marks) p e h n (no-dir s (map lead marks) p e d x q) c) ∙ w.goes)

@@ -9,7 +9,6 @@ use native.Mathlib.Numerals.{add-one}
 use lib.Dec.{eqb}
 use lib.ListN.{length, get_or, set, take, drop, length-drop, length-map}
 use lib.Seq.{take_all, get_or-drop, drop-drop, drop-set-lt, map-set_same, take-suc-set, append_snoc}
-use Rattle.lookup.proofs.Rows.{entries-start, entries_none}
 use Rattle.lookup.specs.Lookup.{Entry}
 use Rattle.links.specs.Clean.{links_of, resolves}
 use Rattle.links.specs.Judging.{first_mark, verdict_of, verdicts_for}
@@ -48,10 +47,10 @@ module _ (files : List Entry) (dirs : List (List ℕ)) where
       let l : length ms ≤ k = omega (arith, ap length x.ahead, length-drop k ms) in
       sym (take_all k (map verdict ms) (omega (arith, length-map ms verdict))) ∙ sym (append-nil (take k (map verdict ms))) ∙ x.so_far
 
-  module _ (f : Entry) (rest : List Entry) (ms : List ℕ) (k : ℕ) (x : Judging (f ∷ rest) ms k) where
+  module _ (ms : List ℕ) (k : ℕ) (f : Entry) (rest : List Entry) where
     -- a file that is no flagged link
-    past-plain : f.flagged ≡ false → Judging rest ms k
-    past-plain b =
+    pub past-plain : f.flagged ≡ false → Judging (f ∷ rest) ms k → Judging rest ms k
+    past-plain b x =
         record {
           leads = x.leads;
           ahead = x.ahead ∙ cond_no (first_mark files dirs f ∷ first_marks files dirs rest) (first_marks files dirs rest) f.flagged b;
@@ -59,8 +58,8 @@ module _ (files : List Entry) (dirs : List (List ℕ)) where
         }
 
     -- a flagged link
-    past-link : f.flagged ≡ true → Judging rest (set ms k (walked_mark files dirs f (get_or ms k 0))) (k + 1)
-    past-link b =
+    pub past-link : (ms' : List ℕ) → ms' ≡ set ms k (walked_mark files dirs f (get_or ms k 0)) → f.flagged ≡ true → Judging (f ∷ rest) ms k → Judging rest ms' (k + 1)
+    past-link ms' e b x =
         let a : drop k ms ≡ first_mark files dirs f ∷ first_marks files dirs rest = x.ahead ∙ cond_yes (first_mark files dirs f ∷ first_marks files dirs rest) (first_marks files dirs rest) f.flagged b in
         let h : k < length ms = omega (arith, ap length a, length-drop k ms) in
         let z : k + 0 ≡ k = omega arith in
@@ -69,19 +68,8 @@ module _ (files : List Entry) (dirs : List (List ℕ)) where
         let d : verdict v ≡ verdict_of files dirs f = ap (λ (y : ℕ). verdict (walked_mark files dirs f y)) m ∙ walked-verdict f in
         let l : k < length (map verdict ms) = omega (arith, length-map ms verdict) in
         let t : take (k + 1) (map verdict (set ms k v)) ≡ take k (map verdict ms) ++ (verdict_of files dirs f ∷ []) = ap (take (k + 1)) (map-set verdict ms k v) ∙ rw (add-one, d) (take-suc-set (map verdict ms) k (verdict_of files dirs f) l) in
-        record {
+        rw e (record {
           leads = map-set_same lead ms k v 0 (walked-lead f (get_or ms k 0)) ∙ x.leads;
           ahead = drop-set-lt (k + 1) ms k v (omega arith) ∙ sym (drop-drop 1 k ms) ∙ ap (drop 1) a;
           so_far = rw t (append_snoc (take k (map verdict ms)) (verdict_of files dirs f) (verdicts_for files dirs rest)) ∙ ap (λ (y : List ℕ). take k (map verdict ms) ++ y) (sym (cond_yes (verdict_of files dirs f ∷ verdicts_for files dirs rest) (verdicts_for files dirs rest) f.flagged b)) ∙ x.so_far;
-        }
-
-    -- one file
-    pub judging-turn : (ms' : List ℕ) (j : ℕ) → j ≡ cond f.flagged 1 0 → ms' ≡ cond f.flagged (set ms k (walked_mark files dirs f (get_or ms k 0))) ms → Judging rest ms' (k + j)
-    judging-turn ms' j e q = go f.flagged refl e q
-      where
-        go : (b : Bool) → f.flagged ≡ b → j ≡ cond b 1 0 → ms' ≡ cond b (set ms k (walked_mark files dirs f (get_or ms k 0))) ms → Judging rest ms' (k + j)
-        go true b e q = rw (e, q) (past-link b)
-        go false b e q = let n : k + 0 ≡ k = omega arith in rw (e, q, n) (past-plain b)
-
--- for the loop of the second pass
-pub ruleset second_laws = (entries-start, entries_none, judging-start, judging-end)
+        })

@@ -4,7 +4,7 @@ ghost use Rattle.path.specs.Split.{is_complete};
 ghost use Rattle.links.specs.Clean.{part_end};
 ghost use Rattle.rope.specs.Rope.{held};
 
-use rope::{Path, Place};
+use rope::Path;
 
 // How many separators a path begins with that a split skips: 1 or 0.
 fn skipped_in(path: Path<'_>) -> usize
@@ -22,18 +22,10 @@ pub(crate) fn cut_in(path: Path<'_>, pos: usize) -> usize
     ensures { result ≡ part_end (held path.entry) pos }
 {
     let c = skipped_in(path);
-    let mut i = c + pos.saturating_sub(c);
-    let mut p = path.seek(i);
-    // Stays: the loop ends where the path does, whose length is not at hand, so that `i` has no range.
-    while p.k != 0 {
-        if path.byte_at(p) == b'/' {
-            return i - c;
-        }
-        p = path.seek_from(Place {
-            k: p.k,
-            at: p.at + 1,
-        });
-        i += 1;
-    }
-    i - c
+    let begin = pos.saturating_sub(c);
+    begin
+        + path
+            .bytes_from(c + begin)
+            .take_while(|b| *b != b'/')
+            .count()
 }

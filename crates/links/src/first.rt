@@ -1,25 +1,28 @@
-// The first pass: a mark for each flagged link. It relies on `lookup` for what stands at a path, on scan.rt for what
-// stands at the text from a link's directory, and on the laws of proofs/Marking.antt.
-ghost use Rattle.std.specs.Prelude.{◌≡◌, cond, ◌≤◌, set};
+// The first pass: a mark for each flagged link. It relies on flagged.rt, on `lookup` for what stands at a path, on
+// scan.rt for what stands at the text from a link's directory, and on the laws of proofs/Marking.antt and
+// proofs/Passing.antt.
+ghost use Rattle.std.specs.Prelude.{◌≡◌, ◌≤◌};
 ghost use Rattle.std.proofs.lemmas.List.Edits.{sets};
 ghost use Rattle.lookup.specs.Lookup.{is_directory, file_at, entries_of, directories_of};
 ghost use Rattle.lookup.specs.private.Rows.{entry_at};
 ghost use Rattle.links.specs.Judging.{walk_decides, settled_mark, relative_mark};
 ghost use Rattle.links.specs.private.Walking.{first_mark_in, first_marks_in, store_in, set_of, front_of};
 
+use crate::flagged::Links;
 use crate::front::put_frame;
-use crate::head::{Front, HEAD_SIZE, put_head};
+use crate::head::{Front, HEAD_SIZE};
 use crate::mark::{
     FROM_DIRECTORY, FROM_DIRECTORY_AND_LEADS, KEEPS_TEXT, KEEPS_TEXT_AND_LEADS, OWN_PATH_TAKEN,
     WALK_DECIDES,
 };
 use crate::scan::{dir_in, file_in};
-use lookup::{Seen, file_at, is_directory, is_link, link_text};
+use lookup::{Seen, file_at, is_directory, link_text};
 use rope::{FRAME_WIDTH, Path, lead_length};
 use tables::{FileStorage, LentSet};
 
 // The mark of a link whose text from its directory is the front.
-// Stays: `judge_links`, which is public, is lent a byte for each link, so a mark is a number.
+// Stays: a mark is one byte that holds a verdict and a lead (mark.rt). An enum of the marks that the first pass sets
+// would be turned into that byte at once, since a walk changes leads, and a mark is then none of these.
 fn settled_mark(fs: FileStorage, front: Front<'_>) -> u8
     ensures { result
         ≡ settled_mark
@@ -52,12 +55,7 @@ fn relative_mark(the_set: LentSet<'_>, i: u16) -> u8
         let path = Path::new(the_set.lent, &frames, 1);
         let e = lead_length(the_set.lent, v);
         let mut buf = [0u8; HEAD_SIZE];
-        let n = put_head(path, e, &mut buf);
-        let front = Front {
-            path,
-            e,
-            head: &buf[..n],
-        };
+        let front = Front::new(path, e, &mut buf);
         return settled_mark(the_set.fs, front);
     }
     WALK_DECIDES
@@ -84,29 +82,13 @@ fn first_mark(the_set: LentSet<'_>, i: u16) -> u8
     }
 }
 
-// Sets mark k where file i is a flagged link, and gives the number of marks that the file has, 1 or 0.
-fn mark_one(the_set: LentSet<'_>, marks: &mut [u8], i: u16, k: usize) -> usize
-    ensures value { result ≡ cond (entry_at (set_of the_set.entry) i).flagged 1 0 }
-    ensures marks_after { marks.new
-        ≡ cond (entry_at (set_of the_set.entry) i).flagged
-        (set marks.old k (first_mark_in (set_of the_set.entry) i))
-        marks.old }
-{
-    if is_link(the_set.lent.rows, i as usize) {
-        let m = first_mark(the_set, i);
-        lists::put(marks, k, m);
-        return 1;
-    }
-    0
-}
-
 // Sets the first pass's marks, one for each flagged link.
 pub(crate) fn first_marks(the_set: LentSet<'_>, marks: &mut [u8])
     requires { the_set.fs.num_files ≤ 65535 }
     ensures { marks.new ≡ sets marks.old 0 (first_marks_in (set_of the_set.entry)) }
 {
-    let mut k = 0;
-    for i in 0..the_set.fs.num_files {
-        k += mark_one(the_set, marks, i as u16, k);
+    for (k, i) in Links::all(the_set) {
+        let m = first_mark(the_set, i as u16);
+        lists::put(marks, k, m);
     }
 }

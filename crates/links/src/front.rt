@@ -9,8 +9,7 @@ use rope::{FRAME_WIDTH, Path, lead_byte, lead_length, start_in};
 use tables::Lent;
 
 // Writes both halves of frame k's start: its text is unused from there on.
-// Stays: a start of 64 bits is two of a frame's three words; a record with it would take 16 bytes for 12, of the 65536
-// frames that stand on the stack.
+// Stays: it copies nothing: a frame is three words, which `rope` reads where they stand, and a start is two of them.
 fn put_start(frames: &mut [u32], k: u32, at: usize)
     requires { k * frame_width + 2 < length frames.old }
     ensures { frames.new ≡ with_start frames.old k at }
@@ -21,7 +20,7 @@ fn put_start(frames: &mut [u32], k: u32, at: usize)
 }
 
 // Writes frame k, with its whole text unused.
-// Stays: frames are words, by which they take 12 bytes each.
+// Stays: it copies nothing: it sets the three words of a frame, its kind and both halves of its start.
 pub(crate) fn put_frame(frames: &mut [u32], k: u32, kind: u32)
     requires { k * frame_width + 2 < length frames.old }
     ensures { frames.new ≡ with_frame frames.old k kind }
@@ -31,7 +30,8 @@ pub(crate) fn put_frame(frames: &mut [u32], k: u32, kind: u32)
 }
 
 // Drops the first `count` bytes of the path: how many frames are left.
-// Stays: `count` counts bytes of the path, and no words of the frames.
+// Stays: `count` counts bytes of the path, and no words of the frames. They are one array of the walk, of which `depth`
+// are in use and rise and fall; a slice cut to the depth could not grow.
 fn drop_front(lent: Lent<'_>, frames: &mut [u32], depth: u32, count: usize) -> u32
     requires { depth * frame_width ≤ length frames.old }
     ensures result_after { flat (texts_of lent.entry) frames.new result

@@ -8,7 +8,7 @@ ghost use Rattle.lookup.specs.Lookup.{covers};
 ghost use Rattle.rope.specs.Rope.{held};
 ghost use Rattle.links.specs.private.Walking.{Fronted, front_of, own_text};
 
-use rope::{Path, Place};
+use rope::Path;
 
 // The bytes of the longest front that is copied to a buffer.
 pub(crate) const HEAD_SIZE: usize = 4096;
@@ -24,8 +24,8 @@ pub(crate) struct Front<'a> {
 
 // Writes the first e bytes of the path into a buffer where they fit: their number there, or 0.
 // Stays: the bytes are those of many texts, so there is no one slice to copy from.
-#[tactic(auto, using(crate::proofs::Heads::head_laws))]
-pub(crate) fn put_head(path: Path<'_>, e: usize, buf: &mut [u8]) -> usize
+#[tactic(auto, using(crate::proofs::Heads::fronted))]
+fn put_head(path: Path<'_>, e: usize, buf: &mut [u8]) -> usize
     requires { e ≤ length (held path) }
     ensures upper_bound { result ≤ length buf.new }
     ensures fronted { Fronted path.entry e (take result buf.new) }
@@ -33,19 +33,27 @@ pub(crate) fn put_head(path: Path<'_>, e: usize, buf: &mut [u8]) -> usize
     if buf.len() < e {
         return 0;
     }
-    let mut next = Place {
-        k: path.depth,
-        at: 0,
-    };
+    let mut bytes = path.bytes_from(0);
     for byte in buf[..e].iter_mut() {
-        let p = path.seek_from(next);
-        *byte = path.byte_at(p);
-        next = Place {
-            k: p.k,
-            at: p.at + 1,
-        };
+        *byte = bytes.next().unwrap_or(0);
     }
     e
+}
+
+impl<'a> Front<'a> {
+    // The first e bytes of a path; they are written to the buffer where they fit.
+    pub(crate) fn new(path: Path<'a>, e: usize, buf: &'a mut [u8]) -> Front<'a>
+        requires { e ≤ length (held path) }
+        ensures path { result.path ≡ path.entry }
+        ensures end { result.e ≡ e }
+    {
+        let n = put_head(path, e, buf);
+        Front {
+            path,
+            e,
+            head: &buf[..n],
+        }
+    }
 }
 
 impl Front<'_> {

@@ -5,6 +5,7 @@
 
 mod cut;
 mod first;
+mod flagged;
 mod front;
 mod head;
 mod judge;

@@ -26,7 +26,8 @@ impl From<u8> for LinkVerdict {
 }
 
 // Verdicts as marks hold them; any other number is read as `FromDirectory`.
-// Stays: `judge_links`, which is public, is lent a byte for each link, so what marks hold are numbers.
+// Stays: while links are judged, a mark's byte holds a lead beside the verdict, and there is a fourth verdict, that a
+// walk decides, which no caller sees and `LinkVerdict` has not.
 pub(crate) const VERDICT_KEEP: u8 = 0;
 
 pub(crate) const VERDICT_OWN_PATH: u8 = 1;
@@ -80,7 +81,7 @@ pub(crate) fn put_lead(marks: &mut [u8], k: usize, m: u8)
 }
 
 // Sets the verdict of mark k and keeps its lead; past the end it does nothing.
-// Stays: it packs two numbers in one lent byte.
+// Stays: it copies and converts nothing: it sets the upper five bits of a byte and keeps the lower three, a lead.
 pub(crate) fn put_verdict(marks: &mut [u8], k: usize, v: u8)
     requires { v < 32 }
     ensures { marks.new ≡ set marks.old k (v * 8 + lead (get_or marks.old k 0)) }

@@ -1,16 +1,16 @@
-// The walk of a path through directories and links. It relies on scan.rt, front.rt, cut.rt, head.rt and the laws of
-// proofs/Events.antt and proofs/Turning.antt.
+// The walk of a path through directories and links. It relies on flagged.rt, scan.rt, front.rt, cut.rt, head.rt and the
+// laws of proofs/Events.antt, proofs/Turning.antt and proofs/Passing.antt.
 ghost use Rattle.std.specs.Prelude.{◌≡◌, map};
 ghost use Rattle.lookup.specs.Lookup.{entries_of, directories_of};
 ghost use Rattle.links.specs.Clean.{part_end};
 ghost use Rattle.links.specs.private.Walking.{lead, verdict, untraversed, set_of, path_of, walk_of, Walkable};
 
 use crate::cut::cut_in;
+use crate::flagged::Links;
 use crate::front::go_through;
-use crate::head::{Front, HEAD_SIZE, put_head};
+use crate::head::{Front, HEAD_SIZE};
 use crate::mark::put_lead;
 use crate::scan::{known_in, lead_mark};
-use lookup::link_count;
 use rope::Path;
 use tables::LentSet;
 
@@ -32,12 +32,7 @@ pub(crate) fn resolve(the_set: LentSet<'_>, marks: &mut [u8], frames: &mut [u32]
     // Stays: document 01 asks for this labelled exit from the nested scan.
     'walk: while Path::new(lent, frames, depth).has_byte(e) {
         let path = Path::new(lent, frames, depth);
-        let n = put_head(path, e, &mut buf);
-        let front = Front {
-            path,
-            e,
-            head: &buf[..n],
-        };
+        let front = Front::new(path, e, &mut buf);
         for d in 0..the_set.fs.num_paths {
             if front.is_covered(d) {
                 let next = cut_in(path, e + 1);
@@ -48,17 +43,14 @@ pub(crate) fn resolve(the_set: LentSet<'_>, marks: &mut [u8], frames: &mut [u32]
                 continue 'walk;
             }
         }
-        let mut k = 0;
-        for i in 0..the_set.fs.num_files {
-            let m = lead_mark(the_set.fs, front, marks, i, k);
-            if m != 0 {
+        for (k, i) in Links::all(the_set) {
+            if let Some(m) = lead_mark(the_set.fs, front, marks, i, k) {
                 // Link i leads on: its text stands for the front and the separator after it, and it is used.
                 put_lead(marks, k, m + 2);
                 depth = go_through(lent, frames, depth, e, i as u32 * 4 + m as u32);
                 e = cut_in(Path::new(lent, frames, depth), 0);
                 continue 'walk;
             }
-            k += link_count(lent.rows, i);
         }
         break;
     }
@@ -66,11 +58,6 @@ pub(crate) fn resolve(the_set: LentSet<'_>, marks: &mut [u8], frames: &mut [u32]
     if path.has_byte(e) {
         return false;
     }
-    let n = put_head(path, e, &mut buf);
-    let front = Front {
-        path,
-        e,
-        head: &buf[..n],
-    };
+    let front = Front::new(path, e, &mut buf);
     known_in(the_set.fs, front)
 }

@@ -1,16 +1,18 @@
 // What stands at the front of a path: directories, files, and links by the leads that say which are open. They rely on
-// head.rt, mark.rt, `lookup` and the laws of proofs/Scans.antt.
-ghost use Rattle.std.specs.Prelude.{◌≡◌, false, cond, List, map, ℕ, ◌+◌, ◌-◌, ◌<◌, ◌≤◌, ltb, length, get_or, drop};
+// flagged.rt, head.rt, mark.rt, `lookup` and the laws of proofs/Scans.antt and proofs/Passing.antt.
+ghost use Rattle.std.specs.Prelude.{◌≡◌, true, false, cond, List, map, ℕ, ◌+◌, ◌-◌, ◌<◌, ◌≤◌, ltb, length, get_or, drop};
+ghost use Rattle.std.specs.Prelude.{IfSome, unwrap_or};
 ghost use Rattle.lists.specs.Lists.{equal};
 ghost use Rattle.tables.specs.Rows.{row_at};
 ghost use Rattle.tables.specs.Model.{internal_path};
-ghost use Rattle.lookup.specs.Lookup.{is_directory, file_at, known, is_flagged, entries_of, directories_of};
+ghost use Rattle.lookup.specs.Lookup.{is_directory, file_at, known, entries_of, directories_of};
 ghost use Rattle.lookup.specs.private.Rows.{entry_at, entries_from};
 ghost use Rattle.links.specs.private.Walking.{lead, any_at, lead_mark, store_in, front_of, own_text};
 
+use crate::flagged::Links;
 use crate::head::Front;
 use crate::mark::lead_at;
-use lookup::{Seen, is_link, link_count};
+use lookup::{Seen, is_link};
 use tables::FileStorage;
 
 // Whether a directory of the set covers the front.
@@ -69,29 +71,17 @@ pub(crate) fn known_in(fs: FileStorage, front: Front<'_>) -> bool
     }
 }
 
-// Whether file i is a flagged link that leads on, by mark k, and stands at the front, traversed or not.
+// Whether the flagged link i leads on, by mark k, and stands at the front, traversed or not.
 fn is_link_at(front: Front<'_>, marks: &[u8], i: usize, k: usize) -> bool
     ensures { result
-        ≡ cond (is_flagged (row_at front.entry.path.lent.rows.now i).flags)
-        (cond (ltb 0 (get_or (map lead marks.now) k 0))
+        ≡ cond (ltb 0 (get_or (map lead marks.now) k 0))
         (equal (own_text front.entry.path.lent i) (front_of front.entry.path front.entry.e))
-        false)
         false }
 {
-    if is_link(front.path.lent.rows, i) {
-        if lead_at(marks, k) == 0 {
-            return false;
-        }
-        if !may_stand(front, i) {
-            return false;
-        }
-        return front.is_own(i);
-    }
-    false
+    lead_at(marks, k) != 0 && may_stand(front, i) && front.is_own(i)
 }
 
 // Whether a link from file i0 and mark k0 on leads on at the front, traversed or not.
-#[tactic(auto, using(crate::proofs::Scans::link_scan))]
 fn has_link(fs: FileStorage, front: Front<'_>, marks: &[u8], i0: usize, k0: usize) -> bool
     requires { k0 ≤ i0 }
     ensures { result
@@ -99,21 +89,22 @@ fn has_link(fs: FileStorage, front: Front<'_>, marks: &[u8], i0: usize, k0: usiz
         (drop k0 (map lead marks.now))
         (front_of front.entry.path front.entry.e) }
 {
-    let mut k = k0;
-    for i in i0..fs.num_files {
-        if is_link_at(front, marks, i, k) {
-            return true;
-        }
-        k += link_count(front.path.lent.rows, i);
-    }
-    false
+    let mut links = Links::starting_at(fs, front.path.lent.rows, i0, k0);
+    links.any(|(k, i)| is_link_at(front, marks, i, k))
 }
 
-// The lead of link i with mark k, if a walk may go through that link at the front and no later one is there; else 0.
-// Stays: a lead is the number that the byte of a mark holds, and 0 there leads nowhere.
-pub(crate) fn lead_mark(fs: FileStorage, front: Front<'_>, marks: &[u8], i: usize, k: usize) -> u8
-    requires { (i < fs.num_files) × (k ≤ i) }
-    ensures value { result
+// The lead of the flagged link i with mark k, if a walk may go through that link at the front and none later is there.
+pub(crate) fn lead_mark(
+    fs: FileStorage,
+    front: Front<'_>,
+    marks: &[u8],
+    i: usize,
+    k: usize,
+) -> Option<u8>
+    requires { (i < fs.num_files)
+        × (k ≤ i)
+        × ((entry_at (store_in fs front.path.lent) i).flagged ≡ true) }
+    ensures value { unwrap_or result 0
         ≡ lead_mark (entry_at (store_in fs front.entry.path.lent) i)
         (get_or (map lead marks.now) k 0)
         (front_of front.entry.path front.entry.e)
@@ -121,26 +112,14 @@ pub(crate) fn lead_mark(fs: FileStorage, front: Front<'_>, marks: &[u8], i: usiz
         (entries_from (store_in fs front.entry.path.lent) (fs.num_files - (i + 1)) (i + 1))
         (drop (k + 1) (map lead marks.now))
         (front_of front.entry.path front.entry.e)) }
-    ensures result_bound { result ≤ 2 }
+    ensures result_bound { IfSome result (λ m. (0 < m) × (m ≤ 2)) }
 {
-    if !is_link(front.path.lent.rows, i) {
-        return 0;
-    }
     let m = lead_at(marks, k);
-    if m == 0 {
-        return 0;
+    if m == 0 || 2 < m || !may_stand(front, i) || !front.is_own(i) {
+        return None;
     }
-    if 2 < m {
-        return 0;
+    if has_link(fs, front, marks, i + 1, k + 1) {
+        return None;
     }
-    if !may_stand(front, i) {
-        return 0;
-    }
-    if front.is_own(i) {
-        if has_link(fs, front, marks, i + 1, k + 1) {
-            return 0;
-        }
-        return m;
-    }
-    0
+    Some(m)
 }

@@ -1,15 +1,15 @@
 // The second pass: each link whose text the first pass left to a walk is walked, and the walk decides. It relies on
-// resolve.rt, mark.rt and the laws of proofs/Walks.antt, proofs/Marks.antt and proofs/Walked.antt.
+// flagged.rt, resolve.rt, mark.rt and the laws of proofs/Walks.antt, proofs/Marks.antt, proofs/Walked.antt and
+// proofs/Passing.antt.
 ghost use Rattle.std.specs.Prelude.{◌≡◌, cond, map, ◌<◌, length, get_or, set};
-ghost use Rattle.lookup.specs.private.Rows.{entry_at};
 ghost use Rattle.links.specs.Judging.{verdict_keep, verdict_own_path, verdicts};
-ghost use Rattle.links.specs.private.Walking.{lead, verdict, first_marks_in, resolves_in, walked_mark_in, set_of};
+ghost use Rattle.links.specs.private.Walking.{verdict, first_marks_in, resolves_in, walked_mark_in, set_of};
 ghost use Rattle.links.specs.private.Walking.{Bounded, WalksFrom};
 
+use crate::flagged::Links;
 use crate::front::put_frame;
 use crate::mark::{VERDICT_KEEP, VERDICT_OWN_PATH, VERDICT_WALK, put_verdict, reopen, verdict_at};
 use crate::resolve::resolve;
-use lookup::is_link;
 use tables::LentSet;
 
 // Whether the text of the flagged link i leads to a file or a directory of the set. It relies on the first pass's
@@ -40,38 +40,24 @@ fn verdict_by(resolved: bool) -> u8
     }
 }
 
-// The second pass on file i: a walk decides mark k where the first pass left it to one. Gives the number of marks that
-// the file has, 1 or 0.
-fn walk_one(the_set: LentSet<'_>, marks: &mut [u8], frames: &mut [u32], i: usize, k: usize) -> usize
-    requires { (i < the_set.fs.num_files)
-        × (map lead marks.old ≡ map lead (first_marks_in (set_of the_set)))
-        × Bounded (set_of the_set) (length frames.old) }
-    ensures value { result ≡ cond (entry_at (set_of the_set.entry) i).flagged 1 0 }
-    ensures marks_after { marks.new
-        ≡ cond (entry_at (set_of the_set.entry) i).flagged
-        (set marks.old k (walked_mark_in (set_of the_set.entry) i (get_or marks.old k 0)))
-        marks.old }
+// The second pass on the flagged link i: a walk decides mark k where the first pass left it to one.
+fn walk_one(the_set: LentSet<'_>, marks: &mut [u8], frames: &mut [u32], i: usize, k: usize)
+    requires { WalksFrom (set_of the_set) marks.old i (length frames.old) }
+    ensures { marks.new ≡ set marks.old k (walked_mark_in (set_of the_set.entry) i (get_or marks.old k 0)) }
 {
-    if !is_link(the_set.lent.rows, i) {
-        return 0;
+    if verdict_at(marks, k) == VERDICT_WALK {
+        let resolved = walk_link(the_set, marks, frames, i);
+        let verdict = verdict_by(resolved);
+        put_verdict(marks, k, verdict);
     }
-    if verdict_at(marks, k) != VERDICT_WALK {
-        return 1;
-    }
-    let resolved = walk_link(the_set, marks, frames, i);
-    let verdict = verdict_by(resolved);
-    put_verdict(marks, k, verdict);
-    1
 }
 
 // The second pass: after it the marks say each link's verdict.
-#[tactic(auto, using(crate::proofs::Walked::second_laws))]
 pub(crate) fn walk_links(the_set: LentSet<'_>, marks: &mut [u8], frames: &mut [u32])
     requires { (marks.old ≡ first_marks_in (set_of the_set)) × Bounded (set_of the_set) (length frames.old) }
     ensures { map verdict marks.new ≡ verdicts (set_of the_set.entry) }
 {
-    let mut k = 0;
-    for i in 0..the_set.fs.num_files {
-        k += walk_one(the_set, marks, frames, i, k);
+    for (k, i) in Links::all(the_set) {
+        walk_one(the_set, marks, frames, i, k);
     }
 }

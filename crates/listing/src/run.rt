@@ -2,7 +2,7 @@
 // for the lines, on `storage` for opening and additions, and on the laws of proofs/Steps.antt.
 ghost use Rattle.std.specs.Prelude.{◌≡◌, false, [], leb, ◌+◌, ◌≤◌, length, drop};
 ghost use Rattle.types.specs.Refusals.{outcome};
-ghost use Rattle.path.specs.Join.{Joined};
+ghost use Rattle.path.specs.Join.{joined_says};
 ghost use Rattle.tables.specs.Entry.{presence_if};
 ghost use Rattle.tables.specs.Model.{view_of, store_of};
 ghost use Rattle.change.specs.Changes.{Changed};
@@ -45,8 +45,8 @@ fn rooted_by(flags: u64) -> Presence
 }
 
 // Obeys a file line: adds its file. The set keeps no table of first files, so one of no places is lent.
-// Stays: only `add_lines` calls it, and it hands the tables to `storage::add_file`, which takes each by itself; a
-// record would be made for one call and taken apart in the next.
+// Stays: the tables come one by one from `add_lines` and go one by one to `storage::add_file`; a record of them would
+// be made anew for each line, and taken apart here.
 fn add_line(
     fs: FileStorage,
     rows: &mut [u64],
@@ -140,8 +140,9 @@ fn add_lines(
     let mut set = fs;
     let mut at = from;
     let mut line = 1;
-    // Stays: the library's `split` would give an empty line after the last line feed, and `split_inclusive` gives line
-    // feeds with the lines.
+    // Stays: std's `split` gives an empty line after the last line feed; `split_inclusive` gives none, but leaves each
+    // line its line feed, to be taken off again, and a slice is needed where `from` may be one past the end; with
+    // `enumerate`, the number of the last line, which the end of a run takes, still has to be kept beside it.
     while at < input.len() {
         let n = line_length(input, at);
         line += 1;
@@ -191,8 +192,7 @@ fn run_input(
 
 // The listing of an input, at the start of `out`, and its length; refusal 10 where `out` is too short.
 pub fn list(input: &[u8], out: &mut [u8]) -> Result<usize, Refusal>
-    ensures { ◌≡◌ {A = Joined} (record { says = outcome result; buf = out.new })
-        (put_text (listing input.now) out.old) }
+    ensures { joined_says result out.new ≡ put_text (listing input.now) out.old }
 {
     let mut rows = [0u64; 3200];
     let mut roots = [0u8; 12800];

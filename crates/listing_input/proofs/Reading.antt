@@ -1,20 +1,21 @@
--- Laws of reading: what the library's searches find, how the lines of an input follow from its first line, and how large a
--- number of 15 columns is.
-use Rattle.std.specs.Prelude.{Option, Some, None}
+-- Laws of reading: what the library's searches find, how the lines of an input follow from its first line, how large a
+-- number of 15 columns is, and that so many digits spell what they are worth.
+use Rattle.std.specs.Prelude.{Option, Some, None, option_and_then}
 use Prim.Native.Nat.{ℕ, suc, ◌+◌, ◌-◌, ◌*◌, ◌^◌, ◌≤◌, ◌<◌}
 use mathlib.Core.Path.{◌≡◌, refl, ap, ◌∙◌}
-use mathlib.Core.Bool.{Bool, true, false, cond, ◌||◌}
+use mathlib.Core.Bool.{Bool, true, false, cond, ◌&&◌, ◌||◌}
 use mathlib.Core.List.{List, [], ◌∷◌, ◌++◌, append-nil, append_assoc}
 use native.Mathlib.Omega.{arith}
 use native.Mathlib.Nat.{mul_assoc, pow-succ', pow-le-pow_right}
 use lib.Dec.{eqb, ltb, leb}
 use lib.ListN.{length, take, drop}
 use lib.Seq.{drop-cons, drop-drop}
-use borrow.Author.Tests.{leb-true}
-use Rattle.std.specs.List.{position_or_len, list_all}
+use borrow.Author.Tests.{leb-true, lt-ltb}
+use Rattle.std.proofs.lemmas.Bool.Decides.{nat_tests}
+use Rattle.std.specs.List.{position_or_len}
 use Rattle.std.specs.Option.{unwrap_or}
 use Rattle.lists.specs.Lists.{part_of}
-use Rattle.lists.specs.Decimal.{value_from}
+use Rattle.lists.specs.Decimal.{value_from, with_digit, digits_from, number_of}
 use Rattle.lists.proofs.Searches.{found}
 use Rattle.path.specs.Join.{is_empty}
 use Rattle.tables.specs.Model.{present_if}
@@ -34,11 +35,6 @@ line_step false c f = omega arith
 -- the length of the first line
 pub line_found : (l : List ℕ) (r : Option ℕ) → r ≡ cond (ltb (position_or_len (λ c. eqb c 10) l) (length l)) (Some (position_or_len (λ c. eqb c 10) l)) None → unwrap_or r (length l) ≡ length (first_line l)
 line_found l r e = (found (λ s. length (first_line s)) (λ c. eqb c 10) refl (λ c t. line_step (eqb c 10) c (first_line t)) l r e).0
-
--- whether all bytes are digits
-pub digits_all : (l : List ℕ) → list_all is_digit l ≡ are_digits l
-digits_all [] = refl
-digits_all (c ∷ t) = rw (digits_all t)
 
 -- the first line, and what stands after it
 take_step : (b : Bool) (c : ℕ) (t f : List ℕ) → take (length f) t ≡ f → take (length (cond b [] (c ∷ f))) (c ∷ t) ≡ cond b [] (c ∷ f)
@@ -80,10 +76,6 @@ lines-from line (c ∷ t) h =
     lines_step (eqb c 10) line c (first_line t) t (lines_from [] (after_line t)) (lines_from (line ++ (c ∷ [])) t)
     (lines-from (line ++ (c ∷ [])) t (filled_is line c t))
     ∙ rw (lines_rest (eqb c 10) t (after_line t))
-
--- a number whose i digits are bytes fits
-pub value-few : (v i : ℕ) → v + 23 ≤ 23 * 10 ^ i → i ≤ 15 → v ≤ 23000000000000000
-value-few v i h k = omega (arith, pow-le-pow_right {n = 10} (omega arith) {i = i} {j = 15} k)
 
 -- where a byte stands at a place, the line that begins there is the next one
 pub lines_next : (input : List ℕ) (at n : ℕ) → at < length input → n ≡ length (first_line (drop at input)) → lines (drop at input) ≡ part_of input at n ∷ lines (drop (at + n + 1) input)
@@ -127,3 +119,26 @@ number_small column n h e =
     let p = present-if (is_number u) (value_from 0 u) n e in
     let b = value-below 0 1 u (number_digits u p.0) (omega arith) in
     omega (arith, p.1, pow-le-pow_right {n = 10} (omega arith) {i = length u} {j = 15} (omega (arith, length-unblanked column)))
+
+-- the digits that follow i others are too few to pass 64 bits, so they spell what they are worth
+digit-step : (b : Bool) (v i c : ℕ) (t : List ℕ) → (b ≡ true → c ≤ 57) → v < 10 ^ i → i < 15
+    → (10 * v + (c - 48) < 10 ^ suc i → digits_from (10 * v + (c - 48)) t ≡ present_if (are_digits t) (value_from (10 * v + (c - 48)) t))
+    → option_and_then (λ n. digits_from n t) (with_digit v (cond b (Some (c - 48)) None)) ≡ present_if (b && are_digits t) (value_from (10 * v + (c - 48)) t)
+digit-step false v i c t d h m more = refl
+digit-step true v i c t d h m more =
+    let n : v * 10 + (c - 48) < 10 ^ suc i = rw (pow-succ' 10 i) (omega (arith, d refl)) in
+    let k : v * 10 + (c - 48) < 2 ^ 64 = omega (arith, pow-le-pow_right {n = 10} (omega arith) {i = suc i} {j = 15} (omega arith)) in
+    let q : v * 10 + (c - 48) ≡ 10 * v + (c - 48) = omega arith in
+    rw (lt-ltb (v * 10 + (c - 48)) (2 ^ 64) k, q) (more (omega arith))
+
+digits_spelt : (v i : ℕ) (l : List ℕ) → v < 10 ^ i → i + length l ≤ 15 → digits_from v l ≡ present_if (are_digits l) (value_from v l)
+digits_spelt v i [] h m = refl
+digits_spelt v i (c ∷ t) h m =
+    digit-step (is_digit c) v i c t (λ e. leb-true c 57 (both_true (leb 48 c) (leb c 57) e).1) h (omega arith)
+    (λ n. digits_spelt (10 * v + (c - 48)) (suc i) t n (omega arith))
+
+-- at most 15 bytes spell the number that a column of them holds
+pub spelt : (l : List ℕ) → length l ≤ 15 → number_of l ≡ present_if (is_number l) (value_from 0 l)
+spelt [] h = refl
+spelt (c ∷ []) h = rw (digits_spelt 0 0 (c ∷ []) (omega arith) (omega arith)) (grind (arith, nat_tests))
+spelt (c ∷ (d ∷ t)) h = rw (digits_spelt 0 0 (c ∷ (d ∷ t)) (omega arith) (omega arith)) (grind (arith, nat_tests))

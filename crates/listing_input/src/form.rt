@@ -1,8 +1,7 @@
-// Reading the lines of an input: numbers in columns, the piece length and file lines. Relies on the laws of
-// proofs/Reading.antt.
+// Reading the lines of an input: numbers in columns, the piece length and file lines. Relies on `lists` to read digits,
+// and on the laws of proofs/Reading.antt.
 ghost use Rattle.std.specs.Prelude.{◌≡◌, ◌≤◌, length, drop};
-ghost use Rattle.lists.specs.Decimal.{value_from};
-ghost use Rattle.listing_input.specs.Form.{unblanked, are_digits, is_number, number_in, only_if};
+ghost use Rattle.listing_input.specs.Form.{unblanked, number_in, only_if};
 ghost use Rattle.listing_input.specs.Form.{piece_length_in, are_flags, file_in};
 ghost use Rattle.listing_input.specs.Answers.{first_line, file_says};
 
@@ -14,6 +13,8 @@ pub struct FileLine {
 }
 
 // The length of the line that begins at position `at`: up to a line feed, or to the input's end.
+// Stays: `before_first` of `script` looks for a byte so too, but a listing relies on nothing of a script of calls, and
+// `lists` would need a definition and a contract for what is one line of std here.
 pub fn line_length(input: &[u8], at: usize) -> usize
     ensures { result ≡ length (first_line (drop at input.now)) }
 {
@@ -27,53 +28,22 @@ fn unblank(column: &[u8]) -> &[u8]
     ensures within { length result.now ≤ length column.now }
 {
     let mut rest = column;
-    // Stays: no index is counted, and std's `trim_ascii_start` takes more than blanks.
+    // Stays: std's `trim_ascii_start` takes more than blanks. `blanks` of `script` counts the blanks before a word, by
+    // a definition of its own; `unblanked` says what is left, as the loop does.
     while let [b' ', more @ ..] = rest {
         rest = more;
     }
     rest
 }
 
-// Whether all bytes are digits.
-fn are_digits(bytes: &[u8]) -> bool
-    ensures { result ≡ are_digits bytes.now }
-{
-    bytes.iter().all(|c| c.is_ascii_digit())
-}
-
-// Whether bytes are a number: digits, the first of them no zero unless it is the only one.
-fn is_number(bytes: &[u8]) -> bool
-    ensures { result ≡ is_number bytes.now }
-{
-    let [first, rest @ ..] = bytes else {
-        return false;
-    };
-    are_digits(bytes) && (b'0' < *first || rest.is_empty())
-}
-
-// The number that at most 15 digits stand for.
-fn value_of(digits: &[u8]) -> u64
-    requires { length digits.now ≤ 15 }
-    ensures { result ≡ value_from 0 digits.now }
-{
-    let mut v = 0;
-    for c in digits {
-        v = 10 * v + u64::from(c.saturating_sub(b'0'));
-    }
-    v
-}
-
 // The number in a column, right-justified.
-// Stays: `str::parse` takes a `str`, and a sign or zeros in front, which are out of form.
+// Stays: `lists` reads the digits; what is done here is to drop the blanks before them.
+#[tactic(auto, using(crate::proofs::Reading::spelt))]
 fn number_in(column: &[u8]) -> Option<u64>
     requires { length column.now ≤ 15 }
     ensures { result ≡ number_in column.now }
 {
-    let digits = unblank(column);
-    if is_number(digits) {
-        return Some(value_of(digits));
-    }
-    None
+    lists::parse_decimal(unblank(column))
 }
 
 // The piece length in the first line.

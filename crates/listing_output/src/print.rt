@@ -2,8 +2,8 @@
 // decided first and written after. Relies on `lists`, `path`, `tables` and the laws of proofs/Printed.antt.
 ghost use Rattle.std.specs.Prelude.{◌≡◌, ◌+◌, ◌≤◌, ◌<◌, length};
 ghost use Rattle.std.proofs.lemmas.List.Edits.{sets};
-ghost use Rattle.types.specs.Refusals.{number_of, outcome};
-ghost use Rattle.path.specs.Join.{Joined, appended};
+ghost use Rattle.types.specs.Refusals.{number_of};
+ghost use Rattle.path.specs.Join.{joined_says, appended};
 ghost use Rattle.listing_output.specs.Output.{printed, listed, stopped};
 ghost use Rattle.listing_output.specs.private.Lines.{four_columns, left_in};
 ghost use Rattle.listing_output.specs.private.Lent.{path_in, line_in, lines_in};
@@ -90,7 +90,8 @@ fn room_left(set: LentSet<'_>, room: usize) -> Option<usize>
 }
 
 // Writes the lines of a set's files to the start of `out`, and gives the position after them.
-// Stays: the lines go one by one to a lent buffer that was found long enough for all of them.
+// Stays: a path's separator depends on both its texts, so no format string writes a line; each line is written from the
+// end of the one before, which only the line's own function knows.
 #[tactic(auto, using(crate::proofs::Printed::writing))]
 fn put_lines(set: LentSet<'_>, out: &mut [u8]) -> usize
     requires { length (lines_in set) ≤ length out.old }
@@ -113,10 +114,8 @@ pub fn put_set(
     text: &[u8],
     out: &mut [u8],
 ) -> Result<usize, Refusal>
-    ensures { ◌≡◌ {A = Joined} (record { says = outcome result; buf = out.new })
-        (put_text
-        (printed (listed (shown fs rows.now dirs.now text.now)))
-        out.old) }
+    ensures { joined_says result out.new
+        ≡ put_text (printed (listed (shown fs rows.now dirs.now text.now))) out.old }
 {
     let lent = Lent { rows, dirs, text };
     let set = LentSet { fs, lent };
@@ -136,8 +135,7 @@ pub fn put_set(
 // Writes what is printed of a refusal at a line to the start of `out`, and gives its length.
 // Stays: both columns keep the last digits of a longer number, as those of `put_columns` do.
 pub fn put_refusal(refusal: Refusal, line: usize, out: &mut [u8]) -> Result<usize, Refusal>
-    ensures { ◌≡◌ {A = Joined} (record { says = outcome result; buf = out.new })
-        (put_text (printed (stopped (number_of refusal) line)) out.old) }
+    ensures { joined_says result out.new ≡ put_text (printed (stopped (number_of refusal) line)) out.old }
 {
     if out.len() < 11 {
         return Err(Refusal::NoRoom);

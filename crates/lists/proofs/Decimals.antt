@@ -35,13 +35,25 @@ digits-length-one k n h = rw (digits-one k n h)
 pub digits-length-more : (k n : ℕ) → 10 ≤ n → length (digits_within (suc k) n) ≡ length (digits_within k (n / 10)) + 1
 digits-length-more k n h = rw (digits_more k n h, length-append)
 
--- a turn of a count of digits: one of the 21 - k that may be left is counted
-pub digits-length-turn : (k n : ℕ) → k < 20 → 10 ≤ n → length (digits_within (20 - k) n) ≡ length (digits_within (20 - (k + 1)) (n / 10)) + 1
-digits-length-turn k n h b =
-    let e : 20 - k ≡ suc (20 - (k + 1)) = omega arith in rw e (digits-length-more (20 - (k + 1)) n b)
-
 pub digits-length-least : (n : ℕ) → length (digits_within 0 n) ≡ 1
 digits-length-least n = rw (digits-least n)
+
+-- one more than the logarithm
+digits-length-log : (j k n : ℕ) → k ≤ j → 10 ^ k ≤ n → n < 10 * 10 ^ k → length (digits_within j n) ≡ k + 1
+digits-length-log zero zero n h a b = digits-length-least n
+digits-length-log zero (suc k) n h a b = absurd (omega arith)
+digits-length-log (suc j) zero n h a b = digits-length-one (suc j) n b
+digits-length-log (suc j) (suc k) n h a b =
+    let p : 10 ^ suc k ≡ 10 ^ k * 10 = pow-suc 10 k in
+    let ih : length (digits_within j (n / 10)) ≡ k + 1 =
+    digits-length-log j k (n / 10) (omega arith) (omega (arith, p)) (omega (arith, p)) in
+    omega (arith, ih, digits-length-more j n (omega (arith, p)))
+
+pub decimal-length-log : (k n : ℕ) → k < 20 → 10 ^ k ≤ n → n < 10 * 10 ^ k → length (decimal n) ≡ k + 1
+decimal-length-log k n h a b = digits-length-log 19 k n (omega arith) a b
+
+pub decimal-length-none : (n : ℕ) → n ≡ 0 → length (decimal n) ≡ 1
+decimal-length-none n h = digits-length-one 19 n (omega arith)
 
 pub digits-few : (k n : ℕ) → length (digits_within k n) ≤ k + 1
 digits-few zero n = omega (arith, digits-length-least n)
@@ -174,15 +186,9 @@ pub digit-end : (l : List ℕ) (at i n : ℕ) → i ≤ 0 → sets l at (last_di
 unfolding last_digits
 digit-end l at i n h = let e : i ≡ 0 = omega arith in rw e
 
--- the same as a loop's turns: no digit is written yet, and one more of a count
-pub digits-start : (c n : ℕ) → c ≤ length (decimal n) → last_digits (c - 0) n ≡ drop (length (decimal n) - c) (decimal n)
-digits-start c n h = rw (sub-zero c) (last_digits_lem 19 c n h)
-
-pub digits-turn : (l : List ℕ) (at c i n : ℕ) → i < c → sets (set l (at + (c - 1 - i)) (48 + n % 10)) at (last_digits (c - (i + 1)) (n / 10)) ≡ sets l at (last_digits (c - i) n)
-digits-turn l at c i n h =
-    let e : c - (i + 1) ≡ c - i - 1 = omega arith in
-    let f : c - 1 - i ≡ c - i - 1 = omega arith in
-    rw (e, f) (digit-turn l at (c - i) n (omega arith))
+-- the last digits of a number are those at the end of its decimal
+pub digits-start : (c n : ℕ) → c ≤ length (decimal n) → last_digits c n ≡ drop (length (decimal n) - c) (decimal n)
+digits-start c n h = last_digits_lem 19 c n h
 
 -- a column: blanks, and the digits or the last of them
 pub column-is : (w n : ℕ) → column w n ≡ replicate (w - length (decimal n)) 32 ++ drop (length (decimal n) - w) (decimal n)
@@ -212,9 +218,9 @@ column-blank l at w n h =
     sym (sets-past (drop (length d - min w (length d)) d) (sets l at b) (at + (w - length d)) (omega (arith, length-sets l at b)))
     ∙ column-drawn l at w n
 
--- for a loop that counts digits, for one that writes them, and for a column
-pub ruleset counting = (digits-length-one, digits-length-turn, digits-length-least)
+-- for a count of digits, for the loop that writes them, and for a column
+pub ruleset counting = (decimal-length-log, decimal-length-none)
 
-pub ruleset writing = (decimal-few, digits-start, digits-turn, digit-end)
+pub ruleset writing = (decimal-few, digits-start, digit-turn, digit-end)
 
 pub ruleset drawing = (column-drawn, column-blank)

@@ -1,10 +1,11 @@
--- Laws of quotients rounded up: `ceiling n d` is the least q with n ≤ q * d. They rely on the kit's laws of division, which
--- has the law of a quotient rounded down by its bounds (`div-eq_of_lt-le`).
+-- Laws of quotients rounded up: `ceiling n d` is the least q with n ≤ q * d; and of a power of two as code makes it. They rely
+-- on the kit's laws of division, which has the law of a quotient rounded down by its bounds (`div-eq_of_lt-le`).
 use mathlib.Core.Path.{◌≡◌, refl, sym, ap, ◌∙◌}
-use Prim.Native.Nat.{ℕ, zero, suc, ◌+◌, ◌-◌, ◌*◌, ◌/◌, ◌≤◌, ◌<◌}
+use Prim.Native.Nat.{ℕ, zero, suc, ◌+◌, ◌-◌, ◌*◌, ◌/◌, ◌%◌, ◌^◌, ◌≤◌, ◌<◌}
 use native.Mathlib.Nat.{suc-mul, le_of_suc-le-suc, div-lt_iff_lt-mul, le-div_iff_mul-le, lt-div-mul-add, le_antisymm}
-use native.Mathlib.Nat.{add-div_right}
+use native.Mathlib.Nat.{add-div_right, mod-eq_of_lt, one-mul}
 use native.Mathlib.Omega.{arith}
+use lib.Pow.{pow-lt}
 use Rattle.lists.specs.Lists.{ceiling}
 
 module _ (n d : ℕ) (p : 0 < d) where
@@ -38,3 +39,7 @@ pub ceiling-less : (n d : ℕ) → 0 < n → 0 < d → (n - 1) / d + 1 ≡ ceili
 ceiling-less n d h k =
     let e : n - 1 + d ≡ n + (d - 1) = omega arith in
     sym (add-div_right (n - 1) k) ∙ ap (λ (m : ℕ). m / d) e
+
+-- one shifted by fewer than 64 places is that power of two
+pub one_shifted : (k : ℕ) → k < 64 → 1 * 2 ^ k % 2 ^ 64 ≡ 2 ^ k
+one_shifted k h = ap (λ (n : ℕ). n % 2 ^ 64) (one-mul (2 ^ k)) ∙ mod-eq_of_lt (pow-lt h)

@@ -8,10 +8,7 @@ ghost use Rattle.lists.specs.Lists.{part_of, cleared, equal};
 pub fn item_or<T: Copy>(items: &[T], i: usize, default: T) -> T
     ensures { result ≡ get_or items.now i default }
 {
-    if i < items.len() {
-        return items[i];
-    }
-    default
+    items.get(i).copied().unwrap_or(default)
 }
 
 // Stores an item at position i, or nothing past the end.
@@ -41,7 +38,8 @@ pub fn part(bytes: &[u8], at: usize, n: usize) -> &[u8]
 }
 
 // Whether two slices hold the same bytes. It goes from the back: texts of one set often begin alike.
-// Stays: tried, `a == b` takes 10.7 ns for two paths of 25 bytes whose names differ at the end, and this loop 8.0.
+// Stays: tried, `a == b` takes 10.7 ns for two paths of 25 bytes whose names differ at the end, and this loop 8.0; an
+// addition to a v2 set with 50 directories compares up to 50, and takes as long as the Rust's already.
 #[tactic(auto, using(crate::proofs::Equality::comparing))]
 pub fn same(a: &[u8], b: &[u8]) -> bool
     ensures { result ≡ equal a.now b.now }

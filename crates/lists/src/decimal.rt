@@ -1,8 +1,8 @@
-// Numbers as decimal digits, and right-justified in columns. It relies on access.rt and on the laws
+// Numbers as decimal digits, written and read, and right-justified in columns. It relies on access.rt and on the laws
 // of proofs/Decimals.antt and Runs.antt.
 ghost use Rattle.std.specs.Prelude.{◌≡◌, ◌+◌, ◌-◌, ◌≤◌, ◌<◌, length, drop, replicate};
 ghost use Rattle.std.proofs.lemmas.List.Edits.{sets};
-ghost use Rattle.lists.specs.Decimal.{decimal, column};
+ghost use Rattle.lists.specs.Decimal.{decimal, column, digit_of, with_digit, number_of};
 
 use crate::access::put;
 
@@ -11,14 +11,7 @@ use crate::access::put;
 pub fn digit_count(n: u64) -> usize
     ensures { result ≡ length (decimal n) }
 {
-    let mut rest = n;
-    for k in 1..20 {
-        if rest < 10 {
-            return k;
-        }
-        rest /= 10;
-    }
-    20
+    n.checked_ilog10().map_or(1, |k| k as usize + 1)
 }
 
 // The character of a digit.
@@ -38,8 +31,8 @@ fn put_digits(target: &mut [u8], at: usize, count: usize, n: u64)
         ≡ sets target.old at (drop (length (decimal n) - count) (decimal n)) }
 {
     let mut rest = n;
-    for i in 0..count {
-        put(target, at + (count - 1 - i), glyph(rest % 10));
+    for i in (0..count).rev() {
+        put(target, at + i, glyph(rest % 10));
         rest /= 10;
     }
 }
@@ -84,4 +77,29 @@ pub fn put_column(target: &mut [u8], at: usize, width: usize, n: u64)
     if blanks < target.len().saturating_sub(at) {
         put_digits(target, at + blanks, width.min(k), n);
     }
+}
+
+// The number that digits spell, if 64 bits hold it; no zero stands before other digits.
+// Stays: std reads a number from a `str`, and takes a `+` and leading zeros.
+pub fn parse_decimal(digits: &[u8]) -> Option<u64>
+    ensures { result ≡ number_of digits.now }
+{
+    if let [] | [b'0', _, ..] = digits {
+        return None;
+    }
+    let mut n = 0;
+    for c in digits {
+        n = with_digit(n, *c)?;
+    }
+    Some(n)
+}
+
+// n with one more digit, where 64 bits hold it.
+fn with_digit(n: u64, c: u8) -> Option<u64>
+    ensures { result ≡ with_digit n (digit_of c) }
+{
+    if !c.is_ascii_digit() {
+        return None;
+    }
+    n.checked_mul(10)?.checked_add(u64::from(c - b'0'))
 }

@@ -1,31 +1,7 @@
-// Quotients and remainders of `u64` that answer for every pair of numbers, and the exponent of a power of two.
-// It relies on the laws of proofs/Quotients.antt and proofs/Powers.antt.
+// Quotients and remainders of `u64` that answer for every pair of numbers, and the exponent of a power of two. A power of
+// two divides by a shift, as most piece lengths do. It relies on the laws of proofs/Quotients.antt and proofs/Powers.antt.
 ghost use Rattle.std.specs.Prelude.{◌≡◌, ◌/◌, ◌%◌, ◌^◌, ◌<◌, ℕ, Some, IfSome};
 ghost use Rattle.lists.specs.Lists.{ceiling};
-
-// `n / d`, or 0 where d is 0.
-pub fn div(n: u64, d: u64) -> u64
-    ensures { result ≡ n / d }
-{
-    n.checked_div(d).unwrap_or(0)
-}
-
-// `n % d`, or n where d is 0.
-pub fn rem(n: u64, d: u64) -> u64
-    ensures { result ≡ n % d }
-{
-    n.checked_rem(d).unwrap_or(n)
-}
-
-// `n / d` rounded up, or 0 where d is 0.
-pub fn div_ceil(n: u64, d: u64) -> u64
-    ensures { result ≡ ceiling n d }
-{
-    if d == 0 {
-        return 0;
-    }
-    n.div_ceil(d)
-}
 
 // The exponent of d, where d is a power of two. The power is made from the number's low zero bits and compared with it,
 // so that nothing rests on their count.
@@ -38,4 +14,34 @@ pub fn exponent(d: u64) -> Option<u32>
         return Some(bits);
     }
     None
+}
+
+// `n / d`, or 0 where d is 0.
+pub fn div(n: u64, d: u64) -> u64
+    ensures { result ≡ n / d }
+{
+    match exponent(d) {
+        Some(bits) => n >> bits,
+        None => n.checked_div(d).unwrap_or(0),
+    }
+}
+
+// `n % d`, or n where d is 0.
+pub fn rem(n: u64, d: u64) -> u64
+    ensures { result ≡ n % d }
+{
+    match exponent(d) {
+        Some(bits) => n % (1 << bits),
+        None => n.checked_rem(d).unwrap_or(n),
+    }
+}
+
+// `n / d` rounded up, or 0 where d is 0.
+pub fn div_ceil(n: u64, d: u64) -> u64
+    ensures { result ≡ ceiling n d }
+{
+    if n == 0 || d == 0 {
+        return 0;
+    }
+    div(n - 1, d) + 1
 }

@@ -3,15 +3,16 @@
 use Prim.Native.Nat.{ℕ, suc, ◌+◌, ◌-◌, ◌<◌, ◌≤◌}
 use mathlib.Core.Path.{◌≡◌, refl, sym, ap, ◌∙◌}
 use mathlib.Core.Bool.{Bool, true, false, cond, true≢false, ◌&&◌, ◌||◌}
-use mathlib.Core.List.{List, [], ◌∷◌, ◌++◌, append-nil, append_assoc}
+use mathlib.Core.List.{List, [], ◌∷◌, ◌++◌, append-nil, append_assoc, reverse, reverse-append, reverse-reverse}
 use native.Mathlib.Omega.{arith}
 use lib.Dec.{eqb}
-use lib.ListN.{length, length-append, get_or, take, drop}
-use lib.Seq.{drop-append_seam, get_or-drop}
+use lib.ListN.{length, length-append, length-drop, length-reverse, get_or, take, drop, take-append-drop}
+use lib.Seq.{drop-append_seam}
 use borrow.Author.Tests.{le-leb, eq-eqb, ne_eqb, eqb-true}
-use Rattle.std.specs.List.{starts_with}
+use Rattle.std.specs.Bool.{Decides}
+use Rattle.std.specs.List.{starts_with, zip}
 use Rattle.lists.specs.Lists.{equal}
-use Rattle.lists.proofs.Equality.{equal-true, equal-same, equal-differs}
+use Rattle.lists.proofs.Equality.{equal-true, equal-same}
 use Rattle.path.specs.Join.{is_alone, is_closed, appended}
 use Rattle.path.proofs.Joins.{some_bytes}
 use Rattle.lookup.specs.Lookup.{covers, ends_with}
@@ -90,16 +91,41 @@ module _ (d name p : List ℕ) (h : is_alone d ≡ false) (k : length name ≡ 0
 
 -- ---- a name at a path's end
 
+-- pairs go as far as the first list
+zip-front : (xs ys zs : List ℕ) → length xs ≡ length ys → zip xs (ys ++ zs) ≡ zip xs ys
+zip-front [] ys zs e = refl
+zip-front (x ∷ xs) [] zs e = absurd (omega arith)
+zip-front (x ∷ xs) (y ∷ ys) zs e = ap (λ (l : List (ℕ × ℕ)). (x, y) ∷ l) (zip-front xs ys zs (omega arith))
+
 -- the end of p decides, where it has the name's length
 module _ (n p : List ℕ) (h : length n ≤ length p) where
   ends_by : equal n (drop (length p - length n) p) ≡ ends_with n p
   ends_by = rw (le-leb (length n) (length p) h)
 
-  pub ends-other : (i : ℕ) → (get_or n i 0 ≡ get_or p (length p - length n + i) 0 → ⊥) → false ≡ ends_with n p
-  ends-other i k = sym (equal-differs n (drop (length p - length n) p) i (λ e. k (e ∙ get_or-drop (length p - length n) p i 0))) ∙ ends_by
-
   pub ends_same : n ≡ drop (length p - length n) p → true ≡ ends_with n p
   ends_same e = sym (equal-same n (drop (length p - length n) p) e) ∙ ends_by
+
+  -- compared from the back, as far as the name goes
+  abbrev pub end : List ℕ
+  end = drop (length p - length n) p
+
+  pub back-long : length (reverse n) ≡ length (reverse end)
+  back-long = length-reverse n ∙ omega (arith, length-drop (length p - length n) p, length-reverse end)
+
+  pub back-zip : zip (reverse n) (reverse p) ≡ zip (reverse n) (reverse end)
+  back-zip =
+      let front = take (length p - length n) p in
+      ap (λ (l : List ℕ). zip (reverse n) (reverse l)) (sym (take-append-drop (length p - length n) p))
+      ∙ ap (zip (reverse n)) (reverse-append front end)
+      ∙ zip-front (reverse n) (reverse end) (reverse front) back-long
+
+  pub ends-back : (r : Bool) → Decides r (reverse n ≡ reverse end) → r ≡ ends_with n p
+  ends-back true d = ends_same (sym (reverse-reverse n) ∙ ap reverse (d.0 refl) ∙ reverse-reverse end)
+  ends-back false d = at (equal n end) refl ∙ ends_by
+    where
+      at : (b : Bool) → equal n end ≡ b → false ≡ equal n end
+      at true e = absurd (true≢false (sym (d.1 (ap reverse (equal-true n end e)))))
+      at false e = sym e
 
 -- a list that ends in n
 ends-append : (x n : List ℕ) → ends_with n (x ++ n) ≡ true

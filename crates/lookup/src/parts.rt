@@ -45,19 +45,8 @@ pub(crate) fn joins_to(d: &[u8], name: &[u8], p: &[u8]) -> bool
 
 // Whether p ends with n. It goes from the last byte to the first, since names of one directory mostly differ near their
 // ends.
-// Stays: tried, `p.ends_with(n)` takes 5.9 ns for a name like block-000123.wav and another one's path, this loop 4.7;
-// for block000123 it takes 5.9, and this loop 2.7.
 pub(crate) fn ends_with(n: &[u8], p: &[u8]) -> bool
     ensures { result ≡ ends_with n.now p.now }
 {
-    if p.len() < n.len() {
-        return false;
-    }
-    let before = p.len() - n.len();
-    for i in (0..n.len()).rev() {
-        if n[i] != p[before + i] {
-            return false;
-        }
-    }
-    true
+    n.len() <= p.len() && n.iter().rev().zip(p.iter().rev()).all(|(a, b)| a == b)
 }

@@ -1,9 +1,8 @@
 -- Document 01, 'Names': a file's whole path, and its hash. Joins are those of `append_path`; for hashes 'the release
 -- build' puts a separator after each part that is not empty, and after the set's name always. It relies on the joins of
 -- `path`, the hash of `crc32c` and the questions of `rules`.
-use Rattle.types.specs.declared.refusal.Refusal.{Refusal}
-use Rattle.std.specs.Prelude.{ℕ, Bool, cond, not, ◌&&◌, List, [], ◌∷◌, ◌++◌, map, eqb, ℤ, Result}
-use Rattle.types.specs.Refusals.{Outcome, outcome}
+use Rattle.std.specs.Prelude.{ℕ, Bool, cond, not, ◌&&◌, List, [], ◌∷◌, ◌++◌, map, eqb, ℤ}
+use Rattle.types.specs.Refusals.{Outcome}
 use Rattle.path.specs.Join.{Joined, appended, joined_if, fits}
 use Rattle.crc32c.specs.Crc.{crc_of, lower}
 use Rattle.tables.specs.declared.storage.FileStorage.{FileStorage}
@@ -18,10 +17,6 @@ use Rattle.rules.specs.Composed.{composed_file}
 -- four parts, each appended to those before it
 abbrev pub composed_of : List ℕ → List ℕ → List ℕ → List ℕ → List ℕ
 composed_of a b c d = appended (appended (appended a b) c) d
-
--- what a function that writes a path gives: the path's length or the refusal, and the buffer after it
-abbrev pub path_written : Result ℕ Refusal → List ℕ → Joined
-path_written r buf = record { says = outcome r; buf = buf }
 
 -- the path p at the start of a buffer where it fits, refusal 10
 abbrev pub written_into : List ℕ → List ℕ → Joined

@@ -3,8 +3,8 @@
 // before it. Relies on the joins of `path` and on the laws of proofs/Composed.antt.
 ghost use Rattle.std.specs.Prelude.{◌≡◌, cond, ◌+◌, ◌-◌, ◌≤◌, length, take};
 ghost use Rattle.std.proofs.lemmas.List.Edits.{sets};
-ghost use Rattle.path.specs.Join.{is_empty, is_closed, appended};
-ghost use Rattle.names.specs.Paths.{composed_of, path_written, written_into};
+ghost use Rattle.path.specs.Join.{joined_says, is_empty, is_closed, appended};
+ghost use Rattle.names.specs.Paths.{composed_of, written_into};
 ghost use Rattle.names.specs.private.Parts.{composed};
 
 use crate::kept::KeptParts;
@@ -50,7 +50,8 @@ fn room_left(parts: KeptParts<'_>, room: usize) -> usize
 }
 
 // Appends `part`, for which there is room, to the path in the first `used` bytes, and gives the new length.
-// Stays: the length of the path so far stands beside the lent buffer, since no function here has a heap.
+// Stays: `path::append_path` is lent the buffer and the length of the path in it apart; a record of the two would be
+// taken apart for each of its calls.
 fn grown(buf: &mut [u8], used: usize, part: &[u8]) -> usize
     requires { (used ≤ length buf.old) × (length (appended (take used buf.old) part.now) ≤ length buf.old) }
     ensures value { result ≡ length (appended (take used buf.old) part.now) }
@@ -60,7 +61,8 @@ fn grown(buf: &mut [u8], used: usize, part: &[u8]) -> usize
 }
 
 // Writes the composed path, for which there is room, and gives its length.
-// Stays: the first part goes in by a copy of `lists`, the others by the joins of `path`; no byte is copied by hand.
+// Stays: whether a separator stands before a part depends on the part and on the path so far, so that each is appended
+// by a join of `path`; the buffer is lent, and no format string writes that.
 fn put_kept(parts: KeptParts<'_>, buf: &mut [u8]) -> usize
     requires { length (composed parts) ≤ length buf.old }
     ensures value { result ≡ length (composed parts.entry) }
@@ -74,7 +76,7 @@ fn put_kept(parts: KeptParts<'_>, buf: &mut [u8]) -> usize
 
 // The composed path where its first part is kept.
 fn compose_kept(parts: KeptParts<'_>, buf: &mut [u8]) -> Result<usize, Refusal>
-    ensures { path_written result buf.new ≡ written_into (composed parts.entry) buf.old }
+    ensures { joined_says result buf.new ≡ written_into (composed parts.entry) buf.old }
 {
     if room_left(parts, buf.len()) == 0 {
         return Err(Refusal::NoRoom);
@@ -91,7 +93,7 @@ pub fn compose_path(
     last: &[u8],
     buf: &mut [u8],
 ) -> Result<usize, Refusal>
-    ensures { path_written result buf.new
+    ensures { joined_says result buf.new
         ≡ written_into (composed_of first.now second.now third.now last.now)
         buf.old }
 {

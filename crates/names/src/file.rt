@@ -2,11 +2,12 @@
 // decide.rt, compose.rt and `crc32c`, and on the laws of proofs/Paths.antt.
 ghost use Rattle.std.specs.Prelude.{◌≡◌, cond, [], ◌∷◌, ◌++◌, map, eqb};
 ghost use Rattle.types.specs.Refusals.{outcome};
+ghost use Rattle.path.specs.Join.{joined_says};
 ghost use Rattle.crc32c.specs.Crc.{crc_from, lower};
 ghost use Rattle.tables.specs.Rows.{path_is_absolute};
 ghost use Rattle.tables.specs.Span.{text_at};
 ghost use Rattle.rules.specs.Composed.{composed_if};
-ghost use Rattle.names.specs.Paths.{path_written, set_leads, led, hash_of, file_path_into, file_path_hash};
+ghost use Rattle.names.specs.Paths.{set_leads, led, hash_of, file_path_into, file_path_hash};
 ghost use Rattle.names.specs.private.Sets.{path_of, hashed_of};
 
 use crate::compose::compose_path;
@@ -28,7 +29,7 @@ fn save_of(save_path: &[u8], path_index: u64) -> &[u8]
 // Writes the whole path of the file of `row`.
 // Stays: the path goes into a lent buffer, since no function here has a heap.
 fn put_path(set: LentSet<'_>, row: Row, save_path: &[u8], buf: &mut [u8]) -> Result<usize, Refusal>
-    ensures { path_written result buf.new
+    ensures { joined_says result buf.new
         ≡ composed_if 0 (path_of set.entry save_path.now row)
         buf.old }
 {
@@ -95,7 +96,7 @@ pub fn file_path(
     save_path: &[u8],
     buf: &mut [u8],
 ) -> Result<usize, Refusal>
-    ensures { path_written result buf.new
+    ensures { joined_says result buf.new
         ≡ file_path_into fs rows.now dirs.now text.now index.0
         save_path.now buf.old }
 {

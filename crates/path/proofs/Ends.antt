@@ -7,7 +7,6 @@ use mathlib.Core.List.{List, [], ◌∷◌, ◌++◌}
 use native.Mathlib.Omega.{arith}
 use lib.ListN.{length, get_or, take, drop, length-append, length-drop}
 use lib.Seq.{take_all, take-length, take-append-le}
-use borrow.Author.Tests.{eq-eqb, ne_eqb}
 use Rattle.lists.specs.Lists.{part_of}
 use Rattle.path.specs.Split.{is_separator, is_either, trimmed_from, trimmed}
 use Rattle.path.specs.Join.{closed_from, is_closed}
@@ -34,17 +33,19 @@ module _ (f : ℕ → Bool) (z : f 0 ≡ false) (p : List ℕ) (k : ℕ) (e : k 
   trim-no h = rw h at (trimmed-is f z p k e)
 
 -- the same of either test, as a last byte is told from the rest
-pub slash_last : (p : List ℕ) → get_or p (length p - 1) 0 ≡ 47 → take (length p - 1) p ≡ trimmed is_separator p
-slash_last p h = trim-yes is_separator refl p (length p - 1) refl (eq-eqb (get_or p (length p - 1) 0) 47 h)
+module _ (either : Bool) (p : List ℕ) where
+  abbrev test : ℕ → Bool
+  test = cond either is_either is_separator
 
-pub no_slash_last : (p : List ℕ) → (get_or p (length p - 1) 0 ≡ 47 → ⊥) → p ≡ trimmed is_separator p
-no_slash_last p h = trim-no is_separator refl p (length p - 1) refl (ne_eqb (get_or p (length p - 1) 0) 47 h)
+  fails : (b : Bool) → cond b is_either is_separator 0 ≡ false
+  fails true = refl
+  fails false = refl
 
-pub either_last : (p : List ℕ) → is_either (get_or p (length p - 1) 0) ≡ true → take (length p - 1) p ≡ trimmed is_either p
-either_last p h = trim-yes is_either refl p (length p - 1) refl h
+  pub last_taken : test (get_or p (length p - 1) 0) ≡ true → take (length p - 1) p ≡ trimmed test p
+  last_taken h = trim-yes test (fails either) p (length p - 1) refl h
 
-pub neither_last : (p : List ℕ) → is_either (get_or p (length p - 1) 0) ≡ false → p ≡ trimmed is_either p
-neither_last p h = trim-no is_either refl p (length p - 1) refl h
+  pub last_kept : test (get_or p (length p - 1) 0) ≡ false → p ≡ trimmed test p
+  last_kept h = trim-no test (fails either) p (length p - 1) refl h
 
 -- what is trimmed stands at a path's end
 trimmed-rest-from : (f : ℕ → Bool) (c : ℕ) (t : List ℕ) → (r : List ℕ) × (c ∷ t ≡ trimmed_from f c t ++ r)

@@ -45,8 +45,13 @@ module _ (branch leaf : List ℕ) (n : ℕ) (closed : Bool) (e : n ≡ length br
       let q : n ≡ 0 + length branch = omega arith in
       rw (q, h) (sym (sets-append branch (cond (is_closed branch) leaf (47 ∷ leaf)) buf 0))
 
-  -- where there was room for it
+  -- where there was room for it or not
   module _ (buf : List ℕ) (room : Bool) (f : room ≡ leb (n + cond closed (length leaf) (length leaf + 1)) (length buf)) where
+    pub glued-refused : room ≡ false
+        → ◌≡◌ {A = Joined} (record { says = refused 10; buf = buf }) (joined_if (fits (glued branch leaf) buf) (glued branch leaf) buf)
+    glued-refused q =
+        refused-is (fits (glued branch leaf) buf) (glued branch leaf) buf (rw length-glued at (sym f ∙ q))
+
     -- l holds the branch, and the leaf is written to the start of its rest
     pub glued-written : room ≡ true → (l rest : List ℕ) (m k : ℕ) → l ≡ sets buf 0 branch → k ≡ length l - n
         → m ≡ cond closed (length leaf) (length leaf + 1) → rest ≡ sets (take k (drop n l)) 0 (cond closed leaf (47 ∷ leaf))

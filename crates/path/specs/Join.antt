@@ -1,9 +1,10 @@
 -- Document 01, 'Path parts': joins of a branch and a leaf, and what a join does to a lent buffer. 46 is `.`. It
 -- relies on the separator of Split.antt and the outcomes of `types`.
-use Rattle.std.specs.Prelude.{ℕ, Bool, true, false, cond, List, [], ◌∷◌, ◌++◌, leb, length, take}
+use Rattle.std.specs.Prelude.{ℕ, Bool, true, false, cond, List, [], ◌∷◌, ◌++◌, leb, length, take, Result}
 use Rattle.std.proofs.lemmas.List.Edits.{sets}
 use Rattle.lists.specs.Lists.{equal}
-use Rattle.types.specs.Refusals.{Outcome, value, refused}
+use Rattle.types.specs.declared.refusal.Refusal.{Refusal}
+use Rattle.types.specs.Refusals.{Outcome, value, refused, outcome}
 use Rattle.path.specs.Split.{is_separator}
 
 -- 'an empty branch or `.`'
@@ -40,6 +41,10 @@ combined left right = cond (is_alone left) right (cond (is_alone right) left (gl
 pub record Joined : Type 0 where
   pub says : Outcome ℕ
   pub buf : List ℕ
+
+-- what the function's result and the buffer after it say
+abbrev pub joined_says : Result ℕ Refusal → List ℕ → Joined
+joined_says r buf = record { says = outcome r; buf = buf }
 
 -- the text at the buffer's start and its length, or refusal 10 and the buffer untouched
 abbrev pub joined_if : Bool → List ℕ → List ℕ → Joined

@@ -2,8 +2,7 @@
 // rest is lent to the writer of the next part. Relies on the copies of `lists` and on the laws of proofs/Joins.antt.
 ghost use Rattle.std.specs.Prelude.{◌≡◌, cond, ◌∷◌, ◌+◌, leb, length};
 ghost use Rattle.std.proofs.lemmas.List.Edits.{sets};
-ghost use Rattle.types.specs.Refusals.{outcome};
-ghost use Rattle.path.specs.Join.{Joined, is_alone, glued, appended, joined_if, fits, append_into, combine_into};
+ghost use Rattle.path.specs.Join.{joined_says, is_alone, glued, appended, joined_if, fits, append_into, combine_into};
 
 use crate::split::is_closed;
 use types::Refusal;
@@ -47,7 +46,8 @@ fn has_room(room: usize, used: usize, closed: bool, more: usize) -> bool
 
 // Writes a leaf to the start of the rest of a buffer, after a separator where the branch before it lacks one, and
 // gives how many bytes that are.
-// Stays: it copies by two calls of `lists`, which drop what has no place.
+// Stays: that `rest` has room is known to its callers only; std's `copy_from_slice` would ask it of them by a
+// `requires`.
 fn put_leaf(rest: &mut [u8], closed: bool, leaf: &[u8]) -> usize
     ensures value { result ≡ cond closed (length leaf.now) (length leaf.now + 1) }
     ensures rest_after { rest.new ≡ sets rest.old 0 (cond closed leaf.now (47 ∷ leaf.now)) }
@@ -62,10 +62,10 @@ fn put_leaf(rest: &mut [u8], closed: bool, leaf: &[u8]) -> usize
 }
 
 // Writes a text to the start of `buf`, and gives its length.
-// Stays: it copies by a call of `lists`, after a test of the room.
+// Stays: `buf[..text.len()].copy_from_slice(text)` says the length again, and needs an answer of its own: the search
+// does not find it by the laws of `lists::copy_in`.
 fn put_alone(buf: &mut [u8], text: &[u8]) -> Result<usize, Refusal>
-    ensures { ◌≡◌ {A = Joined} (record { says = outcome result; buf = buf.new })
-        (joined_if (fits text.now buf.old) text.now buf.old) }
+    ensures { joined_says result buf.new ≡ joined_if (fits text.now buf.old) text.now buf.old }
 {
     if buf.len() < text.len() {
         return Err(Refusal::NoRoom);
@@ -76,10 +76,11 @@ fn put_alone(buf: &mut [u8], text: &[u8]) -> Result<usize, Refusal>
 
 // Writes a branch and a leaf to the start of `buf`, with a separator between where the branch lacks one, and gives the
 // length of both.
-// Stays: after a test of the room it copies by a call of `lists`, and by `put_leaf`.
+// Stays: `buf[..used].copy_from_slice(branch)` needs a law that the branch and the rest of the buffer are what a store
+// of the branch gives, and `lists::copy_in` says that.
 fn put_glued(branch: &[u8], leaf: &[u8], buf: &mut [u8]) -> Result<usize, Refusal>
-    ensures { ◌≡◌ {A = Joined} (record { says = outcome result; buf = buf.new })
-        (joined_if (fits (glued branch.now leaf.now) buf.old) (glued branch.now leaf.now) buf.old) }
+    ensures { joined_says result buf.new
+        ≡ joined_if (fits (glued branch.now leaf.now) buf.old) (glued branch.now leaf.now) buf.old }
 {
     let used = branch.len();
     let closed = is_closed(branch);
@@ -95,8 +96,7 @@ fn put_glued(branch: &[u8], leaf: &[u8], buf: &mut [u8]) -> Result<usize, Refusa
 // Stays: document 01 asks that a part is written behind what stands in the lent buffer, and a leaf takes the place of
 // a branch that is empty or `.`, so that the whole buffer is needed.
 pub fn append_path(buf: &mut [u8], used: usize, leaf: &[u8]) -> Result<usize, Refusal>
-    ensures { ◌≡◌ {A = Joined} (record { says = outcome result; buf = buf.new })
-        (append_into buf.old used leaf.now) }
+    ensures { joined_says result buf.new ≡ append_into buf.old used leaf.now }
 {
     if buf.len() < used {
         return Err(Refusal::NoRoom);
@@ -116,8 +116,7 @@ pub fn append_path(buf: &mut [u8], used: usize, leaf: &[u8]) -> Result<usize, Re
 
 // Writes the path of `left` and `right` to the start of `buf`, and gives its length.
 pub fn combine_path(left: &[u8], right: &[u8], buf: &mut [u8]) -> Result<usize, Refusal>
-    ensures { ◌≡◌ {A = Joined} (record { says = outcome result; buf = buf.new })
-        (combine_into left.now right.now buf.old) }
+    ensures { joined_says result buf.new ≡ combine_into left.now right.now buf.old }
 {
     if is_alone(left) {
         return put_alone(buf, right);
@@ -131,10 +130,8 @@ pub fn combine_path(left: &[u8], right: &[u8], buf: &mut [u8]) -> Result<usize, 
 // Writes `leaf` appended to `branch` to the start of `buf`, and gives its length: `append_path` where
 // the branch doesn't stand in the buffer yet.
 pub fn join_path(branch: &[u8], leaf: &[u8], buf: &mut [u8]) -> Result<usize, Refusal>
-    ensures { ◌≡◌ {A = Joined} (record { says = outcome result; buf = buf.new })
-        (joined_if (fits (appended branch.now leaf.now) buf.old)
-        (appended branch.now leaf.now)
-        buf.old) }
+    ensures { joined_says result buf.new
+        ≡ joined_if (fits (appended branch.now leaf.now) buf.old) (appended branch.now leaf.now) buf.old }
 {
     if is_alone(branch) {
         return put_alone(buf, leaf);

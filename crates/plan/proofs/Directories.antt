@@ -1,8 +1,15 @@
--- Laws of the search for a directory: the last index of a text among others, whether it is there, and both once one more
--- is stored.
-use Rattle.std.proofs.Common.{◌≡◌, ℕ, zero, suc, ◌+◌, ◌-◌, ◌*◌, ◌/◌, ◌<◌, ◌≤◌, min, Bool, true, false, cond, ◌&&◌, ◌||◌, eqb, List, [], ◌∷◌, ◌++◌, length, sym, refl, ap, ◌∙◌, true≢false, arith, length-append, eq-eqb, ne_eqb}
+-- Laws of the search for a directory: the last index of a text among others, whether it is there, and both once one
+-- more is stored; and the same of the search over a table's rows from the back.
+use Rattle.std.proofs.Common.{◌≡◌, ℕ, zero, suc, ◌+◌, ◌-◌, ◌*◌, ◌/◌, ◌<◌, ◌≤◌, min, Bool, true, false, cond, not, ◌&&◌, ◌||◌, eqb, List, [], ◌∷◌, ◌++◌, map, length, get_or, take, Option, Some, None, unwrap_or, MatchOption, IsSomeAnd, Bor, Iter, sym, refl, ap, subst, ◌∙◌, true≢false, arith, length-append, eq-eqb, ne_eqb}
 use mathlib.Core.Bool.{false≢true}
-use lib.ListN.{get_or-eq_default}
+use lib.ListN.{length-map, get_or-eq_default}
+use denote.Param.Members.{Mut, Called}
+use Rattle.std.specs.Bool.{then_some}
+use Rattle.std.specs.List.{FoldsTo}
+use Rattle.std.specs.Iterator.{Yields, FindsPositionBack}
+use Rattle.std.specs.Slice.Iter.{iter_rest, iter_steps_back}
+use Rattle.std.specs.Simd.{first_chunks}
+use Rattle.std.proofs.lemmas.List.{map-append, nil_from_length}
 use Rattle.lists.specs.Lists.{equal, any}
 use Rattle.lists.proofs.Tests.{any_append}
 use Rattle.lists.proofs.Parts.{part_length}
@@ -11,7 +18,7 @@ use Rattle.tables.specs.declared.span.Span.{Span}
 use Rattle.tables.specs.Span.{text_at}
 use Rattle.tables.specs.Rows.{dir_at}
 use Rattle.tables.specs.Model.{tabled, stored}
-use Rattle.tables.proofs.Tabled.{length-tabled, tabled-more}
+use Rattle.tables.proofs.Tabled.{length-tabled, tabled-more, tabled-same}
 use Rattle.additions.specs.Addition.{is_among, pad_directory_name}
 use Rattle.plan.specs.Write.{directory_index_from, directory_index}
 use Rattle.plan.specs.private.Steps.{dir_texts, dir_plan_of, dirs_with, count_with, pad_dir_plan_of, known_at, added_at}
@@ -88,15 +95,11 @@ module _ (g : ℕ → List ℕ) (d : List ℕ) (n i : ℕ) (h : 0 < i) where
       ∙ index-more d (tabled (i - 1) g) (g (i - 1)) n 0
       ∙ ap (λ (k : ℕ). cond (equal d (g (i - 1))) k (directory_index_from n 0 d (tabled (i - 1) g))) z
 
-  pub search-turn : equal d (g (i - 1)) ≡ false → directory_index_from n 0 d (tabled (i - 1) g) ≡ directory_index_from n 0 d (tabled i g)
+  search-turn : equal d (g (i - 1)) ≡ false → directory_index_from n 0 d (tabled (i - 1) g) ≡ directory_index_from n 0 d (tabled i g)
   search-turn e = sym (more ∙ ap (λ (t : Bool). cond t (i - 1) (directory_index_from n 0 d (tabled (i - 1) g))) e)
 
-  pub search-found : equal d (g (i - 1)) ≡ true → i - 1 ≡ directory_index_from n 0 d (tabled i g)
+  search-found : equal d (g (i - 1)) ≡ true → i - 1 ≡ directory_index_from n 0 d (tabled i g)
   search-found e = sym (more ∙ ap (λ (t : Bool). cond t (i - 1) (directory_index_from n 0 d (tabled (i - 1) g))) e)
-
-pub search-end : (g : ℕ → List ℕ) (d : List ℕ) (n i : ℕ) → i ≤ 0 → n ≡ directory_index_from n 0 d (tabled i g)
-unfolding directory_index_from tabled
-search-end g d n i h = let e : i ≡ 0 = omega arith in rw e
 
 pub search_is : (g : ℕ → List ℕ) (d : List ℕ) (n : ℕ) → directory_index_from n 0 d (tabled n g) ≡ directory_index d (tabled n g)
 search_is g d n = rw (length-tabled n g)
@@ -114,6 +117,10 @@ search-past g d n m (suc k) h f =
 -- where more bytes stand behind a span's start than a text has, the area's end cannot cut the span to that length
 pub length-differs : (d text : List ℕ) (s : Span) → s.at < length text - length d → (s.len ≡ length d → ⊥) → false ≡ equal d (text_at text s)
 length-differs d text s h q = sym (equal-length d (text_at text s) (λ e. q (omega (arith, part_length text s.at s.len))))
+
+-- the span of a directory row of these words
+abbrev pub row_of : List ℕ → Span
+row_of ws = record { at = get_or ws 0 0; len = get_or ws 1 0 }
 
 -- the text of a directory row; past the table's end it is empty
 abbrev pub row_text : List ℕ → List ℕ → ℕ → List ℕ
@@ -140,6 +147,82 @@ module _ (dirs text d : List ℕ) where
       ∙ ap (λ (i : ℕ). directory_index_from n 0 d (dir_texts dirs text i)) k
       ∙ search_is (row_text dirs text) d n
 
+-- the texts of the first m rows of a table, as chunks of two words
+row-behind : (text dirs : List ℕ) (a b i : ℕ) → row_text dirs text i ≡ row_text (a ∷ b ∷ dirs) text (suc i)
+row-behind text dirs a b i =
+    let at : suc i * 2 ≡ suc (suc (i * 2)) = omega arith in
+    let len : suc (suc (i * 2)) + 1 ≡ suc (suc (i * 2 + 1)) = omega arith in
+    rw (at, len)
+
+row-texts : (text : List ℕ) (m k : ℕ) (dirs : List ℕ) → m ≤ k → k * 2 ≤ length dirs → map (λ ws. text_at text (row_of ws)) (take m (first_chunks 2 k dirs)) ≡ dir_texts dirs text m
+unfolding tabled
+row-texts text zero k dirs h l = refl
+row-texts text (suc m) zero dirs h l = absurd (omega arith)
+row-texts text (suc m) (suc k) [] h l = absurd (omega arith)
+row-texts text (suc m) (suc k) (a ∷ []) h l = absurd (omega arith)
+row-texts text (suc m) (suc k) (a ∷ b ∷ dirs) h l =
+    ap (λ (ts : List (List ℕ)). text_at text (record { at = a; len = b }) ∷ ts)
+    (row-texts text m k dirs (omega arith) (omega arith)
+    ∙ tabled-same m (row_text dirs text) (λ i. row_text (a ∷ b ∷ dirs) text (suc i)) (λ i q. row-behind text dirs a b i))
+
+-- the search over items from the back, where a call of f tells whether an item's text is d. Its invariant: the index
+-- among the items that are left is that among all, as those that are gone have another text
+module _ {A F : Type 0} {g : Mut F (Bor A × Unit {0}) Bool} {f : F} (text-of : A → List ℕ) (d : List ℕ) (n : ℕ)
+    (asks : (x : Bor A) (b : Bool) (q : F) → Called g f (x, tt) b q → (q ≡ f) × (b ≡ equal d (text-of x.now))) where
+  abbrev index_left : Iter A → ℕ
+  index_left s = directory_index_from n 0 d (map text-of (iter_rest s))
+
+  -- an item is the last of those that were left
+  last-item : (s t : Iter A) (x : Bor A) (b : Bool) → iter_steps_back s (Some x) t → b ≡ equal d (text-of x.now)
+      → (length (iter_rest s) ≡ length (iter_rest t) + 1) × (index_left s ≡ cond b (length (iter_rest t)) (index_left t))
+  last-item s t x b step e =
+      let l : 0 + length (map text-of (iter_rest t)) ≡ length (iter_rest t) = omega (arith, length-map (iter_rest t) text-of) in (
+        ap length step ∙ length-append (iter_rest t) (x.now ∷ []),
+        ap (λ (ys : List A). directory_index_from n 0 d (map text-of ys)) step
+            ∙ ap (directory_index_from n 0 d) (map-append text-of (iter_rest t) (x.now ∷ []))
+            ∙ index-more d (map text-of (iter_rest t)) (text-of x.now) n 0
+            ∙ rw (l, ← e),
+      )
+
+  -- the items with another text
+  passed : (xs : List (Bor A)) (s t : Iter A) (q : F) → Yields iter_steps_back s xs t → FoldsTo (λ p x r. Called g p (x, tt) false r) f xs q
+      → (q ≡ f) × (length (iter_rest t) + length xs ≡ length (iter_rest s)) × (index_left t ≡ index_left s)
+  passed [] s t q y c = (sym c, omega (arith, ap (λ (u : Iter A). length (iter_rest u)) y), ap index_left (sym y))
+  passed (x ∷ xs) s t q (v, step, y) (h, call, c) =
+      let said = asks x false h call in
+      let one = last-item s v x false step said.1 in
+      let rest = passed xs v t q y (subst (λ (k : F). FoldsTo (λ p x r. Called g p (x, tt) false r) k xs q) said.0 c) in
+      (rest.0, omega (arith, rest.1, one.0), rest.2 ∙ sym one.1)
+
+  -- the item at which the search ends has the text, or none is left
+  ended : (o : Option (Bor A)) (r : Option ℕ) (k : ℕ) (t u : Iter A) (q : F) → iter_steps_back t o u → q ≡ f
+      → MatchOption o (r ≡ None) (λ x. IsSomeAnd r (λ j. j + 1 + k ≡ length (iter_rest t) + k) × ((h : F) × Called g q (x, tt) true h)) → unwrap_or r n ≡ index_left t
+  unfolding directory_index_from
+  ended None r k t u q step e is =
+      ap (λ (z : Option ℕ). unwrap_or z n) is ∙ ap (λ (ys : List A). directory_index_from n 0 d (map text-of ys)) (sym (nil_from_length (iter_rest t) step.0))
+  ended (Some x) None k t u q step e is = absurd is.0
+  ended (Some x) (Some j) k t u q step e (is, (h, call)) =
+      let said = asks x true h (subst (λ (p : F). Called g p (x, tt) true h) e call) in
+      let one = last-item t u x true step said.1 in
+      let z : j ≡ length (iter_rest u) = omega (arith, one.0) in
+      z ∙ sym one.1
+
+  -- both, from the call's clause `ran`
+  found-back : (s u : Iter A) (r : Option ℕ) → FindsPositionBack iter_steps_back g s f (length (iter_rest s)) r u → unwrap_or r n ≡ index_left s
+  found-back s u r (xs, o, q, (t, y, last), c, so) =
+      let p = passed xs s t q y c in
+      ended o r (length xs) t u q last p.0 (rw p.1 so) ∙ p.2
+
+-- the same over the first m rows of a table
+pub found-row : {F : Type 0} {g : Mut F (Bor (List ℕ) × Unit {0}) Bool} {f : F} (dirs text d : List ℕ) (n m : ℕ) (rows : List (List ℕ)) (s u : Iter (List ℕ)) (r : Option ℕ)
+    → ((x : Bor (List ℕ)) (b : Bool) (q : F) → Called g f (x, tt) b q → (q ≡ f) × (b ≡ equal d (text_at text (row_of x.now))))
+    → m ≤ length dirs / 2 → rows ≡ first_chunks 2 (length dirs / 2) dirs → iter_rest s ≡ take m rows → FindsPositionBack iter_steps_back g s f (length (iter_rest s)) r u
+    → unwrap_or r n ≡ directory_index_from n 0 d (dir_texts dirs text m)
+found-row dirs text d n m rows s u r asks h whole is ran =
+    found-back (λ ws. text_at text (row_of ws)) d n asks s u r ran
+    ∙ ap (λ (ys : List (List ℕ)). directory_index_from n 0 d (map (λ ws. text_at text (row_of ws)) ys)) (is ∙ ap (take m) whole)
+    ∙ ap (directory_index_from n 0 d) (row-texts text m (length dirs / 2) dirs h (omega arith))
+
 -- the plan of a directory that the search found, and of one that it did not
 module _ (d : List ℕ) (xs : List (List ℕ)) (n : ℕ) (l : length xs ≡ n) where
   old-is : (k m : ℕ) → k ≡ directory_index d xs → is_among d xs ≡ true → m ≡ n → known_at k m ≡ dir_plan_of (stored d false) xs
@@ -156,8 +239,13 @@ module _ (d : List ℕ) (xs : List (List ℕ)) (n : ℕ) (l : length xs ≡ n) w
   pub missing : n ≡ directory_index d xs → added_at n (length d) ≡ dir_plan_of (stored d false) xs
   missing e = new_is n (not_there d xs (omega arith)) refl
 
+-- the length of a text that is new
+length-new : (t : Bool) (d : List ℕ) → then_some (not t) (length (cond t [] d)) ≡ then_some (not t) (length d)
+length-new true d = refl
+length-new false d = refl
+
 pad-is : (pad : ℕ) (xs : List (List ℕ)) → eqb pad 0 ≡ false → dir_plan_of (stored pad_directory_name false) xs ≡ pad_dir_plan_of pad xs
-pad-is pad xs e = rw e
+pad-is pad xs e = rw (e, length-new (is_among pad_directory_name xs) pad_directory_name)
 
 -- the same once a file's directory is stored, where that is new
 with-length : (new : Bool) (d : List ℕ) (xs : List (List ℕ)) (n : ℕ) → length xs ≡ n → length (dirs_with new d xs) ≡ count_with new n
@@ -230,7 +318,5 @@ module _ (pad : ℕ) (new : Bool) (d : List ℕ) (xs : List (List ℕ)) (n count
 pub counted : (dirs text : List ℕ) (n : ℕ) → length (dir_texts dirs text n) ≡ n
 counted dirs text n = length-tabled n (row_text dirs text)
 
--- what the search for a directory and the plan of a pad's directory need
-pub ruleset searching = (search-turn, search-found, search-end)
-
+-- what the plan of a pad's directory needs
 pub ruleset padding = (pad-none, pad-own, pad-found, pad-missing, counted)

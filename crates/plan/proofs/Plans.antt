@@ -1,7 +1,8 @@
 -- The plan of an addition, made on numbers and searches, is the one that the public definitions give on the model that the
 -- tables mean. They rely on the laws of rules and of directories.
-use Rattle.std.specs.Prelude.{Option}
-use Rattle.std.proofs.Common.{◌≡◌, ℕ, suc, ◌+◌, ◌≤◌, Bool, true, false, cond, not, ◌||◌, eqb, ltb, List, [], ◌∷◌, ◌++◌, length, sym, refl, ap, ◌∙◌, arith, length-append}
+use Rattle.std.specs.Prelude.{Option, option_map, unwrap_or}
+use Rattle.std.specs.Bool.{then_some}
+use Rattle.std.proofs.Common.{◌≡◌, ℕ, suc, ◌+◌, ◌≤◌, Bool, true, false, cond, not, ◌&&◌, ◌||◌, eqb, ltb, List, [], ◌∷◌, ◌++◌, length, sym, refl, ap, ◌∙◌, arith, length-append}
 use mathlib.Core.Bool.{or_assoc}
 use borrow.Author.Tests.{not-false}
 use Rattle.lists.specs.Lists.{equal}
@@ -11,6 +12,7 @@ use Rattle.types.specs.Refusals.{number_of, Outcome, value, refused}
 use Rattle.types.specs.Signed.{zigzag}
 use Rattle.types.specs.declared.refusal.Refusal.{Refusal}
 use Rattle.types.proofs.Refusals.{numbered}
+use Rattle.tables.specs.declared.rows.Row.{Row}
 use Rattle.tables.specs.declared.storage.FileStorage.{FileStorage}
 use Rattle.tables.specs.declared.rows.Presence.{Presence}
 use Rattle.tables.specs.declared.rows.Presence.TheVariants.{Absent, Present}
@@ -28,7 +30,7 @@ use Rattle.additions.specs.declared.info.FileInfo.{FileInfo}
 use Rattle.additions.specs.declared.parts.PathKind.{PathKind}
 use Rattle.additions.specs.declared.parts.PathKind.TheVariants.{Single, Absolute, Inside, Outside}
 use Rattle.additions.specs.declared.parts.PathParts.{PathParts}
-use Rattle.additions.specs.Addition.{Addition, addition_of, link_is_kept, optional_of, is_present, name_after, without_leading, directory_for, stored_name, bad_name, decides, is_left_open, keeps, is_v2, with_directory_of, pad_added, directory_added, added, lacks, size_rules, name_rules, version_rules, pad_rules, adding_rules, files_of, pad_of, file_added, size_added}
+use Rattle.additions.specs.Addition.{Addition, addition_of, link_is_kept, optional_of, is_present, name_after, without_leading, directory_for, stored_name, bad_name, decides, is_left_open, keeps, is_v2, pad_directory_name, is_among, with_directory_of, pad_added, directory_added, added, lacks, size_rules, name_rules, version_rules, pad_rules, adding_rules, files_of, pad_of, file_added, size_added}
 use Rattle.additions.specs.private.Texts.{is_here, name_from, link_text_of, set_text_of, text_under, directory_at, outside_kind}
 use Rattle.additions.specs.Parts.{kind_for, name_span, parts_of}
 use Rattle.additions.specs.private.Checks.{limited_length, sizes_for, number_rules}
@@ -40,9 +42,9 @@ use Rattle.plan.specs.declared.counts.FileFacts.{FileFacts}
 use Rattle.plan.specs.declared.plan.TextSpans.{TextSpans}
 use Rattle.plan.specs.declared.plan.TextLengths.{TextLengths}
 use Rattle.plan.specs.declared.plan.AddPlan.{AddPlan}
-use Rattle.plan.specs.Write.{set_text, name_text, link_new, is_outside, text_after}
+use Rattle.plan.specs.Write.{set_text, directory_new, name_text, link_new, pad_directory_new, pad_text, new_text_of, row_of_pad, is_outside, text_kept, text_after}
 use Rattle.plan.specs.Outcomes.{lacks_places, adding_number}
-use Rattle.plan.specs.private.Steps.{dir_plan_of, pad_dir_plan_of, counts_of, short_of, places_lack, text_spans_for, dir_texts, facts_of, lengths_of, planned_beside, TextsOf}
+use Rattle.plan.specs.private.Steps.{dir_plan_of, pad_dir_plan_of, counts_of, short_of, places_lack, text_spans_of, dir_texts, facts_of, lengths_of, planned_beside, TextsOf}
 use Rattle.plan.specs.Plan.{plan_of, planned_for}
 
 -- ---- the texts
@@ -124,6 +126,33 @@ few false x = refl
 length-pads : (files : List File) (f : File) (offset pad : ℕ) → length (files ++ (f ∷ pad_added offset pad)) ≡ length files + cond (eqb pad 0) 1 2
 length-pads files f offset pad = length-append files (f ∷ pad_added offset pad) ∙ ap (λ (k : ℕ). length files + k) (few (eqb pad 0) _)
 
+-- the length of a directory's text is 0 where that is not new
+length-if-new : (t : Bool) (d : List ℕ) → unwrap_or (then_some (not t) (length (cond t [] d))) 0 ≡ length (cond t [] d)
+length-if-new true d = refl
+length-if-new false d = refl
+
+length_of_directory : (d : Directory) (ds : List (List ℕ)) → unwrap_or (dir_plan_of d ds).new 0 ≡ length (new_text_of d ds)
+length_of_directory single ds = refl
+length_of_directory absolute ds = refl
+length_of_directory (stored d outside) ds = length-if-new (is_among d ds) d
+
+length_of_pads : (t u : Bool) (d : List ℕ) → unwrap_or (then_some (not t && not u) (length d)) 0 ≡ length (cond t [] (cond u [] d))
+length_of_pads true u d = refl
+length_of_pads false true d = refl
+length_of_pads false false d = refl
+
+-- the path index of a pad's row counts only where there is a pad
+row-if-pad : (t : Bool) (r : Row)
+    → then_some (not t) (record { offset = r.offset; size = r.size; name = r.name; link = r.link; path_index = cond t 0 r.path_index; flags = r.flags; time = r.time })
+    ≡ then_some (not t) r
+row-if-pad true r = refl
+row-if-pad false r = refl
+
+-- what is made of a value that is there by a test
+map-then_some : {A B : Type 0} (f : A → B) (t : Bool) (x : A) → option_map f (then_some t x) ≡ then_some t (f x)
+map-then_some f true x = refl
+map-then_some f false x = refl
+
 module _ (fs : FileStorage) (name : List ℕ) (files : List File) (ds : List (List ℕ)) (e : length files ≡ fs.num_files) (a : Addition) where
   abbrev m : Model
   m = seen fs name files ds
@@ -141,7 +170,9 @@ module _ (fs : FileStorage) (name : List ℕ) (files : List File) (ds : List (Li
   lengths = record { set_name = length (set_text m a); name = length (name_text m a); link = length (link_new m a) }
 
   abbrev spans : TextSpans
-  spans = text_spans_for fs sizes first second lengths
+  spans =
+      text_spans_of (text_kept fs)
+      lengths.set_name (length (directory_new m a)) lengths.name lengths.link (length (pad_directory_new m a)) (length (pad_text m a))
 
   abbrev facts : FileFacts
   facts = record { flags = a.flags; keeps_link = keeps m a; has_root = is_present a.root; time = zigzag a.time }
@@ -173,6 +204,14 @@ module _ (fs : FileStorage) (name : List ℕ) (files : List File) (ds : List (Li
 
   pub sizes-are : sizes_for fs a.size a.link (is_present a.root) ≡ sizes
   sizes-are = rw e
+
+  -- the plan by these numbers is the one by the public definitions
+  pub planned-is : (rooms : Rooms)
+      → planned_beside fs rooms ds sizes facts (is_outside (directory_added m a)) (directory_added m a) lengths parts
+      ≡ outcome_of (cond (short_of rooms counts.num_files second.count || ltb rooms.text spans.end) 10 0) (plan_of fs m a)
+  planned-is rooms =
+      rw (length_of_directory (directory_added m a) ds, length_of_pads (eqb (pad_of m a) 0) (is_among pad_directory_name (with_directory_of (directory_added m a) ds)) pad_directory_name, row-if-pad (eqb (pad_of m a) 0) (row_of_pad fs m a))
+      (simp map-then_some)
 
   -- room is lacking where a count or the text's end passes it
   pub room-is : (rooms : Rooms)
@@ -283,7 +322,8 @@ module _ (s : Store) (a : Addition) where
 
       decided-is : decided sizes_seen facts_seen (is_outside directory) directory (lengths_for (set_text (view_of s) a) (name_text (view_of s) a) (link_new (view_of s) a)) parts_seen ≡ result
       decided-is =
-          ap (λ (t : Bool). outcome_of (cond t 10 0) (plan_of s.fs (view_of s) a))
+          planned-is s.fs (text_at s.text s.fs.name) (tabled s.fs.num_files (file_of s)) dirs count a (rooms_of s)
+          ∙ ap (λ (t : Bool). outcome_of (cond t 10 0) (plan_of s.fs (view_of s) a))
           (sym (room-is s.fs (text_at s.text s.fs.name) (tabled s.fs.num_files (file_of s)) dirs count a (rooms_of s)))
           ∙ ap (λ (n : ℕ). outcome_of n (plan_of s.fs (view_of s) a)) (sym number-held)
 

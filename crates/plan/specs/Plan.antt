@@ -1,36 +1,25 @@
 -- What an addition's plan is, by the definitions of Write.antt and Outcomes.antt on what the tables mean.
-use Rattle.std.specs.Prelude.{◌+◌, cond, length, ◌==◌}
+use Rattle.std.specs.Prelude.{not, length, ◌==◌}
 use Rattle.std.specs.Bool.{then_some}
 use Rattle.types.specs.Refusals.{Outcome}
 use Rattle.tables.specs.declared.storage.FileStorage.{FileStorage}
-use Rattle.tables.specs.Rows.{made_pad_flags}
 use Rattle.tables.specs.Model.{Model, Store, view_of}
 use Rattle.rules.specs.Rules.{outcome_of}
-use Rattle.additions.specs.Addition.{Addition, pad_directory_name, with_directory_of, size_added, pad_of, directory_added}
+use Rattle.additions.specs.Addition.{Addition, with_directory_of, pad_of, directory_added}
 use Rattle.additions.specs.Parts.{parts_of}
 use Rattle.plan.specs.declared.plan.AddPlan.{AddPlan}
-use Rattle.plan.specs.Write.{directory_index, is_new_directory, is_new_pad, directory_new, pad_text, old_name, text_kept}
-use Rattle.plan.specs.Write.{directory_start, pad_directory_start, pad_name_start, text_after, storage_added, row_added}
+use Rattle.plan.specs.Write.{is_new_directory, is_new_pad, directory_new, old_name, text_kept}
+use Rattle.plan.specs.Write.{directory_start, pad_directory_start, storage_added, row_added, row_of_pad}
 use Rattle.plan.specs.Outcomes.{adding_number}
 
--- the plan by the public definitions; without a pad, its row has path index 0
+-- the plan by the public definitions
 abbrev pub plan_of : FileStorage → Model → Addition → AddPlan
 plan_of fs m a =
     record {
       before = fs;
       after = storage_added fs m a;
       row = row_added fs m a;
-      pad_row = record {
-        offset = fs.total_size + size_added a;
-        size = pad_of m a;
-        name = record { at = pad_name_start fs m a; len = length (pad_text m a) };
-        link = record { at = text_after fs m a; len = 0 };
-        path_index =
-            cond (pad_of m a == 0) 0
-            (directory_index pad_directory_name (with_directory_of (directory_added m a) m.directories));
-        flags = made_pad_flags;
-        time = 0;
-      };
+      pad_row = then_some (not (pad_of m a == 0)) (row_of_pad fs m a);
       dir =
           then_some (is_new_directory (directory_added m a) m.directories)
           (record {

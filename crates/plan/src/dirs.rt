@@ -3,7 +3,7 @@
 ghost use Rattle.std.specs.Prelude.{◌≡◌, ℕ, ◌+◌, ◌/◌, ◌<◌, ◌≤◌, false, ◌&&◌, length, IfSome, unwrap_or};
 ghost use Rattle.lists.specs.Lists.{equal};
 ghost use Rattle.tables.specs.Span.{text_at};
-ghost use Rattle.tables.specs.Rows.{dir_at, dir_width};
+ghost use Rattle.tables.specs.Rows.{dir_width};
 ghost use Rattle.tables.specs.Model.{stored};
 ghost use Rattle.rules.specs.Bounds.{max_entries};
 ghost use Rattle.additions.specs.Addition.{pad_directory_name};
@@ -15,14 +15,11 @@ ghost use Rattle.plan.specs.private.Steps.{known_at, added_at};
 use additions::PathKind;
 use tables::{DIR_WIDTH, Span};
 
-// The path index of a directory, whether it is new, the length of its new text, and how many
-// directories there are with it.
-// Stays: the length is a term of sums, 0 where the directory is not new; an `Option` would need `unwrap_or(0)` there.
+// The path index of a directory, the length of its text where it is new, and how many directories there are with it.
 #[derive(Drop)]
 pub(crate) struct DirPlan {
     pub index: u64,
-    pub new: bool,
-    pub len: usize,
+    pub new: Option<usize>,
     pub count: usize,
 }
 
@@ -33,8 +30,7 @@ impl DirPlan {
     {
         DirPlan {
             index,
-            new: false,
-            len: 0,
+            new: None,
             count,
         }
     }
@@ -46,8 +42,7 @@ impl DirPlan {
     {
         DirPlan {
             index: count as u64,
-            new: true,
-            len,
+            new: Some(len),
             count: count + 1,
         }
     }
@@ -65,32 +60,20 @@ fn is_text(text: &[u8], s: Span, dir: &[u8]) -> bool
     lists::same(dir, tables::text_at(text, s))
 }
 
-// Directory row i, without a test of the length, as the table holds it whole.
-// Stays: tried, with `tables::dir_at`, which tests for the row, a search over 1000 directories takes 1.6 µs, and with
-// this 1.3.
-fn whole_row(dirs: &[u64], i: usize) -> Span
-    requires { i < length dirs.now / dir_width }
-    ensures { result ≡ dir_at dirs.now i }
-{
-    Span {
-        at: dirs[i * DIR_WIDTH] as usize,
-        len: dirs[i * DIR_WIDTH + 1] as usize,
-    }
-}
-
 // The index of the last of the first m directories whose text is `dir`.
-#[tactic(auto, using(crate::proofs::Directories::searching))]
 fn find_among(dirs: &[u64], text: &[u8], m: usize, dir: &[u8]) -> Option<usize>
     requires { m ≤ length dirs.now / dir_width }
     ensures bound { IfSome result (λ k. k < m) }
     ensures value { (n : ℕ) → unwrap_or result n ≡ directory_index_from n 0 dir.now (dir_texts dirs.now text.now m) }
 {
-    for i in (0..m).rev() {
-        if is_text(text, whole_row(dirs, i), dir) {
-            return Some(i);
-        }
-    }
-    None
+    let (rows, _) = dirs.as_chunks::<DIR_WIDTH>();
+    rows[..m].iter().rposition(|&[at, len]| {
+        let s = Span {
+            at: at as usize,
+            len: len as usize,
+        };
+        is_text(text, s, dir)
+    })
 }
 
 // Whether a file's new directory is the pads' own.
@@ -111,7 +94,8 @@ pub(crate) struct Stored<'a> {
 
 impl Stored<'_> {
     // The index of the last directory whose text is `dir`; rows past the table's end have the empty text and are not
-    // looked at.
+    // looked at. It is a call of its own: taken into an addition, its loop finds few registers free.
+    #[inline(never)]
     fn find(&self, dir: &[u8]) -> Option<usize>
         ensures bound { IfSome result (λ k. k < self.now.count) }
         ensures value { unwrap_or result self.now.count

@@ -155,7 +155,8 @@ fn map_block(question: Question<'_>) -> io::Result<()> {
     let Some((piece, offset, size)) = block_in(line) else {
         return replies::bad_call(out);
     };
-    // Stays: `blocks::map_block_core` fills columns, which the C interface lends.
+    // Stays: of the two that give a block's slices, this program tests `blocks::map_block_core`, which fills three
+    // columns; `mapping::map_block` fills a table of records.
     let mut files = [0u64; COLUMN];
     let mut offsets = [0u64; COLUMN];
     let mut sizes = [0u64; COLUMN];

@@ -2,9 +2,10 @@
 // `names` and `path` for joins and on the laws of proofs/Paths.antt.
 ghost use Rattle.std.specs.Prelude.{◌&&◌, ◌≡◌};
 ghost use Rattle.types.specs.Refusals.{outcome};
+ghost use Rattle.path.specs.Join.{joined_says};
 ghost use Rattle.rules.specs.Questions.{file_answer};
 ghost use Rattle.rules.specs.Composed.{composed_if};
-ghost use Rattle.names.specs.Paths.{path_written, names_held};
+ghost use Rattle.names.specs.Paths.{names_held};
 ghost use Rattle.renames.specs.Renames.{in_order};
 ghost use Rattle.renames.specs.Finding.{rename_found};
 ghost use Rattle.renamed.specs.Questions.{path_by, path_into};
@@ -40,7 +41,7 @@ fn put_renamed(
     name: &[u8],
     buf: &mut [u8],
 ) -> Result<usize, Refusal>
-    ensures { path_written result buf.new
+    ensures { joined_says result buf.new
         ≡ composed_if 0 (path_by mode save_path.now set.now name.now)
         buf.old }
 {
@@ -66,7 +67,7 @@ pub fn file_path(
     save_path: &[u8],
     buf: &mut [u8],
 ) -> Result<usize, Refusal>
-    ensures { path_written result buf.new
+    ensures { joined_says result buf.new
         ≡ path_into fs rows.now dirs.now text.now renames
         rename_entries.now rename_text.now index.0 save_path.now
         buf.old }

@@ -2,6 +2,7 @@
 -- `rules`.
 pub mod Ordered
 pub mod Slots
+pub mod Chunks
 pub mod Used
 pub mod Splices
 pub mod Readings

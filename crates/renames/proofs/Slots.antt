@@ -1,47 +1,15 @@
 -- Laws of a rename's slot: how the scans go from entry to entry, and the bounds of what they give. They rely on the
 -- definitions of specs/Finding.antt and specs/private/Slots.antt.
-use Prim.Native.Nat.{ℕ, zero, suc, ◌+◌, ◌-◌, ◌*◌, ◌≤◌, ◌<◌}
+use Prim.Native.Nat.{ℕ, zero, suc, ◌+◌, ◌-◌, ◌*◌, ◌≤◌}
 use mathlib.Core.Path.{◌≡◌, refl, ap, ◌∙◌}
 use mathlib.Core.Bool.{Bool, true, false, cond, ◌&&◌}
 use mathlib.Core.List.{List}
 use native.Mathlib.Omega.{arith}
-use borrow.Author.Tests.{lt-ltb, le-ltb, ltb-true}
+use borrow.Author.Tests.{ltb-true}
 use lib.Dec.{eqb, ltb}
 use lib.ListN.{get_or}
 use Rattle.renames.specs.Finding.{below_from, bytes_from, entry_is_named}
 use Rattle.renames.specs.private.Slots.{same_at, old_at}
-
--- one entry of the search: it goes on, or stops; and the end
-module _ (n i k : ℕ) (e : List ℕ) where
-  pub below_turn : i < n → get_or e (i * 3) 0 < k → below_from (n - i) i k e ≡ below_from (n - (i + 1)) (i + 1) k e + 1
-  unfolding below_from
-  below_turn h g =
-      let m : n - i ≡ suc (n - (i + 1)) = omega arith in
-      rw (m, lt-ltb (get_or e (i * 3) 0) k g)
-
-  pub below_stop : i < n → k ≤ get_or e (i * 3) 0 → below_from (n - i) i k e ≡ 0
-  unfolding below_from
-  below_stop h g =
-      let m : n - i ≡ suc (n - (i + 1)) = omega arith in
-      rw (m, le-ltb (get_or e (i * 3) 0) k g)
-
-  pub below_end : n ≤ i → below_from (n - i) i k e ≡ 0
-  unfolding below_from
-  below_end h = let m : n - i ≡ 0 = omega arith in rw m
-
-pub ruleset below = (below_turn, below_stop, below_end)
-
--- one entry of the sum, and its end
-module _ (n i : ℕ) (e : List ℕ) where
-  pub bytes_turn : i < n → bytes_from (n - i) i e ≡ get_or e (i * 3 + 2) 0 + bytes_from (n - (i + 1)) (i + 1) e
-  unfolding bytes_from
-  bytes_turn h = let m : n - i ≡ suc (n - (i + 1)) = omega arith in rw m
-
-  pub bytes_end : n ≤ i → bytes_from (n - i) i e ≡ 0
-  unfolding bytes_from
-  bytes_end h = let m : n - i ≡ 0 = omega arith in rw m
-
-pub ruleset bytes = (bytes_turn, bytes_end)
 
 -- the slot is one of n, or the end
 below_step : (b : Bool) (n m : ℕ) → m ≤ n → cond b (m + 1) 0 ≤ suc n

@@ -27,7 +27,7 @@ fn is_short(renames: RenamedFiles, p: Slot, words: usize, room: usize, len: usiz
 }
 
 // The slot of a rename whose text has `len` bytes, or why the rename is refused; `room` is the length of the text area.
-// Stays: neither is a length of `entries`; the text area is lent for writing, so its length alone comes here.
+// Stays: `room` and `len` are the lengths of the text area and of the new text, of which no byte is read.
 #[tactic(auto, using(crate::proofs::Decisions::orders, crate::proofs::Used::in_use))]
 fn slot_in(
     fs: FileStorage,

@@ -14,17 +14,17 @@ fn is_entry_in_order(file: u64, mode: u64, len: u64, least: u64, left: usize) ->
 }
 
 // Whether the entries in use are in order and their texts have `len` bytes together.
-// Stays: `len` counts bytes of the texts, and no entries; `chunks_exact(3)` is no plainer, as for `bytes_of`.
+// Stays: `len` counts bytes of the texts, and no entries.
 #[tactic(auto, using(crate::proofs::Ordered::turns))]
 fn are_in_order(entries: &[u64], len: usize) -> bool
     ensures { result ≡ ordered_from (length entries.now / 3) 0 0 len entries.now }
 {
     let mut least: u64 = 0;
     let mut left = len;
-    for i in 0..entries.len() / 3 {
-        let file = entries[i * 3];
-        let size = entries[i * 3 + 2];
-        if !is_entry_in_order(file, entries[i * 3 + 1], size, least, left) {
+    for entry in entries.chunks_exact(3) {
+        let file = entry[0];
+        let size = entry[2];
+        if !is_entry_in_order(file, entry[1], size, least, left) {
             return false;
         }
         least = file + 1;
@@ -34,7 +34,7 @@ fn are_in_order(entries: &[u64], len: usize) -> bool
 }
 
 // Whether the lent tables hold what the record counts, in order; `room` is the length of the text area.
-// Stays: nothing else of the text area is read, so a caller may hold it lent for writing.
+// Stays: no byte of the text area is read, so its length alone is asked for.
 #[tactic(auto, using(crate::proofs::Used::in_use))]
 pub fn is_in_order(renames: RenamedFiles, entries: &[u64], room: usize) -> bool
     ensures { result ≡ in_order_in renames entries.now room }

@@ -1,12 +1,13 @@
 // The slot of a file's rename in the lent tables: where it stands, or would stand. Relies on the total accessors of
-// `lists` and on the laws of proofs/Slots.antt and proofs/Used.antt.
+// `lists` and on the laws of proofs/Chunks.antt, proofs/Slots.antt and proofs/Used.antt.
 ghost use Rattle.std.specs.Prelude.{◌≡◌, ◌*◌, ◌/◌, ◌≤◌, ◌<◌, ◌^◌, length, get_or};
 ghost use Rattle.renames.specs.Finding.{below_from, bytes_from, entry_is_named};
 ghost use Rattle.renames.specs.private.Slots.{slot_at, slot_of};
 
 // The entry of a rename, the number of entries that it has already (one or none), the position of its text, and the
 // bytes of text that it has already.
-// Stays: `same` is a count that the sums take; an `Option` of the old bytes would be unwrapped in each of them.
+// Stays: `same` and `old` are taken off the counts of entries and of bytes, and multiplied; with an `Option` of the old
+// bytes, each of these sums would first turn it into the two numbers.
 #[derive(Clone, Copy)]
 pub(crate) struct Slot {
     pub entry: usize,
@@ -15,36 +16,28 @@ pub(crate) struct Slot {
     pub old: usize,
 }
 
-// How many of the entries in use stand before the first whose number is `file` or above.
-// Stays: document 01 says that a scan will do; the number of an entry is what is asked for.
-#[tactic(auto, using(crate::proofs::Slots::below))]
+// How many of the entries in use stand before the first whose number is `file` or above. Document 01 says that a scan
+// will do.
 fn entries_below(entries: &[u64], file: u64) -> usize
     ensures { result ≡ below_from (length entries.now / 3) 0 file entries.now }
 {
-    for i in 0..entries.len() / 3 {
-        if file <= entries[i * 3] {
-            return i;
-        }
-    }
-    entries.len() / 3
+    entries
+        .chunks_exact(3)
+        .position(|entry| file <= entry[0])
+        .unwrap_or(entries.len() / 3)
 }
 
 // The bytes of text that entries have together.
-// Stays: tried, over `chunks_exact(3)` the loop has to say which chunks are left, and that is longer than the number.
-#[tactic(auto, using(crate::proofs::Slots::bytes))]
 pub(crate) fn bytes_of(entries: &[u64]) -> usize
     requires { bytes_from (length entries.now / 3) 0 entries.now < 2 ^ 64 }
     ensures { result ≡ bytes_from (length entries.now / 3) 0 entries.now }
 {
-    let mut sum: usize = 0;
-    for i in 0..entries.len() / 3 {
-        sum += entries[i * 3 + 2] as usize;
-    }
-    sum
+    entries.chunks_exact(3).map(|entry| entry[2] as usize).sum()
 }
 
 // The number of entry i, 0 past the end.
-// Stays: it reads one word of the table as it stands; nothing is converted.
+// Stays: it converts no number. It reads the word at 3 i, also that of a last entry that is cut off, which
+// `chunks_exact` passes over; the test keeps 3 i from overflow.
 fn number_at(entries: &[u64], i: usize) -> u64
     ensures { result ≡ get_or entries.now (i * 3) 0 }
 {
@@ -56,7 +49,8 @@ fn number_at(entries: &[u64], i: usize) -> u64
 }
 
 // Whether entry i is one of n, and has the number `file`.
-// Stays: n may pass the table's end, where no slice of n entries can be lent.
+// Stays: the merge of a list has the table lent for writing, with `total` entries in use. Were it asked of a slice of
+// these, the merge's clauses would speak of the table's first words where they speak of the table.
 pub fn is_named(entries: &[u64], n: usize, file: u64, i: usize) -> bool
     ensures { result ≡ entry_is_named n file i entries.now }
 {

@@ -10,7 +10,8 @@ use tables::FileStorage;
 use types::Refusal;
 
 // The number of slices of a block, and the slices, which stand at the start of three columns: `file:offset:size`.
-// Stays: `blocks::map_block_core` fills columns, which the C interface lends.
+// Stays: of the two that give a block's slices, the program tests `blocks::map_block_core`, which fills three columns;
+// `mapping::map_block` fills a table of records.
 pub fn slices(
     out: Stdout,
     res: Result<usize, Refusal>,

@@ -9,16 +9,20 @@ use types::{
 };
 
 // What an answer holds; each part of it is put after a blank.
+// Stays: std's `Display` says how a value looks by itself: a number has no blank before it there, and a `bool` is a
+// word where an answer has 1 or 0; a pair, and a record of another crate, could have no impl of it here.
 pub trait Shown: Drop {
     fn put(self, reply: &mut Reply) -> io::Result<()>;
 }
 
+// Stays: each type of number needs its own; one impl over `Display` would overlap with the records' impls.
 impl Shown for u64 {
     fn put(self, reply: &mut Reply) -> io::Result<()> {
         write!(reply, " {self}")
     }
 }
 
+// Stays: each type of number needs its own; one impl over `Display` would overlap with the records' impls.
 impl Shown for i64 {
     fn put(self, reply: &mut Reply) -> io::Result<()> {
         write!(reply, " {self}")
@@ -67,12 +71,14 @@ impl Shown for bool {
     }
 }
 
+// Stays: document 01 asks for a tuple struct for each kind of index.
 impl Shown for PieceIndex {
     fn put(self, reply: &mut Reply) -> io::Result<()> {
         self.0.put(reply)
     }
 }
 
+// Stays: document 01 asks for a tuple struct for each kind of index.
 impl Shown for FileIndex {
     fn put(self, reply: &mut Reply) -> io::Result<()> {
         self.0.put(reply)

@@ -1,15 +1,15 @@
 -- Laws of a path as frames: how long it is, where its bytes stand, and what is left of it behind its front frame. They
--- rely on the kit's laws of lists and on proofs/Bytes.antt.
-use Prim.Native.Nat.{ℕ, zero, suc, ◌+◌, ◌-◌, ◌/◌, ◌%◌, ◌≤◌, ◌<◌}
+-- rely on the kit's laws of lists.
+use Prim.Native.Nat.{ℕ, zero, suc, ◌+◌, ◌-◌, ◌%◌, ◌≤◌, ◌<◌}
 use mathlib.Core.Path.{◌≡◌, refl, sym, ap, ◌∙◌}
-use mathlib.Core.List.{List, [], ◌++◌}
+use mathlib.Core.List.{List, [], ◌∷◌, ◌++◌}
 use native.Mathlib.Omega.{arith}
+use native.Mathlib.Numerals.{add-one}
 use borrow.Author.Tests.{lt-ltb, le-ltb}
 use lib.ListN.{length, get_or, drop, replicate, length-append, length-replicate, get_or-replicate, get_or-append}
-use lib.Seq.{drop-append-add, get_or-drop}
-use Rattle.rope.specs.Rope.{kind, start, unused, segment, flat, place_in}
+use lib.Seq.{drop-append-add, drop-cons, get_or-append-add}
+use Rattle.rope.specs.Rope.{kind, unused, segment, flat, place_in}
 use Rattle.rope.specs.declared.place.Place.{Place}
-use Rattle.rope.proofs.Bytes.{get_or-right}
 
 module _ (t : ℕ → List ℕ) (frames : List ℕ) where
   -- a frame: its text's rest, and then a separator or none
@@ -19,18 +19,19 @@ module _ (t : ℕ → List ℕ) (frames : List ℕ) where
       length-append (unused t frames k) (replicate (kind frames k % 2) 47)
       ∙ ap (λ (m : ℕ). length (unused t frames k) + m) (length-replicate (kind frames k % 2) 47)
 
-  -- a byte of it, read from its text, or the separator behind that
-  pub segment_text : (k j from v : ℕ) → from ≡ start frames k → v ≡ kind frames k / 2 → j < length (unused t frames k) → get_or (t v) (from + j) 0 ≡ get_or (segment t frames k) j 0
+  -- a byte of it, of its text or the separator behind that
+  segment-text : (k j : ℕ) → j < length (unused t frames k) → get_or (segment t frames k) j 0 ≡ get_or (unused t frames k) j 0
   unfolding segment
-  segment_text k j from v p q h =
-      rw (p, q) (sym (get_or-drop (start frames k) (t (kind frames k / 2)) j 0)
-      ∙ sym (get_or-append (unused t frames k) (replicate (kind frames k % 2) 47) 0 j h))
+  segment-text k j l = get_or-append (unused t frames k) (replicate (kind frames k % 2) 47) 0 j l
 
-  pub segment_mark : (k j : ℕ) → length (unused t frames k) ≤ j → j < length (segment t frames k) → 47 ≡ get_or (segment t frames k) j 0
+  segment-mark : (k j : ℕ) → length (unused t frames k) ≤ j → j < length (segment t frames k) → get_or (segment t frames k) j 0 ≡ 47
   unfolding segment
-  segment_mark k j h l =
-      sym (get_or-right (unused t frames k) (replicate (kind frames k % 2) 47) j h
-      ∙ get_or-replicate (kind frames k % 2) (j - length (unused t frames k)) 47 0 (omega (arith, segment-length k)))
+  segment-mark k j h l =
+      let m : kind frames k % 2 < 2 = omega arith in
+      let e : length (unused t frames k) + 0 ≡ j = omega (arith, segment-length k, m) in
+      ap (λ (i : ℕ). get_or (segment t frames k) i 0) (sym e)
+      ∙ get_or-append-add (unused t frames k) (replicate (kind frames k % 2) 47) 0 0
+      ∙ get_or-replicate (kind frames k % 2) 0 47 0 (omega (arith, segment-length k))
 
   -- the path: the front frame, and then the path of the others
   pub flat_step : (k : ℕ) → 0 < k → segment t frames (k - 1) ++ flat t frames (k - 1) ≡ flat t frames k
@@ -46,7 +47,7 @@ module _ (t : ℕ → List ℕ) (frames : List ℕ) where
   pub flat-long : (k : ℕ) → 0 < k → length (segment t frames (k - 1)) ≤ length (flat t frames k)
   flat-long k h = omega (arith, ap length (flat_step k h), length-append (segment t frames (k - 1)) (flat t frames (k - 1)))
 
-  pub flat_here : (k at : ℕ) → 0 < k → at < length (segment t frames (k - 1)) → get_or (segment t frames (k - 1)) at 0 ≡ get_or (flat t frames k) at 0
+  flat_here : (k at : ℕ) → 0 < k → at < length (segment t frames (k - 1)) → get_or (segment t frames (k - 1)) at 0 ≡ get_or (flat t frames k) at 0
   flat_here k at h l =
       sym (get_or-append (segment t frames (k - 1)) (flat t frames (k - 1)) 0 at l)
       ∙ ap (λ (x : List ℕ). get_or x at 0) (flat_step k h)
@@ -88,6 +89,24 @@ module _ (t : ℕ → List ℕ) (frames : List ℕ) where
       sym (drop-append-add (segment t frames (k - 1)) (flat t frames (k - 1)) (at - n - m))
       ∙ ap (λ (i : ℕ). drop i (segment t frames (k - 1) ++ flat t frames (k - 1))) e
       ∙ ap (drop at) (flat_step k h)
+
+-- the byte at a place in the front frame, and what is left behind it
+module _ (t : ℕ → List ℕ) (frames : List ℕ) (k at : ℕ) (h : 0 < k) where
+  byte-here : at < length (segment t frames (k - 1)) → drop at (flat t frames k) ≡ get_or (segment t frames (k - 1)) at 0 ∷ drop (at + 1) (flat t frames k)
+  byte-here l =
+      let m : at < length (flat t frames k) = omega (arith, flat-long t frames k h) in
+      rw (add-one, flat_here t frames k at h l) (drop-cons (flat t frames k) at 0 m)
+
+  -- where its text has a byte left, that one; else the separator, and with that the frame is passed
+  pub text_here : at < length (unused t frames (k - 1)) → drop at (flat t frames k) ≡ get_or (unused t frames (k - 1)) at 0 ∷ drop (at + 1) (flat t frames k)
+  text_here l = byte-here (omega (arith, segment-length t frames (k - 1))) ∙ ap (λ (b : ℕ). b ∷ drop (at + 1) (flat t frames k)) (segment-text t frames (k - 1) at l)
+
+  pub mark_here : length (unused t frames (k - 1)) ≤ at → at < length (segment t frames (k - 1)) → drop at (flat t frames k) ≡ 47 ∷ flat t frames (k - 1)
+  mark_here l n =
+      let s = segment-length t frames (k - 1) in
+      let z : at + 1 - length (unused t frames (k - 1)) - kind frames (k - 1) % 2 ≡ 0 = omega (arith, s) in
+      byte-here n
+      ∙ rw (segment-mark t frames (k - 1) at l n, ← flat_dropped t frames k (at + 1) (length (unused t frames (k - 1))) (kind frames (k - 1) % 2) h refl refl (omega (arith, s)), z)
 
 -- what a walk through frames needs, turn by turn and where it stops
 pub ruleset walking = (flat_dropped, place_on, place_here, place_none)

@@ -10,6 +10,7 @@ use Rattle.lookup.specs.private.Rows.{row_text, row_branch}
 use Rattle.tables.specs.declared.lent.Lent.{Lent}
 use Rattle.rope.specs.declared.frame.Path.{Path}
 use Rattle.rope.specs.declared.place.Place.{Place}
+use Rattle.rope.specs.declared.bytes.Bytes.{Bytes}
 
 -- ---- the texts by which links lead
 
@@ -72,6 +73,10 @@ held_to p k = held_path p.lent.rows.now p.lent.dirs.now p.lent.text.now p.frames
 
 abbrev pub held : Path → List ℕ
 held p = held_to p p.depth
+
+-- what is left of the bytes from a place on
+abbrev pub bytes_left : Bytes → List ℕ
+bytes_left b = drop b.from.at (held_to b.path b.from.k)
 
 -- a place where a byte stands, in its front frame, unless no frame is left there
 pub record Stands (p : Path) (q : Place) : Type 0 where

@@ -1,7 +1,7 @@
 // A path as frames hold it, and one frame of it: which text it is, how much of it is left, and the bytes of that. They
 // rely on lead.rt.
 ghost use Rattle.std.specs.Prelude.{◌≡◌, ◌+◌, ◌/◌, ◌%◌, ◌^◌, ◌<◌, ltb, length, get_or};
-ghost use Rattle.rope.specs.Rope.{texts_of, kind, start, unused, segment};
+ghost use Rattle.rope.specs.Rope.{texts_of, kind, start, unused};
 
 use crate::lead::{lead_byte, lead_length};
 use tables::Lent;
@@ -72,16 +72,13 @@ impl Path<'_> {
         n.saturating_sub(start_in(self.frames, k))
     }
 
-    // Byte j of frame k: of the text, or the separator after it.
-    #[tactic(auto, using(crate::proofs::Flat::segment_text, crate::proofs::Flat::segment_mark))]
-    pub(crate) fn frame_byte(self, k: u32, j: usize) -> u8
-        requires { j < length (segment (texts_of self.lent) self.frames.now k) }
-        ensures { result ≡ get_or (segment (texts_of self.entry.lent) self.entry.frames.now k) j 0 }
+    // Byte j of the unused part of frame k's text.
+    pub(crate) fn unused_byte(self, k: u32, j: usize) -> u8
+        requires { (j < length (unused (texts_of self.lent) self.frames.now k))
+            × (start self.frames.now k + j < 2 ^ 64) }
+        ensures { result ≡ get_or (unused (texts_of self.entry.lent) self.entry.frames.now k) j 0 }
     {
-        if j < self.text_left(k) {
-            let from = start_in(self.frames, k);
-            return lead_byte(self.lent, lead_in(self.frames, k), from + j);
-        }
-        b'/'
+        let from = start_in(self.frames, k);
+        lead_byte(self.lent, lead_in(self.frames, k), from + j)
     }
 }

@@ -2,11 +2,13 @@
 // Relies on `tables` and `lookup` for what a row says of a link, and on `path` and `lists` for paths.
 #![tactic(auto)]
 
+mod bytes;
 mod frame;
 mod lead;
 mod part;
 mod place;
 
+pub use bytes::Bytes;
 pub use frame::{FRAME_WIDTH, Path, is_in, start_in, tail_in};
 pub use lead::{lead_byte, lead_length};
 pub use place::Place;

@@ -1,5 +1,5 @@
-// Whether the first bytes of a path are a file's path, or a directory's. They rely on place.rt and the laws of
-// proofs/Places.antt and proofs/Fronting.antt.
+// Whether the first bytes of a path are a file's path, or a directory's. They rely on bytes.rt and the laws of
+// proofs/Comparing.antt and proofs/Fronting.antt.
 ghost use Rattle.std.specs.Prelude.{◌≡◌, [], drop};
 ghost use Rattle.path.specs.Join.{appended};
 ghost use Rattle.tables.specs.Rows.{row_at};
@@ -9,7 +9,6 @@ ghost use Rattle.rope.specs.Rope.{held, is_front, covers_front};
 
 use crate::frame::Path;
 use crate::lead::joined_byte;
-use crate::place::Place;
 
 // Whether the directory d ends at place e, or has a separator there.
 fn is_end(d: &[u8], e: usize) -> bool
@@ -19,33 +18,14 @@ fn is_end(d: &[u8], e: usize) -> bool
 }
 
 impl Path<'_> {
-    // Whether a directory and a name joined are the first e bytes of the path: the lengths first, then byte by byte, on
-    // from the place of the byte before.
-    #[tactic(auto, using(crate::proofs::Standing::has_none, crate::proofs::Fronting::front_short))]
+    // Whether a directory and a name joined are the first e bytes of the path: the lengths first, then byte by byte.
     fn is_joined(self, d: &[u8], n: &[u8], e: usize) -> bool
         ensures { result ≡ is_front (appended d.now n.now) (held self.entry) e }
     {
-        if path::joined_length(d, n) != e {
-            return false;
-        }
-        let mut next = Place {
-            k: self.depth,
-            at: 0,
-        };
-        for i in 0..e {
-            let p = self.seek_from(next);
-            if p.k == 0 {
-                return false;
-            }
-            if joined_byte(d, n, i) != self.standing_byte(p) {
-                return false;
-            }
-            next = Place {
-                k: p.k,
-                at: p.at + 1,
-            };
-        }
-        true
+        path::joined_length(d, n) == e
+            && (0..e)
+                .map(|i| joined_byte(d, n, i))
+                .eq(self.bytes_from(0).take(e))
     }
 
     // Whether the path has e bytes and the directory d covers them.

@@ -1,7 +1,7 @@
-// The path that frames hold, byte by byte. It relies on frame.rt and the laws of proofs/Flat.antt and
+// Where the bytes of a path stand in its frames. It relies on frame.rt and the laws of proofs/Flat.antt and
 // proofs/Standing.antt.
-ghost use Rattle.std.specs.Prelude.{◌≡◌, ◌≤◌, ltb, length, get_or, drop};
-ghost use Rattle.rope.specs.Rope.{texts_of, place_in, held, held_to, Stands};
+ghost use Rattle.std.specs.Prelude.{◌≡◌, ◌-◌, ◌<◌, ◌≤◌, ltb, length, get_or, drop};
+ghost use Rattle.rope.specs.Rope.{texts_of, unused, place_in, held, held_to, Stands};
 
 use crate::frame::{Path, is_in, tail_in};
 
@@ -13,27 +13,29 @@ pub struct Place {
 }
 
 impl Path<'_> {
-    // The place, in a frame that isn't passed whole, of what stands from another place on. Past the path's end no frame
-    // is left.
+    // The place, in a frame that isn't passed whole, of what stands from another place on, and how many bytes are left of
+    // that frame's text. Past the path's end no frame is left.
     #[tactic(auto, using(crate::proofs::Flat::walking))]
-    pub fn seek_from(self, from: Place) -> Place
-        ensures k_value { drop result.at (held_to self.entry result.k)
+    pub(crate) fn seek_from(self, from: Place) -> (Place, usize)
+        ensures k_value { drop result.0.at (held_to self.entry result.0.k)
             ≡ drop from.at (held_to self.entry from.k) }
-        ensures k_le_depth { (result.k ≤ from.k)
-            × (result.at ≤ from.at)
-            × (result ≡ place_in (texts_of self.entry.lent) self.entry.frames.now from.k from.at) }
-        ensures in_frame { Stands self.entry result }
+        ensures k_le_depth { (result.0.k ≤ from.k)
+            × (result.0.at ≤ from.at)
+            × (result.0 ≡ place_in (texts_of self.entry.lent) self.entry.frames.now from.k from.at) }
+        ensures in_frame { Stands self.entry result.0 }
+        ensures left { 0 < result.0.k
+            → result.1 ≡ length (unused (texts_of self.entry.lent) self.entry.frames.now (result.0.k - 1)) }
     {
         let mut at = from.at;
         for k in (0..from.k).rev() {
             let n = self.text_left(k);
             let t = tail_in(self.frames, k);
             if is_in(at, n, t) {
-                return Place { k: k + 1, at };
+                return (Place { k: k + 1, at }, n);
             }
             at = at - n - t;
         }
-        Place { k: 0, at }
+        (Place { k: 0, at }, 0)
     }
 
     // The place of byte j. What stands from there on is what stands from byte j on.
@@ -45,10 +47,11 @@ impl Path<'_> {
             ≡ place_in (texts_of self.entry.lent) self.entry.frames.now self.entry.depth j) }
         ensures in_frame { Stands self.entry result }
     {
-        self.seek_from(Place {
+        let from = Place {
             k: self.depth,
             at: j,
-        })
+        };
+        self.seek_from(from).0
     }
 
     // Whether the path has a byte j: a test and no sum, which could overflow.
@@ -59,30 +62,10 @@ impl Path<'_> {
         self.seek(j).k != 0
     }
 
-    // The byte at a place where one stands, 0 where no frame is left.
-    #[tactic(auto, using(crate::proofs::Flat::flat_none, crate::proofs::Flat::flat_here))]
-    pub(crate) fn standing_byte(self, p: Place) -> u8
-        requires { Stands self p }
-        ensures { result ≡ get_or (held_to self.entry p.k) p.at 0 }
-    {
-        if p.k == 0 {
-            return 0;
-        }
-        self.frame_byte(p.k - 1, p.at)
-    }
-
-    // The byte at a place, 0 past the path's end.
-    #[tactic(auto, using(crate::proofs::Standing::byte_there))]
-    pub fn byte_at(self, p: Place) -> u8
-        ensures { result ≡ get_or (held_to self.entry p.k) p.at 0 }
-    {
-        self.standing_byte(self.seek_from(p))
-    }
-
     // Byte j of the path, 0 past its end.
     pub fn byte(self, j: usize) -> u8
         ensures { result ≡ get_or (held self.entry) j 0 }
     {
-        self.standing_byte(self.seek(j))
+        self.bytes_from(j).next().unwrap_or(0)
     }
 }

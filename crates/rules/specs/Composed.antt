@@ -1,18 +1,13 @@
 -- A text composed into a lent buffer: its length and the text at the buffer's start, or the refusal and the buffer
 -- untouched; 10 also where the buffer is too short. It relies on the joins of `path` and on the rules of
 -- Questions.antt.
-use Rattle.types.specs.declared.refusal.Refusal.{Refusal}
-use Rattle.std.specs.Prelude.{ℕ, Bool, cond, ◌&&◌, List, [], ◌∷◌, eqb, ℤ, Result}
-use Rattle.types.specs.Refusals.{refused, outcome}
+use Rattle.std.specs.Prelude.{ℕ, Bool, cond, ◌&&◌, List, [], ◌∷◌, eqb, ℤ}
+use Rattle.types.specs.Refusals.{refused}
 use Rattle.path.specs.Join.{Joined, joined_if, fits}
 use Rattle.tables.specs.declared.storage.FileStorage.{FileStorage}
 use Rattle.rules.specs.Rules.{first_of}
 use Rattle.rules.specs.Bounds.{clamped_of}
 use Rattle.rules.specs.Questions.{bad_piece_length, no_file, short, few_entries}
-
--- what a function that composes a text answers, and what the buffer then holds
-abbrev pub composed_says : Result ℕ Refusal → List ℕ → Joined
-composed_says r buf = record { says = outcome r; buf = buf }
 
 -- refusal k, or for 0 the text
 abbrev pub composed_if : ℕ → List ℕ → List ℕ → Joined

@@ -1,26 +1,7 @@
--- docs/CALLS.md: 'Numbers are decimal, with `-` where negative'; 'a number out of its type's range' is no number. 48 to
--- 57 are the digits, 45 is `-`.
-use Rattle.std.specs.Prelude.{ℕ, ◌+◌, ◌-◌, ◌*◌, ◌^◌, Bool, cond, ◌&&◌, List, [], ◌∷◌, eqb, ltb, leb, ℤ, pos, negsuc, length, get_or, drop, Option, None, Some, option_and_then}
-
--- what a digit is worth
-abbrev pub digit_of : ℕ → Option ℕ
-digit_of c = cond (leb 48 c && leb c 57) (Some (c - 48)) None
-
--- v and one more digit, where 64 bits hold the number
-abbrev pub with_digit : ℕ → Option ℕ → Option ℕ
-with_digit v None = None
-with_digit v (Some d) = cond (ltb (v * 10 + d) (2 ^ 64)) (Some (v * 10 + d)) None
-
--- the number whose digits follow those of v; nothing where a character is no digit, or 64 bits do not hold the number
-abbrev pub digits_from : ℕ → List ℕ → Option ℕ
-digits_from v [] = Some v
-digits_from v (c ∷ t) = option_and_then (λ n. digits_from n t) (with_digit v (digit_of c))
-
-abbrev pub has_leading_zero : List ℕ → Bool
-has_leading_zero word = ltb 1 (length word) && eqb (get_or word 0 0) 48
-
-abbrev pub number_of : List ℕ → Option ℕ
-number_of word = cond (has_leading_zero word) None (cond (eqb (length word) 0) None (digits_from 0 word))
+-- docs/CALLS.md: 'Numbers are decimal, with `-` where negative'; 'a number out of its type's range' is no number. What
+-- digits spell is said in Decimal.antt of `lists`; 45 is `-`.
+use Rattle.std.specs.Prelude.{ℕ, ◌-◌, ◌^◌, cond, List, eqb, ltb, leb, ℤ, pos, negsuc, get_or, drop, Option, None, Some}
+use Rattle.lists.specs.Decimal.{number_of}
 
 -- a number below 2 ^ k
 abbrev pub positive_of : ℕ → Option ℕ → Option ℤ

@@ -14,6 +14,8 @@ pub fn form_of(forms: &[u8], line: &[u8]) -> Option<usize>
 {
     let mut n = 0;
     let mut begins = true;
+    // Stays: std's `split` gives an empty part after a last comma and for no forms at all, and a line without words
+    // would have its form; the definition has no form there.
     for (i, c) in forms.iter().enumerate() {
         if has_form_at(begins, &forms[i..], line) {
             return Some(n);

@@ -31,18 +31,17 @@ fn repeated(word: &[u8]) -> Option<[u8; 32]>
 fn spelt(word: &[u8]) -> Option<[u8; 32]>
     ensures { result ≡ spelt_of word.now }
 {
-    if word.len() != 64 {
-        return None;
-    }
     let mut root = [0u8; 32];
-    // Stays: tried, the proof didn't close: zipped with `chunks_exact`, both ends of the loop stayed open.
-    for i in 0..32 {
-        root[i] = hex_byte(
-            hex_value(word[i * 2], b'a'),
-            hex_value(word[i * 2 + 1], b'a'),
-        )?;
+    let mut rest = word;
+    // Stays: zipped with the pairs of digits, `iter_mut` tells a proof nothing of the bytes that are written.
+    for byte in &mut root {
+        let [high, low, after @ ..] = rest else {
+            return None;
+        };
+        *byte = hex_byte(hex_value(*high, b'a'), hex_value(*low, b'a'))?;
+        rest = after;
     }
-    Some(root)
+    rest.is_empty().then_some(root)
 }
 
 // The value of a hex digit of either case.

@@ -7,7 +7,8 @@ ghost use Rattle.script.specs.Strings.{is_plain, hex_from, byte_of, fault, led, 
 // Writes the bytes that a word stands for after the first `used` bytes of `target`, and gives where they end. Where
 // the word is no string or `target` is too short, the bytes before the first fault are written, as far as there is
 // room for them.
-// Stays: `used` may lie past the end of `target`, where no slice of the rest can be lent.
+// Stays: texts are decoded one after the other into one buffer, each from the end of the one before; for a slice of the
+// rest, callers would test each end against the buffer, and add it to what is given.
 #[tactic(auto, using(lists::proofs::Runs::storing))]
 pub fn decode(word: &[u8], target: &mut [u8], used: usize) -> Option<usize>
     ensures result_value { result ≡ end_of (string_of word.now) used (length target.old) }
@@ -21,7 +22,7 @@ pub fn decode(word: &[u8], target: &mut [u8], used: usize) -> Option<usize>
     };
     let mut rest = text;
     let mut n = used;
-    // Stays: a byte has one character or three.
+    // Stays: a byte has one character or three, and no iterator over slices steps by the one or the other.
     while !rest.is_empty() {
         let (byte, after) = first_byte(rest)?;
         if target.len() <= n {

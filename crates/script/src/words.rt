@@ -22,7 +22,7 @@ pub fn after(line: &[u8], number: usize) -> &[u8]
 }
 
 // What stands from the word of a number on.
-// Stays: it converts nothing, but steps over words.
+// Stays: std's `split` gives the words, but not what stands after one, which `after` hands on.
 #[tactic(auto, using(crate::proofs::Scans::turns))]
 fn from_word(line: &[u8], number: usize) -> &[u8]
     ensures { result.now ≡ from_word number line.now }
@@ -55,6 +55,8 @@ pub(crate) fn count(line: &[u8]) -> usize
 {
     let mut n = 0;
     let mut within = false;
+    // Stays: the definition counts words by their first bytes; of `split` it would first have to be shown that as many
+    // of its parts hold a byte.
     for c in line {
         n += words_begun(within, *c);
         within = *c != b' ';

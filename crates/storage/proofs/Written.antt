@@ -8,6 +8,7 @@ use lib.ListN.{length}
 use lib.Seq.{sets}
 use Rattle.std.specs.Bool.{then_some}
 use Rattle.lists.specs.Decimal.{decimal}
+use Rattle.tables.specs.declared.rows.Row.{Row}
 use Rattle.tables.specs.declared.storage.FileStorage.{FileStorage}
 use Rattle.tables.specs.Rows.{put_row}
 use Rattle.tables.specs.Model.{Directory, Model, Store}
@@ -20,7 +21,7 @@ use Rattle.plan.specs.declared.plan.NewDir.{NewDir}
 use Rattle.plan.specs.private.Steps.{TextsOf}
 use Rattle.plan.specs.Plan.{plan_of}
 use Rattle.plan.proofs.Joined.{sets-joined}
-use Rattle.storage.specs.private.Written.{renamed, dirs_renamed, dir_text_written, dir_written, text_before_pad, text_written, dirs_before_pad, dirs_written, rows_written}
+use Rattle.storage.specs.private.Written.{renamed, dirs_renamed, dir_text_written, dir_written, text_before_pad, pad_text_written, text_written, dirs_before_pad, pad_dir_written, dirs_written, pad_row_written, rows_written}
 
 -- ---- the text area
 
@@ -48,15 +49,20 @@ dir-row true d dirs = refl
 dir-row false d dirs = refl
 
 -- where there is no pad, none of its texts and rows has bytes
-pad-texts : (t u : Bool) (d : NewDir) (l x e : List ℕ) (j : ℕ)
-    → cond t l (sets (dir_text_written (then_some (not t && not u) d) l x) j (cond t [] e)) ≡ sets (sets l d.text.at (cond (not t && not u) x [])) j (cond t [] e)
-pad-texts true u d l x e j = refl
-pad-texts false u d l x e j = ap (λ (m : List ℕ). sets m j e) (dir-text (not u) d l x)
+pad-texts : (t u : Bool) (r : Row) (d : NewDir) (l : List ℕ)
+    → pad_text_written (then_some (not t) r) (then_some (not t && not u) d) l
+    ≡ sets (sets l d.text.at (cond (not t && not u) pad_directory_name [])) r.name.at (cond t [] (decimal r.size))
+pad-texts true u r d l = refl
+pad-texts false u r d l = ap (λ (m : List ℕ). sets m r.name.at (decimal r.size)) (dir-text (not u) d l pad_directory_name)
 
-pad-dirs : (t u : Bool) (d : NewDir) (l : List ℕ)
-    → cond t l (dir_written (then_some (not t && not u) d) l) ≡ put_dir_if (not t && not u) l d.slot d.text
-pad-dirs true u d l = refl
-pad-dirs false u d l = dir-row (not u) d l
+pad-dirs : (t u : Bool) (r : Row) (d : NewDir) (l : List ℕ)
+    → pad_dir_written (then_some (not t) r) (then_some (not t && not u) d) l ≡ put_dir_if (not t && not u) l d.slot d.text
+pad-dirs true u r d l = refl
+pad-dirs false u r d l = dir-row (not u) d l
+
+pad-rows : (t : Bool) (r : Row) (n : ℕ) (l : List ℕ) → pad_row_written n (then_some (not t) r) l ≡ cond t l (put_row l (n + 1) r)
+pad-rows true r n l = refl
+pad-rows false r n l = refl
 
 module _ (s : Store) (m : Model) (a : Addition) where
   abbrev fs : FileStorage
@@ -83,9 +89,8 @@ module _ (s : Store) (m : Model) (a : Addition) where
       let d : cond new dir [] ≡ directory_new m a =
       subst (λ (p : Directory). cond (is_new_directory p m.directories) dir [] ≡ new_text_of p m.directories) t.dir-is (new-dir kind dir m.directories) in
       let p : cond (is_new_pad m a) pad_directory_name [] ≡ pad_directory_new m a = new-pad (eqb (pad_of m a) 0) pad_there pad_directory_name in
-      pad-texts (eqb (pad_of m a) 0) pad_there pads
+      pad-texts (eqb (pad_of m a) 0) pad_there (row_of_pad fs m a) pads
       (text_before_pad fs.num_files fs.text_len (plan_of fs m a) s.text x dir name link)
-      pad_directory_name (decimal (pad_of m a)) (pad_name_start fs m a)
       ∙ ap (λ (l : List ℕ). sets (sets (sets (sets l (name_start fs m a) name) (link_start fs m a) link) (pad_directory_start fs m a) (cond (is_new_pad m a) pad_directory_name [])) (pad_name_start fs m a) (pad_text m a))
       (dir-text new own (sets area (text_kept fs) x) dir)
       ∙ all area t.set_is d t.name-is t.link-is p
@@ -99,26 +104,9 @@ module _ (s : Store) (m : Model) (a : Addition) where
   -- ---- rows and directory rows
 
   pub rows_are : rows_written fs.num_files (plan_of fs m a) s.rows ≡ rows_added s m a
-  rows_are = at (eqb (pad_of m a) 0)
-    where
-      at : (t : Bool)
-          → cond t (put_row s.rows fs.num_files (row_added fs m a))
-          (put_row (put_row s.rows fs.num_files (row_added fs m a))
-          (fs.num_files + 1)
-          (record {
-            offset = (row_of_pad fs m a).offset;
-            size = (row_of_pad fs m a).size;
-            name = (row_of_pad fs m a).name;
-            link = (row_of_pad fs m a).link;
-            path_index = cond t 0 (row_of_pad fs m a).path_index;
-            flags = (row_of_pad fs m a).flags;
-            time = (row_of_pad fs m a).time;
-          }))
-          ≡ cond t (put_row s.rows fs.num_files (row_added fs m a)) (put_row (put_row s.rows fs.num_files (row_added fs m a)) (fs.num_files + 1) (row_of_pad fs m a))
-      at true = refl
-      at false = refl
+  rows_are = pad-rows (eqb (pad_of m a) 0) (row_of_pad fs m a) fs.num_files (put_row s.rows fs.num_files (row_added fs m a))
 
   pub dirs-are : dirs_written fs.num_files fs.num_paths (plan_of fs m a) s.dirs ≡ dirs_added s m a
   dirs-are =
-      pad-dirs (eqb (pad_of m a) 0) pad_there pads (dirs_before_pad fs.num_files fs.num_paths (plan_of fs m a) s.dirs)
+      pad-dirs (eqb (pad_of m a) 0) pad_there (row_of_pad fs m a) pads (dirs_before_pad fs.num_files fs.num_paths (plan_of fs m a) s.dirs)
       ∙ ap (λ (l : List ℕ). put_dir_if (is_new_pad m a) l pads.slot pads.text) (dir-row new own (dirs_renamed fs.num_files (old_name fs) fs.num_paths s.dirs))

@@ -1,8 +1,7 @@
 // The table of first files: an addition writes the number of its file for each piece that begins in it. Relies on
-// `lists` and on the laws of proofs/OneValue.antt.
-ghost use Rattle.std.specs.Prelude.{◌≡◌, ◌-◌, ◌≤◌, ◌<◌, ◌^◌, min, length, replicate};
+// `rules` for the count of pieces and on the laws of proofs/OneValue.antt.
+ghost use Rattle.std.specs.Prelude.{◌≡◌, ◌-◌, ◌≤◌, ◌<◌, min, length, replicate};
 ghost use Rattle.std.proofs.lemmas.List.Edits.{sets};
-ghost use Rattle.lists.specs.Lists.{ceiling};
 ghost use Rattle.rules.specs.Bounds.{max_entries};
 ghost use Rattle.storage.specs.private.Written.{firsts_written};
 
@@ -41,8 +40,9 @@ fn fill_begin(run: &mut [u16], file: u16)
 
 // Writes a file's number at four places or more, four at a time: how many pieces begin in a file is hard to foretell,
 // and a loop over them one by one would take the wrong turn at most additions.
-// Stays: tried, `run.fill(file)` takes up to twice the time for runs of up to 64 places. Three functions ask for four
-// places, since each is lent the run and no record of it.
+// Stays: tried, `run.fill(file)` takes up to twice the time for runs of up to 64 places, and an addition with a table
+// of first files is to take at most 1.1 of the time of one without (docs/BENCHMARKS.md). `fill_places` tests the length
+// of a run once, and the functions that it calls, `fill_few` too, ask for what it found, so that none tests it again.
 fn fill_many(run: &mut [u16], file: u16)
     requires { 4 ≤ length run.old }
     ensures { run.new ≡ replicate (length run.old) file }
@@ -70,40 +70,6 @@ fn fill_places(firsts: &mut [u16], from: usize, to: usize, file: u16)
     }
 }
 
-// How many pieces of 2 to the power `bits` bytes a total has.
-fn pieces_by_shift(total: u64, bits: u32) -> u64
-    requires { bits < 64 }
-    ensures { result ≡ ceiling total (2 ^ bits) }
-{
-    if total == 0 {
-        return 0;
-    }
-    ((total - 1) >> bits) + 1
-}
-
-// The places that an addition writes: from the pieces before it up to those after it.
-#[derive(Drop)]
-struct Places {
-    from: u64,
-    to: u64,
-}
-
-// The pieces of two totals. A piece length that is a power of two, as most are, counts them by a shift.
-fn pieces_of(before: u64, after: u64, piece_length: u64) -> Places
-    ensures { (result.from ≡ ceiling before piece_length) × (result.to ≡ ceiling after piece_length) }
-{
-    match lists::exponent(piece_length) {
-        Some(bits) => Places {
-            from: pieces_by_shift(before, bits),
-            to: pieces_by_shift(after, bits),
-        },
-        None => Places {
-            from: lists::div_ceil(before, piece_length),
-            to: lists::div_ceil(after, piece_length),
-        },
-    }
-}
-
 // Writes the table of first files of a set that keeps one, by its record before and after an addition.
 pub(crate) fn write_firsts(firsts: &mut [u16], before: FileStorage, after: FileStorage)
     requires num_files_bound { before.num_files ≤ max_entries }
@@ -111,12 +77,8 @@ pub(crate) fn write_firsts(firsts: &mut [u16], before: FileStorage, after: FileS
     ensures { firsts.new ≡ firsts_written before after firsts.old }
 {
     if before.indexed {
-        let places = pieces_of(before.total_size, after.total_size, before.piece_length);
-        fill_places(
-            firsts,
-            places.from as usize,
-            places.to as usize,
-            before.num_files as u16,
-        );
+        let from = rules::count_pieces(before);
+        let to = rules::count_pieces(after);
+        fill_places(firsts, from as usize, to as usize, before.num_files as u16);
     }
 }

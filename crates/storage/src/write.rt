@@ -74,22 +74,22 @@ fn write_texts(
 // other table that it stays.
 fn write_pad(rows: &mut [u64], dirs: &mut [u64], text: &mut [u8], plan: AddPlan)
     requires { plan.before.num_files ≤ max_entries }
-    ensures rows_after { rows.new ≡ pad_row_written plan.before.num_files plan rows.old }
-    ensures dirs_after { dirs.new ≡ pad_dir_written plan dirs.old }
-    ensures text_after { text.new ≡ pad_text_written plan text.old }
+    ensures rows_after { rows.new ≡ pad_row_written plan.before.num_files plan.pad_row rows.old }
+    ensures dirs_after { dirs.new ≡ pad_dir_written plan.pad_row plan.pad_dir dirs.old }
+    ensures text_after { text.new ≡ pad_text_written plan.pad_row plan.pad_dir text.old }
 {
-    if plan.pad_row.size != 0 {
-        tables::put_row(rows, plan.before.num_files + 1, plan.pad_row);
+    if let Some(row) = plan.pad_row {
+        tables::put_row(rows, plan.before.num_files + 1, row);
         write_dir(dirs, plan.pad_dir);
         write_dir_text(text, plan.pad_dir, b".pad");
-        lists::put_decimal(text, plan.pad_row.name.at, plan.pad_row.size);
+        lists::put_decimal(text, row.name.at, row.size);
     }
 }
 
 // Writes an addition by its plan: row, root, directory row and texts, and then the pad.
 // Stays: document 01 lends texts as slices; `add_file`, which is public, is lent the three one by one and hands them on
-// to this function, which writes them. That files are few and that the parts stand in the path is known of the plan where it is made, and
-// the functions here are told it.
+// to this function, which writes them. That files are few comes from the contract of `plan_add`: as a ghost field of
+// `AddPlan` the two functions that make a plan would have to ask for it in place of the two here.
 pub(crate) fn write_all(
     rows: &mut [u64],
     roots: &mut [u8],

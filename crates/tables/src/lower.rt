@@ -78,7 +78,7 @@ fn move_row(rows: &mut [u64], gone: Removed, i: usize)
 
 // Removes row f of n + 1 rows: the rows after it move down by one and begin at `total`, and every span is
 // lowered for the removed spans `c` and then `d`.
-// Stays: n may pass the table's end, and is cut here; the numbers are made one record at once.
+// Stays: row n is read too, and n may pass the table's end, where no slice of so many rows can be lent.
 pub fn remove_row(rows: &mut [u64], n: usize, f: usize, total: u64, c: Span, d: Span)
     ensures { rows.new ≡ rows_without rows.old n f total c d }
 {

@@ -141,7 +141,6 @@ fn word_at(rows: &[u64], i: usize, k: usize) -> u64
 }
 
 // The offset of row i.
-// Stays: it and the next name a word of a row; with one function of a word's place each caller would give the place.
 pub fn offset_at(rows: &[u64], i: usize) -> u64
     ensures { result ≡ (row_at rows.now i).offset }
 {
@@ -177,7 +176,8 @@ fn packed_word(size: u64, flags: u64) -> u64
 }
 
 // Stores words side by side from position `at` on, as many of them as there is room for.
-// Stays: tried, `copy_from_slice` takes 15.0 ns for a row's eight words, and this loop, which is unrolled, 7.9.
+// Stays: tried, `copy_from_slice` takes 15.0 ns for a row's eight words, and this loop, which is unrolled, 7.9; additions
+// to sets of one directory are ahead of the Rust's by less than that.
 #[tactic(auto, using(crate::proofs::Words::storing))]
 fn put_words<const N: usize>(target: &mut [u64], at: usize, words: &[u64; N])
     requires { (N < 2 ^ 63) × (at + N < 2 ^ 64) }
@@ -229,7 +229,8 @@ pub fn dir_at(dirs: &[u64], i: usize) -> Span
 }
 
 // Writes directory row i, nothing past the end.
-// Stays: a directory is two words of a lent table, as a row is eight.
+// Stays: std copies no record into words; the two numbers of a span are made words here, and `put_words` stores them as
+// far as the table goes.
 pub fn put_dir(dirs: &mut [u64], i: usize, s: Span)
     ensures { dirs.new ≡ put_dir dirs.old i s }
 {

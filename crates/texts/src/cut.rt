@@ -2,27 +2,9 @@
 ghost use Rattle.std.specs.Prelude.{◌≡◌};
 ghost use Rattle.tables.specs.Rows.{row_at, put_row};
 ghost use Rattle.lookup.specs.Lookup.{lent};
-ghost use Rattle.texts.specs.Texts.{storage_with, row_with, row_lowered, rows_lowered, cut_out};
+ghost use Rattle.texts.specs.Texts.{row_lowered, rows_lowered, cut_out};
 
 use tables::{FileStorage, Row, Span};
-
-// A set's record with its name at another span and `used` bytes of text.
-pub(crate) fn storage_with(fs: FileStorage, name: Span, used: usize) -> FileStorage
-    ensures { result ≡ storage_with fs name used }
-{
-    FileStorage {
-        name,
-        text_len: used,
-        ..fs
-    }
-}
-
-// A row with its name and its link text at other spans.
-pub(crate) fn row_with(row: Row, name: Span, link: Span) -> Row
-    ensures { result ≡ row_with row name link }
-{
-    Row { name, link, ..row }
-}
 
 // Lowers the spans of row i as the removal of span `c` asks.
 fn lower_row(rows: &mut [u64], i: usize, c: Span)
@@ -31,7 +13,7 @@ fn lower_row(rows: &mut [u64], i: usize, c: Span)
     let row = tables::row_at(rows, i);
     let name = tables::low_span(c, row.name);
     let link = tables::low_span(c, row.link);
-    tables::put_row(rows, i, row_with(row, name, link));
+    tables::put_row(rows, i, Row { name, link, ..row });
 }
 
 // Lowers the spans of the first n rows, or of as many as there are, as the removal of span `c` asks.
@@ -60,6 +42,9 @@ pub(crate) fn cut_out(
     lower_rows(rows, fs.num_files, c);
     tables::lower_dirs(dirs, fs.num_paths, c);
     tables::remove_text(text, fs.text_len, c);
-    let name = tables::low_span(c, fs.name);
-    storage_with(fs, name, fs.text_len.saturating_sub(c.len))
+    FileStorage {
+        name: tables::low_span(c, fs.name),
+        text_len: fs.text_len.saturating_sub(c.len),
+        ..fs
+    }
 }

@@ -10,9 +10,9 @@ ghost use Rattle.texts.specs.Texts.{storage_with, row_with, gone_at, relinked, i
 ghost use Rattle.texts.specs.Texts.{staged_beside};
 ghost use Rattle.texts.specs.private.Parts.{prefix_of};
 
-use crate::cut::{cut_out, row_with, storage_with};
+use crate::cut::cut_out;
 use crate::parts::{is_parted, is_within, link_span};
-use tables::{FileStorage, Span};
+use tables::{FileStorage, Row, Span};
 
 // Copies the text of a span to `to`, which is after it, and gives its length.
 // Stays: the library's `copy_within` copies; what of the span lies behind the text area's end is left out first.
@@ -76,14 +76,15 @@ fn put_link(fs: FileStorage, rows: &mut [u64], i: usize, n: usize) -> FileStorag
         (record { at = fs.text_len; len = n })) }
 {
     let row = tables::row_at(rows, i);
-    let name = row.name;
     let link = Span {
         at: fs.text_len,
         len: n,
     };
-    tables::put_row(rows, i, row_with(row, name, link));
-    let set_name = fs.name;
-    storage_with(fs, set_name, fs.text_len + n)
+    tables::put_row(rows, i, Row { link, ..row });
+    FileStorage {
+        text_len: fs.text_len + n,
+        ..fs
+    }
 }
 
 // Cuts the link text of file i out, and puts a new one after what is left.
@@ -148,8 +149,7 @@ pub fn write_own(
 
 // Replaces the text of link i by that from the link's directory, where it fits. The scratch space then begins with it,
 // where it fits there.
-// Stays: it is public and is lent each table by itself, as the cleaning is; a record would be made for each link, and
-// clauses would name its fields before and after.
+// Stays: the tables are lent for writing, and `LentSet`, the record of a set's tables, lends them for reading alone.
 pub fn write_beside(
     fs: FileStorage,
     rows: &mut [u64],
@@ -181,7 +181,7 @@ pub fn write_beside(
 }
 
 // Removes the text of link i: the link then has a text of no bytes.
-// Stays: it is public and is lent each table by itself, as `write_beside` is.
+// Stays: as in `write_beside`, the tables are lent for writing, for which there is no record.
 pub fn empty_text(
     fs: FileStorage,
     rows: &mut [u64],

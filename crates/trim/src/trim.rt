@@ -56,7 +56,8 @@ fn storage_without(fs: FileStorage, row: Row, c: Span, d: Span) -> FileStorage
 }
 
 // Removes file f from the tables, and gives the set's record after it.
-// Stays: of the private functions this one alone takes all four tables to write; a record for it is no plainer.
+// Stays: a record of the four tables would be made for the one call of this function, and taken apart in it: each of
+// the calls below takes one table.
 fn remove_file(
     fs: FileStorage,
     rows: &mut [u64],

@@ -7,7 +7,7 @@ use crate::index::{FileIndex, PieceIndex};
 use crate::refusal::Refusal;
 
 // A signed number as an unsigned one, where it is not negative.
-// Stays: it is std's `TryFrom` with the error left out, for the functions here that have no use for it.
+// Stays: without it each of its four callers would write `u64::try_from(x).ok()`.
 pub fn unsigned(x: i64) -> Option<u64>
     ensures { result ≡ unsigned_of x }
 {
@@ -15,7 +15,7 @@ pub fn unsigned(x: i64) -> Option<u64>
 }
 
 // A signed number as an unsigned one, 0 where it is negative.
-// Stays: it is `unsigned` with std's `unwrap_or`.
+// Stays: without it callers in five crates would each write `unsigned(x).unwrap_or(0)`.
 pub fn clamped(x: i64) -> u64
     ensures { result ≡ clamped_of x }
 {
@@ -47,7 +47,8 @@ pub fn signed32(n: u64) -> i32
 
 // An `i64` as a word, by zigzag: 0, −1, 1, −2, … are 0, 1, 2, 3, …. Below 0 the word is 2n + 1, with n = −1 − x; as a
 // difference from the largest word the compiler makes it without a branch.
-// Stays: std has no zigzag, and `unsigned_abs` doubled passes 64 bits at the least number.
+// Stays: std has no zigzag. `((x << 1) ^ (x >> 63)).cast_unsigned()` is of bits, and needs laws that lead from them to
+// 2n and 2n + 1; this form is proved without any.
 pub fn zigzag64(x: i64) -> u64
     ensures { result ≡ zigzag x }
 {
@@ -81,7 +82,8 @@ fn below(n: i32, count: usize, refusal: Refusal) -> Result<usize, Refusal>
     Err(refusal)
 }
 
-// Stays: document 01 asks for two tuple structs; a trait for three short methods would be longer than these two blocks.
+// Stays: document 01 asks for two tuple structs. A trait with these three methods needs two more, from an `i32` and to
+// it, with an impl for each struct: more lines than the three twins.
 impl PieceIndex {
     // Piece n, where n is below 2^31.
     pub fn new(n: u64) -> PieceIndex
@@ -98,7 +100,8 @@ impl PieceIndex {
     }
 
     // The number as a `usize`, 0 where it is negative, as in the Rust's release build.
-    // Stays: document 01 asks for two tuple structs, and a trait for this line would be longer than its twin.
+    // Stays: a trait with this method needs one more, which gives an index's `i32`, an impl of that for each struct, and
+    // an import at every call.
     pub fn get(self) -> usize
         ensures { result ≡ clamped_of self.0 }
     {
@@ -122,7 +125,8 @@ impl FileIndex {
     }
 
     // The number as a `usize`, 0 where it is negative, as in the Rust's release build.
-    // Stays: document 01 asks for two tuple structs, and a trait for this line would be longer than its twin.
+    // Stays: a trait with this method needs one more, which gives an index's `i32`, an impl of that for each struct, and
+    // an import at every call.
     pub fn get(self) -> usize
         ensures { result ≡ clamped_of self.0 }
     {

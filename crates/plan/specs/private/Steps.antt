@@ -1,6 +1,6 @@
 -- The steps that the code takes to a plan: directories, counts, spans of the new texts. proofs/Plans.antt ties them to
 -- `planned_for` of Plan.antt.
-use Rattle.std.specs.Prelude.{◌≡◌, ℕ, ◌+◌, ◌<◌, ◌≤◌, Bool, true, false, cond, not, ◌&&◌, ◌||◌, List, [], ◌∷◌, ◌++◌, length, ◌==◌, nat_lt, Option, Some, None}
+use Rattle.std.specs.Prelude.{◌≡◌, ℕ, ◌+◌, ◌<◌, ◌≤◌, Bool, true, cond, not, ◌&&◌, ◌||◌, List, [], ◌∷◌, ◌++◌, length, ◌==◌, nat_lt, Option, Some, None, option_map, unwrap_or}
 use Rattle.std.specs.Bool.{then_some}
 use Rattle.lists.specs.Lists.{ceiling}
 use Rattle.types.specs.Refusals.{Outcome}
@@ -10,7 +10,7 @@ use Rattle.rules.specs.Rules.{outcome_of}
 use Rattle.additions.specs.Addition.{Addition, flags_kept, link_is_kept}
 use Rattle.additions.specs.Addition.{pad_directory_name, with_directory_of, with_directory, directory_added}
 use Rattle.additions.specs.private.Texts.{is_here, name_from, link_text_of, directory_at}
-use Rattle.plan.specs.Write.{directory_index, path_index_of, text_if_new, new_text_of, is_new, is_new_directory}
+use Rattle.plan.specs.Write.{directory_index, path_index_of, new_text_of, is_new, is_new_directory}
 use Rattle.plan.specs.Write.{set_text, name_text, link_new, pad_digits, old_name, text_kept, on_disk_added}
 use Rattle.tables.specs.declared.span.Span.{Span}
 use Rattle.tables.specs.declared.rows.Presence.{Presence}
@@ -36,24 +36,23 @@ use Rattle.plan.specs.declared.plan.AddPlan.{AddPlan}
 abbrev pub dir_texts : List ℕ → List ℕ → ℕ → List (List ℕ)
 dir_texts dirs text n = tabled n (λ i. text_at text (dir_at dirs i))
 
--- a directory beside those stored: its path index, whether it is new, the length of its new text, and how many there
--- are with it
+-- a directory beside those stored: its path index, the length of its text where it is new, and how many there are
+-- with it
 abbrev pub dir_plan_of : Directory → List (List ℕ) → DirPlan
 dir_plan_of d ds =
     record {
       index = path_index_of d ds;
-      new = is_new_directory d ds;
-      len = length (new_text_of d ds);
+      new = then_some (is_new_directory d ds) (length (new_text_of d ds));
       count = length (with_directory_of d ds);
     }
 
 -- the plan of a directory that is stored, or of none, with index k beside n stored ones, and that of a new one, after n
 -- stored ones, with a text of len bytes
 abbrev pub known_at : ℕ → ℕ → DirPlan
-known_at k n = record { index = k; new = false; len = 0; count = n }
+known_at k n = record { index = k; new = None; count = n }
 
 abbrev pub added_at : ℕ → ℕ → DirPlan
-added_at n len = record { index = n; new = true; len = len; count = n + 1 }
+added_at n len = record { index = n; new = Some len; count = n + 1 }
 
 -- the directories with one more, where it is new
 abbrev pub dirs_with : Bool → List ℕ → List (List ℕ) → List (List ℕ)
@@ -67,8 +66,7 @@ abbrev pub pad_dir_plan_of : ℕ → List (List ℕ) → DirPlan
 pad_dir_plan_of pad ds =
     record {
       index = cond (pad == 0) 0 (directory_index pad_directory_name ds);
-      new = (not (pad == 0) && is_new pad_directory_name ds);
-      len = length (cond (pad == 0) [] (text_if_new pad_directory_name ds));
+      new = then_some (not (pad == 0) && is_new pad_directory_name ds) (length pad_directory_name);
       count = length (cond (pad == 0) ds (with_directory pad_directory_name ds));
     }
 
@@ -128,7 +126,7 @@ abbrev pub text_spans_of : ℕ → ℕ → ℕ → ℕ → ℕ → ℕ → ℕ �
 text_spans_of start set dir name link pad_dir pad =
     record {
       set = record { at = start; len = set };
-      directory = record { at = start + set; len = dir };
+      directory = start + set;
       name = record { at = start + set + dir; len = name };
       link = record { at = start + set + dir + name; len = link };
       pad_directory = start + set + dir + name + link;
@@ -169,18 +167,23 @@ plan_from fs z counts file first second spans old parts =
         flags = file.flags;
         time = file.time;
       };
-      pad_row = record {
-        offset = counts.file_end;
-        size = z.pad;
-        name = spans.pad_name;
-        link = record { at = spans.end; len = 0 };
-        path_index = second.index;
-        flags = made_pad_flags;
-        time = 0;
-      };
-      dir = then_some first.new (record { slot = fs.num_paths; text = spans.directory });
+      pad_row =
+          then_some (not (z.pad == 0))
+          (record {
+            offset = counts.file_end;
+            size = z.pad;
+            name = spans.pad_name;
+            link = record { at = spans.end; len = 0 };
+            path_index = second.index;
+            flags = made_pad_flags;
+            time = 0;
+          });
+      dir =
+          option_map (λ len. record { slot = fs.num_paths; text = record { at = spans.directory; len = len } })
+          first.new;
       pad_dir =
-          then_some second.new (record { slot = first.count; text = record { at = spans.pad_directory; len = 4 } });
+          option_map (λ len. record { slot = first.count; text = record { at = spans.pad_directory; len = len } })
+          second.new;
       old = old;
       start = spans.set.at;
       parts = parts;
@@ -190,7 +193,7 @@ plan_from fs z counts file first second spans old parts =
 abbrev pub text_spans_for : FileStorage → Sizes → DirPlan → DirPlan → TextLengths → TextSpans
 text_spans_for fs z first second l =
     text_spans_of (text_kept fs)
-    l.set_name first.len l.name l.link second.len (length (pad_digits z.pad))
+    l.set_name (unwrap_or first.new 0) l.name l.link (unwrap_or second.new 0) (length (pad_digits z.pad))
 
 -- the plan where there is room, else refusal 10
 abbrev pub planned_in : FileStorage → Rooms → Sizes → Counts → RowFacts → DirPlan → DirPlan → TextLengths → PathParts

@@ -2,7 +2,9 @@
 -- proofs/Written.antt ties these to them.
 use Rattle.std.specs.Prelude.{ℕ, ◌+◌, ◌-◌, cond, List, eqb, replicate, Option, Some, None}
 use Rattle.std.proofs.lemmas.List.Edits.{sets}
+use Rattle.lists.specs.Decimal.{decimal}
 use Rattle.tables.specs.declared.span.Span.{Span}
+use Rattle.tables.specs.declared.rows.Row.{Row}
 use Rattle.tables.specs.declared.storage.FileStorage.{FileStorage}
 use Rattle.tables.specs.Span.{slid}
 use Rattle.tables.specs.Rows.{put_row, put_dir, dirs_lowered}
@@ -10,7 +12,6 @@ use Rattle.rules.specs.Questions.{num_pieces}
 use Rattle.additions.specs.Addition.{pad_directory_name}
 use Rattle.plan.specs.declared.plan.NewDir.{NewDir}
 use Rattle.plan.specs.declared.plan.AddPlan.{AddPlan}
-use Rattle.plan.specs.Write.{pad_digits}
 
 -- the text area without the old name of a set without files, which is named again
 abbrev pub renamed : ℕ → Span → ℕ → List ℕ → List ℕ
@@ -32,14 +33,14 @@ text_before_pad files used p text set_name dir name link =
     texts_written p (renamed files p.old used text) set_name dir name link
 
 -- the pad's texts, where there is a pad
-abbrev pub pad_text_written : AddPlan → List ℕ → List ℕ
-pad_text_written p text =
-    cond (eqb p.pad_row.size 0) text
-    (sets (dir_text_written p.pad_dir text pad_directory_name) p.pad_row.name.at (pad_digits p.pad_row.size))
+abbrev pub pad_text_written : Option Row → Option NewDir → List ℕ → List ℕ
+pad_text_written None dir text = text
+pad_text_written (Some row) dir text =
+    sets (dir_text_written dir text pad_directory_name) row.name.at (decimal row.size)
 
 abbrev pub text_written : ℕ → ℕ → AddPlan → List ℕ → List ℕ → List ℕ → List ℕ → List ℕ → List ℕ
 text_written files used p text set_name dir name link =
-    pad_text_written p (text_before_pad files used p text set_name dir name link)
+    pad_text_written p.pad_row p.pad_dir (text_before_pad files used p text set_name dir name link)
 
 abbrev pub dirs_renamed : ℕ → Span → ℕ → List ℕ → List ℕ
 dirs_renamed files old n dirs = cond (eqb files 0) (dirs_lowered dirs n old) dirs
@@ -54,18 +55,20 @@ abbrev pub dirs_before_pad : ℕ → ℕ → AddPlan → List ℕ → List ℕ
 dirs_before_pad files n p dirs = dir_written p.dir (dirs_renamed files p.old n dirs)
 
 -- the pad's directory row, where there is a pad
-abbrev pub pad_dir_written : AddPlan → List ℕ → List ℕ
-pad_dir_written p dirs = cond (eqb p.pad_row.size 0) dirs (dir_written p.pad_dir dirs)
+abbrev pub pad_dir_written : Option Row → Option NewDir → List ℕ → List ℕ
+pad_dir_written None dir dirs = dirs
+pad_dir_written (Some row) dir dirs = dir_written dir dirs
 
 abbrev pub dirs_written : ℕ → ℕ → AddPlan → List ℕ → List ℕ
-dirs_written files n p dirs = pad_dir_written p (dirs_before_pad files n p dirs)
+dirs_written files n p dirs = pad_dir_written p.pad_row p.pad_dir (dirs_before_pad files n p dirs)
 
 -- the pad's row, where there is a pad
-abbrev pub pad_row_written : ℕ → AddPlan → List ℕ → List ℕ
-pad_row_written files p rows = cond (eqb p.pad_row.size 0) rows (put_row rows (files + 1) p.pad_row)
+abbrev pub pad_row_written : ℕ → Option Row → List ℕ → List ℕ
+pad_row_written files None rows = rows
+pad_row_written files (Some row) rows = put_row rows (files + 1) row
 
 abbrev pub rows_written : ℕ → AddPlan → List ℕ → List ℕ
-rows_written files p rows = pad_row_written files p (put_row rows files p.row)
+rows_written files p rows = pad_row_written files p.pad_row (put_row rows files p.row)
 
 -- the table of first files, by the set's record before and after an addition
 abbrev pub firsts_written : FileStorage → FileStorage → List ℕ → List ℕ

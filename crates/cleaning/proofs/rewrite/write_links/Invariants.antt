@@ -8,4 +8,4 @@ use Rattle.cleaning.proofs.Passes.{Going}
 use Rattle.cleaning.proofs.rewrite.write_links.Given as goal
 
 abbrev pub invariant-loop-i : goal.invariant-loop-i
-invariant-loop-i l = (length l.scratch ≡ length l.initial.scratch) × Going (rewritten_at (length l.initial.scratch)) l.marks l.fn.fs.num_files (lent l.initial.set l.initial.rows l.initial.dirs l.initial.text) (lent l.set l.rows l.dirs l.text) l.i l.k
+invariant-loop-i l = (length l.scratch ≡ length l.initial.scratch) × Going (rewritten_at (length l.initial.scratch)) l.marks l.fn.fs.num_files (lent l.initial.set l.initial.rows l.initial.dirs l.initial.text) (lent l.set l.rows l.dirs l.text) l.i l.marks_left.rest.now

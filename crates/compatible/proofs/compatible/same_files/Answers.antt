@@ -1,20 +1,18 @@
--- `compatible::compatible::same_files` meets its contract. The loop's invariant: the files from k on are the same exactly where
--- all are.
-use mathlib.Core.Path.{sym, ◌∙◌}
-use mathlib.Core.Bool.{true, false}
+-- `compatible::compatible::same_files` meets its contract: the chain asks each file by its number.
+use mathlib.Core.Path.{refl, ◌∙◌}
+use native.Mathlib.Nat.{sub-zero}
+use Rattle.std.proofs.Common.{rules}
+use Rattle.std.proofs.lemmas.Iterator.{YieldsList-from_range}
+use Rattle.std.proofs.lemmas.Iterator.Search.{all_from_yields_List}
+use Rattle.tables.specs.Rows.{row_at}
+use Rattle.compatible.specs.Compatible.{same_file}
 use Rattle.compatible.specs.private.Sets.{set_of}
-use Rattle.compatible.proofs.Sets.{said, same_turn, same_stop, same_end}
+use Rattle.compatible.proofs.Sets.{all-files}
 use Rattle.compatible.proofs.compatible.same_files.Goals as goal
 
-pub returns-then-not-same_file : goal.returns-then-not-same_file
-returns-then-not-same_file c =
-    let e = said (set_of c.args.a) (set_of c.args.b) _ _ c.loop-k.k c.same_file.result false c.row_at-row_a.ensures c.row_at-row_b.ensures c.same_file.ensures c.if-not-same_file.true in
-    sym (same_stop (set_of c.args.a) (set_of c.args.b) c.args.a.fs.num_files c.loop-k.k c.loop-k-test.true e) ∙ c.loop-k.invariant
-
-pub loop-k-preserved : goal.loop-k-preserved
-loop-k-preserved c =
-    let e = said (set_of c.args.a) (set_of c.args.b) _ _ c.loop-k.k c.same_file.result true c.row_at-row_a.ensures c.row_at-row_b.ensures c.same_file.ensures c.if-not-same_file.false in
-    sym (same_turn (set_of c.args.a) (set_of c.args.b) c.args.a.fs.num_files c.loop-k.k c.loop-k-test.true e) ∙ c.loop-k.invariant
-
 pub returns : goal.returns
-returns c = sym (same_end (set_of c.args.a) (set_of c.args.b) c.args.a.fs.num_files c.loop-k.k c.loop-k-test.false) ∙ c.loop-k.invariant
+returns c =
+    all_from_yields_List (λ k. same_file (set_of c.args.a) (set_of c.args.b) (row_at c.args.a.lent.rows.now k) (row_at c.args.b.lent.rows.now k)) _ _ _ c.all.ensures.ran
+    (YieldsList-from_range 0 c.args.a.fs.num_files c.args.a.fs.num_files refl (sub-zero c.args.a.fs.num_files))
+    (λ x b q k. search rules)
+    ∙ all-files (set_of c.args.a) (set_of c.args.b) c.args.a.fs.num_files 0

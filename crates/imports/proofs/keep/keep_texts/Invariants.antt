@@ -6,5 +6,5 @@ use Rattle.imports.specs.private.Merging.{is_noted}
 use Rattle.imports.proofs.Keeping.{Joined}
 use Rattle.imports.proofs.keep.keep_texts.Given as goal
 
-abbrev pub invariant-loop-i : goal.invariant-loop-i
-invariant-loop-i l = Joined (is_noted l.files l.notes) (length l.entries / 3) l.entries l.initial.text l.text l.i l.from l.to
+abbrev pub invariant-loop-entry : goal.invariant-loop-entry
+invariant-loop-entry l = Joined (is_noted l.files l.notes) (length l.entries / 3) l.entries l.initial.text l.text (length l.yielded) l.from l.to

@@ -1,23 +1,20 @@
--- `links::first::first_marks` meets its contract. Its loop keeps: the k marks of the files before i are set, and setting
--- those of the rest gives the whole.
-use mathlib.Core.Path.{refl, ◌∙◌}
-use native.Mathlib.Omega.{arith}
+-- `links::first::first_marks` meets its contract. Its loop keeps: the marks of the links that are passed are set, and
+-- setting those of the files that are left gives the whole.
+use mathlib.Core.Path.{refl, ap, ◌∙◌}
+use lib.ListN.{set}
 use Rattle.lookup.specs.private.Rows.{entry_at}
-use Rattle.lookup.proofs.Rows.{entries-start, one-or-none}
 use Rattle.links.specs.private.Walking.{set_of}
-use Rattle.links.proofs.Marking.{marks-on, marks-end}
+use Rattle.links.proofs.Marking.{sets-past, sets-link}
+use Rattle.links.proofs.Passing.{left_all, past_link, at_end}
 use Rattle.links.proofs.first.first_marks.Goals as goal
 
-pub loop-i-init : goal.loop-i-init
-loop-i-init c = (omega arith, refl, rw (entries-start (set_of c.args.the_set) c.args.the_set.fs.num_files refl))
+pub loop-k-init : goal.loop-k-init
+loop-k-init c = left_all c.args.the_set.lent.rows (c.into_iter-k-iterator.ensures.into_iter_gives ∙ c.all-k-items.ensures) refl refl
 
-pub loop-i-preserved : goal.loop-i-preserved
-loop-i-preserved c = (
-  omega (arith, one-or-none (entry_at (set_of c.args.the_set) c.loop-i.i).flagged c.mark_one-k.result c.mark_one-k.ensures.value, c.loop-i.invariant.0),
-  c.mark_one-k.auto.marks ∙ c.loop-i.invariant.1,
-  marks-on (set_of c.args.the_set) c.args.the_set.fs.num_files c.loop-i.i c.loop-i-test.true _ _ _ _ _ c.mark_one-k.ensures.value
-      c.mark_one-k.ensures.marks_after c.loop-i.invariant.2,
-)
+pub loop-k-preserved : goal.loop-k-preserved
+loop-k-preserved c =
+    past_link (sets-past (set_of c.args.the_set) _ c.loop-k.marks c.loop-k.k-iterator.k) c.loop-k.invariant c.in-Some.ensures.steps
+    (λ fs q. sets-link (set_of c.args.the_set) _ c.loop-k.marks c.put.new.items c.in-Some.k (entry_at (set_of c.args.the_set) c.in-Some.i) fs (c.put.ensures ∙ ap (set c.loop-k.marks c.in-Some.k) c.first_mark-m.ensures))
 
 pub returns : goal.returns
-returns c = marks-end (set_of c.args.the_set) c.args.the_set.fs.num_files c.loop-i.i c.loop-i.marks c.loop-i.k c.loop-i-test.false ∙ c.loop-i.invariant.2
+returns c = at_end (sets-past (set_of c.args.the_set) _ c.loop-k.marks c.loop-k.k-iterator.k) c.loop-k.invariant c.in-None.ensures.steps

@@ -2,23 +2,26 @@
 -- the texts of all open links still fit, there is a frame for each, and the marks are the same but for uses. The loop over
 -- directories keeps: one from d on covers the front just where one of all does. The loop over links keeps: what is left of the scan
 -- finds the same link.
-use Prim.Native.Nat.{◌<◌}
-use mathlib.Core.Path.{◌≡◌, refl, sym, ap, ◌∙◌}
-use mathlib.Core.Bool.{Bool, true, false, cond}
+use Prim.Native.Nat.{ℕ, ◌<◌, ◌≤◌}
+use mathlib.Core.Path.{◌≡◌, refl, sym, ap, subst, ◌∙◌}
+use mathlib.Core.Bool.{Bool, true, false}
 use mathlib.Core.List.{map}
 use native.Mathlib.Omega.{arith}
 use borrow.Author.Tests.{ltb-true, ltb-false}
 use lib.ListN.{length, take}
+use Rattle.std.specs.Prelude.{Option, Some, None, IfSome}
+use Rattle.std.proofs.Common.{rules}
+use Rattle.std.specs.Option.{unwrap_or}
 use Rattle.tables.specs.Model.{directory_text}
 use Rattle.lookup.specs.Lookup.{covers, entries_of}
-use Rattle.lookup.specs.private.Rows.{entry_at}
-use Rattle.lookup.proofs.Rows.{flagged-at, entries-start, directories-start, directories-turn, one-or-none}
+use Rattle.lookup.proofs.Rows.{directories-start, directories-turn}
 use Rattle.links.specs.private.Walking.{lead, path_of, set_of, front_of}
-use Rattle.links.proofs.Scans.{scan-start}
+use Rattle.links.proofs.Passing.{left_all, at_link, past_link, at_end}
+use Rattle.links.proofs.Scans.{scan-start, scan-past}
 use Rattle.links.proofs.Events.{Met, no-dir, is-dir, link-past}
 use Rattle.links.proofs.Turning.{Traversed, Over, answer_of, text-number, left_end, left_dir, left_link, walking_start, walking-end, walking-dir, walking-link, walking-less, frame-free, frame-low, end_low, path-low}
 use Rattle.links.proofs.resolve.resolve.Goals as goal
-use Rattle.links.proofs.resolve.resolve.Goals.{In-walk, After-has_byte-2, After-is_covered, After-lead_mark-m, After-go_through-depth, else-walk-test, then-walk-test+then-loop-d-test+then-is_covered+then-next-e, then-walk-test+else-loop-d-test+else-loop-i-test}
+use Rattle.links.proofs.resolve.resolve.Goals.{In-walk, After-has_byte-2, After-is_covered, After-lead_mark, After-go_through-depth, else-walk-test, then-walk-test+then-loop-d-test+then-is_covered+then-next-e, then-walk-test+else-loop-d-test+in-None}
 
 -- at each turn of the walk a byte is left
 inside : (c : In-walk) → c.walk.e < length (path_of (set_of c.args.the_set) c.walk.frames c.walk.depth)
@@ -27,33 +30,46 @@ inside c = ltb-true _ _ (sym (rw c.new-in-walk.ensures at c.has_byte.ensures) �
 -- what a directory says of the front
 covered : (c : After-is_covered) (b : Bool) → c.is_covered.result ≡ b → covers (directory_text (set_of c.args.the_set) c.loop-d.d) (take c.walk.e
     (path_of (set_of c.args.the_set) c.walk.frames c.walk.depth)) ≡ b
-covered c b h = rw c.new-path.ensures at (sym c.is_covered.ensures ∙ h)
+covered c b h = rw (c.new-front.ensures.path, c.new-front.ensures.end, c.new-path.ensures) at (sym c.is_covered.ensures ∙ h)
 
--- the link at which the scan is
-met : (c : After-lead_mark-m) → Met (set_of c.args.the_set) (map lead c.walk.marks) (path_of (set_of c.args.the_set) c.walk.frames c.walk.depth)
-    c.walk.e c.loop-i.i c.loop-i.k c.lead_mark-m.result
-met c =
+-- the link at which the scan is, with lead m or none
+met : (c : After-lead_mark) (m : ℕ) (r : Option ℕ) → c.lead_mark.result ≡ r → unwrap_or r 0 ≡ m → Met (set_of c.args.the_set) (map lead c.walk.marks)
+    (path_of (set_of c.args.the_set) c.walk.frames c.walk.depth) c.walk.e c.in-Some.i c.in-Some.k m
+met c m r q v =
+    let s = set_of c.args.the_set in
+    let past = scan-past (entries_of s) (map lead c.walk.marks) (front_of c.new-front.result.path c.new-front.result.e) c.loop-k.k-iterator.k in
     record {
       before-end = ltb-true _ _ (sym (rw c.new-in-walk.ensures at c.has_byte.ensures) ∙ c.walk-test.true);
       no-directory = no-dir (set_of c.args.the_set) (map lead c.walk.marks) (path_of (set_of c.args.the_set) c.walk.frames c.walk.depth) c.walk.e
           c.loop-d.d (rw c.new-path.ensures at c.loop-d.invariant.1) c.loop-d-test.false;
-      scanned = rw c.new-path.ensures at c.loop-i.invariant.4;
-      row = c.loop-i-test.true;
-      is = rw (c.loop-i.invariant.0, c.new-path.ensures) at c.lead_mark-m.ensures.value;
+      scanned = rw (c.new-front.ensures.path, c.new-front.ensures.end, c.new-path.ensures) at (at_link past c.loop-k.invariant.3 c.in-Some.ensures.steps).1;
+      is = sym v ∙ ap (λ (r : Option ℕ). unwrap_or r 0) (sym q) ∙ rw (c.loop-k.invariant.0, c.new-front.ensures.path, c.new-front.ensures.end, c.new-path.ensures) at c.lead_mark.ensures.value;
     }
+
+-- a lead that leads on is 1 or 2
+leads : (r : Option ℕ) (m : ℕ) → r ≡ Some m → IfSome r (λ m. (0 < m) × (m ≤ 2)) → (0 < m) × (m ≤ 2)
+leads r m q = subst (λ (r : Option ℕ). IfSome r (λ m. (0 < m) × (m ≤ 2))) q
+
+-- the link that leads on
+taken : (c : After-lead_mark) (m : ℕ) → c.lead_mark.result ≡ Some m → Met (set_of c.args.the_set) (map lead c.walk.marks)
+    (path_of (set_of c.args.the_set) c.walk.frames c.walk.depth) c.walk.e c.in-Some.i c.in-Some.k m
+taken c m q = met c m (Some m) q refl
+
+leads_on : (c : After-lead_mark) (m : ℕ) → c.lead_mark.result ≡ Some m → m ≡ 0 → ⊥
+leads_on c m q z = omega (arith, z, (leads _ m q c.lead_mark.ensures.result_bound).0)
 
 -- what is left once it is gone through
 gone : (c : After-go_through-depth) → Traversed (set_of c.args.the_set) c.walk.marks c.walk.frames c.walk.depth c.walk.e c.put_lead.new.marks
-    c.go_through-depth.new.frames c.go_through-depth.result c.loop-i.i c.loop-i.k c.lead_mark-m.result
+    c.go_through-depth.new.frames c.go_through-depth.result c.in-Some.i c.in-Some.k c.in-Some-lead_mark.m
 gone c =
     let by-number =
-    text-number c.args.the_set.lent.rows.now c.args.the_set.lent.dirs.now c.args.the_set.lent.text.now c.loop-i.i c.lead_mark-m.result c.lead_mark-m.ensures.result_bound in
+    text-number c.args.the_set.lent.rows.now c.args.the_set.lent.dirs.now c.args.the_set.lent.text.now c.in-Some.i c.in-Some-lead_mark.m (leads _ _ c.in-Some-lead_mark.is c.lead_mark.ensures.result_bound).1 in
     record {
-      path-is = rw (c.loop-i.invariant.1, c.loop-i.invariant.2, by-number) at c.go_through-depth.ensures.result_after;
-      one_more = rw c.loop-i.invariant.1 at c.go_through-depth.ensures.upper_bound;
-      leads-are = rw c.loop-i.invariant.0 at c.put_lead.ensures.marks_after;
-      verdicts-kept = rw c.loop-i.invariant.0 at c.put_lead.ensures.marks_unchanged;
-      marks-long = rw c.loop-i.invariant.0 at c.put_lead.auto.marks;
+      path-is = rw (c.loop-k.invariant.1, c.loop-k.invariant.2, c.new-front.ensures.end, by-number) at c.go_through-depth.ensures.result_after;
+      one_more = rw c.loop-k.invariant.1 at c.go_through-depth.ensures.upper_bound;
+      leads-are = rw c.loop-k.invariant.0 at c.put_lead.ensures.marks_after;
+      verdicts-kept = rw c.loop-k.invariant.0 at c.put_lead.ensures.marks_unchanged;
+      marks-long = rw c.loop-k.invariant.0 at c.put_lead.auto.marks;
       frames-long = c.go_through-depth.auto.frames;
     }
 
@@ -68,12 +84,12 @@ over c =
       | then-walk-test+then-loop-d-test+then-is_covered+then-next-e w ↦
           left_dir c.walk.invariant.1 w.marks-is refl w.depth-is (w.e-is ∙ w.loop-d.invariant.0)
           w.loop-d.d w.cut_in-next.result (rw w.new-path.ensures at w.loop-d.invariant.1) w.loop-d-test.true
-          (rw w.new-path.ensures at (sym w.is_covered.ensures ∙ w.if-is_covered.true))
+          (rw (w.new-front.ensures.path, w.new-front.ensures.end, w.new-path.ensures) at (sym w.is_covered.ensures ∙ w.if-is_covered.true))
           (rw (w.new-path.ensures, w.loop-d.invariant.0) at w.cut_in-next.ensures) (omega (arith, w.loop-d.invariant.0, w.if-next-e.true))
-      | then-walk-test+else-loop-d-test+else-loop-i-test w ↦
-          left_link c.walk.invariant.1 (w.marks-is ∙ w.loop-i.invariant.0) refl (w.depth-is ∙ w.loop-i.invariant.1) (w.e-is ∙ w.loop-i.invariant.2)
-          w.loop-d.d w.loop-i.i w.loop-i.k (rw w.new-path.ensures at w.loop-d.invariant.1) w.loop-d-test.false
-          (rw w.new-path.ensures at w.loop-i.invariant.4) w.loop-i-test.false
+      | then-walk-test+else-loop-d-test+in-None w ↦
+          left_link c.walk.invariant.1 (w.marks-is ∙ w.loop-k.invariant.0) refl (w.depth-is ∙ w.loop-k.invariant.1) (w.e-is ∙ w.loop-k.invariant.2 ∙ w.new-front.ensures.end)
+          w.loop-d.d w.loop-k.k-iterator.k (rw w.new-path.ensures at w.loop-d.invariant.1) w.loop-d-test.false
+          (rw (w.new-front.ensures.path, w.new-front.ensures.end, w.new-path.ensures) at (at_end (scan-past (entries_of (set_of c.args.the_set)) (map lead c.walk.marks) (front_of w.new-front.result.path w.new-front.result.e) w.loop-k.k-iterator.k) w.loop-k.invariant.3 w.in-None.ensures.steps))
     ]
 
 pub walk-init : goal.walk-init
@@ -94,7 +110,7 @@ cut_in-next-requires c = rw c.new-path.ensures (
 
 pub walk-preserved-then-is_covered : goal.walk-preserved-then-is_covered
 walk-preserved-then-is_covered c = (
-  c.put_head-n.auto.buf ∙ c.walk.invariant.0,
+  search rules,
   walking-dir c.walk.invariant.1 c.cut_in-next.result (inside (goal.at.walk-preserved-then-is_covered c).In-walk)
       (is-dir (set_of c.args.the_set) (map lead c.walk.marks) (path_of (set_of c.args.the_set) c.walk.frames c.walk.depth) c.walk.e c.loop-d.d
       (rw c.new-path.ensures at c.loop-d.invariant.1) c.loop-d-test.true
@@ -110,59 +126,64 @@ loop-d-preserved c = (
       ∙ rw c.new-path.ensures at c.loop-d.invariant.1),
 )
 
-pub loop-i-init : goal.loop-i-init
-loop-i-init c = (
+pub loop-k-init : goal.loop-k-init
+loop-k-init c = (
   refl,
   refl,
-  c.loop-d.invariant.0,
-  omega arith,
-  rw (entries-start (set_of c.args.the_set) c.args.the_set.fs.num_files refl)
-      (scan-start (entries_of (set_of c.args.the_set)) (map lead c.walk.marks) (front_of c.new-path.result c.walk.e)),
+  c.loop-d.invariant.0 ∙ sym c.new-front.ensures.end,
+  left_all c.args.the_set.lent.rows (c.into_iter-k-iterator.ensures.into_iter_gives ∙ c.all-k-items.ensures) refl (scan-start (entries_of (set_of c.args.the_set)) (map lead c.walk.marks) _),
 )
+
+pub lead_mark-requires : goal.lead_mark-requires
+lead_mark-requires c =
+    let past = scan-past (entries_of (set_of c.args.the_set)) (map lead c.walk.marks) (front_of c.new-front.result.path c.new-front.result.e) c.loop-k.k-iterator.k in (
+      omega (arith, c.in-Some.ensures.steps.file, c.loop-k.invariant.3.files),
+      search rules,
+      rw (c.new-front.ensures.path, c.new-path.ensures) (at_link past c.loop-k.invariant.3 c.in-Some.ensures.steps).0,
+    )
 
 pub go_through-depth-requires : goal.go_through-depth-requires
 go_through-depth-requires c =
-    let at = met (goal.at.go_through-depth-requires c).After-lead_mark-m in (
-      omega (arith, frame-free c.walk.invariant.1 at c.if-m-ne0.true, c.loop-i.invariant.1),
-      omega (arith, frame-low c.walk.invariant.1 at c.if-m-ne0.true, c.loop-i.invariant.1),
-      omega (arith, end_low c.walk.invariant.1 at c.if-m-ne0.true, c.loop-i.invariant.2),
-      omega (arith, c.lead_mark-m.ensures.result_bound, c.loop-i-test.true, c.requires.few),
+    let at = taken (goal.at.go_through-depth-requires c).After-lead_mark c.in-Some-lead_mark.m c.in-Some-lead_mark.is in
+    let led = leads_on (goal.at.go_through-depth-requires c).After-lead_mark c.in-Some-lead_mark.m c.in-Some-lead_mark.is in (
+      omega (arith, frame-free c.walk.invariant.1 at led, c.loop-k.invariant.1),
+      omega (arith, frame-low c.walk.invariant.1 at led, c.loop-k.invariant.1),
+      omega (arith, end_low c.walk.invariant.1 at led, c.loop-k.invariant.2, c.new-front.ensures.end),
+      omega (arith, (leads _ _ c.in-Some-lead_mark.is c.lead_mark.ensures.result_bound).1, c.in-Some.ensures.steps.file, c.loop-k.invariant.3.files, c.requires.few),
     )
 
-pub cut_in-e-requires-then-m-ne0 : goal.cut_in-e-requires-then-m-ne0
-cut_in-e-requires-then-m-ne0 c =
-    rw c.new-then-m-ne0.ensures (
+pub cut_in-e-requires-in-Some-lead_mark : goal.cut_in-e-requires-in-Some-lead_mark
+cut_in-e-requires-in-Some-lead_mark c =
+    rw c.new-in-Some-lead_mark.ensures (
       omega arith,
-      path-low c.walk.invariant.1 (met (goal.at.cut_in-e-requires-then-m-ne0 c).After-lead_mark-m)
-          c.if-m-ne0.true (gone (goal.at.cut_in-e-requires-then-m-ne0 c).After-go_through-depth),
+      path-low c.walk.invariant.1 (taken (goal.at.cut_in-e-requires-in-Some-lead_mark c).After-lead_mark c.in-Some-lead_mark.m c.in-Some-lead_mark.is)
+          (leads_on (goal.at.cut_in-e-requires-in-Some-lead_mark c).After-lead_mark c.in-Some-lead_mark.m c.in-Some-lead_mark.is) (gone (goal.at.cut_in-e-requires-in-Some-lead_mark c).After-go_through-depth),
     )
 
 pub walk-smaller : goal.walk-smaller
 walk-smaller c =
-    walking-less c.walk.invariant.1 (met (goal.at.walk-smaller c).After-lead_mark-m) c.if-m-ne0.true
-    (gone (goal.at.walk-smaller c).After-go_through-depth) c.cut_in-e-then-m-ne0.result
-    (rw c.new-then-m-ne0.ensures at c.cut_in-e-then-m-ne0.ensures)
+    walking-less c.walk.invariant.1 (taken (goal.at.walk-smaller c).After-lead_mark c.in-Some-lead_mark.m c.in-Some-lead_mark.is) (leads_on (goal.at.walk-smaller c).After-lead_mark c.in-Some-lead_mark.m c.in-Some-lead_mark.is)
+    (gone (goal.at.walk-smaller c).After-go_through-depth) c.cut_in-e-in-Some-lead_mark.result
+    (rw c.new-in-Some-lead_mark.ensures at c.cut_in-e-in-Some-lead_mark.ensures)
 
 pub walk-preserved : goal.walk-preserved
 walk-preserved c = (
-  c.put_head-n.auto.buf ∙ c.walk.invariant.0,
-  walking-link c.walk.invariant.1 (met (goal.at.walk-preserved c).After-lead_mark-m) c.if-m-ne0.true
-      (gone (goal.at.walk-preserved c).After-go_through-depth) c.cut_in-e-then-m-ne0.result
-      (rw c.new-then-m-ne0.ensures at c.cut_in-e-then-m-ne0.ensures),
+  search rules,
+  walking-link c.walk.invariant.1 (taken (goal.at.walk-preserved c).After-lead_mark c.in-Some-lead_mark.m c.in-Some-lead_mark.is) (leads_on (goal.at.walk-preserved c).After-lead_mark c.in-Some-lead_mark.m c.in-Some-lead_mark.is)
+      (gone (goal.at.walk-preserved c).After-go_through-depth) c.cut_in-e-in-Some-lead_mark.result
+      (rw c.new-in-Some-lead_mark.ensures at c.cut_in-e-in-Some-lead_mark.ensures),
 )
 
-pub loop-i-preserved : goal.loop-i-preserved
-loop-i-preserved c =
-    let count-is : c.link_count-k.result ≡ cond (entry_at (set_of c.args.the_set) c.loop-i.i).flagged 1 0 = c.link_count-k.ensures
-    ∙ ap (λ (b : Bool). cond b 1 0) (flagged-at (set_of c.args.the_set) c.loop-i.i) in (
-      c.loop-i.invariant.0,
-      c.loop-i.invariant.1,
-      c.loop-i.invariant.2,
-      omega (arith, one-or-none (entry_at (set_of c.args.the_set) c.loop-i.i).flagged c.link_count-k.result count-is, c.loop-i.invariant.3),
-      rw c.new-path.ensures (link-past (set_of c.args.the_set) (map lead c.walk.marks) (path_of (set_of c.args.the_set) c.walk.frames c.walk.depth)
-          c.walk.e c.loop-i.i c.loop-i.k c.lead_mark-m.result (met (goal.at.loop-i-preserved c).After-lead_mark-m) c.link_count-k.result
-          c.if-m-ne0.false count-is),
-    )
+pub loop-k-preserved : goal.loop-k-preserved
+loop-k-preserved c = (
+  c.loop-k.invariant.0,
+  c.loop-k.invariant.1,
+  c.loop-k.invariant.2,
+  rw (c.new-front.ensures.path, c.new-front.ensures.end, c.new-path.ensures) (past_link (scan-past (entries_of (set_of c.args.the_set)) (map lead c.walk.marks) (take c.walk.e (path_of (set_of c.args.the_set) c.walk.frames c.walk.depth)) c.loop-k.k-iterator.k)
+      (rw (c.new-front.ensures.path, c.new-front.ensures.end, c.new-path.ensures) at c.loop-k.invariant.3) c.in-Some.ensures.steps
+      (λ fs q e h. rw q (link-past (set_of c.args.the_set) (map lead c.walk.marks) (path_of (set_of c.args.the_set) c.walk.frames c.walk.depth) c.walk.e c.in-Some.i c.in-Some.k 0
+      (met (goal.at.loop-k-preserved c).After-lead_mark 0 None c.in_default.is refl) refl e))),
+)
 
 pub returns-then-has_byte : goal.returns-then-has_byte
 returns-then-has_byte c =
@@ -173,15 +194,15 @@ returns-then-has_byte c =
       marks_unchanged_2 = out.walking.verdicts-kept;
     }
 
-pub put_head-n-requires-2 : goal.put_head-n-requires-2
-put_head-n-requires-2 c = rw c.new-path-2.ensures (over (goal.at.put_head-n-requires-2 c).After-has_byte-2).walking.inside
+pub new-front-requires-2 : goal.new-front-requires-2
+new-front-requires-2 c = rw c.new-path-2.ensures (over (goal.at.new-front-requires-2 c).After-has_byte-2).walking.inside
 
 pub returns : goal.returns
 returns c =
     let out = over (goal.at.returns c).After-has_byte-2 in
     record {
       value = c.known_in.ensures
-          ∙ rw c.new-path-2.ensures (walking-end out.walking (ltb-false _ _ (sym (rw c.new-path-2.ensures at c.has_byte-2.ensures) ∙ c.if-has_byte.false)));
+          ∙ rw (c.new-front-2.ensures.path, c.new-front-2.ensures.end, c.new-path-2.ensures) (walking-end out.walking (ltb-false _ _ (sym (rw c.new-path-2.ensures at c.has_byte-2.ensures) ∙ c.if-has_byte.false)));
       marks_unchanged = out.walking.marks-fresh;
       marks_unchanged_2 = out.walking.verdicts-kept;
     }

@@ -2,14 +2,15 @@
 -- the texts of all open links still fit, there is a frame for each, and the marks are the same but for uses. The loop over
 -- directories keeps: one from d on covers the front just where one of all does. The loop over links keeps: what is left of the scan
 -- finds the same link.
-use Prim.Native.Nat.{◌-◌, ◌≤◌}
+use Prim.Native.Nat.{◌-◌}
 use mathlib.Core.Path.{◌≡◌}
 use mathlib.Core.List.{map}
 use lib.ListN.{length}
 use Rattle.lookup.specs.Lookup.{is_directory, entries_of, directories_of}
-use Rattle.lookup.specs.private.Rows.{entries_from, directories_from}
+use Rattle.lookup.specs.private.Rows.{directories_from}
 use Rattle.links.specs.Clean.{left}
 use Rattle.links.specs.private.Walking.{lead, open_of, path_of, set_of, front_of}
+use Rattle.links.proofs.Passing.{Left}
 use Rattle.links.proofs.Scans.{Scan}
 use Rattle.links.proofs.Turning.{Walking, answer_of}
 use Rattle.links.proofs.resolve.resolve.Given as goal
@@ -20,14 +21,12 @@ invariant-loop-d l =
     × (is_directory (directories_from (set_of l.the_set) (l.the_set.fs.num_paths - l.d) l.d) (front_of l.path l.initial.e)
     ≡ is_directory (directories_of (set_of l.the_set)) (front_of l.path l.initial.e))
 
-abbrev pub invariant-loop-i : goal.invariant-loop-i
-invariant-loop-i l =
+abbrev pub invariant-loop-k : goal.invariant-loop-k
+invariant-loop-k l =
     (l.marks ≡ l.initial.marks)
     × (l.depth ≡ l.initial.depth)
-    × (l.e ≡ l.front.1.0)
-    × (l.k ≤ l.i)
-    × Scan (entries_of (set_of l.the_set)) (entries_from (set_of l.the_set) (l.the_set.fs.num_files - l.i) l.i) (map lead l.initial.marks)
-    (front_of l.front.0 l.front.1.0) l.k
+    × (l.e ≡ l.front.e)
+    × Left (set_of l.the_set) l.k-iterator (λ fs k. Scan (entries_of (set_of l.the_set)) fs (map lead l.initial.marks) (front_of l.front.path l.front.e) k)
 
 abbrev pub invariant-walk : goal.invariant-walk
 invariant-walk l = (length l.buf ≡ 4096) × Walking (set_of l.the_set) l.initial.marks l.initial.frames

@@ -10,4 +10,4 @@ use Rattle.lists.proofs.decimal.put_digits.Given as goal
 
 abbrev pub invariant-loop-i : goal.invariant-loop-i
 invariant-loop-i l =
-    (length l.target ≡ length l.initial.target) × (sets l.target l.at (last_digits (l.count - l.i) l.rest) ≡ sets l.initial.target l.at (drop (length (decimal l.n) - l.count) (decimal l.n)))
+    (length l.target ≡ length l.initial.target) × (sets l.target l.at (last_digits l.i l.rest) ≡ sets l.initial.target l.at (drop (length (decimal l.n) - l.count) (decimal l.n)))

@@ -6,5 +6,7 @@ use lib.ListN.{length}
 use Rattle.renames.specs.Renames.{ordered_from}
 use Rattle.renames.proofs.check.are_in_order.Given as goal
 
-abbrev pub invariant-loop-i : goal.invariant-loop-i
-invariant-loop-i l = ordered_from (length l.entries / 3 - l.i) l.i l.least l.left l.entries ≡ ordered_from (length l.entries / 3) 0 0 l.len l.entries
+abbrev pub invariant-loop-entry : goal.invariant-loop-entry
+invariant-loop-entry l =
+    let i = length l.yielded in
+    ordered_from (length l.entries / 3 - i) i l.least l.left l.entries ≡ ordered_from (length l.entries / 3) 0 0 l.len l.entries

@@ -1,8 +1,10 @@
--- The bytes of the digits that are left, after those that are written, are what the word spells.
-use Rattle.std.proofs.Common.{◌*◌, drop}
+-- Two digits are passed for each byte that is written, and the bytes of the digits that are left, after the written ones,
+-- are what the word spells.
+use Rattle.std.proofs.Common.{◌≡◌, ◌+◌, ◌*◌, length}
 use Rattle.script.specs.Roots.{pairs_in}
 use Rattle.script.proofs.Units.{Partly}
 use Rattle.script.proofs.roots.spelt.Given as goal
 
-abbrev pub invariant-loop-i : goal.invariant-loop-i
-invariant-loop-i l = Partly (pairs_in l.word) (pairs_in (drop (l.i * 2) l.word)) l.i l.root
+abbrev pub invariant-loop-byte : goal.invariant-loop-byte
+invariant-loop-byte l =
+    (length l.rest + l.byte-index * 2 ≡ length l.word) × Partly (pairs_in l.word) (pairs_in l.rest) l.byte-index l.byte-items

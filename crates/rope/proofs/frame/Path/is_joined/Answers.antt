@@ -1,44 +1,25 @@
--- `rope::frame::Path::is_joined` meets its contract. Its loop keeps: `next` is the place of byte i, and what is left of
--- the join and of the first e bytes from byte i on decides.
-use Prim.Native.Nat.{ℕ, ◌<◌}
-use mathlib.Core.Path.{◌≡◌, sym, ◌∙◌}
-use native.Mathlib.Omega.{arith}
-use lib.ListN.{get_or, drop, take, length-take}
-use lib.Seq.{get_or-take}
-use Rattle.lists.proofs.Equality.{equal-differs}
+-- `rope::frame::Path::is_joined` meets its contract: the bytes of the join are held against the first e bytes.
+use mathlib.Core.Path.{◌≡◌, refl, sym, ap, ◌∙◌}
+use mathlib.Core.List.{map}
+use native.Mathlib.Nat.{sub-zero}
+use Rattle.std.proofs.Common.{rules}
+use lib.ListN.{length, get_or, take}
+use Rattle.std.specs.List.{range_with_len}
+use Rattle.std.proofs.lemmas.List.FromFn.{fill_by_all}
+use Rattle.std.proofs.lemmas.Iterator.{YieldsList-from_range, YieldsList-from_map, YieldsList-from_take}
+use Rattle.std.proofs.lemmas.Iterator.Consumers.{YieldsList-from_first}
 use Rattle.path.specs.Join.{appended}
-use Rattle.rope.specs.declared.frame.Path.{Path}
-use Rattle.rope.specs.declared.place.Place.{Place}
-use Rattle.rope.specs.Rope.{held, held_to}
-use Rattle.rope.proofs.Places.{next_same, equal_turn}
+use Rattle.rope.specs.Rope.{held, bytes_left}
+use Rattle.rope.proofs.Comparing.{eq_from_yields_List}
 use Rattle.rope.proofs.Fronting.{front_long}
-use Rattle.rope.proofs.Standing.{has_more, byte_there}
 use Rattle.rope.proofs.frame.Path.is_joined.Goals as goal
 
--- a byte at the place of byte i is one of the first e bytes
-byte-in : (p : Path) (q : Place) (e i : ℕ) → drop q.at (held_to p q.k) ≡ drop i (held p) → i < e → get_or (held_to p q.k) q.at 0 ≡ get_or (take e (held p)) i 0
-byte-in p q e i h l = byte_there p q (held p) i h ∙ sym (get_or-take e (held p) i 0 l)
-
-pub returns-then-joined_byte-standing_byte : goal.returns-then-joined_byte-standing_byte
-returns-then-joined_byte-standing_byte c =
-    let byte-is = byte-in c.args.self c.seek_from-p.result c.args.e c.loop-i.i (c.seek_from-p.ensures.k_value ∙ c.loop-i.invariant.1) c.loop-i-test.true in
-    sym (equal-differs (appended c.args.d.now c.args.n.now) (take c.args.e (held c.args.self)) c.loop-i.i
-    (λ q. c.if-joined_byte-standing_byte.true (c.joined_byte.ensures ∙ q ∙ sym (c.standing_byte.ensures ∙ byte-is))))
-    ∙ front_long (appended c.args.d.now c.args.n.now) (held c.args.self) c.args.e c.loop-i.invariant.2
-
-pub loop-i-preserved : goal.loop-i-preserved
-loop-i-preserved c =
-    let found : drop c.seek_from-p.result.at (held_to c.args.self c.seek_from-p.result.k)
-    ≡ drop c.loop-i.i (held c.args.self) = c.seek_from-p.ensures.k_value ∙ c.loop-i.invariant.1 in
-    let there = has_more c.args.self c.seek_from-p.result (held c.args.self) c.loop-i.i found c.seek_from-p.ensures.in_frame (omega arith) in
-    let byte-is = byte-in c.args.self c.seek_from-p.result c.args.e c.loop-i.i found c.loop-i-test.true in
-    let same : c.joined_byte.result ≡ c.standing_byte.result = omega (arith, c.if-joined_byte-standing_byte.false) in (
-      omega (arith, c.seek_from-p.ensures.k_le_depth, c.loop-i.invariant.0),
-      next_same (held_to c.args.self c.seek_from-p.result.k) (held c.args.self) c.seek_from-p.result.at c.loop-i.i found,
-      c.loop-i.invariant.2,
-      equal_turn (appended c.args.d.now c.args.n.now) (take c.args.e (held c.args.self)) c.loop-i.i
-          (omega (arith, c.loop-i.invariant.2, c.loop-i-test.true)) (omega
-          (arith, there, c.loop-i-test.true, length-take c.args.e (held c.args.self)))
-          (sym c.joined_byte.ensures ∙ same ∙ c.standing_byte.ensures ∙ byte-is)
-          ∙ c.loop-i.invariant.3,
-    )
+pub returns-then-joined_length-e : goal.returns-then-joined_length-e
+returns-then-joined_length-e c =
+    let join = appended c.args.d.now c.args.n.now in
+    let long : length join ≡ c.args.e = sym c.joined_length.ensures ∙ c.if-joined_length-e.true in
+    let whole : join ≡ map (λ i. get_or join i 0) (range_with_len 0 c.args.e) = fill_by_all (λ i. get_or join i 0) join c.args.e 0 long (λ k h. refl) in
+    eq_from_yields_List {ys = take c.args.e (held c.args.self)} (λ x y. y ≡ x) c.take.result c.eq.result c.eq.ensures.ran
+    (YieldsList-from_map _ (λ i. get_or join i 0) (YieldsList-from_range 0 c.args.e c.args.e c.map.ensures.source (sub-zero c.args.e)) c.map.ensures.closure (λ x r q k. search rules))
+    (λ it b. YieldsList-from_take {s = it} c.args.e (YieldsList-from_first (λ x. x) bytes_left (held c.args.self) (ap (λ t. bytes_left t.iter) b ∙ ap bytes_left c.take.ensures.source ∙ c.bytes_from.ensures)) (ap (λ t. t.n) b ∙ c.take.ensures.count))
+    ∙ rw (← whole) (front_long join (held c.args.self) c.args.e long)
