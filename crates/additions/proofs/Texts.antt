@@ -17,14 +17,12 @@ use Rattle.path.specs.Join.{is_empty}
 use Rattle.path.proofs.Splits.{last-parts, leaf-all, branch-none, first-parts, first-all, rest-none}
 use Rattle.path.proofs.Ends.{trimmed-rest}
 use Rattle.tables.specs.declared.span.Span.{Span}
-use Rattle.tables.specs.declared.rows.Presence.{Presence}
-use Rattle.tables.specs.declared.rows.Presence.TheVariants.{Absent, Present}
 use Rattle.tables.specs.Span.{text_at}
 use Rattle.additions.specs.declared.parts.PathKind.{PathKind}
 use Rattle.additions.specs.declared.parts.PathKind.TheVariants.{Single, Absolute, Inside, Outside}
 use Rattle.additions.specs.declared.parts.Place.{Place}
 use Rattle.additions.specs.declared.parts.PathParts.{PathParts}
-use Rattle.additions.specs.Addition.{set_name_of, name_after, without_leading, path_name, stored_name, limited_name, bad_name, optional_of}
+use Rattle.additions.specs.Addition.{set_name_of, name_after, without_leading, path_name, stored_name, limited_name, bad_name}
 use Rattle.additions.specs.private.Texts.{name_from, set_text_of, text_under, absolute_kind, PartsWithin, place_for}
 use Rattle.additions.specs.Parts.{kind_for, no_span, whole_span, leaf_span, first_span, set_name_span, name_span, directory_span, parts_of}
 use Rattle.additions.specs.private.Checks.{limited_length, bad_beside}
@@ -289,10 +287,9 @@ parent_above p leaf e h = at (has_parent_path p) refl
     at false q = absurd (omega (arith, trimmed-length p, ap length e ∙ ap length (leaf-all (trimmed is_separator p) (trimmed-clear p q))))
 
 -- the name that is stored
-pub name-is : (p : Presence) (given path own : List ℕ) → own ≡ path_name path → name_from p given own ≡ stored_name (optional_of p given) path
-name-is Absent given path own f = f
-name-is Present [] path own f = f
-name-is Present (c ∷ l) path own f = refl
+pub name-is : (given : Option (List ℕ)) (path own : List ℕ) → own ≡ path_name path → name_from given own ≡ stored_name given path
+name-is None path own f = f
+name-is (Some given) path own f = ap (λ (n : List ℕ). cond (is_empty given) n given) f
 
 -- the name that refusal 5 looks at, and refusal 6
 pub limited-is : (given : Option (List ℕ)) (path : List ℕ) → limited_length given (length (rsplit_leaf path)) ≡ length (limited_name given path)

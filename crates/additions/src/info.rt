@@ -1,9 +1,9 @@
 // A file to add, and what is kept of it: its name and its link text. Relies on the presence of `tables`.
-ghost use Rattle.std.specs.Prelude.{◌≡◌, not, ◌&&◌};
-ghost use Rattle.path.specs.Join.{is_empty};
-ghost use Rattle.additions.specs.Addition.{link_is_kept};
-ghost use Rattle.additions.specs.private.Texts.{is_here, name_from, link_text_of};
+ghost use Rattle.std.specs.Prelude.{◌≡◌, option_copied};
+ghost use Rattle.additions.specs.Addition.{optional_of, link_is_kept};
+ghost use Rattle.additions.specs.private.Texts.{name_from, link_text_of};
 
+use crate::parts::PathParts;
 use tables::{Presence, Sha256Hash};
 
 // The most link texts that a set holds.
@@ -12,7 +12,7 @@ const MAX_LINKS: usize = 32766;
 // A file to add, besides its texts: whether a name is given, its size, flags and modified time, and its root, if it is
 // there.
 // Stays: document 01 puts an enum of presence in the place of `Option`, with the value beside it: the root's bytes
-// here, and the given name among the texts.
+// here, and the given name among the texts. `given_name` makes an `Option` of the name once, for the calls inside.
 #[derive(Clone, Copy)]
 pub struct FileInfo {
     pub given: Presence,
@@ -23,28 +23,30 @@ pub struct FileInfo {
     pub root: Sha256Hash,
 }
 
-// Whether something that may be missing is there.
-pub fn is_here(presence: Presence) -> bool
-    ensures { result ≡ is_here presence }
-{
-    matches!(presence, Presence::Present)
+// The texts that an addition brings, its name where one is given, and the parts of its path.
+#[derive(Clone, Copy)]
+pub struct Given<'a> {
+    pub name: Option<&'a [u8]>,
+    pub path: &'a [u8],
+    pub link: &'a [u8],
+    pub parts: PathParts,
 }
 
-// Whether a name is given that has bytes.
-pub(crate) fn is_given(given: Presence, filename: &[u8]) -> bool
-    ensures { result ≡ (is_here given && not (is_empty filename.now)) }
+// The name that is given, if one is.
+pub fn given_name(given: Presence, filename: &[u8]) -> Option<&[u8]>
+    ensures { option_copied result ≡ optional_of given filename.now }
 {
-    is_here(given) && !filename.is_empty()
+    bool::from(given).then_some(filename)
 }
 
 // The name that is stored: the given one where it has bytes, else `own`, that of the path.
-pub fn stored_name<'a>(given: Presence, filename: &'a [u8], own: &'a [u8]) -> &'a [u8]
-    ensures { result.now ≡ name_from given filename.now own.now }
+pub fn stored_name<'a>(given: Option<&'a [u8]>, own: &'a [u8]) -> &'a [u8]
+    ensures { result.now ≡ name_from (option_copied given.entry) own.now }
 {
-    if is_given(given, filename) {
-        return filename;
+    match given {
+        Some(name) if !name.is_empty() => name,
+        _ => own,
     }
-    own
 }
 
 // Whether an addition keeps its link text: it has one, and a set of `links` link texts may hold one more.

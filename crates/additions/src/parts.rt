@@ -27,7 +27,9 @@ pub(crate) struct Place {
 }
 
 // The parts of a path, as spans in it.
-// Stays: a path without a parent has each of these spans too, so `has_parent` guards no field.
+// Stays: a path without a parent has each of these spans too, so `has_parent` guards no field. Nor does `kind`: the
+// plan and the writer read the directory's text of every kind, which has no bytes where there is no directory; with the
+// span in two variants of the kind, each of them would match for it first.
 #[derive(Clone, Copy)]
 pub struct PathParts {
     // Its last part.
@@ -41,6 +43,16 @@ pub struct PathParts {
     pub kind: PathKind,
     // Whether it has a part above its leaf.
     pub has_parent: bool,
+}
+
+// The span of a whole text.
+fn whole_span(text: &[u8]) -> Span
+    ensures { result ≡ whole_span text.now }
+{
+    Span {
+        at: 0,
+        len: text.len(),
+    }
 }
 
 // The span of a path's last part.
@@ -76,16 +88,9 @@ fn is_below(path: &[u8], leaf: usize) -> bool
 fn first_span(path: &[u8]) -> Span
     ensures { result ≡ first_span path.now }
 {
-    let first = path::lsplit_path_first(path);
-    if path::is_complete(path) {
-        return Span {
-            at: 1,
-            len: first.len(),
-        };
-    }
     Span {
-        at: 0,
-        len: first.len(),
+        at: usize::from(path::is_complete(path)),
+        len: path::lsplit_path_first(path).len(),
     }
 }
 
@@ -94,15 +99,12 @@ fn set_name_span(files: usize, has_parent: bool, path: &[u8]) -> Span
     ensures { result ≡ set_name_span files has_parent path.now }
 {
     if 0 < files {
-        return Span { at: 0, len: 0 };
+        return Span::empty();
     }
     if has_parent {
         return first_span(path);
     }
-    Span {
-        at: 0,
-        len: path.len(),
-    }
+    whole_span(path)
 }
 
 // The name that a path gives its file.
@@ -110,10 +112,7 @@ fn name_span(path: &[u8], leaf: Span) -> Span
     ensures { result ≡ cond (is_complete path.now) (whole_span path.now) leaf }
 {
     if path::is_complete(path) {
-        return Span {
-            at: 0,
-            len: path.len(),
-        };
+        return whole_span(path);
     }
     leaf
 }
@@ -140,13 +139,13 @@ fn place_of(path: &[u8], branch: &[u8], set_name: &[u8]) -> Place
     if path::is_complete(path) {
         return Place {
             kind: PathKind::Absolute,
-            directory: Span { at: 0, len: 0 },
+            directory: Span::empty(),
         };
     }
     if branch.is_empty() {
         return Place {
             kind: PathKind::Single,
-            directory: Span { at: 0, len: 0 },
+            directory: Span::empty(),
         };
     }
     let first = path::lsplit_path_first(branch);
@@ -158,10 +157,7 @@ fn place_of(path: &[u8], branch: &[u8], set_name: &[u8]) -> Place
     }
     Place {
         kind: PathKind::Outside,
-        directory: Span {
-            at: 0,
-            len: branch.len(),
-        },
+        directory: whole_span(branch),
     }
 }
 

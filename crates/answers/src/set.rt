@@ -5,7 +5,7 @@ ghost use Rattle.answers.specs.Given.{num_files_given, total_size_given, size_on
 ghost use Rattle.answers.specs.Given.{piece_length_given, v2_given};
 ghost use Rattle.answers.specs.Given.{set_name_given, num_paths_given, path_at_given};
 
-use rules::{ask_directory, ask_set};
+use rules::{Tests, ask_directory, ask_set, holds_dirs, holds_text};
 use tables::{FileStorage, Span};
 use types::Refusal;
 
@@ -13,7 +13,7 @@ use types::Refusal;
 pub fn num_files(fs: FileStorage) -> Result<i32, Refusal>
     ensures { outcome result ≡ num_files_given fs }
 {
-    ask_set(fs, false, true)?;
+    ask_set(fs)?;
     Ok(types::signed32(fs.num_files as u64))
 }
 
@@ -21,7 +21,7 @@ pub fn num_files(fs: FileStorage) -> Result<i32, Refusal>
 pub fn total_size(fs: FileStorage) -> Result<i64, Refusal>
     ensures { outcome result ≡ total_size_given fs }
 {
-    ask_set(fs, false, true)?;
+    ask_set(fs)?;
     Ok(types::signed64(fs.total_size))
 }
 
@@ -29,7 +29,7 @@ pub fn total_size(fs: FileStorage) -> Result<i64, Refusal>
 pub fn size_on_disk(fs: FileStorage) -> Result<i64, Refusal>
     ensures { outcome result ≡ size_on_disk_given fs }
 {
-    ask_set(fs, false, true)?;
+    ask_set(fs)?;
     Ok(types::signed64(fs.size_on_disk))
 }
 
@@ -37,7 +37,7 @@ pub fn size_on_disk(fs: FileStorage) -> Result<i64, Refusal>
 pub fn piece_length(fs: FileStorage) -> Result<i32, Refusal>
     ensures { outcome result ≡ piece_length_given fs }
 {
-    ask_set(fs, false, true)?;
+    ask_set(fs)?;
     Ok(types::signed32(fs.piece_length))
 }
 
@@ -45,7 +45,7 @@ pub fn piece_length(fs: FileStorage) -> Result<i32, Refusal>
 pub fn v2(fs: FileStorage) -> Result<bool, Refusal>
     ensures { outcome result ≡ v2_given fs }
 {
-    ask_set(fs, false, true)?;
+    ask_set(fs)?;
     Ok(fs.v2)
 }
 
@@ -53,7 +53,7 @@ pub fn v2(fs: FileStorage) -> Result<bool, Refusal>
 pub fn name(fs: FileStorage, text: &[u8]) -> Result<Span, Refusal>
     ensures { outcome result ≡ set_name_given fs text.now }
 {
-    ask_set(fs, false, fs.text_len <= text.len())?;
+    Tests::of_set(fs, holds_text(fs, text)).first_refusal()?;
     Ok(fs.name)
 }
 
@@ -61,15 +61,16 @@ pub fn name(fs: FileStorage, text: &[u8]) -> Result<Span, Refusal>
 pub fn num_paths(fs: FileStorage) -> Result<i32, Refusal>
     ensures { outcome result ≡ num_paths_given fs }
 {
-    ask_set(fs, false, true)?;
+    ask_set(fs)?;
     Ok(types::signed32(fs.num_paths as u64))
 }
 
 // Where the text of directory i stands in the text area.
+// Stays: a record of all tables would ask for rows, which it doesn't read (docs/DECISIONS.md).
 pub fn path_at(fs: FileStorage, dirs: &[u64], text: &[u8], i: usize) -> Result<Span, Refusal>
     ensures { outcome result ≡ path_at_given fs dirs.now text.now i }
 {
-    let held = fs.num_paths <= dirs.len() / 2 && fs.text_len <= text.len();
+    let held = holds_dirs(fs, dirs) && holds_text(fs, text);
     ask_directory(fs, i, held)?;
     Ok(tables::dir_at(dirs, i))
 }

@@ -1,24 +1,24 @@
 // Answers about one file that are texts: a span of the text area, or a path composed into a lent buffer.
 // They rely on the refusals of `rules`, on the total accessors of `tables` and on the joins of `path`.
-ghost use Rattle.std.specs.Prelude.{◌&&◌, ◌≡◌, ◌/◌, leb};
+ghost use Rattle.std.specs.Prelude.{◌&&◌, ◌≡◌};
 ghost use Rattle.types.specs.Refusals.{outcome};
 ghost use Rattle.path.specs.Join.{joined_says};
 ghost use Rattle.tables.specs.Rows.{row_at, has, link_held_bit};
-ghost use Rattle.rules.specs.Questions.{link_answer, no_link, row_there};
+ghost use Rattle.rules.specs.Questions.{link_answer, no_link, row_there, rows_are_held, text_held};
 ghost use Rattle.rules.specs.Composed.{composed_if};
 ghost use Rattle.answers.specs.Answers.{internal_path, symlink_path};
 ghost use Rattle.answers.specs.Given.{file_name_given, internal_symlink_given, symlink_given, internal_file_path_given};
 
-use rules::file_in;
+use rules::{file_in, holds_dirs, holds_rows, holds_text};
 use tables::{FileStorage, Lent, Row, Span};
 use types::{FileIndex, Refusal};
 
-// Whether a table of rows with `words` words and a text area of `bytes` bytes are long enough for the set. `names`
-// has such a test of directories and text.
-fn are_held(fs: FileStorage, words: usize, bytes: usize) -> bool
-    ensures { result ≡ (leb fs.num_files (words / 8) && leb fs.text_len bytes) }
+// Whether a table of rows and a text area are long enough for the set.
+// Stays: `names` has such a test of directories and text; one function for both would be passed what is compared.
+fn are_held(fs: FileStorage, rows: &[u64], text: &[u8]) -> bool
+    ensures { result ≡ (rows_are_held fs rows.now && text_held fs text.now) }
 {
-    fs.num_files <= words / 8 && fs.text_len <= bytes
+    holds_rows(fs, rows) && holds_text(fs, text)
 }
 
 // Whether the row of file k is there and holds no link text.
@@ -29,8 +29,10 @@ fn is_unlinked(rows: &[u64], k: usize) -> bool
 }
 
 // The number of the file whose link text a question is about, or its refusal; `held` says whether the lent tables are
-// long enough. It is no call of `file_in`: whether the file is a link is tested between that function's two last tests,
-// since a file that is none is refused before tables that are too short.
+// long enough.
+// Stays: it is no call of `file_in`: whether the file is a link is tested between that function's two last tests, since
+// a file that is none is refused before tables that are too short.
+// Stays: a record of all tables would ask for those that a question doesn't read (docs/DECISIONS.md), here and below.
 fn link_in(fs: FileStorage, rows: &[u64], index: FileIndex, held: bool) -> Result<usize, Refusal>
     ensures { outcome result
         ≡ link_answer fs index.0
@@ -58,7 +60,7 @@ fn put_internal(lent: Lent<'_>, k: usize, buf: &mut [u8]) -> Result<usize, Refus
         buf.old }
 {
     let row = tables::row_at(lent.rows, k);
-    let branch = tables::directory_of(lent.dirs, lent.text, row);
+    let branch = lent.directory_of(row);
     let leaf = tables::text_at(lent.text, row.name);
     path::join_path(branch, leaf, buf)
 }
@@ -78,7 +80,7 @@ fn put_link(fs: FileStorage, text: &[u8], row: Row, buf: &mut [u8]) -> Result<us
 }
 
 // Where a file's name stands in the text area.
-// Stays: a record of all tables would ask for those that a question doesn't read (docs/DECISIONS.md), here and below.
+// Stays: a record of all tables would ask for directories, which this and the two below don't read (docs/DECISIONS.md).
 pub fn file_name(
     fs: FileStorage,
     rows: &[u64],
@@ -87,7 +89,7 @@ pub fn file_name(
 ) -> Result<Span, Refusal>
     ensures { outcome result ≡ file_name_given fs rows.now text.now index.0 }
 {
-    let held = are_held(fs, rows.len(), text.len());
+    let held = are_held(fs, rows, text);
     let k = file_in(fs, index, held)?;
     Ok(tables::row_at(rows, k).name)
 }
@@ -101,7 +103,7 @@ pub fn internal_symlink(
 ) -> Result<Span, Refusal>
     ensures { outcome result ≡ internal_symlink_given fs rows.now text.now index.0 }
 {
-    let held = are_held(fs, rows.len(), text.len());
+    let held = are_held(fs, rows, text);
     let k = link_in(fs, rows, index, held)?;
     Ok(tables::row_at(rows, k).link)
 }
@@ -117,7 +119,7 @@ pub fn symlink(
     ensures { joined_says result buf.new
         ≡ symlink_given fs rows.now text.now index.0 buf.old }
 {
-    let held = are_held(fs, rows.len(), text.len());
+    let held = are_held(fs, rows, text);
     let k = file_in(fs, index, held)?;
     put_link(fs, text, tables::row_at(rows, k), buf)
 }
@@ -136,7 +138,7 @@ pub fn internal_file_path(
         ≡ internal_file_path_given fs rows.now dirs.now text.now index.0
         buf.old }
 {
-    let held = are_held(fs, rows.len(), text.len()) && fs.num_paths <= dirs.len() / 2;
+    let held = are_held(fs, rows, text) && holds_dirs(fs, dirs);
     let k = file_in(fs, index, held)?;
     put_internal(Lent { rows, dirs, text }, k, buf)
 }

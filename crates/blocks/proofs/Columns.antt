@@ -1,15 +1,14 @@
--- Laws of the columns of slices: a column after one slice is put into it, and the outcome of a block by its start: refused, without
--- room, or with its slices in all three. They rely on the start of `layout`.
+-- Laws of the columns of slices: the outcome of a block by its start: refused, without room, or with its slices in all
+-- three. They rely on the start of `layout`.
 use mathlib.Core.Path.{◌≡◌, ◌∙◌}
 use mathlib.Core.Bool.{Bool, true, false}
-use mathlib.Core.List.{List, [], ◌∷◌, ◌++◌, map, map-append}
-use Prim.Native.Nat.{ℕ, ◌+◌, min}
+use mathlib.Core.List.{List, [], ◌∷◌}
+use Prim.Native.Nat.{ℕ, min}
 use lib.Dec.{leb}
 use lib.IntN.{ℤ}
 use mir.Facts.{to_z-of_z}
-use lib.ListN.{length, length-map}
+use lib.ListN.{length}
 use lib.Seq.{sets}
-use Rattle.lists.proofs.Runs.{sets-append}
 use Rattle.types.specs.Refusals.{number_of, value, refused}
 use Rattle.types.specs.declared.refusal.Refusal.{Refusal}
 use Rattle.types.proofs.Refusals.{numbered, exit}
@@ -17,16 +16,11 @@ use Rattle.tables.specs.declared.storage.FileStorage.{FileStorage}
 use Rattle.rules.specs.Questions.{short}
 use Rattle.layout.specs.declared.start.Cursor.{Cursor}
 use Rattle.layout.specs.declared.window.Window.{Window}
-use Rattle.layout.specs.Mapping.{Slice, files_of, offsets_of, sizes_of, block_of}
+use Rattle.layout.specs.declared.slices.Slice.{Slice}
+use Rattle.layout.specs.Mapping.{files_of, offsets_of, sizes_of, block_of}
 use Rattle.layout.specs.Start.{slices_from, block_start}
 use Rattle.layout.proofs.Starts.{block_stopped, block_open, from_block}
 use Rattle.blocks.specs.Block.{Mapped, has_places, map_block}
-
--- a column: the slices still to come, put after those that are in it
-pub column-turn : (g : Slice → ℕ) (l : List ℕ) (n : ℕ) {l' : List ℕ} {n' : ℕ} {all : List Slice} (xs ys : List Slice) {end : List ℕ}
-    → sets l n (map g all) ≡ end → all ≡ xs ++ ys → l' ≡ sets l n (map g xs) → n' ≡ n + length xs → sets l' n' (map g ys) ≡ end
-column-turn g l n xs ys e a b c =
-    rw (b, c, ← (length-map xs g), ← (sets-append (map g xs) (map g ys) l n), ← (map-append g xs ys), ← a) e
 
 -- a block by its start, for columns f, o and s
 module _ (fs : FileStorage) (rows : List ℕ) (w : Window) (z offset size : ℤ) (f o s : List ℕ) where

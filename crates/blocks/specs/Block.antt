@@ -7,7 +7,8 @@ use Rattle.tables.specs.declared.storage.FileStorage.{FileStorage}
 use Rattle.rules.specs.Rules.{first_of}
 use Rattle.rules.specs.Questions.{short}
 use Rattle.layout.specs.declared.window.Window.{Window}
-use Rattle.layout.specs.Mapping.{Slice, files_of, offsets_of, sizes_of, block_of, block_rules}
+use Rattle.layout.specs.declared.slices.Slice.{Slice}
+use Rattle.layout.specs.Mapping.{files_of, offsets_of, sizes_of, block_of, block_rules}
 
 -- the answer, and what the three columns hold after it
 pub record Mapped : Type 0 where

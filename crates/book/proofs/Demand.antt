@@ -31,7 +31,7 @@ use Rattle.sound.specs.Sound.{Sound}
 use Rattle.rules.specs.Results.{SignedRequest}
 use Rattle.layout.specs.declared.window.Window.{Window}
 use Rattle.layout.specs.Mapping.{block_of}
-use Rattle.layout.specs.Mapping as layout
+use Rattle.layout.specs.declared.slices.Slice as layout_slices
 use Rattle.mapping.specs.Table.{Filled, filled, block_mapped}
 use Rattle.mapping.specs.Table as mapping
 use Rattle.files.specs.Given.{file_mapped}
@@ -95,7 +95,7 @@ module _ {n : ℕ} {xs : List ℕ} {fs : FileStorage} {rows : List ℕ} (h : Hol
         → ◌≡◌ {A = Filled} (block_mapped fs rows w (pos p) (pos o) (pos m) out)
         (record { says = value (meets xs (p * n + o) m); table = sets out 0 (map record_of (walk 0 xs (p * n + o) m)) })
     block-answered w p o m out l room =
-        let b : List layout.Slice = block_of fs rows w (pos p) (pos o) (pos m) in
+        let b : List layout_slices.Slice = block_of fs rows w (pos p) (pos o) (pos m) in
         let e : map as_slice b ≡ walk 0 xs (p * n + o) m = rw h.long (slices-are h w (p * n + o) m) in
         let d : length b ≡ meets xs (p * n + o) m = sym (length-map b as_slice) ∙ ap length e ∙ walk_meets xs (p * n + o) m in
         let recorded : map mapping.record_of b ≡ map record_of (walk 0 xs (p * n + o) m) =

@@ -29,6 +29,7 @@ use Rattle.sound.proofs.Files.{map-tabled}
 use Rattle.layout.specs.declared.window.Window.{Window}
 use Rattle.layout.specs.Search.{found_within}
 use Rattle.layout.specs.Mapping.{slices_within}
+use Rattle.layout.specs.declared.slices.Slice as layout_slices
 use Rattle.layout.specs.Mapping as layout
 use Rattle.mapping.specs.Table as mapping
 use Rattle.layout.proofs.Halving.{Last}
@@ -101,10 +102,10 @@ held-in-order n xs s w e p q d =
 -- ---- the slices of a block
 
 -- the port's record of a slice, as the book has it
-abbrev pub as_slice : layout.Slice → Slice
+abbrev pub as_slice : layout_slices.Slice → Slice
 as_slice p = slice p.file p.offset p.size
 
-before-is : (p : layout.Slice) (r : List layout.Slice) → map as_slice (layout.before p r) ≡ before (as_slice p) (map as_slice r)
+before-is : (p : layout_slices.Slice) (r : List layout_slices.Slice) → map as_slice (layout.before p r) ≡ before (as_slice p) (map as_slice r)
 before-is p r = at (eqb p.size 0)
   where
     at : (b : Bool) → map as_slice (cond b r (p ∷ r)) ≡ cond b (map as_slice r) (as_slice p ∷ map as_slice r)
@@ -162,7 +163,7 @@ module _ {n : ℕ} {xs : List ℕ} {fs : FileStorage} {rows : List ℕ} (h : Hol
 -- ---- records
 
 -- the files are far below the 31 bits of a record's file number
-pub records-are : (xs : List ℕ) (t : ℕ) (l : List layout.Slice) → length xs ≤ 65535 → Lie xs t (map as_slice l) → map mapping.record_of l ≡ map record_of (map as_slice l)
+pub records-are : (xs : List ℕ) (t : ℕ) (l : List layout_slices.Slice) → length xs ≤ 65535 → Lie xs t (map as_slice l) → map mapping.record_of l ≡ map record_of (map as_slice l)
 records-are xs t [] h w = refl
 records-are xs t (p ∷ l) h w =
     let e : p.file % 2 ^ 31 ≡ p.file = omega (arith, w.0.known) in

@@ -1,10 +1,10 @@
 // A line's answer. Each module answers the lines that have one of its forms: first those that open a set or turn to
 // another, then the changes of the set that is spoken of; what is none of these is asked of `questions`. A new call is
-// a form in one module, and an arm beside it. Relies on the modules of the calls.
+// a form in one module, and what answers it beside. Relies on the modules of the calls.
 use crate::input::Buffer;
 use crate::places::Tables;
 use crate::sets::{Call, Made, Sets};
-use crate::{asking, changes, opening, words};
+use crate::{asking, changes, opening};
 use std::io;
 use std::io::Stdout;
 
@@ -16,7 +16,7 @@ pub(crate) fn answer(
     line: &Buffer,
     length: usize,
     all: Sets,
-    tables: &mut Tables,
+    tables: &mut [Tables; 4],
 ) -> io::Result<Made> {
     let content = lists::part(line, 0, length);
     if content.first() == Some(&b'#') {
@@ -26,15 +26,15 @@ pub(crate) fn answer(
         replies::bad_call(out)?;
         return Ok(Made::Answered);
     }
-    if !words::has(content, 0) {
+    if script::word(content, 0).is_empty() {
         return Ok(Made::Answered);
     }
-    if let Some(made) = opening::make(content, all.at) {
+    if let Some(made) = opening::make(content) {
         return Ok(made);
     }
     if let Some(set) = all.current() {
         let call = Call { line: content, set };
-        if let Some(made) = changes::make(call, tables) {
+        if let Some(made) = changes::make(call, &mut tables[all.at.number]) {
             return Ok(made);
         }
     }

@@ -1,57 +1,59 @@
-// The calls that change the set that is spoken of, and of these the additions and trims. The tables are handed on
-// whole, and the functions that call the library lend it the set's parts. Relies on `storage`, on
+// The calls that change the set that is spoken of, and of these the additions and trims. The set's tables are handed on
+// whole, and the functions that call the library lend it the set's places of them. Relies on `storage` and `trim`, on
 // addition.rt for the words of an addition, and on cleanings.rt, renaming.rt and importing.rt.
-use crate::input::between;
-use crate::places::{Tables, part_mut};
+use crate::input::ROOM;
+use crate::places::{Tables, first_mut};
 use crate::sets::{Call, Made, Set};
-use crate::{addition, cleanings, importing, renaming, words};
+use crate::{addition, cleanings, importing, renaming};
 
 // Makes the change of a set that a line says, if it says one.
 pub(crate) fn make(call: Call<'_>, tables: &mut Tables) -> Option<Made> {
-    // Stays: a form says the most words of a line too; a match on the first word would need that test in each arm.
-    match words::form_of(
-        b"add NAME PATH SIZE FLAGS MTIME LINK ROOT, trim, clean, rename I :NEW, import I :N ..",
-        call.line,
-    ) {
-        Some(0) => add(call, tables),
-        Some(1) => Some(trim(call.set, tables)),
-        Some(2) => Some(cleanings::clean(call.set, tables)),
-        Some(3) => renaming::rename(call, tables),
-        Some(4) => importing::import(call, tables),
-        _ => None,
+    let line = call.line;
+    if script::has_form(line, b"add NAME PATH SIZE FLAGS MTIME LINK ROOT") {
+        add(call, tables)
+    } else if script::has_form(line, b"trim") {
+        Some(trim(call.set, tables))
+    } else if script::has_form(line, b"clean") {
+        Some(cleanings::clean(call.set, tables))
+    } else if script::has_form(line, b"rename I :NEW") {
+        renaming::rename(call, tables)
+    } else if script::has_form(line, b"import I :N ..") {
+        importing::import(call, tables)
+    } else {
+        None
     }
 }
 
-// `add NAME PATH SIZE FLAGS MTIME LINK ROOT`: the texts stand in a buffer, one after the other.
+// `add NAME PATH SIZE FLAGS MTIME LINK ROOT`.
 fn add(call: Call<'_>, tables: &mut Tables) -> Option<Made> {
     let Call { line, set } = call;
-    let mut texts = questions::large_buffer();
+    let mut texts = [0u8; ROOM];
     let words = addition::read(line, &mut texts)?;
-    let parts = set.parts;
+    let counts = set.counts;
     let res = storage::add_file(
         set.fs,
-        part_mut(&mut tables.rows, parts.rows),
-        part_mut(&mut tables.roots, parts.roots),
-        part_mut(&mut tables.firsts, parts.firsts),
-        part_mut(&mut tables.dirs, parts.dirs),
-        part_mut(&mut tables.text, parts.text),
+        first_mut(&mut tables.rows, counts.rows),
+        first_mut(&mut tables.roots, counts.roots),
+        first_mut(&mut tables.firsts, counts.firsts),
+        first_mut(&mut tables.dirs, counts.dirs),
+        first_mut(&mut tables.text, counts.text),
         words.file,
-        between(&texts, 0, words.name),
-        between(&texts, words.name, words.path),
-        between(&texts, words.path, words.link),
+        words.name,
+        words.path,
+        words.link,
     );
     Some(Made::from(res.map(|fs| Set { fs, ..set })))
 }
 
 // `trim`.
 fn trim(set: Set, tables: &mut Tables) -> Made {
-    let parts = set.parts;
+    let counts = set.counts;
     let res = trim::remove_tail_padding(
         set.fs,
-        part_mut(&mut tables.rows, parts.rows),
-        part_mut(&mut tables.roots, parts.roots),
-        part_mut(&mut tables.dirs, parts.dirs),
-        part_mut(&mut tables.text, parts.text),
+        first_mut(&mut tables.rows, counts.rows),
+        first_mut(&mut tables.roots, counts.roots),
+        first_mut(&mut tables.dirs, counts.dirs),
+        first_mut(&mut tables.text, counts.text),
     );
     Made::from(res.map(|fs| Set { fs, ..set }))
 }

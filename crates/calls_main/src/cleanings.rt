@@ -1,9 +1,9 @@
-// `clean`: the set's parts of the tables and a work space of the program's own are lent to the library. Relies on
+// `clean`: the set's places of the tables and a work space of the program's own are lent to the library. Relies on
 // `cleaning`. A small work space serves most sets; the large one is filled only where that is too short. The work space
 // is lent full of one byte: a refusal must leave it so, and a cleaning must clear it.
 ghost use Rattle.std.specs.Prelude.{◌<◌};
 
-use crate::places::{Place, Tables, part, part_mut};
+use crate::places::{Tables, first, first_mut};
 use crate::sets::{Made, Set};
 
 // The byte that the work space is lent full of.
@@ -11,7 +11,7 @@ const FILL: u8 = 7;
 
 // The most that a stage needs: for 256 links in directories of 4096 bytes, and as many bytes of texts as a set can
 // hold.
-const LARGE_STAGE: usize = 1311232;
+pub(crate) const LARGE_STAGE: usize = 1311232;
 
 // `clean`.
 pub(crate) fn clean(set: Set, tables: &mut Tables) -> Made {
@@ -27,47 +27,35 @@ pub(crate) fn clean(set: Set, tables: &mut Tables) -> Made {
 fn clean_in<const STAGE: usize, const PATH: usize>(set: Set, tables: &mut Tables) -> Made
     requires { (STAGE < 9223372036854775808) × (PATH < 9223372036854775808) }
 {
-    let mut marks = filled::<256>();
-    let mut stage = filled::<STAGE>();
-    let mut path = filled::<PATH>();
-    let parts = set.parts;
+    let mut marks = [FILL; 256];
+    let mut stage = [FILL; STAGE];
+    let mut path = [FILL; PATH];
+    let counts = set.counts;
     let work = set.work;
     let twice = work.sum.min(LARGE_STAGE) * 2;
     let res = cleaning::sanitize_symlinks(
         set.fs,
-        part_mut(&mut tables.rows, parts.rows),
-        part_mut(&mut tables.dirs, parts.dirs),
-        part_mut(&mut tables.text, parts.text),
-        part_mut(&mut marks, first(work.marks)),
-        part_mut(&mut stage, first(work.sum)),
-        part_mut(&mut path, first(twice)),
+        first_mut(&mut tables.rows, counts.rows),
+        first_mut(&mut tables.dirs, counts.dirs),
+        first_mut(&mut tables.text, counts.text),
+        first_mut(&mut marks, work.marks),
+        first_mut(&mut stage, work.sum),
+        first_mut(&mut path, twice),
     );
     let byte = match res {
         Ok(_) => 0,
         Err(_) => FILL,
     };
-    if !all_are(part(&marks, first(work.marks)), byte)
-        || !all_are(part(&stage, first(work.sum)), byte)
-        || !all_are(part(&path, first(twice)), byte)
+    if !all_are(first(&marks, work.marks), byte)
+        || !all_are(first(&stage, work.sum), byte)
+        || !all_are(first(&path, twice), byte)
     {
         return Made::Spoilt;
     }
     Made::from(res.map(|fs| Set { fs, ..set }))
 }
 
-// A part of the work space.
-fn filled<const N: usize>() -> [u8; N]
-    requires { N < 9223372036854775808 }
-{
-    [FILL; N]
-}
-
 // Whether all bytes are this one.
 fn all_are(bytes: &[u8], byte: u8) -> bool {
     bytes.iter().all(|held| *held == byte)
-}
-
-// The first n places of a table.
-fn first(n: usize) -> Place {
-    Place { start: 0, count: n }
 }

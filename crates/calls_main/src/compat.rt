@@ -1,48 +1,62 @@
-// `compat A B`, the question on two sets: both are lent their parts of the tables. Relies on `compatible`,
+// `compat A B`, the question on two sets: both are lent their places of the tables. Relies on `compatible`,
 // `script` and `replies`, and on the module for sets.
-use crate::places::{Tables, part};
-use crate::sets::{Set, Sets};
-use crate::words;
+use crate::places::{Tables, first};
+use crate::sets::{Place, Set, Sets};
 use std::io;
 use std::io::Stdout;
 
+// A set and its tables.
+#[derive(Clone, Copy)]
+struct Held<'a> {
+    set: Set,
+    tables: &'a Tables,
+}
+
 // Answers whether the sets that a line names are compatible, and says whether it asks that. A set that was never opened
 // is none.
-pub(crate) fn answer(out: Stdout, line: &[u8], all: Sets, tables: &Tables) -> io::Result<bool> {
-    if words::form_of(b"compat A B", line).is_none() {
+// Stays: the four come from `asking::answer` alone, which uses each of them too; a record would be made before that
+// call and taken apart in both. `calls::answer` has the tables to be changed, so it can't take the same record.
+pub(crate) fn answer(
+    out: Stdout,
+    line: &[u8],
+    all: Sets,
+    tables: &[Tables; 4],
+) -> io::Result<bool> {
+    if !script::has_form(line, b"compat A B") {
         return Ok(false);
     }
-    match (set_in(line, 1, all), set_in(line, 2, all)) {
-        (Some(a), Some(b)) => of_sets(out, a, b, tables)?,
+    match (held_in(line, 1, all, tables), held_in(line, 2, all, tables)) {
+        (Some(a), Some(b)) => of_sets(out, a, b)?,
         _ => replies::bad_call(out)?,
     }
     Ok(true)
 }
 
 // The set that a word of the line names.
-fn set_in(line: &[u8], number: usize, all: Sets) -> Option<Set> {
-    let n = words::u64_at(line, number)?;
-    if 3 < n {
-        return None;
-    }
-    all.set_at(n as usize)
+fn held_in<'a>(line: &[u8], number: usize, all: Sets, tables: &'a [Tables; 4]) -> Option<Held<'a>> {
+    let place = Place::read(line, number)?;
+    let set = all.set_at(place)?;
+    Some(Held {
+        set,
+        tables: &tables[place.number],
+    })
 }
 
 // Answers whether two sets are compatible.
-fn of_sets(out: Stdout, a: Set, b: Set, tables: &Tables) -> io::Result<()> {
-    let p = a.parts;
-    let q = b.parts;
+fn of_sets(out: Stdout, a: Held<'_>, b: Held<'_>) -> io::Result<()> {
+    let m = a.set.counts;
+    let n = b.set.counts;
     replies::answer(
         out,
         compatible::files_compatible(
-            a.fs,
-            part(&tables.rows, p.rows),
-            part(&tables.dirs, p.dirs),
-            part(&tables.text, p.text),
-            b.fs,
-            part(&tables.rows, q.rows),
-            part(&tables.dirs, q.dirs),
-            part(&tables.text, q.text),
+            a.set.fs,
+            first(&a.tables.rows, m.rows),
+            first(&a.tables.dirs, m.dirs),
+            first(&a.tables.text, m.text),
+            b.set.fs,
+            first(&b.tables.rows, n.rows),
+            first(&b.tables.dirs, n.dirs),
+            first(&b.tables.text, n.text),
         ),
     )
 }

@@ -1,9 +1,8 @@
 // `import I :N I :N …`: the pairs of the line are read into columns, which are lent to the library with the
-// set's parts of the tables of renames. Relies on `renames` and `script`, and on the module for sets.
-use crate::input::Buffer;
-use crate::places::{Tables, part_mut};
+// set's places of the tables of renames. Relies on `imports` and `script`, and on the module for sets.
+use crate::input::{Buffer, ROOM};
+use crate::places::{Tables, first_mut};
 use crate::sets::{Call, Made, Set};
-use crate::words;
 
 // The most pairs that a line has.
 const MAX_PAIRS: usize = 16384;
@@ -11,16 +10,17 @@ const MAX_PAIRS: usize = 16384;
 // Imports names for files of a set; the names stand in a buffer, one after the other.
 pub(crate) fn import(call: Call<'_>, tables: &mut Tables) -> Option<Made> {
     let Call { line, set } = call;
+    // Stays: `imports::import_filenames` is lent the numbers, and the lengths of the names, each as a slice.
     let mut files = [0i32; MAX_PAIRS];
     let mut lengths = [0u64; MAX_PAIRS];
-    let mut names = questions::large_buffer();
+    let mut names = [0u8; ROOM];
     let n = read_pairs(line, &mut files, &mut lengths, &mut names)?;
-    let parts = set.parts;
+    let counts = set.counts;
     let res = imports::import_filenames(
         set.fs,
         set.held,
-        part_mut(&mut tables.rows, parts.entries),
-        part_mut(&mut tables.text, parts.area),
+        first_mut(&mut tables.entries, counts.entries),
+        first_mut(&mut tables.area, counts.area),
         &files[..n.min(MAX_PAIRS)],
         &lengths,
         &names,
@@ -39,16 +39,16 @@ fn read_pairs(
     let mut rest = script::after(line, 0);
     let mut used = 0;
     for (n, (file, length)) in files.iter_mut().zip(lengths.iter_mut()).enumerate() {
-        if !words::has(rest, 0) {
+        if script::word(rest, 0).is_empty() {
             return Some(n);
         }
-        *file = words::i32_at(rest, 0)?;
-        let end = words::decode(rest, 1, names, used)?;
+        *file = script::to_i32(script::word(rest, 0))?;
+        let end = script::decode(script::word(rest, 1), names, used)?;
         *length = end.saturating_sub(used) as u64;
         rest = script::after(rest, 1);
         used = end;
     }
-    if words::has(rest, 0) {
+    if !script::word(rest, 0).is_empty() {
         return None;
     }
     Some(MAX_PAIRS)

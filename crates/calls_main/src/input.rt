@@ -5,9 +5,12 @@ ghost use Rattle.std.specs.Prelude.{◌≤◌};
 use std::io;
 use std::io::{Read, Stdin};
 
+// The bytes of a buffer.
+pub(crate) const ROOM: usize = 65536;
+
 // A buffer of input, of a line, or of what its words stand for.
-// Stays: memory is lent in fixed sizes.
-pub(crate) type Buffer = [u8; 65536];
+// Stays: there is no heap, so what a script may say has a fixed size.
+pub(crate) type Buffer = [u8; ROOM];
 
 // The bytes of a buffer from one place up to another.
 pub(crate) fn between(bytes: &Buffer, from: usize, to: usize) -> &[u8] {
@@ -30,7 +33,7 @@ impl Input {
     pub(crate) fn new(from: Stdin) -> Input {
         Input {
             from,
-            block: questions::large_buffer(),
+            block: [0; ROOM],
             at: 0,
             end: 0,
         }

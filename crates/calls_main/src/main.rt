@@ -15,21 +15,20 @@ mod opening;
 mod places;
 mod renaming;
 mod sets;
-mod words;
 
-use crate::input::Input;
+use crate::input::{Input, ROOM};
 use crate::places::Tables;
 use crate::sets::Sets;
 use std::io;
 
-// Answers line by line. The tables have four parts each, one for each set. A proved loop has to end, and nothing
+// Answers line by line. Each of the four sets has tables of its own. A proved loop has to end, and nothing
 // says that the input does, so the loop takes as many turns at most as no run uses up. A read or a write that fails
 // ends the program with its error.
 fn main(rt: HostRuntime) -> io::Result<()> {
     let out = rt.stdout();
     let mut input = Input::new(rt.stdin());
-    let mut line = questions::large_buffer();
-    let mut tables = Tables::new();
+    let mut line = [0u8; ROOM];
+    let mut tables = [Tables::new(), Tables::new(), Tables::new(), Tables::new()];
     let mut all = Sets::new();
     // Stays: a `loop` has to be proved to end, and nothing says how long the input is, so no measure goes down.
     for _ in 0..u64::MAX {

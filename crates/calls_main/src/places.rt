@@ -1,113 +1,79 @@
-// The tables of the four sets, and the parts of them that a set is lent: each table has four quarters, one for each
-// set, and a set is lent the start of its own. The rows of files have the entries of renames after them, and the
-// texts of sets those of renames. Relies on the kit only.
-ghost use Rattle.std.specs.Prelude.{◌≤◌};
+// The tables of a set, and how many places of each it is lent. Relies on `tables` for the widths of rows.
+use tables::{DIR_WIDTH, ROOT_WIDTH, ROW_WIDTH};
 
-// The tables: rows of files and entries of renames, roots, first files of pieces, directories, and texts of sets and of
-// renames.
+// The most files of a set.
+pub(crate) const MAX_FILES: usize = 256;
+
+// The most pieces whose first file a set notes.
+pub(crate) const MAX_PIECES: usize = 1024;
+
+// The most directories of a set.
+pub(crate) const MAX_DIRS: usize = 256;
+
+// The most bytes of a set's texts.
+pub(crate) const MAX_TEXT: usize = 262144;
+
+// The most renames of a set.
+pub(crate) const MAX_RENAMES: usize = 256;
+
+// The most bytes of the names in a set's renames.
+pub(crate) const MAX_NAMES: usize = 65536;
+
+// The words of an entry of a rename.
+pub(crate) const ENTRY_WIDTH: usize = 3;
+
+// The tables that a set is lent the start of.
+// Stays: there is no heap, so each has the most places that a set can have.
 #[derive(Drop)]
 pub(crate) struct Tables {
-    pub rows: [u64; 11264],
-    pub roots: [u8; 32768],
-    pub firsts: [u16; 4096],
-    pub dirs: [u64; 2048],
-    pub text: [u8; 1310720],
+    pub rows: [u64; MAX_FILES * ROW_WIDTH],
+    pub roots: [u8; MAX_FILES * ROOT_WIDTH],
+    pub firsts: [u16; MAX_PIECES],
+    pub dirs: [u64; MAX_DIRS * DIR_WIDTH],
+    pub text: [u8; MAX_TEXT],
+    pub entries: [u64; MAX_RENAMES * ENTRY_WIDTH],
+    pub area: [u8; MAX_NAMES],
 }
 
 impl Tables {
     // Tables of zeros.
     pub(crate) fn new() -> Tables {
         Tables {
-            rows: [0; 11264],
-            roots: [0; 32768],
-            firsts: [0; 4096],
-            dirs: [0; 2048],
-            text: [0; 1310720],
+            rows: [0; MAX_FILES * ROW_WIDTH],
+            roots: [0; MAX_FILES * ROOT_WIDTH],
+            firsts: [0; MAX_PIECES],
+            dirs: [0; MAX_DIRS * DIR_WIDTH],
+            text: [0; MAX_TEXT],
+            entries: [0; MAX_RENAMES * ENTRY_WIDTH],
+            area: [0; MAX_NAMES],
         }
     }
 }
 
-// A part of a table: where it begins, and how many places it has.
+// How many places of each table a set is lent: `entries` and `area` are those of its renames.
+// Stays: a set is handed on by value and its tables are not, so the counts are the set's. A record of the seven parts
+// would be written twice, for tables that are read and for tables that are changed, and most calls lend two to five.
 #[derive(Clone, Copy)]
-pub(crate) struct Place {
-    pub start: usize,
-    pub count: usize,
+pub(crate) struct Counts {
+    pub rows: usize,
+    pub roots: usize,
+    pub firsts: usize,
+    pub dirs: usize,
+    pub text: usize,
+    pub entries: usize,
+    pub area: usize,
 }
 
-// The parts of a set: in the rows, the roots, the first files, the directories and the texts; its renames' parts in the
-// rows and in the texts.
-#[derive(Clone, Copy)]
-pub(crate) struct Places {
-    pub rows: Place,
-    pub roots: Place,
-    pub firsts: Place,
-    pub dirs: Place,
-    pub text: Place,
-    pub entries: Place,
-    pub area: Place,
+// The first n places of a table, or as many as there are.
+// Stays: it makes the slice that a library is lent; n comes from the script, and may pass the table's end.
+pub(crate) fn first<T>(table: &[T], n: usize) -> &[T] {
+    &table[..n.min(table.len())]
 }
 
-// Where a part begins and ends in a table of a length, as far as that has it.
-fn inside(length: usize, place: Place) -> (usize, usize)
-    ensures { (result.0 ≤ result.1) × (result.1 ≤ length) }
-{
-    let from = place.start.min(length);
-    (from, from + place.count.min(length - from))
-}
-
-// The part of a table.
-pub(crate) fn part<T>(table: &[T], place: Place) -> &[T] {
-    let (from, to) = inside(table.len(), place);
-    &table[from..to]
-}
-
-// The part of a table, to be changed.
-pub(crate) fn part_mut<T>(table: &mut [T], place: Place) -> &mut [T] {
-    let (from, to) = inside(table.len(), place);
-    &mut table[from..to]
-}
-
-// The parts of the set at a place, with room for that many files, first files of pieces, directories and bytes of text;
-// its renames have room for that many entries of three words, and bytes of names.
-pub(crate) fn of_set(
-    place: usize,
-    files: usize,
-    pieces: usize,
-    dirs: usize,
-    text: usize,
-    renames: usize,
-    names: usize,
-) -> Places {
-    let at = place % 4;
-    let most = files.min(256);
-    Places {
-        rows: Place {
-            start: at * 2048,
-            count: most * 8,
-        },
-        roots: Place {
-            start: at * 8192,
-            count: most * 32,
-        },
-        firsts: Place {
-            start: at * 1024,
-            count: pieces.min(1024),
-        },
-        dirs: Place {
-            start: at * 512,
-            count: dirs.min(256) * 2,
-        },
-        text: Place {
-            start: at * 262144,
-            count: text.min(262144),
-        },
-        entries: Place {
-            start: 8192 + at * 768,
-            count: renames.min(256) * 3,
-        },
-        area: Place {
-            start: 1048576 + at * 65536,
-            count: names.min(65536),
-        },
-    }
+// The first n places of a table, or as many as there are, to be changed.
+// Stays: `questions` lends its own room by the same two lines; a public function for both would promise, beside the
+// part, what the table is after it is written through, and no caller needs that.
+pub(crate) fn first_mut<T>(table: &mut [T], n: usize) -> &mut [T] {
+    let to = n.min(table.len());
+    &mut table[..to]
 }

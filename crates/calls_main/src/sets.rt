@@ -1,15 +1,19 @@
 // The four sets of a script, and the one that calls speak of. They are handed on by value; the tables are not among
-// them, and a set's parts say what of these it is lent. Relies on `tables` and `renames` for the records.
-use crate::places::Places;
+// them, and a set's counts say how much of its own it is lent. Relies on `tables` and `renames` for the records, and on
+// `script`.
+ghost use Rattle.std.specs.Prelude.{◌<◌};
+
+use crate::places::Counts;
 use questions::Lent;
 use renames::RenamedFiles;
 use tables::FileStorage;
 use types::Refusal;
 
-// A set: its parts of the tables, its record, that of its renames, and what its questions and its cleanings are lent.
+// A set: how much it is lent of its tables, its record, that of its renames, and what its questions and its cleanings
+// are lent.
 #[derive(Clone, Copy)]
 pub(crate) struct Set {
-    pub parts: Places,
+    pub counts: Counts,
     pub fs: FileStorage,
     pub held: RenamedFiles,
     pub lent: Lent,
@@ -30,10 +34,30 @@ pub(crate) struct Work {
     pub sum: usize,
 }
 
+// The place of a set: sets are numbered from 0 to 3.
+#[derive(Clone, Copy)]
+pub(crate) struct Place {
+    pub number: usize,
+    ghost within: { number < 4 },
+}
+
+impl Place {
+    // The place that a word of a line names.
+    pub(crate) fn read(line: &[u8], word: usize) -> Option<Place> {
+        let number = script::to_u64(script::word(line, word))?;
+        if 3 < number {
+            return None;
+        }
+        Some(Place {
+            number: number as usize,
+        })
+    }
+}
+
 // The sets that were opened, and the place of the one that is spoken of.
 #[derive(Clone, Copy)]
 pub(crate) struct Sets {
-    pub at: usize,
+    pub at: Place,
     sets: [Option<Set>; 4],
 }
 
@@ -46,7 +70,7 @@ pub(crate) enum Made {
     Refused(Refusal),
     Spoilt,
     Changed(Set),
-    Use(usize),
+    Use(Place),
     Reset,
 }
 
@@ -61,10 +85,11 @@ impl From<Result<Set, Refusal>> for Made {
 }
 
 impl Set {
-    // A set that is opened with its parts of the tables, and what its questions and its cleanings are lent.
-    pub(crate) fn opened(parts: Places, lent: Lent, work: Work, fs: FileStorage) -> Set {
+    // A set that is opened with so much of its tables, and what its questions and its cleanings are lent.
+    // Stays: no other place makes a new record of renames; for this one, `renames` would have a public `Default`.
+    pub(crate) fn opened(counts: Counts, lent: Lent, work: Work, fs: FileStorage) -> Set {
         Set {
-            parts,
+            counts,
             fs,
             held: RenamedFiles {
                 num_renames: 0,
@@ -80,7 +105,7 @@ impl Sets {
     // No set was opened, and the first is spoken of.
     pub(crate) fn new() -> Sets {
         Sets {
-            at: 0,
+            at: Place { number: 0 },
             sets: [None; 4],
         }
     }
@@ -90,19 +115,19 @@ impl Sets {
         self.set_at(self.at)
     }
 
-    // The set at a place; places are counted modulo four.
-    pub(crate) fn set_at(self, place: usize) -> Option<Set> {
-        self.sets[place % 4]
+    // The set at a place.
+    pub(crate) fn set_at(self, place: Place) -> Option<Set> {
+        self.sets[place.number]
     }
 
     // The sets with another one in place of the one that is spoken of.
     pub(crate) fn with(mut self, set: Set) -> Sets {
-        self.sets[self.at % 4] = Some(set);
+        self.sets[self.at.number] = Some(set);
         self
     }
 
     // The sets where another one is spoken of.
-    pub(crate) fn turned_to(self, place: usize) -> Sets {
+    pub(crate) fn turned_to(self, place: Place) -> Sets {
         Sets { at: place, ..self }
     }
 }

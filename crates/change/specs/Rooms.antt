@@ -25,6 +25,10 @@ files_room rooms = min max_entries rooms.files
 abbrev pub dirs_room : Rooms → ℕ
 dirs_room rooms = min max_entries rooms.directories
 
+-- a set may have so many files and directories
+abbrev pub fit_in : Rooms → ℕ → ℕ → Bool
+fit_in rooms files dirs = leb files (files_room rooms) && leb dirs (dirs_room rooms)
+
 -- the tables hold what the set's record counts
 abbrev pub holds_in : FileStorage → Rooms → Bool
 holds_in fs rooms =

@@ -4,4 +4,4 @@
 
 mod rooms;
 
-pub use rooms::{Rooms, dirs_room, files_room, holds, rooms_in};
+pub use rooms::{Rooms, holds};

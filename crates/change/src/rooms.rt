@@ -1,6 +1,6 @@
 // How much the lent tables hold, and whether that is what a set counts. Relies on `rules` and `tables`.
-ghost use Rattle.std.specs.Prelude.{◌≡◌};
-ghost use Rattle.change.specs.Rooms.{rooms_in, files_room, dirs_room, holds_in};
+ghost use Rattle.std.specs.Prelude.{◌≡◌, length};
+ghost use Rattle.change.specs.Rooms.{rooms_in, fit_in, holds_in};
 
 use rules::MAX_ENTRIES;
 use tables::{DIR_WIDTH, FileStorage, ROOT_WIDTH, ROW_WIDTH};
@@ -13,38 +13,29 @@ pub struct Rooms {
     pub text: usize,
 }
 
-// The rooms of tables that have these lengths.
-pub fn rooms_in(rows: usize, roots: usize, dirs: usize, text: usize) -> Rooms
-    ensures { result ≡ rooms_in rows roots dirs text }
-{
-    Rooms {
-        files: (rows / ROW_WIDTH).min(roots / ROOT_WIDTH),
-        directories: dirs / DIR_WIDTH,
-        text,
+impl Rooms {
+    // The rooms of lent tables.
+    pub fn of(rows: &[u64], roots: &[u8], dirs: &[u64], text: &[u8]) -> Rooms
+        ensures { result ≡ rooms_in (length rows.now) (length roots.now) (length dirs.now) (length text.now) }
+    {
+        Rooms {
+            files: (rows.len() / ROW_WIDTH).min(roots.len() / ROOT_WIDTH),
+            directories: dirs.len() / DIR_WIDTH,
+            text: text.len(),
+        }
     }
-}
 
-// How many files a set may have: no more than 65535, and what the tables can hold.
-// Stays: it and the next each cap a field; capped in `rooms_in`, a `Rooms` would not be what the tables can hold, as
-// its definition in specs/ says.
-pub fn files_room(rooms: Rooms) -> usize
-    ensures { result ≡ files_room rooms }
-{
-    MAX_ENTRIES.min(rooms.files)
-}
-
-// How many directories a set may have: no more than 65535, and what the tables can hold.
-pub fn dirs_room(rooms: Rooms) -> usize
-    ensures { result ≡ dirs_room rooms }
-{
-    MAX_ENTRIES.min(rooms.directories)
+    // Whether a set may have so many files and directories: no more than 65535 of each, and what the tables can hold.
+    pub fn fit(self, files: usize, dirs: usize) -> bool
+        ensures { result ≡ fit_in self files dirs }
+    {
+        files <= MAX_ENTRIES.min(self.files) && dirs <= MAX_ENTRIES.min(self.directories)
+    }
 }
 
 // Whether the lent tables hold what a set counts.
 pub fn holds(fs: FileStorage, rooms: Rooms) -> bool
     ensures { result ≡ holds_in fs rooms }
 {
-    fs.num_files <= files_room(rooms)
-        && fs.num_paths <= dirs_room(rooms)
-        && fs.text_len <= rooms.text
+    rooms.fit(fs.num_files, fs.num_paths) && fs.text_len <= rooms.text
 }

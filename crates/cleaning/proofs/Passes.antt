@@ -22,7 +22,7 @@ use Rattle.links.specs.declared.mark.LinkVerdict.TheVariants.{Keep, OwnPath, Fro
 use Rattle.links.specs.Judging.{verdict_read}
 use Rattle.texts.specs.Texts.{row_lowered, rows_lowered, linked, cut_out, gone_at, relinked, own_fits, beside_fits, own_text, text_beside}
 use Rattle.cleaning.specs.Cleaning.{emptied_at, emptied, rewritten_at, rewritten}
-use Rattle.cleaning.specs.private.Writing.{flags_in, verdict_by, mark_after, verdicts_by, all_verdicts, passed}
+use Rattle.cleaning.specs.private.Writing.{flags_in, verdict_by, mark_after, verdicts_by, all_verdicts, passed, step_at}
 
 -- ---- flags stay
 
@@ -75,25 +75,33 @@ flags-if : (b : Bool) (x s : Store) (j : ℕ) → flags_in x.rows j ≡ flags_in
 flags-if true x s j p = p
 flags-if false x s j p = refl
 
-pub emptied-keeps : Keeps emptied_at
+emptied-keeps : Keeps emptied_at
 emptied-keeps Keep s i j = refl
 emptied-keeps OwnPath s i j = flags-relinked s i [] j
 emptied-keeps FromDirectory s i j = refl
 
-pub rewritten-keeps : (n : ℕ) → Keeps (rewritten_at n)
+rewritten-keeps : (n : ℕ) → Keeps (rewritten_at n)
 rewritten-keeps n Keep s i j = refl
 rewritten-keeps n OwnPath s i j =
     flags-if (own_fits s i (own_text s i)) (linked s i (own_text s i)) s j (flags-linked s i (own_text s i) j)
 rewritten-keeps n FromDirectory s i j =
     flags-if (beside_fits n s i (text_beside s i)) (relinked s i (text_beside s i)) s j (flags-relinked s i (text_beside s i) j)
 
+pub step-keeps : (b : Bool) (n : ℕ) → Keeps (step_at b n)
+step-keeps true n = emptied-keeps
+step-keeps false n = rewritten-keeps n
+
+pub step-still : (b : Bool) (n : ℕ) (s : Store) (i : ℕ) → step_at b n Keep s i ≡ s
+step-still true n s i = refl
+step-still false n s i = refl
+
 -- ---- a pass
 
-pub emptied-pass : (vs : List LinkVerdict) (i : ℕ) (s : Store) → passed emptied_at vs i s ≡ emptied vs i s
+emptied-pass : (vs : List LinkVerdict) (i : ℕ) (s : Store) → passed emptied_at vs i s ≡ emptied vs i s
 emptied-pass [] i s = refl
 emptied-pass (v ∷ vs) i s = emptied-pass vs (i + 1) (emptied_at v s i)
 
-pub rewritten-pass : (n : ℕ) (vs : List LinkVerdict) (i : ℕ) (s : Store) → passed (rewritten_at n) vs i s ≡ rewritten n vs i s
+rewritten-pass : (n : ℕ) (vs : List LinkVerdict) (i : ℕ) (s : Store) → passed (rewritten_at n) vs i s ≡ rewritten n vs i s
 rewritten-pass n [] i s = refl
 rewritten-pass n (v ∷ vs) i s = rewritten-pass n vs (i + 1) (rewritten_at n v s i)
 
@@ -114,7 +122,7 @@ emptied-count (Keep ∷ vs) i s = emptied-count vs (i + 1) s
 emptied-count (OwnPath ∷ vs) i s = emptied-count vs (i + 1) (emptied_at OwnPath s i)
 emptied-count (FromDirectory ∷ vs) i s = emptied-count vs (i + 1) s
 
-pub both-passes : (size : ℕ) (marks : List ℕ) (s t : Store) → t ≡ emptied (all_verdicts s marks) 0 s
+both-passes : (size : ℕ) (marks : List ℕ) (s t : Store) → t ≡ emptied (all_verdicts s marks) 0 s
     → rewritten size (all_verdicts t marks) 0 t ≡ rewritten size (all_verdicts s marks) 0 (emptied (all_verdicts s marks) 0 s)
 both-passes size marks s t e =
     let vs = all_verdicts s marks in
@@ -123,6 +131,11 @@ both-passes size marks s t e =
     ap (λ (n : ℕ). rewritten size (verdicts_by (flags_in t.rows) marks n 0 0) 0 t) count
     ∙ ap (λ (ws : List LinkVerdict). rewritten size ws 0 t) (verdicts-same (flags_in t.rows) (flags_in s.rows) same marks s.fs.num_files 0 0)
     ∙ ap (rewritten size vs 0) e
+
+pub passes-written : (size : ℕ) (marks : List ℕ) (s t : Store) → t ≡ passed (step_at true size) (all_verdicts s marks) 0 s
+    → passed (step_at false size) (all_verdicts t marks) 0 t ≡ rewritten size (all_verdicts s marks) 0 (emptied (all_verdicts s marks) 0 s)
+passes-written size marks s t e =
+    rewritten-pass size (all_verdicts t marks) 0 t ∙ both-passes size marks s t (e ∙ emptied-pass (all_verdicts s marks) 0 s)
 
 -- the verdicts still to come, file by file
 module _ (g : ℕ → ℕ) where
@@ -152,9 +165,6 @@ module _ (g : ℕ → ℕ) where
 module _ (f : LinkVerdict → Store → ℕ → Store) (marks : List ℕ) (n : ℕ) (s₀ : Store) where
   pub record Going (s : Store) (i : ℕ) (left : List ℕ) : Type 0 where
     pub within : i ≤ n
-    pub rows_long : length s.rows ≡ length s₀.rows
-    pub dirs-long : length s.dirs ≡ length s₀.dirs
-    pub text-long : length s.text ≡ length s₀.text
     pub flags : (j : ℕ) → flags_in s.rows j ≡ flags_in s₀.rows j
     pub rest : passed f (verdicts_by (flags_in s₀.rows) left (n - i) i 0) i s ≡ passed f (verdicts_by (flags_in s₀.rows) marks n 0 0) 0 s₀
 
@@ -173,27 +183,23 @@ module _ (f : LinkVerdict → Store → ℕ → Store) (marks : List ℕ) (n : �
         ∙ ap (λ (vs : List LinkVerdict). passed f vs i s) (sym (verdicts-turn g left n i h))
         ∙ p.rest
 
-    next : (s' : Store) (left' : List ℕ) → length s'.rows ≡ length s.rows → length s'.dirs ≡ length s.dirs → length s'.text ≡ length s.text
-        → ((j : ℕ) → flags_in s'.rows j ≡ flags_in s.rows j)
+    next : (s' : Store) (left' : List ℕ) → ((j : ℕ) → flags_in s'.rows j ≡ flags_in s.rows j)
         → passed f (verdicts_by (flags_in s₀.rows) left' (n - (i + 1)) (i + 1) 0) (i + 1) s' ≡ passed f (verdicts_by (flags_in s₀.rows) marks n 0 0) 0 s₀
         → Going s' (i + 1) left'
-    next s' left' rows dirs text flags rest =
+    next s' left' flags rest =
         record {
           within = omega arith;
-          rows_long = rows ∙ p.rows_long;
-          dirs-long = dirs ∙ p.dirs-long;
-          text-long = text ∙ p.text-long;
           flags = λ j. flags j ∙ p.flags j;
           rest = rest;
         }
 
     -- it is no flagged link
     pub going-on : is_flagged (flags_in s.rows i) ≡ false → Going s (i + 1) left
-    going-on e = next s left refl refl refl (λ j. refl) (rw (still s i) at (after false e))
+    going-on e = next s left (λ j. refl) (rw (still s i) at (after false e))
 
     -- it is one, and no mark is left
     pub going-bare : is_flagged (flags_in s.rows i) ≡ true → length left ≡ 0 → Going s (i + 1) left
-    going-bare e z = next s left refl refl refl (λ j. refl) (at left z (after true e))
+    going-bare e z = next s left (λ j. refl) (at left z (after true e))
       where
         at : (left : List ℕ) → length left ≡ 0
             → passed f (verdicts_by (flags_in s₀.rows) left (n - (i + 1)) (i + 1) 1) (i + 1) (f (verdict_read (get_or left 0 0)) s i) ≡ passed f (verdicts_by (flags_in s₀.rows) marks n 0 0) 0 s₀
@@ -205,10 +211,9 @@ module _ (f : LinkVerdict → Store → ℕ → Store) (marks : List ℕ) (n : �
         at (m ∷ ms) z a = absurd (omega arith)
 
     -- it is one, and the next mark is its own
-    pub going-link : is_flagged (flags_in s.rows i) ≡ true → (m : ℕ) (left' : List ℕ) → left ≡ m ∷ left' → (s' : Store) → s' ≡ f (verdict_read m) s i
-        → length s'.rows ≡ length s.rows → length s'.dirs ≡ length s.dirs → length s'.text ≡ length s.text → Going s' (i + 1) left'
-    going-link e m left' q s' step rows dirs text =
-        next s' left' rows dirs text (λ j. ap (λ (x : Store). flags_in x.rows j) step ∙ keeps (verdict_read m) s i j)
+    pub going-link : is_flagged (flags_in s.rows i) ≡ true → (m : ℕ) (left' : List ℕ) → left ≡ m ∷ left' → (s' : Store) → s' ≡ f (verdict_read m) s i → Going s' (i + 1) left'
+    going-link e m left' q s' step =
+        next s' left' (λ j. ap (λ (x : Store). flags_in x.rows j) step ∙ keeps (verdict_read m) s i j)
         (ap (passed f (verdicts_by (flags_in s₀.rows) left' (n - (i + 1)) (i + 1) 0) (i + 1)) step
         ∙ ap (λ (vs : List LinkVerdict). passed f vs (i + 1) (f (verdict_read m) s i)) (sym (verdicts-next (flags_in s₀.rows) (m ∷ left') (n - (i + 1)) (i + 1) 0))
         ∙ (rw q at (after true e)))

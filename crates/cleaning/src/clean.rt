@@ -3,6 +3,7 @@
 // laws of proofs/Cleans.antt.
 ghost use Rattle.std.specs.Prelude.{◌≡◌, []};
 ghost use Rattle.types.specs.Refusals.{outcome};
+ghost use Rattle.tables.specs.Lending.{held, SameTables};
 ghost use Rattle.lookup.specs.Lookup.{lent};
 ghost use Rattle.cleaning.specs.Cleaning.{cleaning_of, clean_stored};
 ghost use Rattle.cleaning.specs.private.Writing.{cleaned_by_marks, cleaned_within};
@@ -10,71 +11,84 @@ ghost use Rattle.cleaning.specs.private.Writing.{cleaned_by_marks, cleaned_withi
 use crate::rewrite::rewrite_links;
 use crate::room::{JudgedSet, lacks_room};
 use links::{judge_links, links_to_judge};
-use tables::{FileStorage, Lent, LentSet};
+use tables::{FileStorage, LentSet, LentSetMut};
 use types::Refusal;
 
 // Writes the texts of a set whose links are judged, where they have room, and then clears the scratch space.
 fn write_judged(
-    fs: FileStorage,
-    rows: &mut [u64],
-    dirs: &mut [u64],
-    text: &mut [u8],
+    set: &mut LentSetMut<'_>,
     marks: &[u8],
     scratch: &mut [u8],
 ) -> Result<FileStorage, Refusal>
-    ensures { cleaning_of (outcome result) rows.new dirs.new text.new [] scratch.new []
-        ≡ cleaned_by_marks (lent fs rows.old dirs.old text.old) marks.now
-        scratch.old }
+    ensures value { cleaning_of (outcome result) set.new.rows.now set.new.dirs.now set.new.text.now []
+        scratch.new []
+        ≡ cleaned_by_marks (held set.old) marks.now scratch.old }
+    ensures same { SameTables set.old set.new }
 {
-    let lent = Lent { rows, dirs, text };
-    let set = LentSet { fs, lent };
-    let judged = JudgedSet { set, marks };
+    let judged = JudgedSet {
+        set: set.read(),
+        marks,
+    };
     if lacks_room(judged) {
         return Err(Refusal::NoRoom);
     }
-    let cleaned = rewrite_links(fs, rows, dirs, text, marks, scratch);
-    lists::clear(scratch);
-    Ok(cleaned)
+    rewrite_links(set, marks, scratch);
+    scratch.fill(0);
+    Ok(set.fs)
 }
 
 // Cleans a set, with a mark for each of 65535 links on the stack; `walk_path` is a length.
 fn clean_links(
-    fs: FileStorage,
-    rows: &mut [u64],
-    dirs: &mut [u64],
-    text: &mut [u8],
+    set: &mut LentSetMut<'_>,
     scratch: &mut [u8],
     walk_path: usize,
 ) -> Result<FileStorage, Refusal>
-    ensures { cleaning_of (outcome result) rows.new dirs.new text.new [] scratch.new []
-        ≡ cleaned_within (lent fs rows.old dirs.old text.old) 65535
-        scratch.old walk_path }
+    ensures value { cleaning_of (outcome result) set.new.rows.now set.new.dirs.now set.new.text.now []
+        scratch.new []
+        ≡ cleaned_within (held set.old) 65535 scratch.old walk_path }
+    ensures same { SameTables set.old set.new }
 {
     let mut marks = [0u8; 65535];
-    judge_links(fs, rows, dirs, text, &mut marks, scratch.len(), walk_path)?;
-    write_judged(fs, rows, dirs, text, &marks, scratch)
+    let LentSet { fs, lent } = set.read();
+    judge_links(
+        fs,
+        lent.rows,
+        lent.dirs,
+        lent.text,
+        &mut marks,
+        scratch.len(),
+        walk_path,
+    )?;
+    write_judged(set, &marks, scratch)
 }
 
 // Cleans a set; `marks` and `walk_path` are lengths. Without flagged links nothing is judged.
 fn clean(
-    fs: FileStorage,
-    rows: &mut [u64],
-    dirs: &mut [u64],
-    text: &mut [u8],
+    set: &mut LentSetMut<'_>,
     marks: usize,
     scratch: &mut [u8],
     walk_path: usize,
 ) -> Result<FileStorage, Refusal>
-    ensures { cleaning_of (outcome result) rows.new dirs.new text.new [] scratch.new []
-        ≡ cleaned_within (lent fs rows.old dirs.old text.old) marks
-        scratch.old walk_path }
+    ensures value { cleaning_of (outcome result) set.new.rows.now set.new.dirs.now set.new.text.now []
+        scratch.new []
+        ≡ cleaned_within (held set.old) marks scratch.old walk_path }
+    ensures same { SameTables set.old set.new }
 {
-    let n = links_to_judge(fs, rows, dirs, text, marks, scratch.len(), walk_path)?;
+    let LentSet { fs, lent } = set.read();
+    let n = links_to_judge(
+        fs,
+        lent.rows,
+        lent.dirs,
+        lent.text,
+        marks,
+        scratch.len(),
+        walk_path,
+    )?;
     if n == 0 {
-        lists::clear(scratch);
-        return Ok(fs);
+        scratch.fill(0);
+        return Ok(set.fs);
     }
-    clean_links(fs, rows, dirs, text, scratch, walk_path)
+    clean_links(set, scratch, walk_path)
 }
 
 // Cleans the links of a set: each flagged link's text is kept, becomes the text from the link's directory, or the
@@ -94,8 +108,14 @@ pub fn sanitize_symlinks(
         ≡ clean_stored (lent fs rows.old dirs.old text.old) marks.old
         scratch.old walk_path.old }
 {
-    let cleaned = clean(fs, rows, dirs, text, marks.len(), scratch, walk_path.len())?;
-    lists::clear(marks);
-    lists::clear(walk_path);
+    let mut set = LentSetMut {
+        fs,
+        rows,
+        dirs,
+        text,
+    };
+    let cleaned = clean(&mut set, marks.len(), scratch, walk_path.len())?;
+    marks.fill(0);
+    walk_path.fill(0);
     Ok(cleaned)
 }

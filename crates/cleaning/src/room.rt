@@ -1,11 +1,12 @@
 // The room that a cleaning needs, taken off the text area's length text by text, since a sum could be too
-// large. Relies on `lookup` for a flagged link, on `links` for a mark's verdict, on `texts` and on the laws of
+// large. Relies on `lookup` for a flagged link, on `links` for a mark's verdict, and on the laws of
 // proofs/Links.antt.
 ghost use Rattle.std.specs.Prelude.{◌≡◌, ◌-◌, ltb, length};
 ghost use Rattle.tables.specs.Span.{clip};
+ghost use Rattle.tables.specs.Lending.{store_in};
 ghost use Rattle.cleaning.specs.Cleaning.{if_changed};
 ghost use Rattle.cleaning.specs.private.Writing.{joined_bytes, new_length, needed_by};
-ghost use Rattle.cleaning.specs.private.Judged.{store_in, verdicts_on, kept_in, added_in};
+ghost use Rattle.cleaning.specs.private.Judged.{verdicts_on, kept_in, added_in};
 
 use links::LinkVerdict;
 use tables::{Lent, LentSet, Row, Span};
@@ -30,6 +31,9 @@ fn left_after(used: usize, link: Span, verdict: LinkVerdict, left: usize) -> usi
 }
 
 // What is left of the text held after the old texts that change are removed.
+// Stays: the chain to the flagged links with their marks stands here and in `lacks_bytes`. A function can't give it:
+// its closures' types have no names, and an `impl Iterator` as a result gets no proof. An iterator of its own would be
+// longer, with its laws, than the two chains.
 fn kept_after(judged: JudgedSet<'_, '_>) -> usize
     ensures { result ≡ kept_in judged.entry }
 {
@@ -48,7 +52,7 @@ fn kept_after(judged: JudgedSet<'_, '_>) -> usize
 fn joined_length(lent: Lent<'_>, row: Row, leaf: Span) -> usize
     ensures { result ≡ joined_bytes lent.entry.dirs.now lent.entry.text.now row leaf }
 {
-    let branch = tables::directory_of(lent.dirs, lent.text, row);
+    let branch = lent.directory_of(row);
     path::joined_length(branch, tables::text_at(lent.text, leaf))
 }
 
@@ -60,7 +64,7 @@ fn new_length(lent: Lent<'_>, row: Row, verdict: LinkVerdict) -> usize
     match verdict {
         LinkVerdict::Keep => 0,
         LinkVerdict::OwnPath => joined_length(lent, row, row.name),
-        LinkVerdict::FromDirectory => joined_length(lent, row, texts::link_span(row)),
+        LinkVerdict::FromDirectory => joined_length(lent, row, tables::link_span(row)),
     }
 }
 
@@ -81,7 +85,7 @@ fn lacks_bytes(judged: JudgedSet<'_, '_>, room: usize) -> bool
 // Whether the text area is shorter than all texts held after the cleaning.
 pub(crate) fn lacks_room(judged: JudgedSet<'_, '_>) -> bool
     ensures { result ≡ ltb (length judged.entry.set.lent.text.now)
-        (needed_by (verdicts_on judged.entry) (store_in judged.entry)) }
+        (needed_by (verdicts_on judged.entry) (store_in judged.entry.set)) }
 {
     let room = judged.set.lent.text.len();
     let kept = kept_after(judged);

@@ -6,16 +6,16 @@ use lib.ListN.{length}
 use mathlib.Core.Path.{◌≡◌, ap, ◌∙◌, sym}
 use mathlib.Core.Bool.{Bool, true, false, cond}
 use mathlib.Core.List.{List, [], ◌∷◌, ◌++◌, append-nil, append_assoc}
-use Rattle.path.specs.Join.{is_alone, is_empty, is_closed, glued, appended}
+use Rattle.path.specs.Join.{is_alone, is_empty, is_closed, separator, glued, appended}
 use Rattle.lists.specs.Lists.{equal}
 use Rattle.lists.proofs.Equality.{equal-true, equal-same}
 use Rattle.rules.proofs.Rules.{both_true}
 use Rattle.compatible.specs.declared.walk.Pieces.{Pieces}
-use Rattle.compatible.specs.private.Walk.{end_of, whole_of, same_each}
+use Rattle.compatible.specs.private.Walk.{whole_of, same_each}
 use Rattle.names.proofs.Composed.{kept-appended, closed-appended}
 
 -- a part with what stands behind it, and the next
-glue : (a b : List ℕ) → (a ++ end_of a b) ++ b ≡ cond (is_empty b) a (glued a b)
+glue : (a b : List ℕ) → (a ++ separator a b) ++ b ≡ cond (is_empty b) a (glued a b)
 glue a [] = append-nil (a ++ []) ∙ append-nil a
 glue a (x ∷ b) = at (is_closed a)
   where
@@ -24,11 +24,11 @@ glue a (x ∷ b) = at (is_closed a)
     at false = append_assoc a (47 ∷ []) (x ∷ b)
 
 -- two parts, the first one kept
-two-kept : (a b : List ℕ) → is_alone a ≡ false → (a ++ end_of a b) ++ b ≡ appended a b
+two-kept : (a b : List ℕ) → is_alone a ≡ false → (a ++ separator a b) ++ b ≡ appended a b
 two-kept a b e = glue a b ∙ rw e
 
 -- three, of which the second is not empty
-pub three-kept : (a b c : List ℕ) → is_alone a ≡ false → 0 < length b → (((a ++ end_of a b) ++ b) ++ end_of b c) ++ c ≡ appended (appended a b) c
+pub three-kept : (a b c : List ℕ) → is_alone a ≡ false → 0 < length b → (((a ++ separator a b) ++ b) ++ separator b c) ++ c ≡ appended (appended a b) c
 three-kept a [] c e h = absurd (omega arith)
 three-kept a (x ∷ b) c e h =
     let closed : is_closed (appended a (x ∷ b)) ≡ is_closed (x ∷ b) = closed-appended a (x ∷ b) e in

@@ -1,38 +1,17 @@
 // Whether two sets have the same layout and names. Relies on walk.rt to compare composed paths, and on
 // `names` for the parts of a file's path.
-ghost use Rattle.std.specs.Prelude.{◌≡◌, cond};
+ghost use Rattle.std.specs.Prelude.{◌≡◌};
 ghost use Rattle.types.specs.Refusals.{outcome};
-ghost use Rattle.tables.specs.Rows.{has, link_held_bit};
 ghost use Rattle.compatible.specs.Compatible.{named_set_of, is_relevant, same_named, same_file, same_from, compatible};
 ghost use Rattle.compatible.specs.Compatible.{path_of, link_of, held_in, files_compatible};
 ghost use Rattle.compatible.specs.private.Sets.{set_of};
 ghost use Rattle.compatible.specs.private.Walk.{whole_of};
 
 use crate::walk::{Pieces, compose, join, same_pieces};
-use names::{are_held, set_span};
-use rules::is_bad_length;
-use tables::{FileStorage, Lent, LentSet, Row, Span};
+use names::set_span;
+use rules::{holds_set, is_bad_length};
+use tables::{FileStorage, LentSet, Row};
 use types::Refusal;
-
-// Whether the lent tables hold what the set counts, and the set has no more files and directories than it may.
-fn is_held(set: LentSet<'_>) -> bool
-    ensures { result ≡ held_in (set_of set.entry) }
-{
-    let rows_held = set.fs.num_files <= set.lent.rows.len() / 8;
-    let held = rows_held && are_held(set.fs, set.lent.dirs.len(), set.lent.text.len());
-    rules::are_held(set.fs, held)
-}
-
-// The span `span` where the flags say that a link text is held, else the span of no bytes at 0.
-fn link_span(flags: u64, span: Span) -> Span
-    ensures { result ≡ cond (has flags link_held_bit) span (record { at = 0; len = 0 }) }
-{
-    if tables::holds_link(flags) {
-        span
-    } else {
-        Span { at: 0, len: 0 }
-    }
-}
 
 // The path of a file, in pieces.
 fn path_pieces<'a>(set: LentSet<'a>, row: Row) -> Pieces<'a>
@@ -40,7 +19,7 @@ fn path_pieces<'a>(set: LentSet<'a>, row: Row) -> Pieces<'a>
 {
     let text = set.lent.text;
     let lead = tables::text_at(text, set_span(set.fs, row));
-    let directory = tables::directory_of(set.lent.dirs, text, row);
+    let directory = set.lent.directory_of(row);
     compose(lead, directory, tables::text_at(text, row.name))
 }
 
@@ -48,10 +27,13 @@ fn path_pieces<'a>(set: LentSet<'a>, row: Row) -> Pieces<'a>
 fn link_pieces<'a>(set: LentSet<'a>, row: Row) -> Pieces<'a>
     ensures { whole_of result ≡ link_of (set_of set.entry) row }
 {
-    let lead = tables::text_at(set.lent.text, link_span(row.flags, set.fs.name));
+    if !tables::holds_link(row.flags) {
+        return join(b"", b"");
+    }
+    let text = set.lent.text;
     join(
-        lead,
-        tables::text_at(set.lent.text, link_span(row.flags, row.link)),
+        tables::text_at(text, set.fs.name),
+        tables::text_at(text, row.link),
     )
 }
 
@@ -124,28 +106,12 @@ pub fn files_compatible(
         (named_set_of a rows_a.now dirs_a.now text_a.now)
         (named_set_of b rows_b.now dirs_b.now text_b.now) }
 {
-    let lent_a = Lent {
-        rows: rows_a,
-        dirs: dirs_a,
-        text: text_a,
-    };
-    let set_a = LentSet {
-        fs: a,
-        lent: lent_a,
-    };
-    let lent_b = Lent {
-        rows: rows_b,
-        dirs: dirs_b,
-        text: text_b,
-    };
-    let set_b = LentSet {
-        fs: b,
-        lent: lent_b,
-    };
+    let set_a = LentSet::new(a, rows_a, dirs_a, text_a);
+    let set_b = LentSet::new(b, rows_b, dirs_b, text_b);
     if is_bad_length(a.piece_length) || is_bad_length(b.piece_length) {
         return Err(Refusal::InvalidPieceLength);
     }
-    if !is_held(set_a) || !is_held(set_b) {
+    if !holds_set(set_a) || !holds_set(set_b) {
         return Err(Refusal::NoRoom);
     }
     Ok(are_compatible(set_a, set_b))

@@ -3,13 +3,12 @@
 ghost use Rattle.std.specs.Prelude.{◌≡◌};
 ghost use Rattle.lists.specs.Lists.{equal};
 ghost use Rattle.path.specs.Join.{appended};
-ghost use Rattle.compatible.specs.private.Walk.{whole_of, end_of, same_each};
-
-use path::{is_alone, is_closed};
+ghost use Rattle.compatible.specs.private.Walk.{whole_of, same_each};
 
 // A composed path in pieces: its parts, and what stands behind the first and the second, which is a separator or
-// nothing. Each piece has a name, which says whether it is a part or what stands behind one; in an array of five only
-// the place would.
+// nothing.
+// Stays: each piece has a name, which says whether it is a part or what stands behind one, and by which `join` and
+// `compose` write it; in an array of five slices a path of two parts and one of three would be told by places alone.
 #[derive(Clone, Copy)]
 pub(crate) struct Pieces<'a> {
     pub first: &'a [u8],
@@ -19,33 +18,13 @@ pub(crate) struct Pieces<'a> {
     pub last: &'a [u8],
 }
 
-// What stands between a part and the next: a separator, unless there is no next or the part ends in one.
-fn end_of<'a>(part: &[u8], next: &[u8]) -> &'a [u8]
-    ensures { result.now ≡ end_of part.now next.now }
-{
-    if next.is_empty() || is_closed(part) {
-        b""
-    } else {
-        b"/"
-    }
-}
-
 // The pieces of the path that two parts compose: a branch that stands alone is dropped.
 pub(crate) fn join<'a>(branch: &'a [u8], leaf: &'a [u8]) -> Pieces<'a>
     ensures { whole_of result ≡ appended branch.now leaf.now }
 {
-    if is_alone(branch) {
-        return Pieces {
-            first: b"",
-            first_end: b"",
-            second: b"",
-            second_end: b"",
-            last: leaf,
-        };
-    }
-    let first_end = end_of(branch, leaf);
+    let (first, first_end) = path::join_prefix(branch, leaf);
     Pieces {
-        first: branch,
+        first,
         first_end,
         second: b"",
         second_end: b"",
@@ -57,14 +36,14 @@ pub(crate) fn join<'a>(branch: &'a [u8], leaf: &'a [u8]) -> Pieces<'a>
 pub(crate) fn compose<'a>(first: &'a [u8], second: &'a [u8], last: &'a [u8]) -> Pieces<'a>
     ensures { whole_of result ≡ appended (appended first.now second.now) last.now }
 {
-    if is_alone(first) {
+    if path::is_alone(first) {
         return join(second, last);
     }
     if second.is_empty() {
         return join(first, last);
     }
-    let first_end = end_of(first, second);
-    let second_end = end_of(second, last);
+    let first_end = path::separator(first, second);
+    let second_end = path::separator(second, last);
     Pieces {
         first,
         first_end,
@@ -88,7 +67,8 @@ fn same_each(a: Pieces<'_>, b: Pieces<'_>) -> bool
 
 // Whether two composed paths are the same. Those of compatible sets mostly have the same pieces, so these are compared
 // first.
-// Stays: the iterators' `eq` compares, byte by byte; the pieces stand in no slice that `==` could take.
+// Stays: the iterators' `eq` compares, byte by byte; the pieces stand in no slice that `==` could take. The chain is
+// written for each: a method that gave it would have to name its type, a `Chain` of four levels.
 pub(crate) fn same_pieces(a: Pieces<'_>, b: Pieces<'_>) -> bool
     ensures { result ≡ equal (whole_of a.entry) (whole_of b.entry) }
 {

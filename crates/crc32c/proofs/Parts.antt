@@ -1,5 +1,6 @@
 -- Bytes fed one after another, and a running CRC over parts. Assumes nothing.
 --     feed-more, lower-more   a turn of the loop that feeds a slice, and of the one that feeds it in lower case
+--     lowered                 std's lower case of a byte is the one here
 --     feed-end, lower-end     nothing more to feed, and the same in lower case
 --     crc-parts               the CRC over two parts, one after the other, is that over both
 --     crc-lower               the same of parts in lower case
@@ -11,6 +12,8 @@ use native.Mathlib.Numerals.{add-one}
 use lib.Bits.{bit_xor, xor_self, xor_zero_r}
 use lib.ListN.{length, get_or, drop, drop_of_length-le}
 use lib.Seq.{drop-cons}
+use Rattle.std.proofs.Common.{rules, tests}
+use Rattle.std.specs.Char.{to_ascii_lowercase}
 use Rattle.crc32c.specs.Crc.{byte_step, feed, inverted, crc_from, lower}
 use Rattle.crc32c.proofs.Steps.{xor_assoc}
 
@@ -18,9 +21,12 @@ pub feed-more : (x : ℕ) (s : List ℕ) (i : ℕ) → i < length s → feed (by
 unfolding feed
 feed-more x s i h = rw (drop-cons s i 0 h, add-one)
 
-pub lower-more : (x : ℕ) (s : List ℕ) (i : ℕ) → i < length s → feed (byte_step x (lower (get_or s i 0))) (map lower (drop (i + 1) s)) ≡ feed x (map lower (drop i s))
+lowered : (b : ℕ) → to_ascii_lowercase b ≡ lower b
+lowered b = search (rules, tests)
+
+pub lower-more : (x : ℕ) (s : List ℕ) (i : ℕ) → i < length s → feed (byte_step x (to_ascii_lowercase (get_or s i 0))) (map lower (drop (i + 1) s)) ≡ feed x (map lower (drop i s))
 unfolding feed
-lower-more x s i h = rw (drop-cons s i 0 h, add-one)
+lower-more x s i h = rw (drop-cons s i 0 h, add-one, lowered (get_or s i 0))
 
 pub feed-end : (x : ℕ) (s : List ℕ) (i : ℕ) → length s ≤ i → feed x (drop i s) ≡ x
 unfolding feed

@@ -16,7 +16,7 @@ fn byte_step(table: &[u32; 256], state: u32, b: u8) -> u32
     requires { IsTable table.now }
     ensures { result ≡ byte_step state b }
 {
-    let i = (state ^ (b as u32)) & 0xff;
+    let i = (state ^ u32::from(b)) & 0xff;
     table[i as usize] ^ (state >> 8)
 }
 
@@ -28,19 +28,10 @@ fn feed_part<const LOWER: bool>(state: u32, data: &[u8]) -> u32
 {
     let mut x = state;
     for &b in data {
-        let c = if LOWER { to_ascii_lowercase(b) } else { b };
+        let c = if LOWER { b.to_ascii_lowercase() } else { b };
         x = byte_step(&TABLE, x, c);
     }
     x
-}
-
-// A byte with the letters A to Z in lower case.
-// Stays: it says `lower` of std's method, as the law of a turn of `feed_part` does; with the method itself in the loop,
-// the turn needs an answer by hand.
-pub fn to_ascii_lowercase(b: u8) -> u8
-    ensures { result ≡ lower b }
-{
-    b.to_ascii_lowercase()
 }
 
 // The CRC of the bytes so far, whose CRC is `crc`, and of `data`.

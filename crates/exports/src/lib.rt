@@ -1,8 +1,8 @@
 // What the C interface does, for benchmarks and other languages; the static library `exports_c` has its functions under
 // the same names. A set's record is twelve lent words and a root 32 lent bytes, arrays with their sizes in their types.
 // A change returns 0 or document 01's number; questions.rt and slices.rt say what a question returns. An addition has
-// 15 parameters and can't have fewer in C: each table and each text is a slice of its own. Relies on `storage`, `trim`,
-// `tables`, `layout`, `files`, `blocks` and `mapping`.
+// 15 parameters and can't have fewer in C: each table and each text is a slice of its own. Relies on `storage`,
+// `additions`, `trim`, `cleaning`, `tables`, `layout`, `files`, `blocks` and `mapping`.
 #![tactic(auto)]
 
 ghost use Rattle.std.specs.Prelude.{◌≡◌, List, ℕ};
@@ -80,18 +80,6 @@ fn words_of(fs: FileStorage) -> State
     ]
 }
 
-// 0 is absent, any other number present.
-// Stays: a presence is a number in the C interface, and neither type is this crate's, as `From` would need.
-fn presence_of(n: u8) -> Presence
-    ensures { result ≡ presence_of n }
-{
-    if n == 0 {
-        Presence::Absent
-    } else {
-        Presence::Present
-    }
-}
-
 // Writes the record that an answer holds, and gives the number of its refusal, 0 for none.
 // Stays: the C interface returns numbers.
 pub(crate) fn put_answer(state: &mut State, answer: Result<FileStorage, Refusal>) -> u32
@@ -152,11 +140,11 @@ pub fn niflathen_add_file(
 {
     let bytes = *root;
     let file = FileInfo {
-        given: presence_of(given),
+        given: Presence::from(given != 0),
         size: file_size,
         flags: file_flags,
         mtime,
-        rooted: presence_of(rooted),
+        rooted: Presence::from(rooted != 0),
         root: Sha256Hash { bytes },
     };
     let answer = storage::add_file(

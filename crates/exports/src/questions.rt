@@ -28,10 +28,7 @@ fn refused(refusal: Refusal) -> i64
 pub(crate) fn count_returned(answer: Result<usize, Refusal>) -> i64
     ensures { result ≡ count_returned (outcome answer) }
 {
-    match answer {
-        Ok(n) => types::signed64(n as u64),
-        Err(e) => refused(e),
-    }
+    answer.map_or_else(refused, |n| types::signed64(n as u64))
 }
 
 // The number of a file, or minus the number of the refusal.
@@ -39,10 +36,7 @@ pub(crate) fn count_returned(answer: Result<usize, Refusal>) -> i64
 fn file_returned(answer: Result<FileIndex, Refusal>) -> i64
     ensures { result ≡ file_returned (file_says answer) }
 {
-    match answer {
-        Ok(f) => i64::from(f.0),
-        Err(e) => refused(e),
-    }
+    answer.map_or_else(refused, |f| i64::from(f.0))
 }
 
 // A request of `map_file` as C has it: 0 and the request, or the number of the refusal and zeros.

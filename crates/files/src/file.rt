@@ -1,39 +1,36 @@
 // Answers about files' pieces, blocks and trees, and `map_file`. They rely on `merkle` for the nodes, on `types` for
 // signed numbers and on `rules`: each decides its refusals first.
-ghost use Rattle.std.specs.Prelude.{◌≡◌, ◌+◌, ◌*◌, ◌^◌, ◌<◌, ◌≤◌, ◌&&◌, ◌==◌};
+ghost use Rattle.std.specs.Prelude.{◌≡◌, ◌+◌, ◌*◌, ◌/◌, ◌^◌, ◌<◌, ◌≤◌, ◌&&◌, ◌==◌};
 ghost use Rattle.std.specs.Prelude.{false, not, [], ◌∷◌, length, pos, IfOk};
 ghost use Rattle.types.specs.Refusals.{number_of, outcome};
-ghost use Rattle.lists.specs.Lists.{ceiling, equal};
+ghost use Rattle.lists.specs.Lists.{ceiling};
 ghost use Rattle.tables.specs.Rows.{row_at};
 ghost use Rattle.merkle.specs.Width.{has_tree};
 ghost use Rattle.rules.specs.Rules.{when, first_of};
 ghost use Rattle.rules.specs.Bounds.{clamped_of};
 ghost use Rattle.rules.specs.Questions.{row_there, bad_piece_length, no_file, many_pieces, no_tree, short, few_entries};
 ghost use Rattle.rules.specs.Questions.{rows_are_held, answered, file_pieces_answer};
-ghost use Rattle.answers.specs.Answers.{root_of};
 ghost use Rattle.rules.specs.Results.{piece_says, file_says};
 ghost use Rattle.rules.specs.Results.{range_numbers, piece_range_says, number_range_says, request_says};
-ghost use Rattle.files.specs.Request.{request_at};
+ghost use Rattle.files.specs.Request.{request_at, file_start};
 ghost use Rattle.files.specs.Given.{piece_at_file_given, last_piece_at_file_given, exclusive_given, inclusive_given};
 ghost use Rattle.files.specs.Given.{file_num_pieces_given, file_piece_range_given, file_num_blocks_given};
 ghost use Rattle.files.specs.Given.{no_node, node_given, first_piece_node_given, first_block_node_given};
 ghost use Rattle.files.specs.Given.{file_for_root_given, file_mapped};
-ghost use Rattle.layout.specs.private.Deciding.{FewPieces};
-ghost use Rattle.files.specs.private.Deciding.{request_of, set_rules, position_rules};
+ghost use Rattle.files.specs.private.Deciding.{asked_says, request_of, set_rules, position_rules};
 ghost use Rattle.files.specs.Files.{last_quotient, low31, after_quotient, blocks_of, root_from};
 ghost use Rattle.files.specs.Files.{position_of, exclusive_begin, end_or_begin, exclusive_end};
 ghost use Rattle.files.specs.Files.{exclusive_range, inclusive_range};
 
+use crate::asked::AskedFile;
 use crate::number::file_or_past;
 use lists::{div, div_ceil, rem};
 use rules::{
-    DEFAULT_BLOCK_SIZE, are_held, ask_file, ask_set, count_pieces, has_many, is_bad_length,
-    is_bad_range, is_no_file, is_no_tree,
+    DEFAULT_BLOCK_SIZE, Tests, are_held, ask_file, count_pieces, has_many, holds_roots, holds_rows,
+    is_bad_length, is_bad_range, is_no_file, is_no_tree,
 };
-use tables::{FileStorage, Sha256Hash};
-use types::{
-    FileIndex, I32Range, PeerRequest, PieceIndex, PieceIndexRange, Refusal, clamped, is_negative,
-};
+use tables::{FileStorage, SIZE_RANGE, Sha256Hash};
+use types::{FileIndex, I32Range, PeerRequest, PieceIndex, PieceIndexRange, Refusal, clamped};
 
 // A request in unsigned numbers.
 #[derive(Clone, Copy)]
@@ -64,11 +61,9 @@ fn after_quotient(n: u64, d: u64) -> u64
 fn last_quotient(n: u64, d: u64) -> PieceIndex
     ensures { result.0 ≡ low31 (last_quotient n d) }
 {
-    let after = after_quotient(n, d);
-    if after == 0 {
-        return PieceIndex::none();
-    }
-    PieceIndex::new(after - 1)
+    after_quotient(n, d)
+        .checked_sub(1)
+        .map_or(PieceIndex::none(), PieceIndex::new)
 }
 
 // `n / d` rounded up, or 0 where d is 0.
@@ -106,10 +101,7 @@ fn exclusive_begin(r: UnsignedRequest) -> u64
     requires { r.piece < 2 ^ 32 }
     ensures { result ≡ exclusive_begin (request_of r) }
 {
-    if r.start == 0 {
-        return r.piece;
-    }
-    r.piece + 1
+    r.piece + u64::from(r.start != 0)
 }
 
 // The end, or the begin where the end is below it or 2147483648.
@@ -130,48 +122,55 @@ fn position_after(fs: FileStorage, r: UnsignedRequest, size: u64) -> u64
     r.piece * fs.piece_length + r.start + size
 }
 
-// The end of the pieces that lie wholly in file k; `size` is the file's size, and `r` the request for its first byte.
-fn exclusive_end(fs: FileStorage, k: usize, size: u64, r: UnsignedRequest) -> u64
-    requires { (k < fs.num_files) ×
-        (r.piece < 2 ^ 32) ×
-        (r.piece * fs.piece_length + r.start + size + 1 < 2 ^ 64) }
-    ensures { result ≡ exclusive_end fs k size (request_of r) }
-{
-    if k + 1 == fs.num_files {
-        return count_pieces(fs);
+impl AskedFile<'_> {
+    // The request for its first byte.
+    fn start(self) -> UnsignedRequest
+        ensures { request_of result ≡ file_start self.entry.fs self.entry.rows.now self.entry.k }
+    {
+        request_at(self.fs, self.offset(), 1)
     }
-    end_or_begin(
-        exclusive_begin(r),
-        div(position_after(fs, r, size) + 1, fs.piece_length),
-    )
-}
 
-// The pieces that lie wholly in file k.
-// Stays: two words of file k's row are read, its offset and its size; a `Row` by value would be made of all eight. That
-// the set has few pieces is told by `file_of_pieces`, with the file's number.
-fn exclusive(fs: FileStorage, rows: &[u64], k: usize) -> PieceIndexRange
-    requires { FewPieces fs × (k < fs.num_files) }
-    ensures { range_numbers result ≡ exclusive_range fs rows.now k }
-{
-    let r = request_at(fs, tables::offset_at(rows, k), 1);
-    PieceIndexRange {
-        begin: PieceIndex::new(exclusive_begin(r)),
-        end: PieceIndex::new(exclusive_end(fs, k, tables::size_at(rows, k), r)),
+    // The end of the pieces that lie wholly in it; `r` is the request for its first byte.
+    fn exclusive_end(self, r: UnsignedRequest) -> u64
+        requires { request_of r ≡ file_start self.fs self.rows.now self.k }
+        ensures { result
+            ≡ exclusive_end self.entry.fs self.entry.k (row_at self.entry.rows.now self.entry.k).size (request_of r) }
+    {
+        if self.k + 1 == self.fs.num_files {
+            return count_pieces(self.fs);
+        }
+        end_or_begin(
+            exclusive_begin(r),
+            div(
+                position_after(self.fs, r, self.size()) + 1,
+                self.fs.piece_length,
+            ),
+        )
     }
-}
 
-// The pieces that have a byte of file k.
-fn inclusive(fs: FileStorage, rows: &[u64], k: usize) -> PieceIndexRange
-    requires { FewPieces fs }
-    ensures { range_numbers result ≡ inclusive_range fs rows.now k }
-{
-    let r = request_at(fs, tables::offset_at(rows, k), 1);
-    PieceIndexRange {
-        begin: PieceIndex::new(r.piece),
-        end: PieceIndex::new(after_quotient(
-            position_after(fs, r, tables::size_at(rows, k)),
-            fs.piece_length,
-        )),
+    // The pieces that lie wholly in it.
+    fn exclusive(self) -> PieceIndexRange
+        ensures { range_numbers result ≡ exclusive_range self.entry.fs self.entry.rows.now self.entry.k }
+    {
+        let r = self.start();
+        PieceIndexRange {
+            begin: PieceIndex::new(exclusive_begin(r)),
+            end: PieceIndex::new(self.exclusive_end(r)),
+        }
+    }
+
+    // The pieces that have a byte of it.
+    fn inclusive(self) -> PieceIndexRange
+        ensures { range_numbers result ≡ inclusive_range self.entry.fs self.entry.rows.now self.entry.k }
+    {
+        let r = self.start();
+        PieceIndexRange {
+            begin: PieceIndex::new(r.piece),
+            end: PieceIndex::new(after_quotient(
+                position_after(self.fs, r, self.size()),
+                self.fs.piece_length,
+            )),
+        }
     }
 }
 
@@ -190,6 +189,8 @@ fn is_no_node(rows: &[u64], k: usize, leaves: u64) -> bool
 }
 
 // The first node of a layer of a file's tree with that number of leaves.
+// Stays: public questions are lent each table by itself, and a record of all would ask for those that a question does
+// not read (docs/DECISIONS.md, Forms 10), here and below.
 fn first_node(
     fs: FileStorage,
     rows: &[u64],
@@ -200,41 +201,34 @@ fn first_node(
 {
     let k = index.get();
     let no_tree = is_no_tree(fs, rows, k) || is_no_node(rows, k, leaves);
-    ask_file(fs, index, false, false, no_tree, rows.len() / 8)?;
+    ask_file(fs, index, false, no_tree, holds_rows(fs, rows))?;
     merkle::merkle_first_node(leaves as usize)
 }
 
-// Whether `root` is the root of file k, which is zeros where it has none.
-fn has_root_of(rows: &[u64], roots: &[u8], k: usize, root: Sha256Hash) -> bool
-    ensures { result ≡ equal (root_of rows.now roots.now k) root.bytes }
-{
-    let own = answers::root_of(rows, roots, k);
-    lists::same(&own.bytes, &root.bytes)
-}
-
-// The first of n files whose root is `root`, −1 where none fits.
-// Stays: n counts the rows of two tables of different widths; two slices of them would each give it anew. −1 is the
-// answer that the Rust gives where no file has the root.
-#[tactic(auto, using(crate::proofs::Roots::looking))]
+// The first of n files whose root, zeros where it has none, is `root`; −1, as in the Rust, where none fits.
+// Stays: n is the number of entries of two tables, each of which may be longer; a front of one would leave out the
+// other's.
 fn find_root(rows: &[u64], roots: &[u8], n: usize, root: Sha256Hash) -> FileIndex
     ensures { result.0 ≡ low31 (root_from n 0 rows.now roots.now root.bytes) }
 {
-    for k in 0..n {
-        if has_root_of(rows, roots, k, root) {
-            return FileIndex::new(k as u64);
-        }
-    }
-    FileIndex::none()
+    (0..n)
+        .find(|k| answers::root_of(rows, roots, *k) == root)
+        .map_or(FileIndex::none(), |k| FileIndex::new(k as u64))
 }
 
-// The number of the file whose pieces a question is about, or its refusal.
+// The file whose pieces a question is about, or its refusal.
 // Stays: its callers are public and are lent each table by itself; a record would be made at each call of this one.
-fn file_of_pieces(fs: FileStorage, rows: &[u64], index: FileIndex) -> Result<usize, Refusal>
-    ensures answer { outcome result ≡ file_pieces_answer fs index.0 (rows_are_held fs rows.now) (λ k. k) }
-    ensures known { IfOk result (λ k. FewPieces fs × (k < fs.num_files)) }
+fn file_of_pieces<'a>(
+    fs: FileStorage,
+    rows: &'a [u64],
+    index: FileIndex,
+) -> Result<AskedFile<'a>, Refusal>
+    ensures answer { asked_says result ≡ file_pieces_answer fs index.0 (rows_are_held fs rows.now) (λ k. k) }
+    ensures same { IfOk result (λ f. (f.fs ≡ fs) × (f.rows.now ≡ rows.now)) }
 {
-    ask_file(fs, index, has_many(fs), false, false, rows.len() / 8)?;
-    Ok(index.get())
+    ask_file(fs, index, has_many(fs), false, holds_rows(fs, rows))?;
+    let k = index.get();
+    Ok(AskedFile { fs, rows, k })
 }
 
 // The number of the file whose tree a question is about, or its refusal; `many` says whether the set has too many
@@ -256,7 +250,7 @@ fn file_of_tree(
         (clamped_of index.0) }
 {
     let no_tree = is_no_tree(fs, rows, index.get());
-    ask_file(fs, index, many, false, no_tree, rows.len() / 8)?;
+    ask_file(fs, index, many, no_tree, holds_rows(fs, rows))?;
     Ok(index.get())
 }
 
@@ -268,10 +262,7 @@ pub fn piece_index_at_file(
 ) -> Result<PieceIndex, Refusal>
     ensures { piece_says result ≡ piece_at_file_given fs rows.now index.0 }
 {
-    file_of_pieces(fs, rows, index).map(|k| {
-        let begin = tables::offset_at(rows, k);
-        PieceIndex::new(div(begin, fs.piece_length))
-    })
+    file_of_pieces(fs, rows, index).map(|f| PieceIndex::new(div(f.offset(), fs.piece_length)))
 }
 
 // The last piece of a file, −1 for an empty file at 0 where the piece length is 1.
@@ -282,8 +273,8 @@ pub fn last_piece_index_at_file(
 ) -> Result<PieceIndex, Refusal>
     ensures { piece_says result ≡ last_piece_at_file_given fs rows.now index.0 }
 {
-    file_of_pieces(fs, rows, index).map(|k| {
-        let end = tables::offset_at(rows, k) + tables::size_at(rows, k);
+    file_of_pieces(fs, rows, index).map(|f| {
+        let end = f.offset() + f.size();
         last_quotient(end, fs.piece_length)
     })
 }
@@ -349,13 +340,14 @@ pub fn file_index_for_root(
 ) -> Result<FileIndex, Refusal>
     ensures { file_says result ≡ file_for_root_given fs rows.now roots.now root.bytes }
 {
-    let held = fs.num_files <= rows.len() / 8 && fs.num_files <= roots.len() / 32;
-    ask_set(fs, false, held)?;
+    let held = holds_rows(fs, rows) && holds_roots(fs, roots);
+    Tests::of_set(fs, held).first_refusal()?;
     Ok(find_root(rows, roots, fs.num_files, root))
 }
 
 // A request in signed numbers, which hold it.
-// Stays: `From` must take every request, and this is asked only of one whose numbers an `i32` holds.
+// Stays: it is asked only of a request whose numbers an `i32` holds, so `as` is exact; `From` must take every request,
+// and `types::signed32` would take remainders that change nothing.
 fn signed_request(r: UnsignedRequest) -> PeerRequest
     requires { (r.piece ≤ 2147483647) × (r.start ≤ 2147483647) × (r.length ≤ 2147483647) }
     ensures { (result.piece.0 ≡ pos r.piece) × (result.start ≡ pos r.start) × (result.length ≡ pos r.length) }
@@ -374,21 +366,21 @@ fn offset_of(rows: &[u64], k: usize) -> u64
     requires { k * 8 < length rows.now }
     ensures { result ≡ (row_at rows.now k).offset }
 {
-    rows[k * 8] % 0x1_0000_0000_0000
+    rows[k * 8] % SIZE_RANGE
 }
 
 // Whether the set passes its own tests, so that it answers questions about bytes of its files.
-fn passes_set(fs: FileStorage, room: usize) -> bool
-    ensures { result ≡ (first_of (set_rules fs room) == 0) }
+fn passes_set(fs: FileStorage, rows: &[u64]) -> bool
+    ensures { result ≡ (first_of (set_rules fs (length rows.now / 8)) == 0) }
 {
-    !is_bad_length(fs.piece_length) && !has_many(fs) && are_held(fs, fs.num_files <= room)
+    !is_bad_length(fs.piece_length) && !has_many(fs) && are_held(fs, holds_rows(fs, rows))
 }
 
 // Whether a question passes its own tests: file k is one of the set's, and offset and size are in range.
 fn passes_position(fs: FileStorage, k: usize, offset: i64, size: i32) -> bool
     ensures { result ≡ (first_of (position_rules fs (pos k) offset size) == 0) }
 {
-    k < fs.num_files && !is_bad_range(offset, is_negative(i64::from(size)))
+    k < fs.num_files && !is_bad_range(offset, i64::from(size))
 }
 
 // The refusal of a question about bytes of a file that does not pass: 10 where no test before it holds. `in_place` says
@@ -398,24 +390,19 @@ fn refused_bytes(fs: FileStorage, index: FileIndex, in_place: bool) -> Refusal
         ≡ first_of
         (bad_piece_length fs ∷ no_file fs index.0 ∷ many_pieces fs ∷ when (not in_place) 14 ∷ short false ∷ []) }
 {
-    if is_bad_length(fs.piece_length) {
-        return Refusal::InvalidPieceLength;
-    }
-    if is_no_file(fs, index) {
-        return Refusal::NoSuchFile;
-    }
-    if has_many(fs) {
-        return Refusal::TooManyPieces;
-    }
-    if in_place {
-        return Refusal::NoRoom;
-    }
-    Refusal::OutOfRange
+    let tests = Tests {
+        no_file: is_no_file(fs, index),
+        many: has_many(fs),
+        bad_range: !in_place,
+        ..Tests::of_set(fs, false)
+    };
+    tests.first_refusal().err().unwrap_or(Refusal::NoRoom)
 }
 
 // Where bytes of a file lie: the piece, the start in it, and how many of them the set has. It does not stop at the
 // file's end. All tests stand before the answer, so that no answer waits for the number of a refusal, and those on the
 // set stand apart, so that a compiler can make them once for a loop of questions.
+#[inline(always)]
 pub fn map_file(
     fs: FileStorage,
     rows: &[u64],
@@ -426,7 +413,7 @@ pub fn map_file(
     ensures { request_says result ≡ file_mapped fs rows.now index.0 offset size }
 {
     let k = file_or_past(index);
-    let fit = passes_set(fs, rows.len() / 8);
+    let fit = passes_set(fs, rows);
     let in_place = passes_position(fs, k, offset, size);
     if fit && in_place {
         return Ok(signed_request(request_at(
@@ -439,7 +426,6 @@ pub fn map_file(
 }
 
 // The pieces that lie wholly in a file.
-// Stays: this and the next each map the file's number, which is asked for in one place, to a range of their own.
 pub fn file_piece_range_exclusive(
     fs: FileStorage,
     rows: &[u64],
@@ -447,11 +433,10 @@ pub fn file_piece_range_exclusive(
 ) -> Result<PieceIndexRange, Refusal>
     ensures { piece_range_says result ≡ exclusive_given fs rows.now index.0 }
 {
-    file_of_pieces(fs, rows, index).map(|k| exclusive(fs, rows, k))
+    file_of_pieces(fs, rows, index).map(|f| f.exclusive())
 }
 
 // The pieces that have a byte of a file.
-// Stays: as the one before.
 pub fn file_piece_range_inclusive(
     fs: FileStorage,
     rows: &[u64],
@@ -459,5 +444,5 @@ pub fn file_piece_range_inclusive(
 ) -> Result<PieceIndexRange, Refusal>
     ensures { piece_range_says result ≡ inclusive_given fs rows.now index.0 }
 {
-    file_of_pieces(fs, rows, index).map(|k| inclusive(fs, rows, k))
+    file_of_pieces(fs, rows, index).map(|f| f.inclusive())
 }

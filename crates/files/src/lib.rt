@@ -3,6 +3,7 @@
 // `layout`, `tables`, `types` and `lists`.
 #![tactic(auto)]
 
+mod asked;
 mod file;
 mod list;
 mod number;

@@ -10,13 +10,13 @@ ghost use Rattle.files.specs.List.{listed_says, answer_words, answer_at, files_m
 
 use crate::file::map_file;
 use tables::FileStorage;
-use types::{FileIndex, PeerRequest, Refusal, clamped};
+use types::{FileIndex, PeerRequest, Refusal};
 
 // An `i32` as a word, 0 where it is negative.
 fn word32(x: i32) -> u32
     ensures { result ≡ clamped_of x }
 {
-    clamped(i64::from(x)) as u32
+    u32::try_from(x).unwrap_or(0)
 }
 
 // The words of an answer.

@@ -3,24 +3,26 @@
 --     window-lent                                a part of a table, lent
 --     Filling, filled_next                       the windows up to a place are filled, from the start, one after the other
 --     filled-over, filled-all                    the hashes end, or the table
---     count_turn, count-over                     the room that one directory's beginnings leave, or that they pass
+--     beginnings_fit                             the beginnings of all directories by their numbers, and whether there is room for them
 --     repeats-enough                             a place for each beginning is a place for each hash
-use Prim.Native.Nat.{ℕ, suc, ◌+◌, ◌-◌, ◌≤◌, ◌<◌, min}
+use Prim.Native.Nat.{ℕ, zero, suc, ◌/◌, ◌+◌, ◌-◌, ◌≤◌, ◌<◌, min}
 use mathlib.Core.Path.{◌≡◌, refl, sym, ap, ◌∙◌}
-use mathlib.Core.Logic.{⊎_elim}
 use mathlib.Core.Bool.{Bool, true, false, cond}
 use mathlib.Core.List.{List, [], ◌∷◌, ◌++◌, map}
-use native.Mathlib.Nat.{sub-zero, zero-add}
+use native.Mathlib.Nat.{sub-zero, zero-add, add-zero}
 use native.Mathlib.Omega.{arith}
 use lib.Dec.{eqb, ltb, leb}
 use lib.ListN.{length, get_or, set, take, drop, length-append, length-map, length-take, length-drop, length-set, take-append-drop}
 use lib.Seq.{sets, length-take-le, take_all, take-add, get_or-take, set-append_left}
-use borrow.Author.Tests.{le-leb, lt-leb, leb-true}
-use Rattle.lists.specs.Lists.{part_of}
-use Rattle.lists.proofs.Orders.{le-or-lt}
+use borrow.Author.Tests.{le-leb, leb-true}
+use Rattle.std.specs.List.{range_with_len}
+use Rattle.lists.specs.Lists.{part_of, sum}
 use Rattle.lists.proofs.Parts.{part-length-within}
 use Rattle.lists.proofs.Runs.{sets-append, sets-cut, sets-drop, get_or-sets}
 use Rattle.crc32c.specs.Crc.{crc_from, lower}
+use Rattle.tables.specs.Span.{text_at}
+use Rattle.tables.specs.Rows.{dir_at}
+use Rattle.tables.specs.Model.{tabled}
 use Rattle.hashes.specs.Hashes.{beginnings, joined_lists, inserted, ascending}
 use Rattle.hashes.specs.declared.hashes.Listed.{Listed}
 use Rattle.hashes.specs.private.Gathering.{above, TableHolds, WindowHolds, hashes_after}
@@ -102,14 +104,19 @@ module _ (hs old : List ℕ) where
         count = omega arith;
       }
 
--- what is left of the room after one directory of n beginnings
-module _ (n rest whole left : ℕ) (e : whole ≡ n + rest) where
-  pub count_turn : n ≤ left → leb rest (left - n) ≡ leb whole left
-  count_turn h =
-      ⊎_elim (λ p. le-leb rest (left - n) (omega arith) ∙ sym (le-leb whole left (omega arith))) (λ p. lt-leb rest (left - n) (omega arith) ∙ sym (lt-leb whole left (omega arith))) (le-or-lt whole left)
+-- the beginnings of all directories, by their numbers
+beginnings-sum : (n k : ℕ) (h : ℕ → ℕ) (g : ℕ → List ℕ) → ((i : ℕ) → h (k + i) ≡ length (beginnings (g i))) → sum (map h (range_with_len k n)) ≡ length (joined_lists (map beginnings (tabled n g)))
+unfolding tabled
+beginnings-sum zero k h g e = refl
+beginnings-sum (suc n) k h g e =
+    let more = beginnings-sum n (k + 1) h (λ i. g (suc i)) (λ i. let z : k + 1 + i ≡ k + suc i = omega arith in rw z (e (suc i))) in
+    let one : h k ≡ length (beginnings (g 0)) = rw add-zero at (e 0) in
+    rw (length-append (beginnings (g 0)) (joined_lists (map beginnings (tabled n (λ i. g (suc i)))))) (omega (arith, more, one))
 
-  pub count-over : left < n → leb whole left ≡ false
-  count-over h = lt-leb whole left (omega arith)
+pub beginnings_fit : (s : Listed) (room : ℕ) (h : ℕ → ℕ) → ((i : ℕ) → h i ≡ length (beginnings (text_at s.text.now (dir_at s.dirs.now i))))
+    → leb (sum (map h (range_with_len 0 (length s.dirs.now / 2)))) room ≡ leb (length (due_beginnings s)) room
+beginnings_fit s room h e =
+    ap (λ (n : ℕ). leb n room) (beginnings-sum (length s.dirs.now / 2) 0 h (λ i. text_at s.text.now (dir_at s.dirs.now i)) (λ i. rw zero-add (e i)))
 
 -- each once are at most all
 inserted-longer : (h : ℕ) (xs : List ℕ) → length (inserted h xs) ≤ suc (length xs)

@@ -1,24 +1,22 @@
 -- Laws of a directory's beginnings and of their hashes. A running hash goes on from one separator to the next, and starts anew
 -- with each directory. They rely on the laws of `crc32c` about parts.
---     scan-within                                   the scan for the next separator
 --     beginning_number                              one beginning more than separators
---     begin-first, begin-next, begin-end            a directory's beginnings, one after the other
---     hashes-first, hashes-next, hashes-end         a directory's hashes, one after the other; hash-next gives the next one,
---                                                   hash-all the directory's own
+--     hashes-start, hashes-here, hashes-later, hashes-end    the hashes of a directory's beginnings from a place on, place by place
+--     hash-next                                     the hash of more bytes from that of fewer
 --     dirs-turn, dirs-end                           the directories, one after the other
 --     dirs-cut                                      those that a longer table begins with
 --     all-within                                    the hashes of what stands behind the set's name
 use Prim.Native.Nat.{ℕ, ◌+◌, ◌-◌, ◌*◌, ◌/◌, ◌≤◌, ◌<◌}
 use mathlib.Core.Path.{◌≡◌, refl, sym, ap, ◌∙◌}
 use mathlib.Core.Bool.{Bool, true, false, cond}
-use mathlib.Core.List.{List, [], ◌∷◌, ◌++◌, map, append-nil, append_assoc}
+use mathlib.Core.List.{List, [], ◌∷◌, ◌++◌, map}
 use native.Mathlib.Numerals.{add-one}
 use native.Mathlib.Omega.{arith}
-use lib.ListN.{length, take, drop, length-take, length-drop, drop_of_length-le}
-use lib.Seq.{drop-cons, drop-drop, take-suc, take-add, take_all, get_or-take, length-take-le}
+use lib.ListN.{length, get_or, take, drop, drop_of_length-le}
+use borrow.Author.Tests.{eq-eqb, ne_eqb}
+use lib.Seq.{drop-cons, take-suc, take-add, get_or-take, length-take-le}
 use Rattle.std.specs.List.{filter}
-use Rattle.path.specs.Split.{is_separator, before_first}
-use Rattle.path.proofs.Splits.{first-places}
+use Rattle.path.specs.Split.{is_separator}
 use Rattle.crc32c.specs.Crc.{crc_from, lower}
 use Rattle.crc32c.proofs.Parts.{crc-lower}
 use Rattle.tables.specs.declared.storage.FileStorage.{FileStorage}
@@ -35,22 +33,6 @@ pub empty-list : (d : List ℕ) → length d ≡ 0 → d ≡ []
 empty-list [] h = refl
 empty-list (c ∷ t) h = absurd (omega arith)
 
--- the beginnings behind one that ends before a list: none where the list is over
-abbrev pub beginnings_behind : List ℕ → List ℕ → List (List ℕ)
-beginnings_behind seen [] = []
-beginnings_behind seen (c ∷ t) = beginnings_from (seen ++ (c ∷ [])) t
-
--- one beginning, and those behind it
-one-first : (seen t : List ℕ) → beginnings_from seen t ≡ (seen ++ before_first t) ∷ beginnings_behind (seen ++ before_first t) (drop (length (before_first t)) t)
-one-first seen [] = rw append-nil
-one-first seen (c ∷ t) = at (is_separator c) (one-first (seen ++ (c ∷ [])) t)
-  where
-    at : (b : Bool) → beginnings_from (seen ++ (c ∷ [])) t ≡ ((seen ++ (c ∷ [])) ++ before_first t) ∷ beginnings_behind ((seen ++ (c ∷ [])) ++ before_first t) (drop (length (before_first t)) t)
-        → cond b (seen ∷ beginnings_from (seen ++ (c ∷ [])) t) (beginnings_from (seen ++ (c ∷ [])) t)
-        ≡ (seen ++ cond b [] (c ∷ before_first t)) ∷ beginnings_behind (seen ++ cond b [] (c ∷ before_first t)) (drop (length (cond b [] (c ∷ before_first t))) (c ∷ t))
-    at true e = rw append-nil
-    at false e = rw append_assoc at e
-
 -- as many as there are separators, and one more
 pub beginning_number : (seen d : List ℕ) → length (beginnings_from seen d) ≡ length (filter is_separator d) + 1
 beginning_number seen [] = refl
@@ -61,34 +43,26 @@ beginning_number seen (c ∷ t) = at (is_separator c) (beginning_number (seen ++
     at true e = omega arith
     at false e = e
 
--- what stands before the first separator is no longer than the list
-before-le : (t : List ℕ) → length (before_first t) ≤ length t
-before-le t = let m = length (before_first t) in omega (arith, ap length (first-places t).0, length-take m t)
+-- the beginnings that end at place e of a directory or behind it: one ends there where a separator stands or the directory ends
+abbrev pub beginnings_at : List ℕ → ℕ → List (List ℕ)
+beginnings_at d e = beginnings_from (take e d) (drop e d)
 
--- the beginning that ends at place k, where a scan from place i came to
-module _ (d : List ℕ) (i k : ℕ) (e : k ≡ i + length (before_first (drop i d))) where
-  from_place : beginnings_from (take i d) (drop i d) ≡ take k d ∷ beginnings_behind (take k d) (drop k d)
-  from_place =
-      let m = length (before_first (drop i d)) in
-      let p : take k d ≡ take i d ++ before_first (drop i d) = rw e (take-add i m d ∙ ap (λ (l : List ℕ). take i d ++ l) (first-places (drop i d)).0) in
-      let q : drop k d ≡ drop m (drop i d) = rw e (sym (drop-drop m i d)) in
-      rw (p, q) (one-first (take i d) (drop i d))
+module _ (d : List ℕ) (e : ℕ) (h : e < length d) where
+  begin-turn : beginnings_at d e ≡ cond (is_separator (get_or d e 0)) (take e d ∷ beginnings_at d (e + 1)) (beginnings_at d (e + 1))
+  begin-turn = rw (drop-cons d e 0 h, add-one e, take-suc d e 0 h)
 
-  pub scan-within : i ≤ length d → (i ≤ k) × (k ≤ length d)
-  scan-within h = (omega arith, omega (arith, before-le (drop i d), length-drop i d))
+  pub begin-here : get_or d e 0 ≡ 47 → beginnings_at d e ≡ take e d ∷ beginnings_at d (e + 1)
+  begin-here q = rw (eq-eqb (get_or d e 0) 47 q) at begin-turn
 
-pub begin-first : (d : List ℕ) (k : ℕ) → 0 < length d → k ≡ 0 + length (before_first (drop 0 d)) → beginnings d ≡ take k d ∷ beginnings_behind (take k d) (drop k d)
-begin-first [] k h e = absurd (omega arith)
-begin-first (c ∷ t) k h e = from_place (c ∷ t) 0 k e
+  pub begin-later : (get_or d e 0 ≡ 47 → ⊥) → beginnings_at d e ≡ beginnings_at d (e + 1)
+  begin-later q = rw (ne_eqb (get_or d e 0) 47 q) at begin-turn
 
-pub begin-next : (d : List ℕ) (j k : ℕ) → j < length d → k ≡ (j + 1) + length (before_first (drop (j + 1) d))
-    → beginnings_behind (take j d) (drop j d) ≡ take k d ∷ beginnings_behind (take k d) (drop k d)
-begin-next d j k h e =
-    let p = from_place d (j + 1) k e in
-    rw (drop-cons d j 0 h, ← take-suc d j 0 h, ← add-one j) p
+begin-start : (d : List ℕ) → 0 < length d → beginnings_at d 0 ≡ beginnings d
+begin-start [] h = absurd (omega arith)
+begin-start (c ∷ t) h = refl
 
-pub begin-end : (d : List ℕ) (j : ℕ) → length d ≤ j → beginnings_behind (take j d) (drop j d) ≡ []
-begin-end d j h = rw (drop_of_length-le d {i = j} h)
+begin-end : (d : List ℕ) (e : ℕ) → length d ≤ e → beginnings_at d e ≡ take e d ∷ []
+begin-end d e h = rw (drop_of_length-le d {i = e} h)
 
 -- the hash of the first k bytes from that of the first j
 pub hash-next : (state : ℕ) (d : List ℕ) (j k : ℕ) → j ≤ k → crc_from (crc_from state (map lower (take j d))) (map lower (take (k - j) (drop j d))) ≡ crc_from state (map lower (take k d))
@@ -97,23 +71,25 @@ hash-next state d j k h =
     let p : take k d ≡ take j d ++ take (k - j) (drop j d) = ap (λ (n : ℕ). take n d) e ∙ take-add j (k - j) d in
     crc-lower state (take j d) (take (k - j) (drop j d)) ∙ ap (λ (l : List ℕ). crc_from state (map lower l)) (sym p)
 
--- and that of all of them
-pub hash-all : (state : ℕ) (d : List ℕ) (k : ℕ) → length d ≤ k → crc_from state (map lower (take k d)) ≡ crc_from state (map lower d)
-hash-all state d k h = ap (λ (l : List ℕ). crc_from state (map lower l)) (take_all k d h)
+-- their hashes
+abbrev pub hash_by : ℕ → List ℕ → ℕ
+hash_by state b = crc_from state (map lower b)
 
--- the hashes of the beginnings behind the one that ends at place k
-abbrev pub hashes_from : ℕ → List ℕ → ℕ → List ℕ
-hashes_from state d k = map (λ (b : List ℕ). crc_from state (map lower b)) (beginnings_behind (take k d) (drop k d))
+abbrev pub hashes_at : ℕ → List ℕ → ℕ → List ℕ
+hashes_at state d e = map (hash_by state) (beginnings_at d e)
 
-module _ (state : ℕ) (d : List ℕ) (x k : ℕ) (e : x ≡ crc_from state (map lower (take k d))) where
-  pub hashes-first : 0 < length d → k ≡ 0 + length (before_first (drop 0 d)) → hashes_after state d ≡ (x ∷ []) ++ hashes_from state d k
-  hashes-first h q = rw e (ap (map (λ (b : List ℕ). crc_from state (map lower b))) (begin-first d k h q))
+module _ (state : ℕ) (d : List ℕ) where
+  pub hashes-start : 0 < length d → hashes_at state d 0 ≡ hashes_after state d
+  hashes-start h = ap (map (hash_by state)) (begin-start d h)
 
-  pub hashes-next : (j : ℕ) → j < length d → k ≡ (j + 1) + length (before_first (drop (j + 1) d)) → hashes_from state d j ≡ (x ∷ []) ++ hashes_from state d k
-  hashes-next j h q = rw e (ap (map (λ (b : List ℕ). crc_from state (map lower b))) (begin-next d j k h q))
+  pub hashes-here : (e : ℕ) → e < length d → get_or d e 0 ≡ 47 → hashes_at state d e ≡ (hash_by state (take e d) ∷ []) ++ hashes_at state d (e + 1)
+  hashes-here e h q = ap (map (hash_by state)) (begin-here d e h q)
 
-pub hashes-end : (state : ℕ) (d : List ℕ) (j : ℕ) → length d ≤ j → hashes_from state d j ≡ []
-hashes-end state d j h = ap (map (λ (b : List ℕ). crc_from state (map lower b))) (begin-end d j h)
+  pub hashes-later : (e : ℕ) → e < length d → (get_or d e 0 ≡ 47 → ⊥) → hashes_at state d e ≡ hashes_at state d (e + 1)
+  hashes-later e h q = ap (map (hash_by state)) (begin-later d e h q)
+
+  pub hashes-end : (e : ℕ) → length d ≤ e → hashes_at state d e ≡ (hash_by state (take e d) ∷ []) ++ []
+  hashes-end e h = ap (map (hash_by state)) (begin-end d e h)
 
 -- one directory, and those behind it; none left
 module _ {A : Type 0} (f : List ℕ → List A) (n : ℕ) (g : ℕ → List ℕ) where

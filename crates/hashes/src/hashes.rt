@@ -1,12 +1,11 @@
 // `all_path_hashes`, from file_storage.rs: the hashes of all directories and of what stands before their
 // separators, in order, each once. There is no work space: a pass over the directories puts the hashes
 // at or above a bound into a table of at most 8192 places, in order, and the next pass goes on behind them. It
-// relies on `crc32c` for the running hash, on `answers` for the refusals, and on the laws of proofs/.
-ghost use Rattle.std.specs.Prelude.{◌≡◌, [], ◌∷◌, map, ◌+◌, ◌-◌, ◌≤◌, ◌<◌, leb, length, take, drop};
+// relies on `crc32c` for the running hash, on `names` for the hash of what stands before, on `answers` for the
+// refusals, and on the laws of proofs/.
+ghost use Rattle.std.specs.Prelude.{◌≡◌, [], ◌∷◌, ◌+◌, ◌-◌, ◌≤◌, ◌<◌, leb, length, take};
 ghost use Rattle.std.proofs.lemmas.List.Edits.{sets};
 ghost use Rattle.lists.specs.Lists.{part_of};
-ghost use Rattle.path.specs.Split.{before_first};
-ghost use Rattle.crc32c.specs.Crc.{crc_from, lower};
 ghost use Rattle.names.specs.Paths.{led, hash_of};
 ghost use Rattle.hashes.specs.Hashes.{beginnings, inserted, ascending, listed_of, all_path_hashes};
 ghost use Rattle.hashes.specs.private.Gathering.{above, gathered, Begun, TableHolds, WindowHolds};
@@ -32,8 +31,8 @@ fn push(table: &mut [u32], p: usize, n: usize, h: u32)
 }
 
 // Puts h among the first n hashes unless it is there, and gives the number of hashes after it.
-// Stays: a record of table and count would hold a `&mut`, and its contract would still say what the lent table and the
-// count become, as this one does; `gather`, which alone would make it, is asked for the count.
+// Stays: a record of table and count would hold a `&mut`: each of its methods had to promise beside this clause that the
+// field keeps its reference, and `gather`, which alone would make one, that reference's last value; `Begun` is shorter.
 fn insert(table: &mut [u32], n: usize, h: u32) -> usize
     requires { Begun n table.old }
     ensures { TableHolds table.old (inserted h (take n table.old)) table.new result }
@@ -59,49 +58,30 @@ fn keep(table: &mut [u32], n: usize, bound: u64, h: u32) -> usize
     insert(table, n, h)
 }
 
-// The position of the first separator at or after `from`, or the length.
-// `path` has such a search of its own, whose contract gives the texts before and behind a separator, where `keep_dir`
-// needs the position as a number.
-fn next_separator(path: &[u8], from: usize) -> usize
-    requires { from ≤ length path.now }
-    ensures { result ≡ from + length (before_first (drop from path.now)) }
-{
-    let rest = &path[from..];
-    from + rest.iter().position(|c| *c == b'/').unwrap_or(rest.len())
-}
-
-// The number of hashes that a table holds after a directory is kept, and the hash of the whole directory.
-#[derive(Drop)]
-struct Kept {
-    held: usize,
-    state: u32,
-}
-
-// Keeps the hashes of a directory's beginnings; `state` is the hash of what stands before the directory, and
-// each directory starts from it.
+// Keeps the hashes of a directory's beginnings, and gives the number of hashes after it; `state` is the hash of what
+// stands before the directory. A beginning ends at each separator and at the directory's end, and its hash goes on from
+// the one before it.
 // Stays: table and count stand apart as in `insert`.
-// Stays: a turn hashes a separator with the part behind it, in one call; over the parts of `split` the first, which has
-// no separator before it, would have to be told from the others, and each of these would take two calls.
-fn keep_dir(table: &mut [u32], n: usize, bound: u64, state: u32, d: &[u8]) -> Kept
+fn keep_dir(table: &mut [u32], n: usize, bound: u64, state: u32, d: &[u8]) -> usize
     requires { Begun n table.old }
     ensures { TableHolds table.old
         (gathered bound (hashes_after state d.now) (take n table.old)) table.new
-        result.held
-        × (result.state ≡ crc_from state (map lower d.now)) }
+        result }
 {
     if d.is_empty() {
-        return Kept { held: n, state };
+        return n;
     }
-    let mut end = next_separator(d, 0);
-    let mut x = crc32c::crc32c_append_lowercase(state, &d[..end]);
-    let mut m = keep(table, n, bound, x);
-    while end < d.len() {
-        let next = next_separator(d, end + 1);
-        x = crc32c::crc32c_append_lowercase(x, &d[end..next]);
-        m = keep(table, m, bound, x);
-        end = next;
+    let (mut x, mut m, mut from) = (state, n, 0);
+    // Stays: a part is hashed with the separator before it; std's `split` leaves that out, and `split_inclusive` puts
+    // it at the end of the part before.
+    for end in 0..=d.len() {
+        if end == d.len() || d[end] == b'/' {
+            x = crc32c::crc32c_append_lowercase(x, &d[from..end]);
+            m = keep(table, m, bound, x);
+            from = end;
+        }
     }
-    Kept { held: m, state: x }
+    m
 }
 
 // The number of a directory's beginnings.
@@ -128,16 +108,13 @@ impl Listed<'_> {
     fn gather(self, table: &mut [u32], bound: u64) -> usize
         ensures { TableHolds table.old (ascending (above bound (due self.entry))) table.new result }
     {
-        let mut kept = Kept {
-            held: 0,
-            state: self.state,
-        };
+        let mut held = 0;
         for i in 0..self.dirs.len() / 2 {
             let place = tables::dir_at(self.dirs, i);
             let d = tables::text_at(self.text, place);
-            kept = keep_dir(table, kept.held, bound, self.state, d);
+            held = keep_dir(table, held, bound, self.state, d);
         }
-        kept.held
+        held
     }
 
     // Puts the hashes at or above `bound` into the places of `out` from `at` up to `end`: the least first, each once,
@@ -155,8 +132,8 @@ impl Listed<'_> {
         ensures { TableHolds out.old (ascending (above 0 (due self.entry))) out.new result }
     {
         let mut bound = 0;
-        // The windows are cut by number: the contract of std's `chunks_mut` doesn't say what the slice holds after
-        // them.
+        // Stays: tried, over `out.chunks_mut(8192)` nothing is known of the slice after the loop, and `returns` stayed
+        // open; so the windows are cut by number.
         for at in (0..out.len()).step_by(8192) {
             let end = at + 8192.min(out.len() - at);
             let n = self.fill_window(out, at, end, bound);
@@ -193,16 +170,10 @@ impl Listed<'_> {
     fn repeats_fit(self, room: usize) -> bool
         ensures { result ≡ leb (length (due_beginnings self.entry)) room }
     {
-        let mut left = room;
-        for i in 0..self.dirs.len() / 2 {
-            let place = tables::dir_at(self.dirs, i);
-            let n = beginning_count(tables::text_at(self.text, place));
-            if left < n {
-                return false;
-            }
-            left -= n;
-        }
-        true
+        (0..self.dirs.len() / 2)
+            .map(|i| beginning_count(tables::text_at(self.text, tables::dir_at(self.dirs, i))))
+            .try_fold(room, usize::checked_sub)
+            .is_some()
     }
 
     // Whether a table of `room` places holds the hashes. Nothing is hashed where it has a place for each beginning;
@@ -210,11 +181,7 @@ impl Listed<'_> {
     fn all_fit(self, room: usize) -> bool
         ensures { result ≡ leb (length (ascending (due self.entry))) room }
     {
-        if self.repeats_fit(room) {
-            return true;
-        }
-        let mut table = [0u32; 8192];
-        self.has_room(&mut table, room)
+        self.repeats_fit(room) || self.has_room(&mut [0u32; 8192], room)
     }
 }
 

@@ -8,6 +8,7 @@ use mathlib.Core.Bool.{Bool, true, false, cond, not, ◌&&◌}
 use mathlib.Core.List.{List, [], ◌∷◌}
 use native.Mathlib.Omega.{arith}
 use borrow.Author.Tests.{ltb-false, not-false}
+use Rattle.std.proofs.Common.{min}
 use lib.Dec.{eqb, ltb}
 use lib.IntN.{ℤ}
 use lib.ListN.{length, get_or, drop, replicate}
@@ -28,13 +29,13 @@ use Rattle.renames.specs.Finding.{bytes_from}
 use Rattle.renames.specs.Renames.{in_order_in}
 use Rattle.imports.specs.Imports.{namings, list_held, imported, has_negative, import_lent}
 use Rattle.imports.specs.private.Importing.{is_listed, renames_kept, renames_given, with_all, kept_state, is_full, import_number, import_asked}
-use Rattle.imports.specs.private.Merging.{Noted, noted_from, placed_from, is_noted, given_at, merged_from}
+use Rattle.imports.specs.private.Merging.{Noted, placed_from, is_noted, given_at, merged_from}
 use Rattle.renames.proofs.Ordered.{order-mode, order-bytes}
 use Rattle.renames.proofs.Deciding.{passes}
 use Rattle.renames.proofs.Decisions.{five-passed, same_test, order-in}
 use Rattle.renames.proofs.Rising.{rises-read}
 use Rattle.imports.proofs.Imported.{imported-is, fresh_kept, with-given}
-use Rattle.imports.proofs.Noting.{few-files, zeros-noted, noted-named}
+use Rattle.imports.proofs.Noting.{few-files, noted-named, noted-length}
 use Rattle.imports.proofs.Merged.{merged-is}
 use Rattle.imports.proofs.Keeping.{kept-count, kept-bytes, kept-few, kept-short}
 
@@ -149,18 +150,25 @@ module _ (fs : FileStorage) (rf : RenamedFiles) (e t : List ℕ) (zs : List ℤ)
         both_true (list_held zs lengths names) (few_entries fs)
         (five-held (bad_length fs.piece_length) (any is_negative zs) list (in_order_in rf e (length t)) (is_full (length e) (length t) (kept_state named rf e) (state_of comes)) st (kept_state named rf e) h)
 
-    pub import-noted : (l : List ℕ) → l ≡ noted_from files 0 zs (replicate 65536 0) → Noted fs.num_files zs l
-    import-noted l x = zeros-noted files zs l x (few-files fs import-held.1)
+    -- there is a cell for each file
+    pub import-files : min files 65536 ≡ files
+    import-files = few-files fs import-held.1
 
-    module _ (l p : List ℕ) (noted : Noted files zs l) (places : p ≡ placed_from files 0 zs lengths (replicate 65536 0)) (come : RenamedFiles) (q : come ≡ state_of comes) where
+    module _ (l p : List ℕ) (noted : Noted files zs l) (places : p ≡ placed_from 0 zs lengths (replicate files 0)) (come : RenamedFiles) (came : come ≡ state_of (renames_given (length l) zs lengths names)) where
+      size : length l ≡ files
+      size = noted-length files zs l noted
+
+      q : come ≡ state_of comes
+      q = came ∙ ap (λ (n : ℕ). state_of (renames_given n zs lengths names)) size
+
       abbrev all : List Renamed
       all =
-          merged_from (is_noted fs.num_files l) (given_at l p lengths names) fs.num_files 0
-          (renames_kept (is_noted fs.num_files l) (renames_of rf e t))
+          merged_from (is_noted l) (given_at l p lengths names) (length l) 0 (renames_kept (is_noted l) (renames_of rf e t))
 
       all-is : all ≡ final
       all-is =
-          ap (λ (f : ℕ → Bool). merged_from f (given_at l p lengths names) files 0 (renames_kept f rs)) (noted-named files zs l noted)
+          ap (λ (n : ℕ). merged_from (is_noted l) (given_at l p lengths names) n 0 (renames_kept (is_noted l) rs)) size
+          ∙ ap (λ (f : ℕ → Bool). merged_from f (given_at l p lengths names) files 0 (renames_kept f rs)) (noted-named files zs l noted)
           ∙ merged-is files zs lengths names l p rs noted places (rises-read rf.num_renames 0 0 rf.text_len e t (in_order_lem known.1))
 
       sums : (st.num_renames + come.num_renames ≡ length final) × (st.text_len + come.text_len ≡ length (texts_of final))
@@ -171,7 +179,7 @@ module _ (fs : FileStorage) (rf : RenamedFiles) (e t : List ℕ) (zs : List ℤ)
 
       pub import-ready : (rf.num_renames * 3 ≤ length e) × (bytes_from rf.num_renames 0 e ≤ length t)
           × ((j : ℕ) → 0 ≤ j → j < 0 + rf.num_renames → get_or e (j * 3 + 1) 0 ≤ 2)
-          × (st ≡ kept_state (is_noted fs.num_files l) rf e)
+          × (st ≡ kept_state (is_noted l) rf e)
           × ((st.num_renames + come.num_renames) * 3 ≤ length e)
           × (st.text_len + come.text_len ≤ length t)
           × (length all ≡ st.num_renames + come.num_renames)

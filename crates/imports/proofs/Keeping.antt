@@ -194,7 +194,7 @@ module _ (named : ℕ → Bool) where
     moved-end e i to (a, b, h, l, d, s) g = let w = words-end i g in rw w at s
 
   -- the first words of a table, lent and filled, before its others
-  front-filled : (w e : List ℕ) (k : ℕ) → length w ≤ k → k ≤ length e → sets (take k e) 0 w ++ drop k e ≡ sets e 0 w
+  pub front-filled : (w e : List ℕ) (k : ℕ) → length w ≤ k → k ≤ length e → sets (take k e) 0 w ++ drop k e ≡ sets e 0 w
   front-filled w e k a b =
       let m = length w in
       let p : sets (take k e) 0 w ≡ w ++ drop (0 + m) (take k e) = sets-eq w (take k e) 0 (omega (arith, length-take-le k e b)) in
@@ -221,6 +221,25 @@ module _ (named : ℕ → Bool) where
   words-front k zero i e h = refl
   words-front k (suc n) i e h =
       rw (get_or-take k e (i * 3) 0 (omega arith), get_or-take k e (i * 3 + 1) 0 (omega arith), get_or-take k e (i * 3 + 2) 0 (omega arith), words-front k n (i + 1) e (omega arith)) refl
+
+  -- the kept ones of the entries in use are counted
+  count-front : (k n i : ℕ) (e : List ℕ) → (i + n) * 3 ≤ k → kept_count named n i (take k e) ≡ kept_count named n i e
+  unfolding kept_count
+  count-front k zero i e h = refl
+  count-front k (suc n) i e h = rw (get_or-take k e (i * 3) 0 (omega arith), count-front k n (i + 1) e (omega arith)) refl
+
+  size-front : (k n i : ℕ) (e : List ℕ) → (i + n) * 3 ≤ k → kept_bytes named n i (take k e) ≡ kept_bytes named n i e
+  unfolding kept_bytes
+  size-front k zero i e h = refl
+  size-front k (suc n) i e h =
+      rw (get_or-take k e (i * 3) 0 (omega arith), get_or-take k e (i * 3 + 2) 0 (omega arith), size-front k n (i + 1) e (omega arith)) refl
+
+  pub count_in_use : (n : ℕ) (e : List ℕ) → n * 3 ≤ length e
+      → (kept_count named (length (take (n * 3) e) / 3) 0 (take (n * 3) e) ≡ kept_count named n 0 e)
+      × (kept_bytes named (length (take (n * 3) e) / 3) 0 (take (n * 3) e) ≡ kept_bytes named n 0 e)
+  count_in_use n e h =
+      let c : length (take (n * 3) e) / 3 ≡ n = omega (arith, length-take-le (n * 3) e h) in
+      rw c (count-front (n * 3) n 0 e (omega arith), size-front (n * 3) n 0 e (omega arith))
 
   pub moved-front : (n : ℕ) (e x : List ℕ) → n * 3 ≤ length e
       → x ≡ sets (take (n * 3) e) 0 (kept_words named (length (take (n * 3) e) / 3) 0 (take (n * 3) e))

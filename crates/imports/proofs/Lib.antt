@@ -3,6 +3,7 @@
 pub mod Imported
 pub mod Keeping
 pub mod Noting
+pub mod Counting
 pub mod Merging
 pub mod Raising
 pub mod Merged

@@ -255,8 +255,8 @@ module _ (files k : ℕ) (lengths names : List ℕ) (old : Option Renamed) where
         both true false q e = refl
         both false c q e = refl
 
-  notes-say : (zs : List ℤ) (i at : ℕ) (l p : List ℕ) → files ≤ length l → files ≤ length p
-      → read (noted_from files i zs l) (placed_from files at zs (drop i lengths) p) ≡ given_or files k (namings zs (drop i lengths) (drop at names)) (read l p)
+  notes-say : (zs : List ℤ) (i at : ℕ) (l p : List ℕ) → length l ≡ files → length p ≡ files
+      → read (noted_from i zs l) (placed_from at zs (drop i lengths) p) ≡ given_or files k (namings zs (drop i lengths) (drop at names)) (read l p)
   notes-say [] i at l p h g = refl
   notes-say (z ∷ zs) i at l p h g =
       let f : get_or (drop i lengths) 0 0 ≡ get_or lengths i 0 = get_or-drop i lengths 0 0 ∙ rw (add-zero i) in
@@ -265,12 +265,12 @@ module _ (files k : ℕ) (lengths names : List ℕ) (old : Option Renamed) where
       let l' = cond (is_below files z) (set l (clamped_of z) (i + 1)) l in
       let p' = cond (is_below files z) (set p (clamped_of z) at) p in
       let ih = notes-say zs (i + 1) (at + get_or lengths i 0) l' p'
-      (omega (arith, length-cell (is_below files z) l (clamped_of z) (i + 1))) (omega (arith, length-cell (is_below files z) p (clamped_of z) at)) in
-      rw (f, d, u) (ih ∙ ap (given_or files k (namings zs (drop (i + 1) lengths) (drop (at + get_or lengths i 0) names))) (read_one z i at l p h g (is_below files z) (eqb (clamped_of z) k) refl refl))
+      (length-cell (is_below files z) l (clamped_of z) (i + 1) ∙ h) (length-cell (is_below files z) p (clamped_of z) at ∙ g) in
+      rw (h, g, f, d, u) (ih ∙ ap (given_or files k (namings zs (drop (i + 1) lengths) (drop (at + get_or lengths i 0) names))) (read_one z i at l p (omega (arith, h)) (omega (arith, g)) (is_below files z) (eqb (clamped_of z) k) refl refl))
 
 -- ---- the merge is the import
 
-module _ (files : ℕ) (zs : List ℤ) (lengths names l p : List ℕ) (rs : List Renamed) (n : Noted files zs l) (places : p ≡ placed_from files 0 zs lengths (replicate 65536 0)) (up : Rises 0 rs) where
+module _ (files : ℕ) (zs : List ℤ) (lengths names l p : List ℕ) (rs : List Renamed) (n : Noted files zs l) (places : p ≡ placed_from 0 zs lengths (replicate files 0)) (up : Rises 0 rs) where
   abbrev lists : ℕ → Bool
   lists = is_listed files zs
 
@@ -280,16 +280,16 @@ module _ (files : ℕ) (zs : List ℤ) (lengths names l p : List ℕ) (rs : List
   abbrev stays : List Renamed
   stays = renames_kept lists rs
 
-  zeros-in : files ≤ length {A = ℕ} (replicate 65536 0)
-  zeros-in = omega (arith, n.1, length-replicate {A = ℕ} 65536 0)
+  zeros-in : length {A = ℕ} (replicate files 0) ≡ files
+  zeros-in = length-replicate {A = ℕ} files 0
 
   imported-gives : (k : ℕ) → rename_for k (imported files (namings zs lengths names) rs) ≡ cond (lists k) (Some (gives k)) (rename_for k rs)
   imported-gives k =
       let old = rename_for k rs in
-      let z : eqb (get_or {A = ℕ} (replicate 65536 0) k 0) 0 ≡ true = rw (zeros-read 65536 k) in
-      let s : read files k lengths names old l p ≡ given_or files k (namings zs lengths names) (read files k lengths names old (replicate 65536 0) (replicate 65536 0)) =
-      rw (n.0, places) (notes-say files k lengths names old zs 0 0 (replicate 65536 0) (replicate 65536 0) zeros-in zeros-in) in
-      let o : read files k lengths names old (replicate 65536 0) (replicate 65536 0) ≡ old = rw z in
+      let z : eqb (get_or {A = ℕ} (replicate files 0) k 0) 0 ≡ true = rw (zeros-read files k) in
+      let s : read files k lengths names old l p ≡ given_or files k (namings zs lengths names) (read files k lengths names old (replicate files 0) (replicate files 0)) =
+      rw (n, places) (notes-say files k lengths names old zs 0 0 (replicate files 0) (replicate files 0) zeros-in zeros-in) in
+      let o : read files k lengths names old (replicate files 0) (replicate files 0) ≡ old = rw z in
       let c : read files k lengths names old l p ≡ cond (lists k) (Some (gives k)) old = rw (cell-none files k zs l n) (flip (lists k) old) in
       imported-for files k (namings zs lengths names) rs ∙ ap (given_or files k (namings zs lengths names)) (sym o) ∙ sym s ∙ c
     where

@@ -1,16 +1,18 @@
 -- Laws of the notes of a list: what a file's cell holds, and that it tells whether the list names the file and whether a number
 -- counts. They rely on the kit's laws of `set`.
 use Prim.Native.Nat.{ℕ, zero, suc, ◌+◌, ◌≤◌, ◌<◌}
-use mathlib.Core.Path.{◌≡◌, refl, sym, ap, ◌∙◌, fun_ext}
+use mathlib.Core.Path.{◌≡◌, refl, sym, subst, ap, ◌∙◌, fun_ext}
 use mathlib.Core.Bool.{Bool, true, false, cond, not, true≢false, ◌&&◌}
 use mathlib.Core.List.{List, [], ◌∷◌}
 use native.Mathlib.Nat.{add-zero}
 use native.Mathlib.Omega.{arith}
 use native.Mathlib.Numerals.{add-one}
-use borrow.Author.Tests.{lt-ltb, eq-eqb, ne_eqb, eqb-true, eqb-false, leb-true}
-use lib.Dec.{eqb, ltb, leb}
+use borrow.Author.Tests.{eq-eqb, ne_eqb, eqb-true, eqb-false, leb-true}
+use Rattle.std.proofs.Common.{min}
+use Rattle.std.proofs.lemmas.List.{take-replicate}
+use lib.Dec.{eqb, leb}
 use lib.IntN.{ℤ, pos}
-use lib.ListN.{length, get_or, set, drop, replicate, length-set, length-replicate}
+use lib.ListN.{length, get_or, set, take, drop, replicate, length-set, length-replicate}
 use lib.Seq.{drop-cons, drop-drop, get_or-drop, get_or-set_same, get_or-set_other}
 use Rattle.rules.specs.Bounds.{clamped_of, is_below}
 use Rattle.tables.specs.declared.storage.FileStorage.{FileStorage}
@@ -47,12 +49,13 @@ module _ (files k : ℕ) where
   last_at i [] d = d
   last_at i (z ∷ zs) d = last_at (i + 1) zs (cond (is_of files k z) (i + 1) d)
 
-  note-read : (zs : List ℤ) (i : ℕ) (l : List ℕ) → files ≤ length l → get_or (noted_from files i zs l) k 0 ≡ last_at i zs (get_or l k 0)
+  note-read : (zs : List ℤ) (i : ℕ) (l : List ℕ) → length l ≡ files → get_or (noted_from i zs l) k 0 ≡ last_at i zs (get_or l k 0)
   note-read [] i l h = refl
   note-read (z ∷ zs) i l h =
       let m = cond (is_below files z) (set l (clamped_of z) (i + 1)) l in
-      note-read zs (i + 1) m (omega (arith, length-cell (is_below files z) l (clamped_of z) (i + 1)))
-      ∙ ap (last_at (i + 1) zs) (cell z (i + 1) l h (is_below files z) refl)
+      rw h
+      (note-read zs (i + 1) m (length-cell (is_below files z) l (clamped_of z) (i + 1) ∙ h)
+      ∙ ap (last_at (i + 1) zs) (cell z (i + 1) l (omega (arith, h)) (is_below files z) refl))
 
   -- the list names the file, or not
   last-unlisted : (zs : List ℤ) (i d : ℕ) → is_listed files zs k ≡ false → last_at i zs d ≡ d
@@ -101,21 +104,9 @@ module _ (files k : ℕ) where
   module _ (zs : List ℤ) (l : List ℕ) (n : Noted files zs l) where
     cell-is : get_or l k 0 ≡ last_at 0 zs 0
     cell-is =
-        ap (λ (x : List ℕ). get_or x k 0) n.0
-        ∙ note-read zs 0 (replicate 65536 0) (omega (arith, n.1, length-replicate {A = ℕ} 65536 0))
-        ∙ ap (last_at 0 zs) (zeros-read 65536 k)
-
-    pub noted-is : is_noted files l k ≡ is_listed files zs k
-    noted-is = at (is_listed files zs k) refl
-      where
-        at : (b : Bool) → is_listed files zs k ≡ b → is_noted files l k ≡ b
-        at true q =
-            rw (cell-is, lt-ltb k files (listed_in zs q), ne_eqb (last_at 0 zs 0) 0 (λ e. omega (arith, last-listed zs 0 0 q, e)))
-        at false q = rw (cell-is, last-unlisted zs 0 0 q) (none (ltb k files))
-          where
-            none : (b : Bool) → (b && false) ≡ false
-            none true = refl
-            none false = refl
+        ap (λ (x : List ℕ). get_or x k 0) n
+        ∙ note-read zs 0 (replicate files 0) (length-replicate {A = ℕ} files 0)
+        ∙ ap (last_at 0 zs) (zeros-read files k)
 
     pub cell-none : eqb (get_or l k 0) 0 ≡ not (is_listed files zs k)
     cell-none = rw cell-is (at (is_listed files zs k) refl)
@@ -123,6 +114,13 @@ module _ (files k : ℕ) where
         at : (b : Bool) → is_listed files zs k ≡ b → eqb (last_at 0 zs 0) 0 ≡ not b
         at true q = ne_eqb (last_at 0 zs 0) 0 (λ e. omega (arith, last-listed zs 0 0 q, e))
         at false q = eq-eqb (last_at 0 zs 0) 0 (last-unlisted zs 0 0 q)
+
+    noted-is : is_noted l k ≡ is_listed files zs k
+    noted-is = rw cell-none (not-not (is_listed files zs k))
+      where
+        not-not : (b : Bool) → not (not b) ≡ b
+        not-not true = refl
+        not-not false = refl
 
     -- number i names the file: it counts where it is the one that is noted
     pub last-is : (i : ℕ) → i < length zs → is_of files k (get_or zs i (pos 0)) ≡ true → eqb (get_or l k 0) (i + 1) ≡ not (is_listed files (drop (i + 1) zs) k)
@@ -135,33 +133,52 @@ module _ (files k : ℕ) where
         at true q = ne_eqb _ (suc i) (λ e. omega (arith, last-listed (drop (suc i) zs) (suc i) (suc i) q, e))
         at false q = eq-eqb _ (suc i) (last-unlisted (drop (suc i) zs) (suc i) (suc i) q)
 
-pub noted-named : (files : ℕ) (zs : List ℤ) (l : List ℕ) → Noted files zs l → is_noted files l ≡ is_listed files zs
+pub noted-named : (files : ℕ) (zs : List ℤ) (l : List ℕ) → Noted files zs l → is_noted l ≡ is_listed files zs
 noted-named files zs l n = fun_ext (λ k. noted-is files k zs l n)
 
--- a set that is counted has a cell for each file
-pub few-files : (fs : FileStorage) → few_entries fs ≡ true → fs.num_files ≤ 65535
-few-files fs h = leb-true fs.num_files 65535 (both_true (leb fs.num_files 65535) (leb fs.num_paths 65535) h).0
+-- there is a cell for each file
+length-noted : (zs : List ℤ) (i : ℕ) (l : List ℕ) → length (noted_from i zs l) ≡ length l
+length-noted [] i l = refl
+length-noted (z ∷ zs) i l =
+    length-noted zs (i + 1) (cond (is_below (length l) z) (set l (clamped_of z) (i + 1)) l) ∙ length-cell (is_below (length l) z) l (clamped_of z) (i + 1)
 
-pub zeros-noted : (files : ℕ) (zs : List ℤ) (l : List ℕ) → l ≡ noted_from files 0 zs (replicate 65536 0) → files ≤ 65535 → Noted files zs l
-zeros-noted files zs l e h = (e, omega arith)
+pub noted-length : (files : ℕ) (zs : List ℤ) (l : List ℕ) → Noted files zs l → length l ≡ files
+noted-length files zs l n = ap length n ∙ length-noted zs 0 (replicate files 0) ∙ length-replicate {A = ℕ} files 0
 
--- the files that the notes of a list name, where the list is held and the set is counted
-pub held-named : (fs : FileStorage) (zs : List ℤ) (l : List ℕ) → l ≡ noted_from fs.num_files 0 zs (replicate 65536 0) → (held : Bool) → (held && few_entries fs) ≡ true
-    → is_noted fs.num_files l ≡ is_listed fs.num_files zs
-held-named fs zs l e held h =
-    noted-named fs.num_files zs l (zeros-noted fs.num_files zs l e (few-files fs (both_true held (few_entries fs) h).1))
+-- of the cells one is lent for each file: they are zeros, and the notes of a list in them
+pub lent_zeros : {n files : ℕ} → n ≡ min files 65536 → min files 65536 ≡ files → take {A = ℕ} n (replicate 65536 0) ≡ replicate files 0
+lent_zeros {n} h e = take-replicate n 65536 0 (omega (arith, h)) ∙ ap (λ (k : ℕ). replicate k 0) (h ∙ e)
+
+pub lent_notes : {n : ℕ} (files : ℕ) (zs : List ℤ) (l : List ℕ) → l ≡ noted_from 0 zs (take n (replicate 65536 0)) → n ≡ min files 65536 → Noted (length l) zs l × (length l ≡ min files 65536)
+lent_notes {n} files zs l e h =
+    let m : Noted n zs l = e ∙ ap (noted_from 0 zs) (take-replicate n 65536 0 (omega (arith, h))) in
+    let k = noted-length n zs l m in
+    (subst (λ (i : ℕ). Noted i zs l) (sym k) m, k ∙ h)
+
+-- a set that is counted has no more files than there are cells
+pub few-files : (fs : FileStorage) → few_entries fs ≡ true → min fs.num_files 65536 ≡ fs.num_files
+few-files fs h =
+    let f = leb-true fs.num_files 65535 (both_true (leb fs.num_files 65535) (leb fs.num_paths 65535) h).0 in
+    omega arith
+
+-- the notes of a list that is held, for a set that is counted
+pub held-named : (fs : FileStorage) (zs : List ℤ) (l : List ℕ) → Noted (length l) zs l → length l ≡ min fs.num_files 65536 → (held : Bool) → (held && few_entries fs) ≡ true
+    → (length l ≡ fs.num_files) × (is_noted l ≡ is_listed fs.num_files zs)
+held-named fs zs l n e held h =
+    let q : length l ≡ fs.num_files = e ∙ few-files fs (both_true held (few_entries fs) h).1 in
+    (q, noted-named (length l) zs l n ∙ ap (λ (k : ℕ). is_listed k zs) q)
 
 -- ---- one number written down
 
-module _ (files : ℕ) (zs : List ℤ) where
+module _ (zs : List ℤ) where
   pub placed-turn : (i at : ℕ) (lengths l : List ℕ) → i < length zs
-      → placed_from files at (drop i zs) (drop i lengths) l
-      ≡ placed_from files (at + get_or lengths i 0) (drop (i + 1) zs) (drop (i + 1) lengths) (cond (is_below files (get_or zs i (pos 0))) (set l (clamped_of (get_or zs i (pos 0))) at) l)
+      → placed_from at (drop i zs) (drop i lengths) l
+      ≡ placed_from (at + get_or lengths i 0) (drop (i + 1) zs) (drop (i + 1) lengths) (cond (is_below (length l) (get_or zs i (pos 0))) (set l (clamped_of (get_or zs i (pos 0))) at) l)
   placed-turn i at lengths l h =
       let f : get_or (drop i lengths) 0 0 ≡ get_or lengths i 0 = get_or-drop i lengths 0 0 ∙ rw (add-zero i) in
       let g : drop 1 (drop i lengths) ≡ drop (i + 1) lengths = drop-drop 1 i lengths in
       let k : drop i zs ≡ get_or zs i (pos 0) ∷ drop (i + 1) zs = drop-cons zs i (pos 0) h ∙ rw (add-one i) in
-      let m = cond (is_below files (get_or zs i (pos 0))) (set l (clamped_of (get_or zs i (pos 0))) at) l in
+      let m = cond (is_below (length l) (get_or zs i (pos 0))) (set l (clamped_of (get_or zs i (pos 0))) at) l in
       rw k
-      (ap (λ (n : ℕ). placed_from files (at + n) (drop (i + 1) zs) (drop 1 (drop i lengths)) m) f
-      ∙ ap (λ (x : List ℕ). placed_from files (at + get_or lengths i 0) (drop (i + 1) zs) x m) g)
+      (ap (λ (n : ℕ). placed_from (at + n) (drop (i + 1) zs) (drop 1 (drop i lengths)) m) f
+      ∙ ap (λ (x : List ℕ). placed_from (at + get_or lengths i 0) (drop (i + 1) zs) x m) g)

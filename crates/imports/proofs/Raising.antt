@@ -1,14 +1,15 @@
 -- The kept renames moved together and then up, behind the room for the names that come: what the tables read then, and that the merge
 -- overwrites all that was moved. These laws rely on those of proofs/Keeping.antt and of `renames` (its proofs/Kept.antt).
-use Prim.Native.Nat.{ℕ, suc, ◌+◌, ◌-◌, ◌*◌, ◌≤◌, ◌<◌}
+use Prim.Native.Nat.{ℕ, suc, ◌+◌, ◌-◌, ◌*◌, ◌/◌, ◌≤◌, ◌<◌}
 use mathlib.Core.Path.{◌≡◌, refl, sym, ap, ◌∙◌}
 use mathlib.Core.Bool.{Bool}
 use mathlib.Core.Logic.{⊎_elim}
-use mathlib.Core.List.{List, [], ◌∷◌, ◌++◌}
+use mathlib.Core.List.{List, [], ◌∷◌, ◌++◌, append-nil}
 use native.Mathlib.Omega.{arith}
 use lib.ListN.{length, get_or, set, take, drop, length-append, length-drop}
-use lib.Seq.{paste, sets, sets-eq, length-sets, length-take-le, drop-append-add}
+use lib.Seq.{paste, sets, sets-eq, length-sets, length-take-le, drop-append-add, take-append_seam}
 use Rattle.lists.proofs.Orders.{le-or-lt}
+use Rattle.lists.proofs.Parts.{drop-take}
 use Rattle.lists.proofs.Runs.{sets-drop, sets_over, sets-set-below, part-sets}
 use Rattle.renames.specs.declared.rename.RenamedFiles.{RenamedFiles}
 use Rattle.renames.specs.Renames.{Renamed, renames_from, renames_of, words_of, texts_of}
@@ -17,7 +18,7 @@ use Rattle.imports.specs.private.Importing.{renames_kept, kept_state, kept_words
 use Rattle.imports.specs.private.Merging.{merged_from, kept_in}
 use Rattle.renames.proofs.Splices.{copied}
 use Rattle.renames.proofs.Kept.{at-word, words-rest, mode_small, length-words, list_read}
-use Rattle.imports.proofs.Keeping.{kept-count, kept-bytes, kept-words}
+use Rattle.imports.proofs.Keeping.{kept-count, kept-bytes, kept-words, front-filled}
 
 -- ---- runs
 
@@ -125,27 +126,38 @@ module _ (named : ℕ → Bool) (given : ℕ → Renamed) (files : ℕ) (rf stay
       abbrev total : ℕ
       total = stay.num_renames + c
 
-      there-words : drop (c * 3) e₂ ≡ words_of stays ++ drop (length (words_of stays)) (drop (c * 3) e₁)
-      there-words = rw up-words (drop-sets (words_of stays) e₁ (c * 3) (omega (arith, count-is, long.0)))
+      long-up : (length e₂ ≡ length e) × (length t₂ ≡ length t)
+      long-up = (rw up-words (length-sets e₁ (c * 3) (words_of stays)) ∙ long.0, rw up-bytes (length-sets t₁ cb (texts_of stays)) ∙ long.1)
+
+      -- the entries that all need are lent to the merge
+      abbrev front : List ℕ
+      front = take ((stay.num_renames + come.num_renames) * 3) e₂
+
+      front-count : length front / 3 ≡ total
+      front-count = omega (arith, length-take-le (total * 3) e₂ (omega (arith, held, long-up.0)))
+
+      there-words : drop (c * 3) front ≡ words_of stays ++ []
+      there-words =
+          let n : total * 3 - c * 3 ≡ length (words_of stays) = omega (arith, count-is) in
+          let post = drop (length (words_of stays)) (drop (c * 3) e₁) in
+          let up : drop (c * 3) e₂ ≡ words_of stays ++ post = rw up-words (drop-sets (words_of stays) e₁ (c * 3) (omega (arith, count-is, long.0))) in
+          drop-take (c * 3) (total * 3) e₂
+          ∙ rw n (ap (take (length (words_of stays))) up ∙ take-append_seam (words_of stays) post ∙ sym (append-nil (words_of stays)))
 
       there-bytes : drop cb t₂ ≡ texts_of stays ++ drop (length (texts_of stays)) (drop cb t₁)
       there-bytes = rw up-bytes (drop-sets (texts_of stays) t₁ cb (omega (arith, stay-bytes, long.1)))
 
-      rest-count : total - c ≡ length stays
-      rest-count = omega (arith, stay-count)
+      rest-count : length front / 3 - c ≡ length stays
+      rest-count = omega (arith, front-count, stay-count)
 
-      kept_there : kept_in (stay.num_renames + come.num_renames) come.num_renames come.text_len e₂ t₂ ≡ stays
+      kept_there : kept_in (length front / 3) come.num_renames come.text_len front t₂ ≡ stays
       kept_there =
-          ap (λ (n : ℕ). renames_from n c e₂ (drop cb t₂)) rest-count
-          ∙ ap (renames_from (length stays) c e₂) there-bytes
-          ∙ list_read stays c e₂ (drop (length (words_of stays)) (drop (c * 3) e₁)) (drop (length (texts_of stays)) (drop cb t₁)) there-words
+          ap (λ (n : ℕ). renames_from n c front (drop cb t₂)) rest-count
+          ∙ ap (renames_from (length stays) c front) there-bytes
+          ∙ list_read stays c front [] (drop (length (texts_of stays)) (drop cb t₁)) there-words
 
-      size-there : bytes_from (total - c) c e₂ ≡ length (texts_of stays)
-      size-there =
-          ap (λ (n : ℕ). bytes_from n c e₂) rest-count ∙ bytes_read stays c e₂ (drop (length (words_of stays)) (drop (c * 3) e₁)) there-words
-
-      long-up : (length e₂ ≡ length e) × (length t₂ ≡ length t)
-      long-up = (rw up-words (length-sets e₁ (c * 3) (words_of stays)) ∙ long.0, rw up-bytes (length-sets t₁ cb (texts_of stays)) ∙ long.1)
+      size-there : bytes_from (length front / 3 - c) c front ≡ length (texts_of stays)
+      size-there = ap (λ (n : ℕ). bytes_from n c front) rest-count ∙ bytes_read stays c front [] there-words
 
       abbrev all : List Renamed
       all = merged_from named given files 0 stays
@@ -153,27 +165,28 @@ module _ (named : ℕ → Bool) (given : ℕ → Renamed) (files : ℕ) (rf stay
       module _ (count : length (merged_from named given files 0 stays) ≡ stay.num_renames + come.num_renames)
           (size : length (texts_of (merged_from named given files 0 stays)) ≡ stay.text_len + come.text_len) where
         abbrev there : List Renamed
-        there = merged_from named given files 0 (kept_in (stay.num_renames + come.num_renames) come.num_renames come.text_len e₂ t₂)
+        there = merged_from named given files 0 (kept_in (length front / 3) come.num_renames come.text_len front t₂)
 
-        pub merge-ready : (come.num_renames ≤ stay.num_renames + come.num_renames)
-            × ((stay.num_renames + come.num_renames) * 3 ≤ length e₂)
-            × (come.text_len + bytes_from (stay.num_renames + come.num_renames - come.num_renames) come.num_renames e₂ ≤ length t₂)
-            × ((j : ℕ) → come.num_renames ≤ j → j < stay.num_renames + come.num_renames → get_or e₂ (j * 3 + 1) 0 ≤ 2)
-            × (length there ≡ stay.num_renames + come.num_renames)
-            × (length (texts_of there) ≡ come.text_len + bytes_from (stay.num_renames + come.num_renames - come.num_renames) come.num_renames e₂)
+        pub merge-ready : (come.num_renames ≤ length front / 3)
+            × (come.text_len + bytes_from (length front / 3 - come.num_renames) come.num_renames front ≤ length t₂)
+            × ((j : ℕ) → come.num_renames ≤ j → j < length front / 3 → get_or front (j * 3 + 1) 0 ≤ 2)
+            × (length there ≡ length front / 3)
+            × (length (texts_of there) ≡ come.text_len + bytes_from (length front / 3 - come.num_renames) come.num_renames front)
         merge-ready = (
-          omega arith,
-          omega (arith, long-up.0),
+          omega (arith, front-count),
           omega (arith, size-there, stay-bytes, long-up.1),
-          λ j a b. modes-read stays c e₂ (drop (length (words_of stays)) (drop (c * 3) e₁)) there-words j a (omega (arith, b, stay-count)),
-          rw kept_there count,
+          λ j a b. modes-read stays c front [] there-words j a (omega (arith, b, front-count, stay-count)),
+          rw kept_there count ∙ sym front-count,
           rw kept_there (omega (arith, size, size-there, stay-bytes)),
         )
 
-        pub merge-done : (e₃ t₃ : List ℕ) → e₃ ≡ sets e₂ 0 (words_of there) → t₃ ≡ sets t₂ 0 (texts_of there)
-            → (e₃ ≡ sets e 0 (words_of (merged_from named given files 0 stays))) × (t₃ ≡ sets t 0 (texts_of (merged_from named given files 0 stays)))
+        pub merge-done : (e₃ t₃ : List ℕ) → e₃ ≡ sets front 0 (words_of there) → t₃ ≡ sets t₂ 0 (texts_of there)
+            → (e₃ ++ drop ((stay.num_renames + come.num_renames) * 3) e₂ ≡ sets e 0 (words_of (merged_from named given files 0 stays))) × (t₃ ≡ sets t 0 (texts_of (merged_from named given files 0 stays)))
         merge-done e₃ t₃ x₃ y₃ =
             let n = length-words all in
+            let m : length there ≡ total = rw kept_there count in
+            let f : e₃ ++ drop (total * 3) e₂ ≡ sets e₂ 0 (words_of there) =
+            rw x₃ (front-filled named (words_of there) e₂ (total * 3) (omega (arith, length-words there, m)) (omega (arith, held, long-up.0))) in
             let p : sets e₂ 0 (words_of there) ≡ sets e₁ 0 (words_of all) =
             rw (kept_there, up-words) (sets-within (words_of all) e₁ (words_of stays) 0 (c * 3) (omega arith) (omega (arith, n, count, count-is))) in
             let q : sets e₁ 0 (words_of all) ≡ sets e 0 (words_of all) =
@@ -182,4 +195,4 @@ module _ (named : ℕ → Bool) (given : ℕ → Renamed) (files : ℕ) (rf stay
             rw (kept_there, up-bytes) (sets-within (texts_of all) t₁ (texts_of stays) 0 cb (omega arith) (omega (arith, size, stay-bytes))) in
             let u : sets t₁ 0 (texts_of all) ≡ sets t 0 (texts_of all) =
             rw y₁ (sets-within (texts_of all) t (texts_of stays) 0 0 (omega arith) (omega (arith, size, stay-bytes))) in
-            (x₃ ∙ p ∙ q, y₃ ∙ r ∙ u)
+            (f ∙ p ∙ q, y₃ ∙ r ∙ u)

@@ -2,21 +2,21 @@
 // entries and the files. Two notes for each file take 1 MiB of the stack. Relies on `renames` for the order of
 // the tables, on keep.rt, give.rt and merge.rt for what is kept and what is given, and on the laws of
 // proofs/Importing.antt.
-ghost use Rattle.std.specs.Prelude.{◌≡◌, ◌&&◌, ◌/◌, ◌≤◌, replicate};
+ghost use Rattle.std.specs.Prelude.{◌≡◌, ◌&&◌, ◌/◌, ◌≤◌, length, min};
 ghost use Rattle.types.specs.Refusals.{outcome};
 ghost use Rattle.rules.specs.Questions.{few_entries};
 ghost use Rattle.renames.specs.Renames.{renames_changed_of, state_of};
 ghost use Rattle.imports.specs.Imports.{list_held, import_lent};
 ghost use Rattle.imports.specs.private.Importing.{renames_given, is_full, import_asked};
-ghost use Rattle.imports.specs.private.Merging.{noted_from};
+ghost use Rattle.imports.specs.private.Merging.{Noted};
 
 use crate::give::count_given;
 use crate::keep::count_kept;
 use crate::listed::{NameList, has_negative, is_list_held};
 use crate::merge::{NotedList, give};
 use crate::notes::{note_last, note_places};
-use renames::{RenamedFiles, is_in_order};
-use rules::{are_held, is_bad_length};
+use renames::{LentRenames, RenamedFiles};
+use rules::Tests;
 use tables::FileStorage;
 use types::Refusal;
 
@@ -28,37 +28,31 @@ fn is_full(words: usize, room: usize, stay: RenamedFiles, come: RenamedFiles) ->
     words / 3 - stay.num_renames < come.num_renames || room - stay.text_len < come.text_len
 }
 
-// The record of the renames that are kept, or why the list is refused; `room` is the length of the text area.
-// Stays: no byte of the text area is read, so its length alone is asked for.
+// The record of the renames that are kept, or why the list is refused.
 fn decide(
     fs: FileStorage,
-    renames: RenamedFiles,
-    entries: &[u64],
-    room: usize,
+    held: LentRenames<'_>,
     list: NameList<'_>,
     notes: &[u64],
 ) -> Result<RenamedFiles, Refusal>
-    requires { notes.now ≡ noted_from fs.num_files 0 list.numbers.now (replicate 65536 0) }
-    ensures { outcome result ≡ import_asked fs renames entries.now room list.entry.numbers.now
+    requires { Noted (length notes.now) list.numbers.now notes.now × (length notes.now ≡ min fs.num_files 65536) }
+    ensures { outcome result ≡ import_asked fs held.entry.renames held.entry.entries.now
+        (length held.entry.text.now) list.entry.numbers.now
         (list_held list.entry.numbers.now list.entry.lengths.now list.entry.names.now && few_entries fs)
         (state_of
         (renames_given fs.num_files list.entry.numbers.now list.entry.lengths.now list.entry.names.now)) }
 {
-    if is_bad_length(fs.piece_length) {
-        return Err(Refusal::InvalidPieceLength);
+    Tests {
+        no_file: has_negative(list.numbers),
+        ..Tests::of_set(fs, is_list_held(list))
     }
-    if has_negative(list.numbers) {
-        return Err(Refusal::NoSuchFile);
-    }
-    if !are_held(fs, is_list_held(list)) {
+    .first_refusal()?;
+    if !held.is_in_order() {
         return Err(Refusal::NoRoom);
     }
-    if !is_in_order(renames, entries, room) {
-        return Err(Refusal::NoRoom);
-    }
-    let stay = count_kept(renames, entries, notes, fs.num_files);
-    let come = count_given(list, fs.num_files, notes);
-    if is_full(entries.len(), room, stay, come) {
+    let stay = count_kept(&held.entries[..held.renames.num_renames * 3], notes);
+    let come = count_given(list, notes);
+    if is_full(held.entries.len(), held.text.len(), stay, come) {
         return Err(Refusal::NoRoom);
     }
     Ok(stay)
@@ -81,24 +75,29 @@ pub fn import_filenames(
         ≡ import_lent fs renames rename_entries.old rename_text.old numbers.now
         lengths.now names.now }
 {
-    let files = fs.num_files;
-    let mut notes = [0u64; 65536];
-    note_last(&mut notes, numbers, files);
+    let files = fs.num_files.min(65536);
+    let mut cells = [0u64; 65536];
+    let notes = &mut cells[..files];
+    note_last(notes, numbers);
     let list = NameList {
         numbers,
         lengths,
         names,
     };
-    let stay = decide(fs, renames, rename_entries, rename_text.len(), list, &notes)?;
-    let mut places = [0u64; 65536];
-    note_places(&mut places, numbers, lengths, files);
-    let come = count_given(list, files, &notes);
+    let held = LentRenames {
+        renames,
+        entries: rename_entries,
+        text: rename_text,
+    };
+    let stay = decide(fs, held, list, notes)?;
+    let mut cells = [0u64; 65536];
+    let places = &mut cells[..files];
+    note_places(places, numbers, lengths);
+    let come = count_given(list, notes);
     let noted = NotedList {
-        files,
-        notes: &notes,
-        places: &places,
-        lengths,
-        names,
+        lent: list,
+        notes,
+        places,
     };
     give(renames, stay, come, rename_entries, rename_text, noted);
     Ok(RenamedFiles {

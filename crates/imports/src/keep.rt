@@ -1,31 +1,31 @@
 // The renames that are kept when a list of names is imported: counting them, and moving them together in both
 // tables. Relies on notes.rt and on the laws of proofs/Keeping.antt.
-ghost use Rattle.std.specs.Prelude.{◌≡◌, ◌*◌, ◌/◌, ◌≤◌, ◌<◌, ◌^◌, length};
+ghost use Rattle.std.specs.Prelude.{◌≡◌, ◌/◌, ◌≤◌, ◌<◌, ◌^◌, length};
 ghost use Rattle.std.proofs.lemmas.List.Edits.{sets};
 ghost use Rattle.renames.specs.Renames.{renames_from, texts_of};
 ghost use Rattle.renames.specs.Finding.{bytes_from};
-ghost use Rattle.imports.specs.private.Importing.{renames_kept, kept_state, kept_words};
+ghost use Rattle.imports.specs.private.Importing.{renames_kept, kept_count, kept_bytes, kept_words};
 ghost use Rattle.imports.specs.private.Merging.{is_noted};
 
 use crate::notes::is_noted;
 use renames::RenamedFiles;
 
-// The record of the renames that are kept.
+// The record of those of the renames in use that are kept.
+// Stays: that the lengths sum to less than 2^64 is asked here and in two functions of `renames`, each of which sums some
+// of them; a type of entries with that bound would be made in each caller from the test that the tables are in order.
 #[tactic(auto, using(crate::proofs::Keeping::counting))]
-pub(crate) fn count_kept(
-    renames: RenamedFiles,
-    entries: &[u64],
-    notes: &[u64],
-    files: usize,
-) -> RenamedFiles
-    requires { (renames.num_renames * 3 ≤ length entries.now)
-        × (bytes_from renames.num_renames 0 entries.now < 2 ^ 64) }
-    ensures { result ≡ kept_state (is_noted files notes.now) renames entries.now }
+pub(crate) fn count_kept(entries: &[u64], notes: &[u64]) -> RenamedFiles
+    requires { bytes_from (length entries.now / 3) 0 entries.now < 2 ^ 64 }
+    ensures { result
+        ≡ record {
+          num_renames = kept_count (is_noted notes.now) (length entries.now / 3) 0 entries.now;
+          text_len = kept_bytes (is_noted notes.now) (length entries.now / 3) 0 entries.now;
+        } }
 {
     let mut count = 0;
     let mut bytes: usize = 0;
-    for entry in entries.chunks_exact(3).take(renames.num_renames) {
-        if !is_noted(notes, files, entry[0]) {
+    for entry in entries.chunks_exact(3) {
+        if !is_noted(notes, entry[0]) {
             count += 1;
             bytes += entry[2] as usize;
         }
@@ -39,14 +39,14 @@ pub(crate) fn count_kept(
 // Moves the kept ones of the entries in use together.
 // Stays: it moves entries within the table that it goes over, and an iterator over the table would hold it borrowed.
 #[tactic(auto, using(crate::proofs::Keeping::moving))]
-pub(crate) fn keep_entries(entries: &mut [u64], notes: &[u64], files: usize)
+pub(crate) fn keep_entries(entries: &mut [u64], notes: &[u64])
     ensures { entries.new
         ≡ sets entries.old 0
-        (kept_words (is_noted files notes.now) (length entries.old / 3) 0 entries.old) }
+        (kept_words (is_noted notes.now) (length entries.old / 3) 0 entries.old) }
 {
     let mut to = 0;
     for i in 0..entries.len() / 3 {
-        if !is_noted(notes, files, entries[i * 3]) {
+        if !is_noted(notes, entries[i * 3]) {
             entries.copy_within(i * 3..i * 3 + 3, to * 3);
             to += 1;
         }
@@ -55,19 +55,19 @@ pub(crate) fn keep_entries(entries: &mut [u64], notes: &[u64], files: usize)
 
 // Moves the texts of the kept ones of the entries in use together.
 #[tactic(auto, using(crate::proofs::Keeping::joining))]
-pub(crate) fn keep_texts(text: &mut [u8], entries: &[u64], notes: &[u64], files: usize)
+pub(crate) fn keep_texts(text: &mut [u8], entries: &[u64], notes: &[u64])
     requires { bytes_from (length entries.now / 3) 0 entries.now ≤ length text.old }
     ensures { text.new
         ≡ sets text.old 0
         (texts_of
-        (renames_kept (is_noted files notes.now)
+        (renames_kept (is_noted notes.now)
         (renames_from (length entries.now / 3) 0 entries.now text.old))) }
 {
     let mut from = 0;
     let mut to = 0;
     for entry in entries.chunks_exact(3) {
         let len = entry[2] as usize;
-        if !is_noted(notes, files, entry[0]) {
+        if !is_noted(notes, entry[0]) {
             text.copy_within(from..from + len, to);
             to += len;
         }

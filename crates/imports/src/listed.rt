@@ -6,6 +6,8 @@ ghost use Rattle.rules.specs.Bounds.{is_negative};
 ghost use Rattle.imports.specs.Imports.{list_held};
 
 // A list of names as it is lent: its numbers, the lengths of the names, and the names one after the other.
+// Stays: a caller lends numbers and lengths as two slices (docs/DECISIONS.md), and pairs of them would need a copy of
+// the list.
 #[derive(Clone, Copy)]
 pub(crate) struct NameList<'a> {
     pub numbers: &'a [i32],
@@ -18,14 +20,11 @@ pub(crate) struct NameList<'a> {
 fn do_fit(lengths: &[u64], room: usize) -> bool
     ensures { result ≡ leb (sum lengths.now) room }
 {
-    let mut left = room as u64;
-    for len in lengths {
-        if left < *len {
-            return false;
-        }
-        left -= *len;
-    }
-    true
+    lengths
+        .iter()
+        .copied()
+        .try_fold(room as u64, u64::checked_sub)
+        .is_some()
 }
 
 // Whether the list is whole: each number has a length, and the names have the bytes that these lengths say.

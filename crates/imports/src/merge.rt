@@ -1,7 +1,7 @@
 // The names of a list and the renames that are kept, brought together: the kept ones stand at the end of the room that
 // all need, and the files are gone through in order, so that nothing unread is overwritten. Relies on keep.rt for
 // moving, on notes.rt for the names and on the laws of proofs/Merging.antt.
-ghost use Rattle.std.specs.Prelude.{◌≡◌, true, [], ◌∷◌, ℕ, ◌+◌, ◌-◌, ◌*◌, ◌≤◌, ◌<◌, length, get_or};
+ghost use Rattle.std.specs.Prelude.{◌≡◌, true, [], ◌∷◌, ℕ, ◌+◌, ◌-◌, ◌*◌, ◌/◌, ◌≤◌, ◌<◌, length, get_or};
 ghost use Rattle.std.proofs.lemmas.List.Edits.{sets};
 ghost use Rattle.lists.specs.Lists.{part_of};
 ghost use Rattle.renames.specs.Renames.{renames_of, words_of, texts_of};
@@ -12,6 +12,7 @@ ghost use Rattle.imports.specs.private.Listed.{named_in, given_in, merged_with};
 ghost use Rattle.imports.specs.private.Merging.{step_words, step_text, after_given, after_kept, step_place};
 
 use crate::keep::{keep_entries, keep_texts};
+use crate::listed::NameList;
 use crate::notes::is_noted;
 use renames::{RenameMode, RenamedFiles, is_named};
 
@@ -24,15 +25,15 @@ pub(crate) struct Place {
     pub from: usize,
 }
 
-// A list of names as it is merged: for each of `files` files the last number that names it and where its name begins,
-// and the lengths and the names as they are lent.
+// A list of names as it is merged: as it is lent, and for each file the last number that names it and where its name
+// begins.
+// Stays: notes and places as two tables. A list's lengths may be summed only once it is known to be whole, and the
+// decision reads the notes: so each table is filled by a pass of its own, and only `name_of` reads both.
 #[derive(Clone, Copy)]
 pub(crate) struct NotedList<'a> {
-    pub files: usize,
+    pub lent: NameList<'a>,
     pub notes: &'a [u64],
     pub places: &'a [u64],
-    pub lengths: &'a [u64],
-    pub names: &'a [u8],
 }
 
 // The name that is noted for a file.
@@ -41,7 +42,11 @@ fn name_of<'a>(list: NotedList<'a>, file: usize) -> &'a [u8]
 {
     let i = (lists::item_or(list.notes, file, 0) as usize).saturating_sub(1);
     let at = lists::item_or(list.places, file, 0) as usize;
-    lists::part(list.names, at, lists::item_or(list.lengths, i, 0) as usize)
+    lists::part(
+        list.lent.names,
+        at,
+        lists::item_or(list.lent.lengths, i, 0) as usize,
+    )
 }
 
 // Writes a name that is given to a file, and gives the place after it.
@@ -98,75 +103,74 @@ fn put_kept(entries: &mut [u64], text: &mut [u8], p: Place) -> Place
     }
 }
 
-// Writes what a file gets: the name that is noted, or its own rename, which is the next of `total` entries, or nothing.
+// Writes what a file gets: the name that is noted, or its own rename, which is the next that is kept, or nothing.
 // Stays: it copies nothing itself: it chooses between `put_given` and `put_kept`, in which std copies.
 fn put_file(
     entries: &mut [u64],
     text: &mut [u8],
     p: Place,
-    total: usize,
     file: usize,
     list: NotedList<'_>,
 ) -> Place
-    requires { (total * 3 ≤ length entries.old)
-        × (p.to ≤ p.next)
+    requires { (p.to ≤ p.next)
         × (p.at ≤ p.from)
         × (named_in list file ≡ true
-        → (p.to < total)
+        → (p.to < length entries.old / 3)
         × (p.at + length (given_in list file).name ≤ length text.old))
-        × (entry_is_named total file p.next entries.old ≡ true
+        × (entry_is_named (length entries.old / 3) file p.next entries.old ≡ true
         → p.from + get_or entries.old (p.next * 3 + 2) 0 ≤ length text.old) }
-    ensures value { result ≡ step_place (named_in list.entry file) (entry_is_named total file p.next entries.old)
+    ensures value { result
+        ≡ step_place (named_in list.entry file) (entry_is_named (length entries.old / 3) file p.next entries.old)
         (length (given_in list.entry file).name)
         (get_or entries.old (p.next * 3 + 2) 0)
         p }
     ensures entries_after { entries.new
         ≡ sets entries.old (p.to * 3)
-        (step_words (named_in list.entry file) (entry_is_named total file p.next entries.old) file
+        (step_words (named_in list.entry file) (entry_is_named (length entries.old / 3) file p.next entries.old) file
         (given_in list.entry file).name
         entries.old
         p.next) }
     ensures text_after { text.new
         ≡ sets text.old p.at
-        (step_text (named_in list.entry file) (entry_is_named total file p.next entries.old)
+        (step_text (named_in list.entry file) (entry_is_named (length entries.old / 3) file p.next entries.old)
         (given_in list.entry file).name
         text.old
         p.from
         (get_or entries.old (p.next * 3 + 2) 0)) }
 {
-    if is_noted(list.notes, list.files, file as u64) {
+    if is_noted(list.notes, file as u64) {
         return put_given(entries, text, p, file, name_of(list, file));
     }
-    if is_named(entries, total, file as u64, p.next) {
+    if is_named(entries, entries.len() / 3, file as u64, p.next) {
         return put_kept(entries, text, p);
     }
     p
 }
 
-// Goes through the files in order and writes what each gets. The renames that are kept are the last of `total` entries,
+// Goes through the files in order and writes what each gets. The renames that are kept are the last of the entries,
 // after as many as the list gives.
-fn merge(
-    entries: &mut [u64],
-    text: &mut [u8],
-    come: RenamedFiles,
-    total: usize,
-    list: NotedList<'_>,
-)
-    requires { (come.num_renames ≤ total)
-        × (total * 3 ≤ length entries.old)
-        × (come.text_len + bytes_from (total - come.num_renames) come.num_renames entries.old
+fn merge(entries: &mut [u64], text: &mut [u8], come: RenamedFiles, list: NotedList<'_>)
+    requires { (come.num_renames ≤ length entries.old / 3)
+        × (come.text_len + bytes_from (length entries.old / 3 - come.num_renames) come.num_renames entries.old
         ≤ length text.old)
-        × ((j : ℕ) → come.num_renames ≤ j → j < total → get_or entries.old (j * 3 + 1) 0 ≤ 2)
-        × (length (merged_with list (kept_in total come.num_renames come.text_len entries.old text.old))
-        ≡ total)
-        × (length (texts_of (merged_with list (kept_in total come.num_renames come.text_len entries.old text.old)))
-        ≡ come.text_len + bytes_from (total - come.num_renames) come.num_renames entries.old) }
+        × ((j : ℕ) → come.num_renames ≤ j → j < length entries.old / 3 → get_or entries.old (j * 3 + 1) 0 ≤ 2)
+        × (length
+        (merged_with list (kept_in (length entries.old / 3) come.num_renames come.text_len entries.old text.old))
+        ≡ length entries.old / 3)
+        × (length
+        (texts_of
+        (merged_with list (kept_in (length entries.old / 3) come.num_renames come.text_len entries.old text.old)))
+        ≡ come.text_len + bytes_from (length entries.old / 3 - come.num_renames) come.num_renames entries.old) }
     ensures entries_after { entries.new
         ≡ sets entries.old 0
-        (words_of (merged_with list.entry (kept_in total come.num_renames come.text_len entries.old text.old))) }
+        (words_of
+        (merged_with list.entry
+        (kept_in (length entries.old / 3) come.num_renames come.text_len entries.old text.old))) }
     ensures text_after { text.new
         ≡ sets text.old 0
-        (texts_of (merged_with list.entry (kept_in total come.num_renames come.text_len entries.old text.old))) }
+        (texts_of
+        (merged_with list.entry
+        (kept_in (length entries.old / 3) come.num_renames come.text_len entries.old text.old))) }
 {
     let mut p = Place {
         to: 0,
@@ -174,8 +178,8 @@ fn merge(
         next: come.num_renames,
         from: come.text_len,
     };
-    for k in 0..list.files {
-        p = put_file(entries, text, p, total, k, list);
+    for k in 0..list.notes.len() {
+        p = put_file(entries, text, p, k, list);
     }
 }
 
@@ -212,18 +216,9 @@ pub(crate) fn give(
         (renames_kept (named_in list.entry) (renames_of renames entries.old text.old)))) }
 {
     let total = stay.num_renames + come.num_renames;
-    keep_texts(
-        text,
-        &entries[..renames.num_renames * 3],
-        list.notes,
-        list.files,
-    );
-    keep_entries(
-        &mut entries[..renames.num_renames * 3],
-        list.notes,
-        list.files,
-    );
+    keep_texts(text, &entries[..renames.num_renames * 3], list.notes);
+    keep_entries(&mut entries[..renames.num_renames * 3], list.notes);
     text.copy_within(..stay.text_len, come.text_len);
     entries.copy_within(..stay.num_renames * 3, come.num_renames * 3);
-    merge(entries, text, come, total, list);
+    merge(&mut entries[..total * 3], text, come, list);
 }

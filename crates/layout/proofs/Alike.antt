@@ -33,7 +33,7 @@ use Rattle.layout.specs.Given.{piece_size2_given, blocks_in_piece2_given, file_a
 use Rattle.layout.proofs.Halving.{Last}
 use Rattle.layout.proofs.Near.{byte_above}
 use Rattle.layout.proofs.Starting.{found_alike, from-least, Laid, within-as-read, EndsAt, told-within, told-found}
-use Rattle.layout.proofs.Slices.{walk_none}
+use Rattle.layout.proofs.Walk.{walk_none}
 
 -- ---- one search
 

@@ -6,7 +6,7 @@ pub mod Levels
 pub mod Near
 pub mod Starting
 pub mod Front
-pub mod Slices
+pub mod Walk
 pub mod Starts
 pub mod Sums
 pub mod Alike

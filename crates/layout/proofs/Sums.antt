@@ -11,7 +11,8 @@ use Rattle.tables.specs.Rows.{row_at}
 use Rattle.tables.specs.declared.storage.FileStorage.{FileStorage}
 use Rattle.layout.specs.declared.window.Window.{Window}
 use Rattle.layout.specs.Search.{found_within}
-use Rattle.layout.specs.Mapping.{Slice, before, walk, cut, slices_within, sizes_of}
+use Rattle.layout.specs.declared.slices.Slice.{Slice}
+use Rattle.layout.specs.Mapping.{before, walk, cut, slices_within, sizes_of}
 use Rattle.layout.proofs.Starting.{Laid, found_within_lem}
 
 -- none is empty, and each is of a later file than the one before it, the first of file k at the earliest

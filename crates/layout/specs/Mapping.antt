@@ -1,6 +1,7 @@
 -- Document 01, 'Layout answers': the slices of a block, and `map_block`'s refusals before that of room.
 --
--- Names from elsewhere: `cond t a b` is a where t is true, else b; `eqb`, `ltb` and `leb` test =, < and ≤; `a - b` is 0
+-- Names from elsewhere: a `Slice` is a window of a file, with the fields `file`, `offset` (within it) and `size`
+-- (src/slices.rt); `cond t a b` is a where t is true, else b; `eqb`, `ltb` and `leb` test =, < and ≤; `a - b` is 0
 -- where b is larger. `row_at rows k` is the row of file k, with its offset and size; `file_found` the file at a byte of
 -- the set: the last that begins at or before it, and `found_within` the same by a window; `clamped_of` an integer, 0
 -- where it is negative. The rules are document 01's table of refusals (rules, specs/Questions.antt).
@@ -11,14 +12,9 @@ use Rattle.rules.specs.Rules.{Rule}
 use Rattle.rules.specs.Bounds.{clamped_of}
 use Rattle.rules.specs.Questions.{rows_are_held, bad_piece_length, many_pieces, no_piece, bad_range, short, few_entries}
 use Rattle.layout.specs.Pieces.{start_of}
+use Rattle.layout.specs.declared.slices.Slice.{Slice}
 use Rattle.layout.specs.declared.window.Window.{Window}
 use Rattle.layout.specs.Search.{file_found, found_within}
-
--- a window of a file: file, offset within it, size
-pub record Slice : Type 0 where
-  pub file : ℕ
-  pub offset : ℕ
-  pub size : ℕ
 
 -- a slice in front of others, where it is not empty
 abbrev pub before : Slice → List Slice → List Slice

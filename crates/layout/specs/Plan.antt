@@ -8,7 +8,8 @@ use Rattle.rules.specs.Questions.{short, answered}
 use Rattle.layout.specs.declared.start.Cursor.{Cursor}
 use Rattle.layout.specs.declared.plan.Plan.{Plan}
 use Rattle.layout.specs.declared.window.Window.{Window}
-use Rattle.layout.specs.Mapping.{Slice, target_of, block_of, block_rules}
+use Rattle.layout.specs.declared.slices.Slice.{Slice}
+use Rattle.layout.specs.Mapping.{target_of, block_of, block_rules}
 use Rattle.layout.specs.Start.{cursor_at}
 
 -- all slices, which begin at a cursor

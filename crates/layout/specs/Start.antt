@@ -6,14 +6,20 @@ use Rattle.tables.specs.declared.storage.FileStorage.{FileStorage}
 use Rattle.tables.specs.Rows.{row_at}
 use Rattle.rules.specs.Bounds.{clamped_of}
 use Rattle.rules.specs.Questions.{answered}
+use Rattle.layout.specs.declared.slices.Slice.{Slice}
+use Rattle.layout.specs.declared.slices.Slices.{Slices}
 use Rattle.layout.specs.declared.start.Cursor.{Cursor}
 use Rattle.layout.specs.declared.window.Window.{Window}
 use Rattle.layout.specs.Search.{found_within}
-use Rattle.layout.specs.Mapping.{Slice, walk, cut, target_of, block_rules}
+use Rattle.layout.specs.Mapping.{walk, cut, target_of, block_rules}
 
 -- the slices from a cursor on
 abbrev pub slices_from : List ℕ → Cursor → List Slice
 slices_from rows c = walk (c.files - c.file) rows c.file c.skip c.left
+
+-- those that are still to come
+abbrev pub slices_left : Slices → List Slice
+slices_left s = slices_from s.rows.now s.at
 
 -- where the slices of `size` bytes from the target on begin; the search for their file begins with a window
 abbrev pub cursor_at : FileStorage → List ℕ → Window → ℕ → ℕ → Cursor

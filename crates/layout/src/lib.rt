@@ -1,11 +1,13 @@
-// Layout answers, from file_storage.rs: pieces, files at offsets, and where the slices of a block begin. Every answer
-// tests document 01's refusals first, in its order. Relies on `rules` for the refusals, and on `tables`, `types` and
-// `lists`.
+// Layout answers, from file_storage.rs: pieces, files at offsets, and the slices of a block, one after another. Every
+// answer tests document 01's refusals first, in its order. Relies on `rules` for the refusals, and on `tables`, `types`
+// and `lists`.
 #![tactic(auto)]
 
+mod asked;
 mod piece;
 mod plan;
 mod search;
+mod slices;
 mod start;
 mod window;
 
@@ -14,5 +16,6 @@ pub use piece::{
     last_file_index_at_piece, last_piece, num_pieces, piece_range, piece_size, piece_size2,
 };
 pub use plan::{Plan, plan_block};
-pub use start::{Cursor, has_room, slice_count, start_block};
+pub use slices::{Slice, Slices};
+pub use start::{Cursor, has_room, start_block};
 pub use window::{Window, no_window, window_for};

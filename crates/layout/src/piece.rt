@@ -1,21 +1,27 @@
 // Answers about pieces, and about files at offsets and pieces. They rely on the search, on `types` for signed numbers
 // and on `rules`: each decides its refusals first. Those that search for a file begin with a window; the answer is the
 // same for every window, on rows that lie end to end (proofs/Starting.antt).
-ghost use Rattle.std.specs.Prelude.{◌≡◌, ◌*◌, ◌/◌, ◌^◌, ◌<◌, ◌≤◌, length, [], ◌∷◌, IfOk};
+ghost use Rattle.std.specs.Prelude.{◌≡◌, ◌/◌, ◌<◌, ◌≤◌, length, [], ◌∷◌, IfOk};
 ghost use Rattle.types.specs.Refusals.{outcome};
 ghost use Rattle.rules.specs.Bounds.{max_pieces};
 ghost use Rattle.rules.specs.Questions.{num_pieces, answered, bad_piece_length, many_pieces, short, few_entries};
+ghost use Rattle.rules.specs.Questions.{rows_are_held, piece_answer};
 ghost use Rattle.rules.specs.Results.{piece_says, file_says, piece_range_says, file_range_says};
-ghost use Rattle.layout.specs.Pieces.{less_one, start_of, piece_size, piece_size2};
+ghost use Rattle.layout.specs.Pieces.{less_one, piece_size2};
+ghost use Rattle.layout.specs.private.Deciding.{asked_says};
 ghost use Rattle.layout.specs.Given.{num_pieces_given, last_piece_given, piece_range_given, file_range_given};
 ghost use Rattle.layout.specs.Given.{piece_size_given, piece_size2_given};
 ghost use Rattle.layout.specs.Given.{blocks_in_piece2_given, blocks_per_piece_given};
 ghost use Rattle.layout.specs.Given.{file_at_offset_given, file_at_piece_given, last_file_at_piece_given};
 
+use crate::asked::AskedPiece;
 use crate::search::{file_of, find_near_within, partition_point};
 use crate::window::Window;
 use lists::div_ceil;
-use rules::{DEFAULT_BLOCK_SIZE, ask_piece, ask_pieces, ask_set, count_pieces, is_bad_offset};
+use rules::{
+    DEFAULT_BLOCK_SIZE, Tests, ask_piece, ask_pieces, ask_set, count_pieces, holds_rows,
+    is_bad_offset,
+};
 use tables::FileStorage;
 use types::{FileIndex, FileIndexRange, PieceIndex, PieceIndexRange, Refusal, clamped};
 
@@ -24,46 +30,38 @@ fn last_of(n: u64) -> PieceIndex
     requires { n ≤ max_pieces }
     ensures { result.0 ≡ less_one n }
 {
-    if n == 0 {
-        return PieceIndex::none();
-    }
-    PieceIndex::new(n - 1)
+    n.checked_sub(1).map_or(PieceIndex::none(), PieceIndex::new)
 }
 
-// Where piece p begins.
-pub(crate) fn start_of(fs: FileStorage, p: u64) -> u64
-    requires { p * fs.piece_length < 2 ^ 64 }
-    ensures { result ≡ start_of fs p }
+// The piece that a question is about, or its refusal; `held` says whether the rows that it reads are there.
+fn piece_in(fs: FileStorage, piece: PieceIndex, held: bool) -> Result<AskedPiece, Refusal>
+    ensures answer { asked_says result ≡ piece_answer fs piece.0 held (λ p. p) }
+    ensures known { IfOk result (λ a. (a.fs ≡ fs) × (0 < fs.piece_length) × (fs.piece_length ≤ 2147483647)) }
 {
-    p * fs.piece_length
+    ask_piece(fs, piece, held)?;
+    Ok(AskedPiece {
+        fs,
+        p: piece.get() as u32,
+    })
 }
 
-// The size of piece p, which begins at `start`: the piece length, but for the last.
-#[tactic(auto, using(crate::proofs::Sizes::size_le))]
-fn size_of(fs: FileStorage, p: u32, start: u64) -> u64
-    requires { start ≡ start_of fs p }
-    ensures value { result ≡ piece_size fs p }
-    ensures low { 0 < fs.piece_length → result ≤ fs.piece_length }
+// The size of a piece, cut where the next file begins: the first with an offset past the piece's start.
+// Stays: public questions are lent each table by itself (docs/DECISIONS.md, Forms 10) and pass rows and window on to
+// one search, here and below.
+fn size2_of(asked: AskedPiece, rows: &[u64], window: Window) -> u64
+    requires { asked.fs.num_files ≤ length rows.now / 8 }
+    ensures value { result ≡ piece_size2 asked.fs rows.now window asked.p }
+    ensures low { 0 < asked.fs.piece_length → result ≤ asked.fs.piece_length }
 {
-    if u64::from(p) + 1 == count_pieces(fs) {
-        return fs.total_size.saturating_sub(start);
-    }
-    fs.piece_length
-}
-
-// The same, cut where the next file begins: the first with an offset past the piece's start.
-fn size2_of(fs: FileStorage, rows: &[u64], window: Window, p: u32, start: u64) -> u64
-    requires { (start ≡ start_of fs p) × (fs.num_files ≤ length rows.now / 8) }
-    ensures value { result ≡ piece_size2 fs rows.now window p }
-    ensures low { 0 < fs.piece_length → result ≤ fs.piece_length }
-{
-    let next = partition_point(&rows[..fs.num_files * 8], window, start);
-    if fs.num_files <= next {
-        return size_of(fs, p, start);
+    let files = asked.fs.num_files;
+    let start = asked.start();
+    let next = partition_point(&rows[..files * 8], window, start);
+    if files <= next {
+        return asked.size();
     }
     tables::offset_at(rows, next)
         .saturating_sub(start)
-        .min(fs.piece_length)
+        .min(asked.fs.piece_length)
 }
 
 // How many pieces the set has, or the refusal of a question about them.
@@ -74,6 +72,21 @@ fn pieces_asked(fs: FileStorage) -> Result<u64, Refusal>
 {
     ask_pieces(fs)?;
     Ok(count_pieces(fs))
+}
+
+// The size of a piece, cut where the next file begins, or the refusal of a question about it.
+fn size2_asked(
+    fs: FileStorage,
+    rows: &[u64],
+    window: Window,
+    piece: PieceIndex,
+) -> Result<u64, Refusal>
+    ensures answer { outcome result
+        ≡ piece_answer fs piece.0 (rows_are_held fs rows.now) (λ p. piece_size2 fs rows.now window p) }
+    ensures known { IfOk result (λ n. n ≤ 2147483647) }
+{
+    let asked = piece_in(fs, piece, holds_rows(fs, rows))?;
+    Ok(size2_of(asked, rows, window))
 }
 
 // How many pieces the set has.
@@ -105,7 +118,7 @@ pub fn piece_range(fs: FileStorage) -> Result<PieceIndexRange, Refusal>
 pub fn file_range(fs: FileStorage) -> Result<FileIndexRange, Refusal>
     ensures { file_range_says result ≡ file_range_given fs }
 {
-    ask_set(fs, false, true)?;
+    ask_set(fs)?;
     Ok(FileIndexRange {
         begin: FileIndex::new(0),
         end: FileIndex::new(fs.num_files as u64),
@@ -116,9 +129,7 @@ pub fn file_range(fs: FileStorage) -> Result<FileIndexRange, Refusal>
 pub fn piece_size(fs: FileStorage, piece: PieceIndex) -> Result<i32, Refusal>
     ensures { outcome result ≡ piece_size_given fs piece.0 }
 {
-    ask_piece(fs, piece, false, true)?;
-    let p = piece.get() as u32;
-    Ok(types::signed32(size_of(fs, p, start_of(fs, p.into()))))
+    Ok(types::signed32(piece_in(fs, piece, true)?.size()))
 }
 
 // The size of a piece, cut where the next file begins.
@@ -130,9 +141,7 @@ pub fn piece_size2(
 ) -> Result<i32, Refusal>
     ensures { outcome result ≡ piece_size2_given fs rows.now window piece.0 }
 {
-    ask_piece(fs, piece, false, fs.num_files <= rows.len() / 8)?;
-    let p = piece.get() as u32;
-    Ok(types::signed32(size2_of(fs, rows, window, p, start_of(fs, p.into()))))
+    Ok(types::signed32(size2_asked(fs, rows, window, piece)?))
 }
 
 // How many blocks a piece has that is cut where the next file begins.
@@ -145,9 +154,7 @@ pub fn blocks_in_piece2(
 ) -> Result<i32, Refusal>
     ensures { outcome result ≡ blocks_in_piece2_given fs rows.now window piece.0 }
 {
-    ask_piece(fs, piece, false, fs.num_files <= rows.len() / 8)?;
-    let p = piece.get() as u32;
-    let size = size2_of(fs, rows, window, p, start_of(fs, p.into()));
+    let size = size2_asked(fs, rows, window, piece)?;
     Ok(types::signed32(div_ceil(size, DEFAULT_BLOCK_SIZE)))
 }
 
@@ -155,7 +162,7 @@ pub fn blocks_in_piece2(
 pub fn blocks_per_piece(fs: FileStorage) -> Result<i32, Refusal>
     ensures { outcome result ≡ blocks_per_piece_given fs }
 {
-    ask_set(fs, false, true)?;
+    ask_set(fs)?;
     Ok(types::signed32(div_ceil(fs.piece_length, DEFAULT_BLOCK_SIZE)))
 }
 
@@ -168,11 +175,11 @@ pub fn file_index_at_offset(
 ) -> Result<FileIndex, Refusal>
     ensures { file_says result ≡ file_at_offset_given fs rows.now window offset }
 {
-    ask_set(
-        fs,
-        is_bad_offset(fs, offset),
-        fs.num_files <= rows.len() / 8,
-    )?;
+    Tests {
+        bad_range: is_bad_offset(fs, offset),
+        ..Tests::of_set(fs, holds_rows(fs, rows))
+    }
+    .first_refusal()?;
     let rows = &rows[..fs.num_files * 8];
     Ok(FileIndex::new(find_near_within(rows, window, clamped(offset)) as u64))
 }
@@ -186,8 +193,7 @@ pub fn file_index_at_piece(
 ) -> Result<FileIndex, Refusal>
     ensures { file_says result ≡ file_at_piece_given fs rows.now window piece.0 }
 {
-    ask_piece(fs, piece, false, fs.num_files <= rows.len() / 8)?;
-    let start = start_of(fs, piece.get() as u64);
+    let start = piece_in(fs, piece, holds_rows(fs, rows))?.start();
     Ok(FileIndex::new(file_of(fs, rows, window, start) as u64))
 }
 
@@ -200,9 +206,7 @@ pub fn last_file_index_at_piece(
 ) -> Result<FileIndex, Refusal>
     ensures { file_says result ≡ last_file_at_piece_given fs rows.now window piece.0 }
 {
-    ask_piece(fs, piece, false, fs.num_files <= rows.len() / 8)?;
-    let p = piece.get() as u32;
-    let start = start_of(fs, p.into());
-    let last = (start + size_of(fs, p, start)).saturating_sub(1);
+    let asked = piece_in(fs, piece, holds_rows(fs, rows))?;
+    let last = (asked.start() + asked.size()).saturating_sub(1);
     Ok(FileIndex::new(file_of(fs, rows, window, last) as u64))
 }

@@ -9,7 +9,7 @@ ghost use Rattle.layout.specs.Steps.{reach};
 ghost use Rattle.layout.specs.private.Level.{Level};
 
 use crate::window::Window;
-use tables::FileStorage;
+use tables::{FileStorage, SIZE_RANGE};
 
 // `step` words on, where the offset there is at or before the target.
 // The offset is taken from its word here: `tables::offset_at`, which answers 0 past the end, tests for the row, and
@@ -19,7 +19,7 @@ fn past(rows: &[u64], target: u64, at: usize, step: usize) -> usize
     ensures { result ≡ (if nat_le (slice_index rows.now (at + step) % 2 ^ 48) target then at + step else at) }
 {
     let next = at + step;
-    if rows[next] % 0x1_0000_0000_0000 <= target {
+    if rows[next] % SIZE_RANGE <= target {
         return next;
     }
     at
@@ -53,22 +53,22 @@ fn turn(rows: &[u64], target: u64, j: usize, at: usize) -> usize
     at
 }
 
-// The steps of the search from `top` down to `low`. Both are constants, so that the compiler writes
-// the steps out and makes each without a branch.
+// The steps of the search from `TOP` down to `LOW`: with both constant the compiler writes the steps out and makes
+// each without a branch.
 // Stays: it is no `partition_point` of std, which says what it finds only where the rows are in order; the contract of
 // `find` says it of rows in any order. The steps' number and lengths depend on the count of rows alone, and the
 // lengths are a little short of powers of two: rows that are powers of two apart would share few places of a
 // processor's cache (docs/DECISIONS.md, Layout answers 4).
 #[tactic(auto, using(crate::proofs::Levels::skipped, crate::proofs::Halving::reach_mono))]
-fn turns(rows: &[u64], target: u64, top: usize, low: usize, at: usize) -> usize
-    requires { (low ≤ top) × (top ≤ 60) × Level rows.now (length rows.now / 8) target top at }
-    ensures { Level rows.now (length rows.now / 8) target low result }
+fn turns<const TOP: usize, const LOW: usize>(rows: &[u64], target: u64, at: usize) -> usize
+    requires { (LOW ≤ TOP) × (TOP ≤ 60) × Level rows.now (length rows.now / 8) target TOP at }
+    ensures { Level rows.now (length rows.now / 8) target LOW result }
 {
-    if rows.len() / 8 <= reach_of(low) {
+    if rows.len() / 8 <= reach_of(LOW) {
         return at;
     }
     let mut e = at;
-    for j in (low..top).rev() {
+    for j in (LOW..TOP).rev() {
         e = turn(rows, target, j, e);
     }
     e
@@ -79,10 +79,10 @@ fn turns(rows: &[u64], target: u64, top: usize, low: usize, at: usize) -> usize
 pub(crate) fn find(rows: &[u64], target: u64) -> usize
     ensures { result ≡ file_found rows.now (length rows.now / 8) target }
 {
-    let far = turns(rows, target, 60, 16, 0);
-    let high = turns(rows, target, 16, 10, far);
-    let low = turns(rows, target, 10, 4, high);
-    turns(rows, target, 4, 0, low) / 8
+    let far = turns::<60, 16>(rows, target, 0);
+    let high = turns::<16, 10>(rows, target, far);
+    let low = turns::<10, 4>(rows, target, high);
+    turns::<4, 0>(rows, target, low) / 8
 }
 
 // The file found at the target, without a call where there are few files: the compiler does not take
@@ -92,7 +92,7 @@ pub(crate) fn find_near(rows: &[u64], target: u64) -> usize
     ensures { result ≡ file_found rows.now (length rows.now / 8) target }
 {
     if rows.len() / 8 <= 16 {
-        return turns(rows, target, 4, 0, 0) / 8;
+        return turns::<4, 0>(rows, target, 0) / 8;
     }
     find(rows, target)
 }
@@ -104,9 +104,9 @@ fn has_byte(rows: &[u64], k: usize, target: u64) -> bool
     ensures { result ≡ has_byte rows.now k target }
 {
     let at = k * 8;
-    let offset = rows[at] % 0x1_0000_0000_0000;
-    let size = rows[at + 1] % 0x1_0000_0000_0000;
-    std::num::wrapping_sub_u64(target, offset) < size
+    let offset = rows[at] % SIZE_RANGE;
+    let size = rows[at + 1] % SIZE_RANGE;
+    target.wrapping_sub(offset) < size
 }
 
 // The first file from one on and before another that has the byte at the target.
@@ -120,8 +120,9 @@ fn first_with(rows: &[u64], from: usize, to: usize, target: u64) -> Option<usize
 
 // The file found at the target by halving over a window's rows, if it has the byte there; else the one found among all.
 // The first search sees nothing before the rows that it is lent.
-// Stays: piece.rt and start.rt have rows, window and target apart, and ask one search of them: a record of the three
-// would be built for that one call.
+// Stays: rows and target go side by side, here and above. Tried, a record of the two with these functions as methods:
+// `file_index_at_offset` with a table of first files takes 19.3 ns in a set of 1,000 files, and so 15.1; a record with
+// the window would be made for one call.
 #[tactic(auto, using(crate::proofs::Front::found_among, crate::proofs::Halving::found_below))]
 fn find_far(rows: &[u64], window: Window, target: u64) -> usize
     requires { (window.low < window.high) × (window.high ≤ length rows.now / 8) }

@@ -29,12 +29,12 @@ pub fn no_window() -> Window
 fn first_at(firsts: &[u16], p: usize) -> usize
     ensures { result ≡ slice_index firsts.now p }
 {
-    lists::item_or(firsts, p, 0) as usize
+    usize::from(lists::item_or(firsts, p, 0))
 }
 
 // Where the files end that can have a byte of piece p: behind the first file of the next piece, or with the last file.
-// Stays: four private functions of two crates are told that the piece length was tested, and each takes the set, which
-// holds it; a second record with a tested length would have to be made from the set for each of them.
+// Stays: here and below: four private functions of two crates are told that the piece length was tested, and each takes
+// the set, which holds it; a second record with a tested length would have to be made from the set for each of them.
 fn high_of(fs: FileStorage, firsts: &[u16], p: usize) -> usize
     requires { (p < max_pieces) × (bad_length fs.piece_length ≡ false) }
     ensures { result ≡ high_of fs firsts.now p }

@@ -2,15 +2,17 @@
 -- laws of frames in Flat.antt and on the kit's laws of lists.
 use Prim.Native.Nat.{ℕ, zero, suc, ◌+◌, ◌-◌, ◌*◌, ◌/◌, ◌%◌, ◌≤◌, ◌<◌}
 use mathlib.Core.Path.{◌≡◌, refl, sym, ap, ◌∙◌}
-use mathlib.Core.Bool.{Bool, true, false, cond}
+use mathlib.Core.Bool.{Bool, true, false, cond, not}
 use mathlib.Core.List.{List, [], ◌∷◌, ◌++◌, append-nil, append_assoc}
 use native.Mathlib.Omega.{arith}
 use lib.Dec.{eqb}
 use lib.ListN.{length, set, drop, replicate, length-set}
 use lib.Seq.{get_or-set_same, get_or-set_other, drop-append-le, drop-drop}
 use Rattle.path.specs.Join.{is_alone, is_closed, combined}
-use Rattle.rope.specs.Rope.{frame_width, half_word, kind, start, unused, segment, flat}
-use Rattle.links.specs.private.Walking.{with_start, with_frame}
+use Rattle.rope.specs.declared.lead.Lead.{Lead}
+use Rattle.rope.specs.Rope.{leads, led_text, frame_width, half_word, kind, start, unused, segment, flat}
+use Rattle.links.specs.private.Walking.{with_start, with_frame, word_of}
+use Rattle.rope.proofs.Leads.{text_numbered}
 use Rattle.rope.proofs.Flat.{segment-length, flat_step, flat_none}
 
 -- ---- frames written
@@ -131,37 +133,43 @@ module _ (l r : List ℕ) where
   pub combined-text : is_alone l ≡ false → is_alone r ≡ true → l ≡ combined l r
   combined-text e f = rw (e, f)
 
-  mark-first : (b : Bool) → replicate (cond b 0 1) 47 ++ r ≡ cond b r (47 ∷ r)
+  mark-first : (b : Bool) → replicate (cond (not b) 1 0) 47 ++ r ≡ cond b r (47 ∷ r)
   mark-first true = refl
   mark-first false = refl
 
-  combined-both : is_alone l ≡ false → is_alone r ≡ false → (l ++ replicate (cond (is_closed l) 0 1) 47) ++ r ≡ combined l r
-  combined-both e f = append_assoc l (replicate (cond (is_closed l) 0 1) 47) r ∙ rw (mark-first (is_closed l), e, f)
+  combined-both : is_alone l ≡ false → is_alone r ≡ false → (l ++ replicate (cond (not (is_closed l)) 1 0) 47) ++ r ≡ combined l r
+  combined-both e f = append_assoc l (replicate (cond (not (is_closed l)) 1 0) 47) r ∙ rw (mark-first (is_closed l), e, f)
 
 -- ---- the two parts of a frame's first word
 
-kind-text : (v s : ℕ) → s < 2 → (v * 2 + s) / 2 ≡ v
-kind-text v s h = omega arith
+word-text : (v : ℕ) (s : Bool) → (v * 2 + cond s 1 0) / 2 ≡ v
+word-text v true = omega arith
+word-text v false = omega arith
 
-kind-tail : (v s : ℕ) → s < 2 → (v * 2 + s) % 2 ≡ s
-kind-tail v s h = omega arith
+word-tail : (v : ℕ) (s : Bool) → (v * 2 + cond s 1 0) % 2 ≡ cond s 1 0
+word-tail v true = omega arith
+word-tail v false = omega arith
 
-pub tail-small : (b : Bool) → cond b 0 1 < 2
-tail-small true = omega arith
-tail-small false = omega arith
+-- ---- a lead's text alone, and before the rest of the path
 
--- ---- a link's text alone, and before the rest of the path
+module _ (rows dirs text frames : List ℕ) (w : Lead) where
+  abbrev texts : ℕ → List ℕ
+  texts = leads rows dirs text
 
-module _ (t : ℕ → List ℕ) (frames : List ℕ) (v : ℕ) where
-  pub flat-alone : 1 * frame_width ≤ length frames → flat t (with_frame frames 0 (v * 2)) 1 ≡ t v
-  flat-alone h =
-      let a : v * 2 / 2 ≡ v = omega arith in
-      let b : v * 2 % 2 ≡ 0 = omega arith in
-      flat-put t frames 0 (v * 2) (omega arith) ∙ rw (a, b, flat_none t frames 0 refl, append-nil (t v), append-nil (t v))
+  abbrev number : ℕ
+  number = w.file * 4 + cond w.from_directory 2 0
 
-  pub flat-through : (k s : ℕ) → k * frame_width + 2 < length frames → s ≡ cond (is_closed (t v)) 0 1
-      → is_alone (t v) ≡ false → is_alone (flat t frames k) ≡ false
-      → flat t (with_frame frames k (v * 2 + s)) (k + 1) ≡ combined (t v) (flat t frames k)
-  flat-through k s h e x y =
-      let b : s < 2 = rw e (tail-small (is_closed (t v))) in
-      flat-put t frames k (v * 2 + s) h ∙ rw (kind-text v s b, kind-tail v s b, e) (combined-both (t v) (flat t frames k) x y)
+  led : led_text rows dirs text w ≡ texts number
+  led = text_numbered rows dirs text w.file number w.from_directory refl
+
+  put : (k : ℕ) (s : Bool) → k * frame_width + 2 < length frames
+      → flat texts (with_frame frames k (word_of w s)) (k + 1) ≡ (led_text rows dirs text w ++ replicate (cond s 1 0) 47) ++ flat texts frames k
+  put k s h = flat-put texts frames k (word_of w s) h ∙ rw (word-text number s, word-tail number s, led)
+
+  pub flat-alone : 1 * frame_width ≤ length frames → flat texts (with_frame frames 0 (word_of w false)) 1 ≡ led_text rows dirs text w
+  flat-alone h = put 0 false (omega arith) ∙ rw (flat_none texts frames 0 refl, append-nil (led_text rows dirs text w), append-nil (led_text rows dirs text w))
+
+  pub flat-through : (k : ℕ) (s : Bool) → k * frame_width + 2 < length frames → s ≡ not (is_closed (led_text rows dirs text w))
+      → is_alone (led_text rows dirs text w) ≡ false → is_alone (flat texts frames k) ≡ false
+      → flat texts (with_frame frames k (word_of w s)) (k + 1) ≡ combined (led_text rows dirs text w) (flat texts frames k)
+  flat-through k s h e x y = put k s h ∙ rw e (combined-both (led_text rows dirs text w) (flat texts frames k) x y)

@@ -1,39 +1,29 @@
--- The front of a path in a buffer: bytes written one after another make it up, and what is compared with the buffer is
--- compared with the path's front. These laws rely on the kit's laws of lists.
-use Prim.Native.Nat.{ℕ, suc, ◌+◌, ◌<◌, ◌≤◌}
-use mathlib.Core.Path.{◌≡◌, sym, ap, ◌∙◌}
-use mathlib.Core.Bool.{false}
+-- The front of a path in a buffer: bytes written one after another make it up. These laws rely on the kit's laws of
+-- lists.
+use Prim.Native.Nat.{ℕ, suc, ◌≤◌}
+use mathlib.Core.Path.{◌≡◌, refl, sym, ap, ◌∙◌}
 use mathlib.Core.List.{List, [], ◌∷◌}
 use native.Mathlib.Omega.{arith}
-use native.Mathlib.Numerals.{add-one}
-use lib.ListN.{length, get_or, set, take, drop, length-drop}
-use lib.Seq.{length-take-le, take-suc, take-suc-set, drop-cons}
+use lib.ListN.{length, get_or, take, drop}
 use Rattle.std.specs.Prelude.{Option, Some, None, MatchOption}
+use Rattle.std.specs.List.{FoldsTo}
 use Rattle.std.specs.Option.{unwrap_or}
-use Rattle.lists.specs.Lists.{equal}
-use Rattle.rope.specs.declared.frame.Path.{Path}
-use Rattle.rope.specs.Rope.{held}
-use Rattle.links.specs.private.Walking.{Fronted, front_of}
 
--- one byte more in the buffer, of those that are left of the path
-module _ (b p : List ℕ) (i x : ℕ) (h : i < length b) (k : i < length p) (q : take i b ≡ take i p) where
-  pub head_turn : (r : Option ℕ) (rest after : List ℕ) → MatchOption r ((rest ≡ []) × (after ≡ [])) (λ y. rest ≡ y ∷ after) → x ≡ unwrap_or r 0 → rest ≡ drop i p
-      → (after ≡ drop (i + 1) p) × (take (i + 1) (set b i x) ≡ take (i + 1) p)
-  head_turn None rest after m e l = absurd (omega (arith, length-drop i p, ap length (sym l ∙ m.0)))
-  head_turn (Some y) rest after m e l =
-      let s : y ∷ after ≡ get_or p i 0 ∷ drop (suc i) p = sym m ∙ l ∙ drop-cons p i 0 k in
-      let v : x ≡ get_or p i 0 = e ∙ ap (λ (t : List ℕ). get_or t 0 0) s in
-      (ap (drop 1) s ∙ rw add-one, rw add-one (take-suc-set b i x h ∙ rw (q, v) (sym (take-suc p i 0 k))))
+-- one byte more of those that are left of a path
+pub next_left : (r : Option ℕ) (rest after ys : List ℕ) (x y : ℕ) → MatchOption r ((rest ≡ []) × (after ≡ [])) (λ z. rest ≡ z ∷ after) → x ≡ unwrap_or r 0 → rest ≡ y ∷ ys → (x ≡ y) × (after ≡ ys)
+next_left None rest after ys x y m e l = absurd (let z = ap length (sym l ∙ m.0) in omega arith)
+next_left (Some z) rest after ys x y m e l = let s : z ∷ after ≡ y ∷ ys = sym m ∙ l in (e ∙ ap (λ (t : List ℕ). get_or t 0 0) s, ap (drop 1) s)
 
--- a buffer that holds e bytes of the path
-module _ (h p : List ℕ) (e : ℕ) (is : h ≡ take (length h) p) (n : length h ≡ e) where
-  pub head-whole : h ≡ take e p
-  head-whole = is ∙ ap (λ (i : ℕ). take i p) n
+-- what is written by calls that give the items of a list, one after another
+module _ {F : Type 0} (steps : F → ℕ → F → Type 0) (left : F → List ℕ)
+    (gives : (f h : F) (x y : ℕ) (ys : List ℕ) → steps f x h → left f ≡ y ∷ ys → (x ≡ y) × (left h ≡ ys)) where
+  one-on : (xs all : List ℕ) (x : ℕ) (f h last : F) → left f ≡ all → steps f x h → suc (length xs) ≤ length all
+      → (length xs ≤ length (left h) → xs ≡ take (length xs) (left h)) → x ∷ xs ≡ take (suc (length xs)) all
+  one-on xs [] x f h last e q l r = absurd (omega arith)
+  one-on xs (y ∷ ys) x f h last e q l r =
+      let g = gives f h x y ys q e in
+      rw (g.0, ← g.1) (ap (λ (t : List ℕ). y ∷ t) (r (omega (arith, ap length g.1))))
 
-  -- a path that is not the buffer is not the path's front
-  pub head-not : (x : List ℕ) → equal x h ≡ false → equal x (take e p) ≡ false
-  head-not x q = ap (equal x) (sym head-whole) ∙ q
-
--- the first n bytes of a buffer, where they are those of the path
-pub fronted : (p : Path) (e n : ℕ) (b : List ℕ) → e ≤ length (held p) → n ≤ length b → take n b ≡ take n (held p) → Fronted p e (take n b)
-fronted p e n b l h q = record { long = l; head = q ∙ ap (front_of p) (sym (length-take-le n b h)) }
+  pub filled : (xs : List ℕ) (f last : F) → FoldsTo steps f xs last → length xs ≤ length (left f) → xs ≡ take (length xs) (left f)
+  filled [] f last k l = refl
+  filled (x ∷ xs) f last k l = one-on xs (left f) x f k.0 last refl k.1 (omega arith) (filled xs k.0 last k.2)

@@ -1,8 +1,8 @@
 -- Laws of the first pass: what the text from a link's directory says of its mark, and the pass over all files, which sets
 -- the marks of those still to come. They rely on the definitions of Judging.antt and on the laws of frames in Leads.antt and
 -- Fronts.antt.
-use Prim.Native.Nat.{ℕ, ◌+◌, ◌*◌, ◌/◌, ◌≤◌}
-use mathlib.Core.Path.{◌≡◌, refl, sym, ap, ◌∙◌}
+use Prim.Native.Nat.{ℕ, ◌+◌, ◌≤◌}
+use mathlib.Core.Path.{◌≡◌, refl, ap, ◌∙◌}
 use mathlib.Core.Bool.{Bool, true, false, cond, not, false≢true, ◌&&◌}
 use mathlib.Core.List.{List, [], ◌∷◌}
 use native.Mathlib.Omega.{arith}
@@ -18,12 +18,12 @@ use Rattle.tables.specs.Rows.{dir_at, has, is_inside}
 use Rattle.tables.specs.Model.{single, absolute, stored, Store, directory_of}
 use Rattle.lookup.specs.Lookup.{Entry, file_at, is_directory, entries_of, directories_of}
 use Rattle.lookup.specs.Space.{link_count}
-use Rattle.lookup.specs.private.Rows.{entry_at, row_text}
+use Rattle.lookup.specs.private.Rows.{entry_at}
 use Rattle.lookup.proofs.Rows.{branch_in, branch_at, text_at_lem}
 use Rattle.links.specs.Judging.{settled_mark, relative_mark, first_mark}
-use Rattle.rope.specs.Rope.{frame_width, leads}
-use Rattle.links.specs.private.Walking.{first_marks, with_frame, path_of}
-use Rattle.rope.proofs.Leads.{lead-beside}
+use Rattle.rope.specs.declared.lead.Lead.{Lead}
+use Rattle.rope.specs.Rope.{frame_width, led_text}
+use Rattle.links.specs.private.Walking.{first_marks, with_frame, word_of, path_of}
 use Rattle.links.proofs.Fronts.{flat-alone}
 
 -- ---- the mark of one link
@@ -41,18 +41,21 @@ module _ (files : List Entry) (ds : List (List ℕ)) (t : List ℕ) (other : ℕ
     near_in y = kinds-in (eqb r.path_index 1073741823) (eqb r.path_index 1073741822) s.text (dir_at s.dirs r.path_index) y (has r.flags 32)
 
 -- the text from a link's directory, as a path of one frame
-module _ (s : Store) (i n : ℕ) (f f' : List ℕ) (h : frame_width ≤ length f) (e : f' ≡ with_frame f 0 ((i * 4 + 2) * 2)) (k : n ≡ length (leads s.rows s.dirs s.text (i * 4 + 2))) where
-  one-path : path_of s f' 1 ≡ leads s.rows s.dirs s.text (i * 4 + 2)
-  one-path = ap (λ (x : List ℕ). path_of s x 1) e ∙ flat-alone (leads s.rows s.dirs s.text) f (i * 4 + 2) h
+abbrev pub beside : ℕ → Lead
+beside i = record { file = i; from_directory = true }
+
+module _ (s : Store) (i n : ℕ) (f f' : List ℕ) (h : frame_width ≤ length f) (e : f' ≡ with_frame f 0 (word_of (beside i) false)) (k : n ≡ length (led_text s.rows s.dirs s.text (beside i))) where
+  one-path : path_of s f' 1 ≡ led_text s.rows s.dirs s.text (beside i)
+  one-path = ap (λ (x : List ℕ). path_of s x 1) e ∙ flat-alone s.rows s.dirs s.text f (beside i) h
 
   pub one_long : n ≤ length (path_of s f' 1)
   one_long = omega (arith, k, ap length one-path)
 
   pub one_part : take n (path_of s f' 1) ≡ appended (branch_at s i) (entry_at s i).text
   one_part =
-      let q : (i * 4 + 2) / 4 ≡ i = omega arith in
-      let w : appended (branch_at s i) (row_text s.rows s.text i) ≡ leads s.rows s.dirs s.text (i * 4 + 2) = rw q at (lead-beside s.rows s.dirs s.text (i * 4 + 2) (omega arith)) in
-      take_all n (path_of s f' 1) (omega (arith, k, ap length one-path)) ∙ one-path ∙ sym w ∙ ap (appended (branch_at s i)) (text_at_lem s i)
+      take_all n (path_of s f' 1) (omega (arith, k, ap length one-path))
+      ∙ one-path
+      ∙ ap (appended (branch_at s i)) (text_at_lem s i)
 
 -- ---- the pass over all files
 

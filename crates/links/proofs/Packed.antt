@@ -1,11 +1,11 @@
 -- Marks as numbers: a lead below 8 and 8 times a verdict. These laws rely on the kit's laws of lists.
 use Prim.Native.Nat.{ℕ, zero, suc, ◌+◌, ◌*◌, ◌/◌, ◌<◌, ◌≤◌}
 use mathlib.Core.Path.{◌≡◌, refl, sym, ap, ◌∙◌}
-use mathlib.Core.List.{List, [], ◌∷◌, ◌++◌, map}
+use mathlib.Core.List.{List, [], ◌∷◌, ◌++◌, map, append-nil}
 use native.Mathlib.Omega.{arith}
 use native.Mathlib.Numerals.{add-one}
-use lib.ListN.{length, get_or, set, take, drop, length-map}
-use lib.Seq.{drop-cons, get_or_at, set_at, take-suc, append_snoc, length-take-le, map-set_same}
+use lib.ListN.{length, get_or, set, take, drop, length-map, drop_of_length-le}
+use lib.Seq.{drop-cons, get_or_at, set_at, take-suc, append_snoc, length-take-le, take_all, map-set_same}
 use Rattle.links.specs.private.Walking.{lead, verdict, untraversed}
 
 -- ---- maps of marks
@@ -32,12 +32,17 @@ module _ (f : ℕ → ℕ) where
     done-long : k < length ms → length (map f (take k ms)) ≡ k
     done-long h = length-map (take k ms) f ∙ length-take-le k ms (omega arith)
 
-    pub map_read : k < length ms → get_or (map f (take k ms) ++ drop k ms) k 0 ≡ get_or ms k 0
+    map_read : k < length ms → get_or (map f (take k ms) ++ drop k ms) k 0 ≡ get_or ms k 0
     map_read h = rw (drop-cons ms k 0 h) (get_or_at (map f (take k ms)) (get_or ms k 0) (drop (suc k) ms) 0 k (done-long h))
 
-    pub map-turn : k < length ms → set (map f (take k ms) ++ drop k ms) k (f (get_or ms k 0)) ≡ map f (take (k + 1) ms) ++ drop (k + 1) ms
+    map-turn : k < length ms → set (map f (take k ms) ++ drop k ms) k (f (get_or ms k 0)) ≡ map f (take (k + 1) ms) ++ drop (k + 1) ms
     map-turn h =
         rw (drop-cons ms k 0 h, set_at (map f (take k ms)) (get_or ms k 0) (drop (suc k) ms) (f (get_or ms k 0)) k (done-long h), add-one, take-suc ms k 0 h, map-append (take k ms) (get_or ms k 0 ∷ []), append_snoc)
+
+    pub map_written : (now : List ℕ) (v : ℕ) → k < length ms → now ≡ map f (take k ms) ++ drop k ms → v ≡ f (get_or now k 0) → set now k v ≡ map f (take (k + 1) ms) ++ drop (k + 1) ms
+    map_written now v h e q =
+        let r : get_or now k 0 ≡ get_or ms k 0 = rw e (map_read h) in
+        rw (q, r, e) (map-turn h)
 
 -- ---- leads and verdicts
 
@@ -76,8 +81,31 @@ marks_from (x ∷ a) (y ∷ b) h k =
 
 -- ---- a lead without its use
 
-pub fresh-small : (m : ℕ) → untraversed m ≤ m
+fresh-small : (m : ℕ) → untraversed m ≤ m
 fresh-small zero = omega arith
 fresh-small (suc zero) = omega arith
 fresh-small (suc (suc zero)) = omega arith
 fresh-small (suc (suc (suc m))) = omega arith
+
+-- a mark with its lead untraversed
+abbrev pub reopened : ℕ → ℕ
+reopened m = m / 8 * 8 + untraversed (lead m)
+
+leads-of : (ms : List ℕ) → map lead (map reopened ms) ≡ map untraversed (map lead ms)
+leads-of [] = refl
+leads-of (m ∷ ms) = rw (lead-of (m / 8) (untraversed (lead m)) (omega (arith, fresh-small (lead m))), leads-of ms)
+
+verdicts-of : (ms : List ℕ) → map verdict (map reopened ms) ≡ map verdict ms
+verdicts-of [] = refl
+verdicts-of (m ∷ ms) = rw (verdict-of (m / 8) (untraversed (lead m)) (omega (arith, fresh-small (lead m))), verdicts-of ms)
+
+-- all of them, where k marks are done and there are no more
+module _ (ms now : List ℕ) (k : ℕ) (h : length ms ≤ k) (e : now ≡ map reopened (take k ms) ++ drop k ms) where
+  whole : now ≡ map reopened ms
+  whole = e ∙ rw (take_all k ms h, drop_of_length-le ms h) (append-nil (map reopened ms))
+
+  pub reopened_leads : map lead now ≡ map untraversed (map lead ms)
+  reopened_leads = ap (map lead) whole ∙ leads-of ms
+
+  pub reopened_verdicts : map verdict now ≡ map verdict ms
+  reopened_verdicts = ap (map verdict) whole ∙ verdicts-of ms

@@ -1,12 +1,12 @@
 -- What the walk of `resolve` keeps, turn by turn: its path is in frames, the texts of open links still fit, and there is a frame for
--- each. Before that, the number of a link's text. These laws rely on those of proofs/Events.antt,
+-- each. Before that, a link's text by its lead. These laws rely on those of proofs/Events.antt,
 -- proofs/Room.antt and on those of `lookup` about rows.
-use Prim.Native.Nat.{ℕ, zero, suc, ◌+◌, ◌-◌, ◌*◌, ◌/◌, ◌%◌, ◌^◌, ◌<◌, ◌≤◌}
+use Prim.Native.Nat.{ℕ, zero, suc, ◌+◌, ◌-◌, ◌*◌, ◌^◌, ◌<◌, ◌≤◌}
 use mathlib.Core.Path.{◌≡◌, refl, sym, ap, ◌∙◌}
 use mathlib.Core.Bool.{Bool, true, false}
 use mathlib.Core.List.{List, [], map}
 use native.Mathlib.Omega.{arith}
-use borrow.Author.Tests.{le-ltb}
+use lib.Dec.{eqb}
 use lib.ListN.{length, take, drop, set}
 use lib.Seq.{take_all}
 use Rattle.path.specs.Join.{appended, combined}
@@ -15,7 +15,7 @@ use Rattle.lookup.specs.Lookup.{covers, is_directory, known, entries_of, directo
 use Rattle.lookup.specs.private.Rows.{entry_at, directories_from}
 use Rattle.lookup.proofs.Rows.{text_at_lem, branch_at, beside_at}
 use Rattle.links.specs.Clean.{part_end, weight, left}
-use Rattle.rope.specs.Rope.{row_lead, leads, frame_width}
+use Rattle.rope.specs.Rope.{led_text, frame_width}
 use Rattle.links.specs.private.Walking.{lead, verdict, untraversed, lead_text, open_of, path_of, Walkable}
 use Rattle.links.proofs.Walk.{part-within}
 use Rattle.links.proofs.Scans.{Scan}
@@ -24,20 +24,12 @@ use Rattle.links.proofs.Events.{dir_here, goes_on, walked_end, no-dir, is-dir, d
 
 -- ---- the text by which a link leads
 
--- text i * 4 + m is that of link i by lead m
-pub text-number : (rows dirs text : List ℕ) (i m : ℕ) → m ≤ 2 → leads rows dirs text (i * 4 + m) ≡ row_lead rows dirs text i m
-unfolding leads
-text-number rows dirs text i m h =
-    let a : (i * 4 + m) / 4 ≡ i = omega arith in
-    let b : (i * 4 + m) % 4 ≡ m = omega arith in
-    rw (a, b)
-
-row-lead : (s : Store) (i m : ℕ) → row_lead s.rows s.dirs s.text i m ≡ lead_text m (entry_at s i)
-row-lead s i zero = text_at_lem s i
-row-lead s i (suc zero) = text_at_lem s i
-row-lead s i (suc (suc m)) =
-    let q : 2 ≤ suc (suc m) = omega arith in
-    rw (le-ltb (suc (suc m)) 2 q) (ap (appended (branch_at s i)) (text_at_lem s i) ∙ beside_at s i (entry_at s i).text)
+-- the text of link i by lead m
+pub text-led : (s : Store) (i m : ℕ) → m ≤ 2 → led_text s.rows s.dirs s.text (record { file = i; from_directory = eqb m 2 }) ≡ lead_text m (entry_at s i)
+text-led s i zero h = text_at_lem s i
+text-led s i (suc zero) h = text_at_lem s i
+text-led s i (suc (suc zero)) h = ap (appended (branch_at s i)) (text_at_lem s i) ∙ beside_at s i (entry_at s i).text
+text-led s i (suc (suc (suc m))) h = absurd (omega arith)
 
 -- ---- the walk's state
 
@@ -73,7 +65,7 @@ walking_start s marks frames e w h =
 
 -- link i with mark k and lead m is traversed
 pub record Traversed (s : Store) (marks frames : List ℕ) (depth e : ℕ) (marks' frames' : List ℕ) (depth' i k m : ℕ) : Type 0 where
-  pub path-is : path_of s frames' depth' ≡ combined (row_lead s.rows s.dirs s.text i m) (drop (e + 1) (path_of s frames depth))
+  pub path-is : path_of s frames' depth' ≡ combined (lead_text m (entry_at s i)) (drop (e + 1) (path_of s frames depth))
   pub one_more : depth' ≤ depth + 1
   pub leads-are : map lead marks' ≡ set (map lead marks) k (m + 2)
   pub verdicts-kept : map verdict marks' ≡ map verdict marks
@@ -121,7 +113,7 @@ module _ {s : Store} {marks₀ frames₀ : List ℕ} {answer : Bool} {marks fram
     -- once it is traversed
     module _ {marks' frames' : List ℕ} {depth' : ℕ} (g : Traversed s marks frames depth e marks' frames' depth' i k m) where
       path-is : path_of s frames' depth' ≡ combined (lead_text m (entry_at s i)) (drop (e + 1) p)
-      path-is = g.path-is ∙ ap (λ (t : List ℕ). combined t (drop (e + 1) p)) (row-lead s i m)
+      path-is = g.path-is
 
       still-fits : length (path_of s frames' depth') + weight (open_of (entries_of s) (map lead marks')) ≤ length p + weight (open_of (entries_of s) (map lead marks))
       still-fits = rw g.leads-are (link_fits s (map lead marks) p e i k m x z (path_of s frames' depth') 0 path-is)

@@ -1,33 +1,24 @@
 -- The walk of a link's text with the first pass's leads: the open links are the set's, their texts and the walked one
 -- are short, and there are frames enough. These laws rely on those of proofs/Marks.antt, proofs/Room.antt,
 -- proofs/Fronts.antt and proofs/Leads.antt.
-use Prim.Native.Nat.{ℕ, ◌+◌, ◌*◌, ◌/◌, ◌%◌, ◌≤◌}
-use mathlib.Core.Path.{◌≡◌, sym, ap, ◌∙◌}
+use Prim.Native.Nat.{ℕ, ◌+◌, ◌*◌, ◌≤◌}
+use mathlib.Core.Path.{◌≡◌, ap, ◌∙◌}
+use mathlib.Core.Bool.{false}
 use mathlib.Core.List.{List, map}
 use native.Mathlib.Omega.{arith}
 use lib.ListN.{length, set, length-set}
 use Rattle.tables.specs.Model.{Store}
 use Rattle.lookup.specs.Lookup.{entries_of, directories_of}
 use Rattle.lookup.specs.Space.{directory_length, space}
-use Rattle.lookup.specs.private.Rows.{row_text, entry_at}
+use Rattle.lookup.specs.private.Rows.{entry_at}
 use Rattle.lookup.proofs.Rows.{text_at_lem, entries-all}
 use Rattle.links.specs.Clean.{links_of, weight}
-use Rattle.rope.specs.Rope.{leads, frame_width}
-use Rattle.links.specs.private.Walking.{lead, open_of, path_of, with_frame, Walkable, WalksFrom}
+use Rattle.rope.specs.Rope.{frame_width}
+use Rattle.links.specs.private.Walking.{lead, open_of, path_of, with_frame, word_of, Walkable, WalksFrom}
 use Rattle.links.proofs.Scans.{space-at}
 use Rattle.links.proofs.Room.{links-fit, open-few}
 use Rattle.links.proofs.Marks.{marks-say}
-use Rattle.rope.proofs.Leads.{lead-given}
 use Rattle.links.proofs.Fronts.{flat-alone}
-
--- text i * 4 + 1 is the text of file i as given
-text-given : (s : Store) (i : ℕ) → leads s.rows s.dirs s.text (i * 4 + 1) ≡ (entry_at s i).text
-text-given s i =
-    let a : (i * 4 + 1) / 4 ≡ i = omega arith in
-    let b : (i * 4 + 1) % 4 ≡ 1 = omega arith in
-    sym (lead-given s.rows s.dirs s.text (i * 4 + 1) (omega arith))
-    ∙ ap (row_text s.rows s.text) a
-    ∙ text_at_lem s i
 
 -- the words of the frames stay as many
 frame-length : (f : List ℕ) (k w : ℕ) → length (with_frame f k w) ≡ length f
@@ -42,19 +33,19 @@ module _ (s : Store) (marks : List ℕ) (i n : ℕ) (w : WalksFrom s marks i n) 
   open_is = ap (open_of (entries_of s)) w.marked ∙ marks-say (entries_of s) (directories_of s) (entries_of s)
 
   -- the text of link i as a path of one frame, and that it can be walked
-  module _ (f f' : List ℕ) (y : n ≡ length f) (e : f' ≡ with_frame f 0 ((i * 4 + 1) * 2)) where
+  module _ (f f' : List ℕ) (y : n ≡ length f) (e : f' ≡ with_frame f 0 (word_of (record { file = i; from_directory = false }) false)) where
     pub first_path : path_of s f' 1 ≡ (entry_at s i).text
     first_path =
         ap (λ (x : List ℕ). path_of s x 1) e
-        ∙ flat-alone (leads s.rows s.dirs s.text) f (i * 4 + 1) (omega (arith, y, w.bounded.room))
-        ∙ text-given s i
+        ∙ flat-alone s.rows s.dirs s.text f (record { file = i; from_directory = false }) (omega (arith, y, w.bounded.room))
+        ∙ text_at_lem s i
 
     pub first_walkable : Walkable s (map lead marks) f'
     first_walkable =
         let t : directory_length (entry_at s i).directory + length (entry_at s i).text + 2 ≤ space (entries_of s) = rw (entries-all s) at (space-at s s.fs.num_files 0 i (omega arith) (omega (arith, w.row)) w.flag) in
         let l = links-fit (entries_of s) (directories_of s) (entries_of s) in
         let o = ap weight open_is in
-        let m : length f' ≡ length f = ap length e ∙ frame-length f 0 ((i * 4 + 1) * 2) in
+        let m : length f' ≡ length f = ap length e ∙ frame-length f 0 (word_of (record { file = i; from_directory = false }) false) in
         record {
           few = w.bounded.few;
           fits = omega (arith, ap length first_path, t, l, o, w.bounded.small);

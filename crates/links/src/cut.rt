@@ -10,10 +10,7 @@ use rope::Path;
 fn skipped_in(path: Path<'_>) -> usize
     ensures { result ≡ cond (is_complete (held path.entry)) 1 0 }
 {
-    if path.byte(0) == b'/' {
-        return 1;
-    }
-    0
+    usize::from(path.byte(0) == b'/')
 }
 
 // Where the part of the path ends that goes on at `pos`.

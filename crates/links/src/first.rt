@@ -17,7 +17,7 @@ use crate::mark::{
 };
 use crate::scan::{dir_in, file_in};
 use lookup::{Seen, file_at, is_directory, link_text};
-use rope::{FRAME_WIDTH, Path, lead_length};
+use rope::{FRAME_WIDTH, Lead, Path, lead_length};
 use tables::{FileStorage, LentSet};
 
 // The mark of a link whose text from its directory is the front.
@@ -49,11 +49,14 @@ fn relative_mark(the_set: LentSet<'_>, i: u16) -> u8
 {
     let row = tables::row_at(the_set.lent.rows, i as usize);
     if tables::is_inside(row.path_index) {
-        let v = i as u32 * 4 + 2;
+        let lead = Lead {
+            file: u32::from(i),
+            from_directory: true,
+        };
         let mut frames = [0u32; FRAME_WIDTH];
-        put_frame(&mut frames, 0, v * 2);
+        put_frame(&mut frames, 0, lead, false);
         let path = Path::new(the_set.lent, &frames, 1);
-        let e = lead_length(the_set.lent, v);
+        let e = lead_length(the_set.lent, lead);
         let mut buf = [0u8; HEAD_SIZE];
         let front = Front::new(path, e, &mut buf);
         return settled_mark(the_set.fs, front);

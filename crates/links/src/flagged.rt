@@ -7,6 +7,8 @@ use lookup::is_link;
 use tables::{FileStorage, LentSet};
 
 // The flagged links from file i on, of which the first has mark k.
+// Stays: `filter` and `zip` over the numbers of files would do, but no function can hand such a chain out, since Rattle
+// has no `impl Trait` as a result.
 #[derive(Drop)]
 pub(crate) struct Links<'a> {
     rows: &'a [u64],

@@ -1,15 +1,15 @@
 // The frames of a path written: bytes dropped from its front, and a link's text in their place. It relies on `rope` and
 // the laws of proofs/Fronts.antt.
-ghost use Rattle.std.specs.Prelude.{◌≡◌, cond, ◌+◌, ◌*◌, ◌^◌, ◌≤◌, ◌<◌, length, drop};
+ghost use Rattle.std.specs.Prelude.{◌≡◌, not, ◌+◌, ◌*◌, ◌^◌, ◌≤◌, ◌<◌, length, drop};
 ghost use Rattle.path.specs.Join.{is_alone, is_closed, combined};
-ghost use Rattle.rope.specs.Rope.{texts_of, flat, held, frame_width};
-ghost use Rattle.links.specs.private.Walking.{with_start, with_frame};
+ghost use Rattle.rope.specs.Rope.{texts_of, text_of, flat, held, frame_width};
+ghost use Rattle.links.specs.private.Walking.{with_start, with_frame, word_of};
 
-use rope::{FRAME_WIDTH, Path, lead_byte, lead_length, start_in};
+use rope::{FRAME_WIDTH, Lead, Path, lead_byte, lead_length, start_in};
 use tables::Lent;
 
 // Writes both halves of frame k's start: its text is unused from there on.
-// Stays: it copies nothing: a frame is three words, which `rope` reads where they stand, and a start is two of them.
+// Stays: a frame is three words and no record, for which rope's FRAME_WIDTH says why, and a start is two of them.
 fn put_start(frames: &mut [u32], k: u32, at: usize)
     requires { k * frame_width + 2 < length frames.old }
     ensures { frames.new ≡ with_start frames.old k at }
@@ -19,13 +19,14 @@ fn put_start(frames: &mut [u32], k: u32, at: usize)
     frames[i + 2] = (at / 4294967296) as u32;
 }
 
-// Writes frame k, with its whole text unused.
-// Stays: it copies nothing: it sets the three words of a frame, its kind and both halves of its start.
-pub(crate) fn put_frame(frames: &mut [u32], k: u32, kind: u32)
-    requires { k * frame_width + 2 < length frames.old }
-    ensures { frames.new ≡ with_frame frames.old k kind }
+// Writes frame k: the whole text of a lead is unused, and a separator follows it or none.
+// Stays: a frame is three words and no record (rope, FRAME_WIDTH): which text it is, and both halves of its start.
+pub(crate) fn put_frame(frames: &mut [u32], k: u32, lead: Lead, separated: bool)
+    requires { (k * frame_width + 2 < length frames.old) × (lead.file < 2 ^ 29) }
+    ensures { frames.new ≡ with_frame frames.old k (word_of lead separated) }
 {
-    frames[k as usize * FRAME_WIDTH] = kind;
+    let number = lead.file * 4 + u32::from(lead.from_directory) * 2;
+    frames[k as usize * FRAME_WIDTH] = number * 2 + u32::from(separated);
     put_start(frames, k, 0);
 }
 
@@ -46,30 +47,24 @@ fn drop_front(lent: Lent<'_>, frames: &mut [u32], depth: u32, count: usize) -> u
     p.k
 }
 
-// Whether text v is empty or `.`.
+// Whether a lead's text is empty or `.`.
+// Stays: `path::is_alone` and `path::is_closed` ask for a slice. A lead's text is two texts joined and a path's is that
+// of many frames, so neither stands anywhere as one, here and below.
 #[tactic(auto, using(crate::proofs::Fronts::alone_more))]
-fn is_lead_alone(lent: Lent<'_>, v: u32) -> bool
-    ensures { result ≡ is_alone (texts_of lent.entry v) }
+fn is_lead_alone(lent: Lent<'_>, lead: Lead) -> bool
+    ensures { result ≡ is_alone (text_of lent.entry lead) }
 {
-    let n = lead_length(lent, v);
-    if n == 0 {
-        return true;
-    }
-    if n == 1 {
-        return lead_byte(lent, v, 0) == b'.';
-    }
-    false
+    let n = lead_length(lent, lead);
+    n == 0 || n == 1 && lead_byte(lent, lead, 0) == b'.'
 }
 
-// How many separators text v needs after it: 0 where it ends in one, else 1.
-fn lead_tail(lent: Lent<'_>, v: u32) -> u32
-    ensures { result ≡ cond (is_closed (texts_of lent.entry v)) 0 1 }
+// Whether a lead's text needs a separator after it: it does not end in one.
+#[tactic(auto, using(path::proofs::Ends::closed_is))]
+fn needs_separator(lent: Lent<'_>, lead: Lead) -> bool
+    ensures { result ≡ not (is_closed (text_of lent.entry lead)) }
 {
-    let n = lead_length(lent, v);
-    if lead_byte(lent, v, n.saturating_sub(1)) == b'/' {
-        return 0;
-    }
-    1
+    let n = lead_length(lent, lead);
+    lead_byte(lent, lead, n.saturating_sub(1)) != b'/'
 }
 
 // Whether the path is empty or `.`.
@@ -77,36 +72,34 @@ fn lead_tail(lent: Lent<'_>, v: u32) -> u32
 fn is_path_alone(path: Path<'_>) -> bool
     ensures { result ≡ is_alone (held path.entry) }
 {
-    if path.has_byte(1) {
-        return false;
-    }
-    if path.has_byte(0) {
-        return path.byte(0) == b'.';
-    }
-    true
+    !path.has_byte(0) || !path.has_byte(1) && path.byte(0) == b'.'
 }
 
-// Goes through a link: its text v stands for the first e bytes of the path and the separator after them. How many
+// Goes through a link: its text stands for the first e bytes of the path and the separator after them. How many
 // frames the path then has.
-pub(crate) fn go_through(lent: Lent<'_>, frames: &mut [u32], depth: u32, e: usize, v: u32) -> u32
+pub(crate) fn go_through(
+    lent: Lent<'_>,
+    frames: &mut [u32],
+    depth: u32,
+    e: usize,
+    lead: Lead,
+) -> u32
     requires { (depth * frame_width + 2 < length frames.old)
         × (depth + 1 < 2 ^ 32)
         × (e + 1 < 2 ^ 64)
-        × (v < 2 ^ 31) }
+        × (lead.file < 2 ^ 29) }
     ensures result_after { flat (texts_of lent.entry) frames.new result
-        ≡ combined (texts_of lent.entry v) (drop (e + 1) (flat (texts_of lent.entry) frames.old depth)) }
+        ≡ combined (text_of lent.entry lead) (drop (e + 1) (flat (texts_of lent.entry) frames.old depth)) }
     ensures upper_bound { result ≤ depth + 1 }
 {
     let k = drop_front(lent, frames, depth, e + 1);
-    if is_lead_alone(lent, v) {
+    if is_lead_alone(lent, lead) {
         return k;
     }
-    let kind = v * 2;
     if is_path_alone(Path::new(lent, frames, k)) {
-        put_frame(frames, 0, kind);
+        put_frame(frames, 0, lead, false);
         return 1;
     }
-    let t = lead_tail(lent, v);
-    put_frame(frames, k, kind + t);
+    put_frame(frames, k, lead, needs_separator(lent, lead));
     k + 1
 }

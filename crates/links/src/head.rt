@@ -13,31 +13,23 @@ use rope::Path;
 // The bytes of the longest front that is copied to a buffer.
 pub(crate) const HEAD_SIZE: usize = 4096;
 
-// The first e bytes of a path, and these bytes in a buffer, or nothing there.
+// The first e bytes of a path, and these bytes in a buffer where they fit.
 #[derive(Clone, Copy)]
 pub(crate) struct Front<'a> {
     pub path: Path<'a>,
     pub e: usize,
-    pub head: &'a [u8],
-    ghost fronted: { Fronted path e head.now },
+    pub head: Option<&'a [u8]>,
+    ghost fronted: { Fronted path e head },
 }
 
-// Writes the first e bytes of the path into a buffer where they fit: their number there, or 0.
-// Stays: the bytes are those of many texts, so there is no one slice to copy from.
-#[tactic(auto, using(crate::proofs::Heads::fronted))]
-fn put_head(path: Path<'_>, e: usize, buf: &mut [u8]) -> usize
-    requires { e ≤ length (held path) }
-    ensures upper_bound { result ≤ length buf.new }
-    ensures fronted { Fronted path.entry e (take result buf.new) }
+// Writes the first bytes of the path over a slice that is no longer than the path.
+// Stays: std's `fill_with` writes; the bytes are those of many texts, so there is no one slice to copy from.
+fn put_head(path: Path<'_>, head: &mut [u8])
+    requires { length head.old ≤ length (held path) }
+    ensures { head.new ≡ front_of path.entry (length head.old) }
 {
-    if buf.len() < e {
-        return 0;
-    }
     let mut bytes = path.bytes_from(0);
-    for byte in buf[..e].iter_mut() {
-        *byte = bytes.next().unwrap_or(0);
-    }
-    e
+    head.fill_with(move || bytes.next().unwrap_or(0));
 }
 
 impl<'a> Front<'a> {
@@ -47,12 +39,13 @@ impl<'a> Front<'a> {
         ensures path { result.path ≡ path.entry }
         ensures end { result.e ≡ e }
     {
-        let n = put_head(path, e, buf);
-        Front {
-            path,
-            e,
-            head: &buf[..n],
-        }
+        let head = if e <= buf.len() {
+            put_head(path, &mut buf[..e]);
+            Some(&buf[..e])
+        } else {
+            None
+        };
+        Front { path, e, head }
     }
 }
 
@@ -64,11 +57,13 @@ impl Front<'_> {
             (front_of self.entry.path self.entry.e) }
     {
         let lent = self.path.lent;
-        if self.head.len() == self.e {
-            return lookup::covers_at(lent.dirs, lent.text, d, self.head, 0, self.e);
+        match self.head {
+            Some(head) => lookup::covers(lent.dirs, lent.text, d, head),
+            None => {
+                let dir = tables::text_at(lent.text, tables::dir_at(lent.dirs, d));
+                self.path.is_covered(dir, self.e)
+            }
         }
-        let dir = tables::text_at(lent.text, tables::dir_at(lent.dirs, d));
-        self.path.is_covered(dir, self.e)
     }
 
     // Whether it is the internal path of file i.
@@ -78,9 +73,9 @@ impl Front<'_> {
             ≡ equal (own_text self.entry.path.lent i) (front_of self.entry.path self.entry.e) }
     {
         let lent = self.path.lent;
-        if self.head.len() == self.e {
-            return lookup::own_is(lent.rows, lent.dirs, lent.text, i, self.head);
+        match self.head {
+            Some(head) => lookup::own_is(lent.rows, lent.dirs, lent.text, i, head),
+            None => self.path.is_own(i, self.e),
         }
-        self.path.is_own(i, self.e)
     }
 }

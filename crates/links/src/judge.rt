@@ -13,35 +13,15 @@ ghost use Rattle.links.specs.private.Walking.{verdict, set_of};
 use crate::first::first_marks;
 use crate::second::walk_links;
 use lookup::{count_links, lacks_space};
-use tables::{DIR_WIDTH, FileStorage, Lent, LentSet, ROW_WIDTH};
+use rules::Tests;
+use tables::{FileStorage, LentSet};
 use types::Refusal;
-
-// Whether the lent tables hold what the set counts.
-fn holds_tables(the_set: LentSet<'_>) -> bool
-    ensures { result
-        ≡ (rows_are_held the_set.entry.fs the_set.entry.lent.rows.now
-        && (dirs_held the_set.entry.fs the_set.entry.lent.dirs.now
-        && text_held the_set.entry.fs the_set.entry.lent.text.now)) }
-{
-    the_set.fs.num_files <= the_set.lent.rows.len() / ROW_WIDTH
-        && the_set.fs.num_paths <= the_set.lent.dirs.len() / DIR_WIDTH
-        && the_set.fs.text_len <= the_set.lent.text.len()
-}
-
-// Whether they do, and the set has no more files and directories than it may.
-fn is_held(the_set: LentSet<'_>) -> bool
-    ensures { result
-        ≡ ((rows_are_held the_set.entry.fs the_set.entry.lent.rows.now
-        && (dirs_held the_set.entry.fs the_set.entry.lent.dirs.now
-        && text_held the_set.entry.fs the_set.entry.lent.text.now))
-        && few_entries the_set.entry.fs) }
-{
-    rules::are_held(the_set.fs, holds_tables(the_set))
-}
 
 // The number of links to judge, or why none are judged. `marks`, `scratch` and `walk_path` are the lengths of the work
 // space that a cleaning is lent.
-// Stays: public functions are lent each table by itself, as most of them read only some (docs/DECISIONS.md).
+// Stays: public functions are lent each table by itself, as most of them read only some (docs/DECISIONS.md), here and
+// in `judge_links`. The three lengths are those of buffers that C lends to a cleaning one by one, and no function makes
+// or keeps all three as one.
 pub fn links_to_judge(
     fs: FileStorage,
     rows: &[u64],
@@ -56,16 +36,10 @@ pub fn links_to_judge(
         walk_path)
         (link_count (files_in fs rows.now dirs.now text.now)) }
 {
-    if rules::is_bad_length(fs.piece_length) {
-        return Err(Refusal::InvalidPieceLength);
-    }
-    let lent = Lent { rows, dirs, text };
-    if !is_held(LentSet { fs, lent }) {
-        return Err(Refusal::NoRoom);
-    }
-    if lacks_space(fs, rows, dirs, text, marks, scratch, walk_path) {
-        return Err(Refusal::NoRoom);
-    }
+    let set = LentSet::new(fs, rows, dirs, text);
+    let held = rules::holds_set(set)
+        && !lacks_space(fs, rows, dirs, text, marks, scratch, walk_path);
+    Tests::of_set(fs, held).first_refusal()?;
     Ok(count_links(fs, rows))
 }
 
@@ -109,7 +83,6 @@ pub fn judge_links(
         walk_path }
 {
     let n = links_to_judge(fs, rows, dirs, text, marks.len(), scratch, walk_path)?;
-    let lent = Lent { rows, dirs, text };
-    judge(LentSet { fs, lent }, &mut marks[..n]);
+    judge(LentSet::new(fs, rows, dirs, text), &mut marks[..n]);
     Ok(n)
 }

@@ -27,26 +27,37 @@ impl From<u8> for LinkVerdict {
 
 // Verdicts as marks hold them; any other number is read as `FromDirectory`.
 // Stays: while links are judged, a mark's byte holds a lead beside the verdict, and there is a fourth verdict, that a
-// walk decides, which no caller sees and `LinkVerdict` has not.
+// walk decides, which no caller sees and `LinkVerdict` has not. `judge_links` is lent one byte for each link: as a
+// record of two, the 65535 marks of a cleaning would take 64 KiB of stack more.
 pub(crate) const VERDICT_KEEP: u8 = 0;
 
 pub(crate) const VERDICT_OWN_PATH: u8 = 1;
 
+const VERDICT_FROM_DIRECTORY: u8 = 2;
+
 // The first pass's verdict where a walk decides.
 pub(crate) const VERDICT_WALK: u8 = 3;
 
+// Leads of links that a walk may go through: by the text as it was given, or by the text from the link's directory. 0
+// is none, and a lead that was traversed is larger by 2.
+// Stays: a lead is the lower three bits of a mark's byte. A walk writes it back 2 larger; an enum of these two would be
+// made at `lead_mark` and turned into its number again for that.
+const LEADS_AS_GIVEN: u8 = 1;
+
+pub(crate) const LEADS_FROM_DIRECTORY: u8 = 2;
+
 // The marks that the first pass sets: a verdict, and a lead where a walk may go through the link.
-pub(crate) const KEEPS_TEXT: u8 = 0;
+pub(crate) const KEEPS_TEXT: u8 = VERDICT_KEEP * 8;
 
-pub(crate) const KEEPS_TEXT_AND_LEADS: u8 = 1;
+pub(crate) const KEEPS_TEXT_AND_LEADS: u8 = VERDICT_KEEP * 8 + LEADS_AS_GIVEN;
 
-pub(crate) const OWN_PATH_TAKEN: u8 = 8;
+pub(crate) const OWN_PATH_TAKEN: u8 = VERDICT_OWN_PATH * 8;
 
-pub(crate) const FROM_DIRECTORY: u8 = 16;
+pub(crate) const FROM_DIRECTORY: u8 = VERDICT_FROM_DIRECTORY * 8;
 
-pub(crate) const FROM_DIRECTORY_AND_LEADS: u8 = 18;
+pub(crate) const FROM_DIRECTORY_AND_LEADS: u8 = VERDICT_FROM_DIRECTORY * 8 + LEADS_FROM_DIRECTORY;
 
-pub(crate) const WALK_DECIDES: u8 = 25;
+pub(crate) const WALK_DECIDES: u8 = VERDICT_WALK * 8 + LEADS_AS_GIVEN;
 
 // The lead of mark k, 0 where there is none.
 pub(crate) fn lead_at(marks: &[u8], k: usize) -> u8
@@ -70,8 +81,8 @@ pub fn verdict_in(marks: &[u8], k: usize) -> LinkVerdict
 }
 
 // Sets the lead of mark k and keeps its verdict; past the end it does nothing.
-// Stays: a mark is one lent byte that holds a lead and a verdict, so whoever writes leads has to say that the verdicts
-// stay.
+// Stays: a mark is one byte that holds a lead and a verdict (VERDICT_KEEP says why), so whoever writes leads has to say
+// that the verdicts stay.
 pub(crate) fn put_lead(marks: &mut [u8], k: usize, m: u8)
     requires { m < 8 }
     ensures marks_after { map lead marks.new ≡ set (map lead marks.old) k m }
@@ -97,12 +108,12 @@ fn untraversed_lead(m: u8) -> u8
 }
 
 // Makes all traversed leads untraversed.
+#[tactic(auto, using(crate::proofs::Packed::reopened_leads, crate::proofs::Packed::reopened_verdicts))]
 pub(crate) fn reopen(marks: &mut [u8])
     ensures marks_after { map lead marks.new ≡ map untraversed (map lead marks.old) }
     ensures marks_unchanged { map verdict marks.new ≡ map verdict marks.old }
 {
-    for k in 0..marks.len() {
-        let m = untraversed_lead(lead_at(marks, k));
-        put_lead(marks, k, m);
+    for mark in marks.iter_mut() {
+        *mark = *mark / 8 * 8 + untraversed_lead(*mark % 8);
     }
 }

@@ -9,9 +9,9 @@ use crate::cut::cut_in;
 use crate::flagged::Links;
 use crate::front::go_through;
 use crate::head::{Front, HEAD_SIZE};
-use crate::mark::put_lead;
+use crate::mark::{LEADS_FROM_DIRECTORY, put_lead};
 use crate::scan::{known_in, lead_mark};
-use rope::Path;
+use rope::{Lead, Path};
 use tables::LentSet;
 
 // Walks the path that the first frame holds: whether it comes to a file or a directory of the set. Links that it goes
@@ -47,7 +47,11 @@ pub(crate) fn resolve(the_set: LentSet<'_>, marks: &mut [u8], frames: &mut [u32]
             if let Some(m) = lead_mark(the_set.fs, front, marks, i, k) {
                 // Link i leads on: its text stands for the front and the separator after it, and it is used.
                 put_lead(marks, k, m + 2);
-                depth = go_through(lent, frames, depth, e, i as u32 * 4 + m as u32);
+                let lead = Lead {
+                    file: i as u32,
+                    from_directory: m == LEADS_FROM_DIRECTORY,
+                };
+                depth = go_through(lent, frames, depth, e, lead);
                 e = cut_in(Path::new(lent, frames, depth), 0);
                 continue 'walk;
             }

@@ -1,10 +1,8 @@
 // What stands at the front of a path: directories, files, and links by the leads that say which are open. They rely on
 // flagged.rt, head.rt, mark.rt, `lookup` and the laws of proofs/Scans.antt and proofs/Passing.antt.
-ghost use Rattle.std.specs.Prelude.{◌≡◌, true, false, cond, List, map, ℕ, ◌+◌, ◌-◌, ◌<◌, ◌≤◌, ltb, length, get_or, drop};
+ghost use Rattle.std.specs.Prelude.{◌≡◌, true, false, cond, map, ◌+◌, ◌-◌, ◌<◌, ◌≤◌, ltb, get_or, drop};
 ghost use Rattle.std.specs.Prelude.{IfSome, unwrap_or};
 ghost use Rattle.lists.specs.Lists.{equal};
-ghost use Rattle.tables.specs.Rows.{row_at};
-ghost use Rattle.tables.specs.Model.{internal_path};
 ghost use Rattle.lookup.specs.Lookup.{is_directory, file_at, known, entries_of, directories_of};
 ghost use Rattle.lookup.specs.private.Rows.{entry_at, entries_from};
 ghost use Rattle.links.specs.private.Walking.{lead, any_at, lead_mark, store_in, front_of, own_text};
@@ -12,10 +10,12 @@ ghost use Rattle.links.specs.private.Walking.{lead, any_at, lead_mark, store_in,
 use crate::flagged::Links;
 use crate::head::Front;
 use crate::mark::lead_at;
-use lookup::{Seen, is_link};
+use lookup::{Seen, seen_as};
 use tables::FileStorage;
 
 // Whether a directory of the set covers the front.
+// Stays: the set's record goes beside the front, here and below. Rope's `Path`, which has the tables, is handed on at each
+// byte and needs none of the record.
 pub(crate) fn dir_in(fs: FileStorage, front: Front<'_>) -> bool
     ensures { result
         ≡ is_directory (directories_of (store_in fs front.entry.path.lent))
@@ -24,38 +24,14 @@ pub(crate) fn dir_in(fs: FileStorage, front: Front<'_>) -> bool
     (0..fs.num_paths).any(|d| front.is_covered(d))
 }
 
-// False where the name of file i says that it does not stand at the front: then that is whole in the buffer. It is
-// short, so that a scan has it in its loop.
-fn may_stand(front: Front<'_>, i: usize) -> bool
-    ensures { result ≡ false
-        → (length front.entry.head.now ≡ front.entry.e)
-        × ((dirs : List ℕ)
-        → equal
-        (internal_path dirs front.entry.path.lent.text.now
-        (row_at front.entry.path.lent.rows.now i))
-        front.entry.head.now
-        ≡ false) }
-{
-    let lent = front.path.lent;
-    front.head.len() != front.e || lookup::ends_with_name(lent.rows, lent.text, i, front.head)
-}
-
 // What stands at the front. Of files with one internal path the last counts, so it goes from the last to the first.
 pub(crate) fn file_in(fs: FileStorage, front: Front<'_>) -> Seen
     ensures { result
         ≡ file_at (entries_of (store_in fs front.entry.path.lent))
         (front_of front.entry.path front.entry.e) }
 {
-    for i in (0..fs.num_files).rev() {
-        if may_stand(front, i) && front.is_own(i) {
-            return if is_link(front.path.lent.rows, i) {
-                Seen::FlaggedLink
-            } else {
-                Seen::RegularFile
-            };
-        }
-    }
-    Seen::Nothing
+    let found = (0..fs.num_files).rev().find(|i| front.is_own(*i));
+    seen_as(front.path.lent.rows, found)
 }
 
 // Whether a file or a directory of the set stands at the front.
@@ -78,10 +54,12 @@ fn is_link_at(front: Front<'_>, marks: &[u8], i: usize, k: usize) -> bool
         (equal (own_text front.entry.path.lent i) (front_of front.entry.path front.entry.e))
         false }
 {
-    lead_at(marks, k) != 0 && may_stand(front, i) && front.is_own(i)
+    lead_at(marks, k) != 0 && front.is_own(i)
 }
 
 // Whether a link from file i0 and mark k0 on leads on at the front, traversed or not.
+// Stays: a file and a mark are where a walk over the flagged links begins, here and below; a record of the two would be
+// made for `Links::starting_at` and taken apart there.
 fn has_link(fs: FileStorage, front: Front<'_>, marks: &[u8], i0: usize, k0: usize) -> bool
     requires { k0 ≤ i0 }
     ensures { result
@@ -115,7 +93,7 @@ pub(crate) fn lead_mark(
     ensures result_bound { IfSome result (λ m. (0 < m) × (m ≤ 2)) }
 {
     let m = lead_at(marks, k);
-    if m == 0 || 2 < m || !may_stand(front, i) || !front.is_own(i) {
+    if m == 0 || 2 < m || !front.is_own(i) {
         return None;
     }
     if has_link(fs, front, marks, i + 1, k + 1) {

@@ -10,6 +10,7 @@ use crate::flagged::Links;
 use crate::front::put_frame;
 use crate::mark::{VERDICT_KEEP, VERDICT_OWN_PATH, VERDICT_WALK, put_verdict, reopen, verdict_at};
 use crate::resolve::resolve;
+use rope::Lead;
 use tables::LentSet;
 
 // Whether the text of the flagged link i leads to a file or a directory of the set. It relies on the first pass's
@@ -22,7 +23,11 @@ fn walk_link(the_set: LentSet<'_>, marks: &mut [u8], frames: &mut [u32], i: usiz
     ensures value { result ≡ resolves_in (set_of the_set.entry) i }
     ensures marks_unchanged { marks.new ≡ marks.old }
 {
-    put_frame(frames, 0, (i as u32 * 4 + 1) * 2);
+    let lead = Lead {
+        file: i as u32,
+        from_directory: false,
+    };
+    put_frame(frames, 0, lead, false);
     let r = resolve(the_set, marks, frames);
     reopen(marks);
     r

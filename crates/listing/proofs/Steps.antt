@@ -9,7 +9,7 @@ use native.Mathlib.Omega.{arith}
 use native.Mathlib.Nat.{mod-eq_of_lt}
 use lib.Dec.{eqb, leb, ltb}
 use lib.ListN.{length, get_or, drop, replicate, length-take, length-drop, drop_of_length-le}
-use borrow.Author.Tests.{eqb-true, lt-ltb, le-ltb}
+use borrow.Author.Tests.{eqb-true, eqb-false, lt-ltb, le-ltb}
 use Rattle.lists.specs.Lists.{part_of, ceiling}
 use Rattle.lists.proofs.Parts.{part_length}
 use Rattle.types.specs.declared.refusal.Refusal.TheVariants.{TooManyPieces}
@@ -34,7 +34,8 @@ use Rattle.listing.specs.Run.{addition_of, counted, go_on, opened_as, read_as, r
 use Rattle.listing_output.specs.Output.{Run, listed, stopped}
 use Rattle.listing_input.specs.Answers.{first_line}
 use Rattle.std.specs.Prelude.{Ok, Err}
-use Rattle.listing.specs.private.Steps.{opened_by, obeyed, counted_by, run_says, Placed}
+use Rattle.listing.specs.declared.run.Tables.{Tables}
+use Rattle.listing.specs.private.Steps.{opened_by, obeyed, counted_by, store_in, run_in, Placed}
 use Rattle.listing_input.proofs.Reading.{number_small, first-take, lines_next}
 
 -- a list of no elements
@@ -53,8 +54,8 @@ size_small true None f path h = omega arith
 size_small true (Some n) None path h = omega arith
 size_small true (Some n) (Some m) path h = h n refl
 
-pub size_is : (line : List ℕ) (size flags : ℕ) → Some (record { size = size; flags = flags; path = drop 19 line }) ≡ file_in line → size % 2 ^ 63 ≡ size
-size_is line size flags e =
+pub size_is : (line path : List ℕ) (size flags : ℕ) → Some (record { size = size; flags = flags; path = path }) ≡ file_in line → size % 2 ^ 63 ≡ size
+size_is line path size flags e =
     let q : size ≡ size_in (file_in line) = ap size_in e in
     let b =
     size_small (leb 19 (length line) && (eqb (get_or line 15 0) 32 && eqb (get_or line 18 0) 32))
@@ -90,20 +91,12 @@ root_by true root = refl
 root_by false root = refl
 
 -- the run after the last line
-pub counted_is : (fs : FileStorage) (rows roots dirs text : List ℕ) (line : ℕ)
-    → run_says (counted_by fs line) rows roots dirs text ≡ counted line (view_of (store_of fs rows roots [] dirs text))
-counted_is fs rows roots dirs text line = at (ltb 2147483647 (ceiling fs.total_size fs.piece_length))
+pub counted_is : (fs : FileStorage) (t : Tables) (line : ℕ) → run_in (counted_by fs line) t ≡ counted line (view_of (store_in fs t))
+counted_is fs t line = at (ltb 2147483647 (ceiling fs.total_size fs.piece_length))
   where
-    at : (b : Bool) → run_says (cond b (Err (record { refusal = TooManyPieces; line = line })) (Ok fs)) rows roots dirs text ≡ cond b (stopped 13 line) (listed (view_of (store_of fs rows roots [] dirs text)))
+    at : (b : Bool) → run_in (cond b (Err (record { refusal = TooManyPieces; line = line })) (Ok fs)) t ≡ cond b (stopped 13 line) (listed (view_of (store_in fs t)))
     at true = refl
     at false = refl
-
--- tables that keep their lengths keep their places
-pub placed_after : (rows roots dirs text : List ℕ) → Placed rows roots dirs text → (rows' roots' dirs' text' : List ℕ)
-    → length rows' ≡ length rows → length roots' ≡ length roots → length dirs' ≡ length dirs → length text' ≡ length text
-    → Placed rows' roots' dirs' text'
-placed_after rows roots dirs text p rows' roots' dirs' text' a b c d =
-    record { rows_are = a ∙ p.rows_are; roots-are = b ∙ p.roots-are; dirs-are = c ∙ p.dirs-are; text-is = d ∙ p.text-is }
 
 -- tables of these lengths have `places`
 rooms-are : (s : Store) → Placed s.rows s.roots s.dirs s.text → rooms_of s ≡ places
@@ -238,15 +231,15 @@ module _ (input : List ℕ) where
   pub run_long : 65536 < length input → stopped 17 0 ≡ run places input
   run_long h = rw (lt-ltb 65536 (length input) h)
 
-  pub run_none : length input ≤ 65536 → length input ≡ 0 → stopped 17 1 ≡ run places input
-  run_none h e = rw (le-ltb 65536 (length input) h, nil_is input e)
+  pub run_none : length input ≤ 65536 → eqb (length input) 0 ≡ true → stopped 17 1 ≡ run places input
+  run_none h e = rw (le-ltb 65536 (length input) h, nil_is input (eqb-true _ _ e))
 
-  module _ (n : ℕ) (h : length input ≤ 65536) (k : length input ≡ 0 → ⊥) (e : n ≡ length (first_line input)) where
+  module _ (n : ℕ) (h : length input ≤ 65536) (k : eqb (length input) 0 ≡ false) (e : n ≡ length (first_line input)) where
     run-first : read_as (piece_length_in (part_of input 0 n)) 1 (λ m. go_on (opened_as m) 1 (λ x. run_from places 1 x (lines (drop (n + 1) input)))) ≡ run places input
     run-first =
         let q : 0 + n + 1 ≡ n + 1 = omega arith in
         let r : lines input ≡ part_of input 0 n ∷ lines (drop (n + 1) input) =
-        lines_next input 0 n (omega arith) e ∙ ap (λ (i : ℕ). part_of input 0 n ∷ lines (drop i input)) q in
+        lines_next input 0 n (omega (arith, eqb-false _ _ k)) e ∙ ap (λ (i : ℕ). part_of input 0 n ∷ lines (drop i input)) q in
         rw (le-ltb 65536 (length input) h, r)
 
     pub first_stops : (read : List ℕ) → read ≡ part_of input 0 n → (j : ℕ) → opened_by (piece_length_in read) ≡ refused j → stopped j 1 ≡ run places input
@@ -272,15 +265,15 @@ module _ (input : List ℕ) where
             at false r = let z : fs ≡ new_storage m false = cc in (z, refl)
 
     -- the set that the first line opens, in tables that hold anything
-    pub first_opened : (read : List ℕ) → read ≡ part_of input 0 n → (rows roots dirs text : List ℕ) (fs : FileStorage)
-        → opened_by (piece_length_in read) ≡ value fs → Sound (store_of fs rows roots [] dirs text)
+    pub first_opened : (read : List ℕ) → read ≡ part_of input 0 n → (t : Tables) (fs : FileStorage)
+        → opened_by (piece_length_in read) ≡ value fs → Sound (store_in fs t)
         × (fs.indexed ≡ false)
-        × (run_from places 1 (view_of (store_of fs rows roots [] dirs text)) (lines (drop (n + 1) input)) ≡ run places input)
-    first_opened read is rows roots dirs text fs o =
+        × (run_from places 1 (view_of (store_in fs t)) (lines (drop (n + 1) input)) ≡ run places input)
+    first_opened read is t fs o =
         let b = first_goes fs (rw is at o) in (
-          subst (λ (f : FileStorage). Sound (store_of f rows roots [] dirs text)) (sym b.1) (sound-opened b.0 false rows roots [] dirs text),
+          subst (λ (f : FileStorage). Sound (store_in f t)) (sym b.1) (sound-opened b.0 false t.rows.now t.roots.now [] t.dirs.now t.text.now),
           ap (λ (f : FileStorage). f.indexed) b.1,
-          ap (λ (f : FileStorage). run_from places 1 (view_of (store_of f rows roots [] dirs text)) (lines (drop (n + 1) input))) b.1
-              ∙ ap (λ (m : Model). run_from places 1 m (lines (drop (n + 1) input))) (view-opened b.0 false rows roots [] dirs text)
+          ap (λ (f : FileStorage). run_from places 1 (view_of (store_in f t)) (lines (drop (n + 1) input))) b.1
+              ∙ ap (λ (m : Model). run_from places 1 m (lines (drop (n + 1) input))) (view-opened b.0 false t.rows.now t.roots.now [] t.dirs.now t.text.now)
               ∙ b.2,
         )

@@ -1,16 +1,16 @@
 // The run: lines are obeyed one by one, and the first refusal of any kind ends it. Relies on `listing_input`
-// for the lines, on `storage` for opening and additions, and on the laws of proofs/Steps.antt.
-ghost use Rattle.std.specs.Prelude.{◌≡◌, false, [], leb, ◌+◌, ◌≤◌, length, drop};
+// for the lines and `listing_output` for the text, on `lists` for parts of the input, on `storage` for opening and
+// additions, on `rules` for too many pieces, and on the laws of proofs/Steps.antt.
+ghost use Rattle.std.specs.Prelude.{◌≡◌, false, ◌+◌, ◌≤◌, length, drop};
 ghost use Rattle.types.specs.Refusals.{outcome};
 ghost use Rattle.path.specs.Join.{joined_says};
-ghost use Rattle.tables.specs.Entry.{presence_if};
-ghost use Rattle.tables.specs.Model.{view_of, store_of};
-ghost use Rattle.change.specs.Changes.{Changed};
+ghost use Rattle.tables.specs.Model.{view_of};
 ghost use Rattle.sound.specs.Sound.{Sound};
 ghost use Rattle.listing_input.specs.Form.{lines, piece_length_in, file_in};
 ghost use Rattle.listing_output.specs.Printing.{put_text};
 ghost use Rattle.listing.specs.Run.{run, run_from, places, listing};
-ghost use Rattle.listing.specs.private.Steps.{opened_by, obeyed, stopped_by, counted_by, run_says, Placed};
+ghost use Rattle.listing.specs.private.Steps.{opened_by, obeyed, stopped_by, counted_by};
+ghost use Rattle.listing.specs.private.Steps.{store_in, changed_in, run_in, PlacedIn};
 
 use additions::FileInfo;
 use listing_input::{FileLine, file_in, line_length, piece_length_in};
@@ -25,6 +25,15 @@ pub(crate) struct Stop {
     pub line: usize,
 }
 
+// The tables that a run fills.
+#[derive(Drop)]
+pub(crate) struct Tables<'a> {
+    pub rows: &'a mut [u64],
+    pub roots: &'a mut [u8],
+    pub dirs: &'a mut [u64],
+    pub text: &'a mut [u8],
+}
+
 // Obeys the first line: a set with its piece length.
 fn open_line(line: &[u8]) -> Result<FileStorage, Refusal>
     ensures { outcome result ≡ opened_by (piece_length_in line.now) }
@@ -33,60 +42,32 @@ fn open_line(line: &[u8]) -> Result<FileStorage, Refusal>
     storage::open(types::signed32(n))
 }
 
-// Whether flags give a root.
-// Stays: document 01 asks for an enum of presence beside a root.
-fn rooted_by(flags: u64) -> Presence
-    ensures { result ≡ presence_if (leb 16 flags) }
-{
-    if 16 <= flags {
-        return Presence::Present;
-    }
-    Presence::Absent
-}
-
 // Obeys a file line: adds its file. The set keeps no table of first files, so one of no places is lent.
-// Stays: the tables come one by one from `add_lines` and go one by one to `storage::add_file`; a record of them would
-// be made anew for each line, and taken apart here.
-fn add_line(
-    fs: FileStorage,
-    rows: &mut [u64],
-    roots: &mut [u8],
-    dirs: &mut [u64],
-    text: &mut [u8],
-    line: &[u8],
-) -> Result<FileStorage, Refusal>
-    ensures { ◌≡◌ {A = Changed}
-        (record {
-          says = outcome result;
-          rows = rows.new;
-          roots = roots.new;
-          firsts = [];
-          dirs = dirs.new;
-          text = text.new;
-        })
-        (obeyed (file_in line.now)
-        (store_of fs rows.old roots.old [] dirs.old
-        text.old)) }
+// Stays: how long the tables are goes in and comes out of each step, here and in the two below; as a ghost field of
+// `Tables` it would have to be shown again wherever a table is written through the record.
+fn add_line(fs: FileStorage, to: &mut Tables<'_>, line: &[u8]) -> Result<FileStorage, Refusal>
+    requires { PlacedIn to.old }
+    ensures changed { changed_in (outcome result) to.new ≡ obeyed (file_in line.now) (store_in fs to.old) }
+    ensures placed { PlacedIn to.new }
 {
-    let FileLine { size, flags } = file_in(line).ok_or(Refusal::ParseFailed)?;
-    let path = lists::part(line, 19, line.len());
+    let FileLine { size, flags, path } = file_in(line).ok_or(Refusal::ParseFailed)?;
     let bytes = [1u8; 32];
     let file = FileInfo {
         given: Presence::Absent,
         size: types::signed64(size),
         flags: (flags % 8) as u8,
         mtime: 0,
-        rooted: rooted_by(flags),
+        rooted: Presence::from(16 <= flags),
         root: Sha256Hash { bytes },
     };
     let mut firsts = [0u16; 0];
     storage::add_file(
         fs,
-        rows,
-        roots,
+        to.rows,
+        to.roots,
         &mut firsts,
-        dirs,
-        text,
+        to.dirs,
+        to.text,
         file,
         &[],
         path,
@@ -95,6 +76,8 @@ fn add_line(
 }
 
 // The end of a run by the refusal of a line, which carries the line.
+// Stays: `map_err` and `?` would take the refusal alone, but document 01 asks for let else, whose branch has the whole
+// answer; no caller comes here with a set, for which the definition names refusal 17.
 fn stopped_by(answer: Result<FileStorage, Refusal>, line: usize) -> Result<FileStorage, Stop>
     ensures { result ≡ stopped_by answer line }
 {
@@ -106,7 +89,7 @@ fn stopped_by(answer: Result<FileStorage, Refusal>, line: usize) -> Result<FileS
 fn counted_by(fs: FileStorage, line: usize) -> Result<FileStorage, Stop>
     ensures { result ≡ counted_by fs line }
 {
-    if 2147483647 < lists::div_ceil(fs.total_size, fs.piece_length) {
+    if rules::has_many(fs) {
         return Err(Stop {
             refusal: Refusal::TooManyPieces,
             line,
@@ -121,21 +104,14 @@ fn add_lines(
     input: &[u8],
     from: usize,
     fs: FileStorage,
-    rows: &mut [u64],
-    roots: &mut [u8],
-    dirs: &mut [u64],
-    text: &mut [u8],
+    to: &mut Tables<'_>,
 ) -> Result<FileStorage, Stop>
-    requires placed { Placed rows.old roots.old dirs.old text.old }
-    requires sound { Sound (store_of fs rows.old roots.old [] dirs.old text.old) }
+    requires placed { PlacedIn to.old }
+    requires sound { Sound (store_in fs to.old) }
     requires indexed_value { fs.indexed ≡ false }
     requires le_from { (1 ≤ from) × (from ≤ length input.now + 1) }
-    ensures { run_says result rows.new roots.new dirs.new text.new ≡
-        run_from places 1
-        (view_of
-        (store_of fs rows.old roots.old [] dirs.old
-        text.old))
-        (lines (drop from input.now)) }
+    ensures { run_in result to.new
+        ≡ run_from places 1 (view_of (store_in fs to.old)) (lines (drop from input.now)) }
 {
     let mut set = fs;
     let mut at = from;
@@ -146,7 +122,7 @@ fn add_lines(
     while at < input.len() {
         let n = line_length(input, at);
         line += 1;
-        let answer = add_line(set, rows, roots, dirs, text, lists::part(input, at, n));
+        let answer = add_line(set, to, lists::part(input, at, n));
         // Stays: document 01 asks that each line's answer is taken apart by let else.
         let Ok(next) = answer else {
             return stopped_by(answer, line);
@@ -158,16 +134,9 @@ fn add_lines(
 }
 
 // Runs over the lines of an input, with tables of 400 files, 400 directories and 65536 text bytes.
-fn run_input(
-    input: &[u8],
-    rows: &mut [u64],
-    roots: &mut [u8],
-    dirs: &mut [u64],
-    text: &mut [u8],
-) -> Result<FileStorage, Stop>
-    requires { Placed rows.old roots.old dirs.old text.old }
-    ensures { run_says result rows.new roots.new dirs.new text.new ≡
-        run places input.now }
+fn run_input(input: &[u8], to: &mut Tables<'_>) -> Result<FileStorage, Stop>
+    requires { PlacedIn to.old }
+    ensures { run_in result to.new ≡ run places input.now }
 {
     if 65536 < input.len() {
         return Err(Stop {
@@ -175,7 +144,7 @@ fn run_input(
             line: 0,
         });
     }
-    if input.len() == 0 {
+    if input.is_empty() {
         return Err(Stop {
             refusal: Refusal::ParseFailed,
             line: 1,
@@ -187,7 +156,7 @@ fn run_input(
     let Ok(fs) = answer else {
         return stopped_by(answer, 1);
     };
-    add_lines(input, n + 1, fs, rows, roots, dirs, text)
+    add_lines(input, n + 1, fs, to)
 }
 
 // The listing of an input, at the start of `out`, and its length; refusal 10 where `out` is too short.
@@ -198,9 +167,21 @@ pub fn list(input: &[u8], out: &mut [u8]) -> Result<usize, Refusal>
     let mut roots = [0u8; 12800];
     let mut dirs = [0u64; 800];
     let mut text = [0u8; 65536];
-    let ended = run_input(input, &mut rows, &mut roots, &mut dirs, &mut text);
+    let mut tables = Tables {
+        rows: &mut rows,
+        roots: &mut roots,
+        dirs: &mut dirs,
+        text: &mut text,
+    };
+    let ended = run_input(input, &mut tables);
+    let Tables {
+        rows,
+        dirs,
+        text,
+        ..
+    } = tables;
     match ended {
-        Ok(fs) => put_set(fs, &rows, &dirs, &text, out),
+        Ok(fs) => put_set(fs, rows, dirs, text, out),
         Err(stop) => put_refusal(stop.refusal, stop.line, out),
     }
 }

@@ -8,9 +8,9 @@ use mathlib.Core.List.{List, [], ◌∷◌, ◌++◌, append-nil, append_assoc}
 use native.Mathlib.Omega.{arith}
 use native.Mathlib.Nat.{mul_assoc, pow-succ', pow-le-pow_right}
 use lib.Dec.{eqb, ltb, leb}
-use lib.ListN.{length, take, drop}
+use lib.ListN.{length, get_or, take, drop}
 use lib.Seq.{drop-cons, drop-drop}
-use borrow.Author.Tests.{leb-true, lt-ltb}
+use borrow.Author.Tests.{leb-true, le-leb, lt-ltb}
 use Rattle.std.proofs.lemmas.Bool.Decides.{nat_tests}
 use Rattle.std.specs.List.{position_or_len}
 use Rattle.std.specs.Option.{unwrap_or}
@@ -20,7 +20,7 @@ use Rattle.lists.proofs.Searches.{found}
 use Rattle.path.specs.Join.{is_empty}
 use Rattle.tables.specs.Model.{present_if}
 use Rattle.rules.proofs.Rules.{both_true}
-use Rattle.listing_input.specs.Form.{lines_from, lines, unblanked, is_digit, are_digits, is_number, number_in}
+use Rattle.listing_input.specs.Form.{lines_from, lines, unblanked, is_digit, are_digits, is_number, number_in, only_if, are_flags, file_in}
 use Rattle.listing_input.specs.Answers.{first_line}
 
 -- what stands after the first line feed
@@ -142,3 +142,9 @@ pub spelt : (l : List ℕ) → length l ≤ 15 → number_of l ≡ present_if (i
 spelt [] h = refl
 spelt (c ∷ []) h = rw (digits_spelt 0 0 (c ∷ []) (omega arith) (omega arith)) (grind (arith, nat_tests))
 spelt (c ∷ (d ∷ t)) h = rw (digits_spelt 0 0 (c ∷ (d ∷ t)) (omega arith) (omega arith)) (grind (arith, nat_tests))
+
+-- what a file line says, whose parts are in form
+pub line_read : (line : List ℕ) (size flags : ℕ) → 19 ≤ length line → get_or line 15 0 ≡ 32 → get_or line 18 0 ≡ 32
+    → Some size ≡ number_in (part_of line 0 15) → Some flags ≡ only_if are_flags (number_in (part_of line 16 2))
+    → Some (record { size = size; flags = flags; path = drop 19 line }) ≡ file_in line
+line_read line size flags h a b s f = rw (le-leb 19 (length line) h, a, b, ← s, ← f)

@@ -1,6 +1,6 @@
 -- The first line of an input, and what the answers of the functions that read lines say. It relies on Form.antt and on
 -- the record of src/form.rt.
-use Rattle.std.specs.Prelude.{ℕ, cond, List, [], ◌∷◌, eqb, drop, Option, Some, None}
+use Rattle.std.specs.Prelude.{ℕ, cond, List, [], ◌∷◌, eqb, Option, Some, None}
 use Rattle.listing_input.specs.Form.{FileEntry}
 use Rattle.listing_input.specs.declared.form.FileLine.{FileLine}
 
@@ -9,7 +9,6 @@ abbrev pub first_line : List ℕ → List ℕ
 first_line [] = []
 first_line (c ∷ t) = cond (eqb c 10) [] (c ∷ first_line t)
 
--- the path of a file line stands from position 19 on
-abbrev pub file_says : Option FileLine → List ℕ → Option FileEntry
-file_says (Some l) line = Some (record { size = l.size; flags = l.flags; path = drop 19 line })
-file_says None line = None
+abbrev pub file_says : Option FileLine → Option FileEntry
+file_says (Some l) = Some (record { size = l.size; flags = l.flags; path = l.path.now })
+file_says None = None

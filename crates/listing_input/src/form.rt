@@ -5,11 +5,12 @@ ghost use Rattle.listing_input.specs.Form.{unblanked, number_in, only_if};
 ghost use Rattle.listing_input.specs.Form.{piece_length_in, are_flags, file_in};
 ghost use Rattle.listing_input.specs.Answers.{first_line, file_says};
 
-// The size and the flags of a file line, whose path stands from position 19 on.
-#[derive(Drop)]
-pub struct FileLine {
+// What a file line says.
+#[derive(Clone, Copy)]
+pub struct FileLine<'a> {
     pub size: u64,
     pub flags: u64,
+    pub path: &'a [u8],
 }
 
 // The length of the line that begins at position `at`: up to a line feed, or to the input's end.
@@ -60,7 +61,7 @@ pub fn piece_length_in(line: &[u8]) -> Option<u64>
 fn are_flags(n: u64) -> bool
     ensures { result ≡ are_flags n }
 {
-    n < 8 || (16 <= n && n < 24)
+    matches!(n, 0..=7 | 16..=23)
 }
 
 // The flags in a column.
@@ -71,14 +72,16 @@ fn flags_in(column: &[u8]) -> Option<u64>
     number_in(column).filter(|n| are_flags(*n))
 }
 
-// The size and the flags in a file line.
-pub fn file_in(line: &[u8]) -> Option<FileLine>
-    ensures { file_says result line.now ≡ file_in line.now }
+// The size, the flags and the path in a file line.
+pub fn file_in(line: &[u8]) -> Option<FileLine<'_>>
+    ensures { file_says result ≡ file_in line.now }
 {
     if line.len() < 19 || line[15] != b' ' || line[18] != b' ' {
         return None;
     }
-    let size = number_in(&line[..15])?;
-    let flags = flags_in(&line[16..18])?;
-    Some(FileLine { size, flags })
+    Some(FileLine {
+        size: number_in(&line[..15])?,
+        flags: flags_in(&line[16..18])?,
+        path: &line[19..],
+    })
 }

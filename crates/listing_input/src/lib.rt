@@ -1,5 +1,5 @@
 // Reading the input of the listing of document 01: its lines, and the numbers, flags and paths in them.
-// specs/Form.antt says what form a line has.
+// specs/Form.antt says what form a line has. Relies on `lists` for digits.
 #![tactic(auto)]
 
 mod form;

@@ -1,15 +1,16 @@
 -- Laws of printing: runs of columns and texts are written one after the other, and a path is joined in the rest of a buffer.
 use Rattle.std.specs.Prelude.{Result, None, Some}
-use Prim.Native.Nat.{ℕ, zero, suc, ◌+◌, ◌-◌, ◌%◌, ◌≤◌, ◌<◌}
+use Prim.Native.Nat.{ℕ, zero, suc, ◌+◌, ◌-◌, ◌/◌, ◌%◌, ◌≤◌, ◌<◌}
 use mathlib.Core.Path.{◌≡◌, refl, sym, ap, ◌∙◌}
 use mathlib.Core.Bool.{Bool, true, false, cond, not, ◌&&◌}
 use mathlib.Core.List.{List, [], ◌∷◌, ◌++◌, append_assoc}
 use native.Mathlib.Omega.{arith}
 use lib.Dec.{eqb}
 use native.Mathlib.Numerals.{add-one}
-use lib.ListN.{length, take, drop, set, length-append, length-take, length-drop, drop_of_length-le}
+use lib.ListN.{length, get_or, take, drop, set, length-append, length-take, length-drop, drop_of_length-le}
 use lib.Seq.{sets, drop-cons}
-use borrow.Author.Tests.{le-leb, lt-leb}
+use borrow.Author.Tests.{le-leb, lt-leb, eqb-true, eqb-false}
+use Rattle.std.specs.Int.{from_bool}
 use Rattle.lists.specs.Lists.{ceiling}
 use Rattle.lists.specs.Decimal.{column}
 use Rattle.lists.proofs.Decimals.{column-length}
@@ -26,7 +27,7 @@ use Rattle.tables.specs.Rows.{row_at, dir_at, has}
 use Rattle.tables.specs.Model.{single, absolute, stored, path_in, File, Store, tabled, file_of, view_of}
 use Rattle.tables.proofs.Tabled.{length-tabled, get_or-tabled}
 use Rattle.listing_output.specs.Output.{listed, stopped, internal_path, file_line, file_lines, totals_line, printed}
-use Rattle.listing_output.specs.private.Lines.{four_columns, row_path, row_line, lines_of, left_in}
+use Rattle.listing_output.specs.private.Lines.{columns_then, four_columns, row_path, row_line, lines_of, left_in}
 use Rattle.listing_output.specs.Printing.{bare, shown, put_text}
 
 -- texts in a row, each at the place after the one before
@@ -36,20 +37,34 @@ sets-two l a b at p e = rw e (sym (sets-append a b l at))
 pub sets-three : (l a b c : List ℕ) (at p q : ℕ) → p ≡ at + length a → q ≡ p + length b → sets (sets (sets l at a) p b) q c ≡ sets l at (a ++ (b ++ c))
 sets-three l a b c at p q e h = sets-two (sets l at a) b c p q h ∙ sets-two l a (b ++ c) at p e
 
-sets-five : (l a b c d e : List ℕ) (at p q r s : ℕ) → p ≡ at + length a → q ≡ p + length b → r ≡ q + length c → s ≡ r + length d
-    → sets (sets (sets (sets (sets l at a) p b) q c) r d) s e ≡ sets l at (a ++ (b ++ (c ++ (d ++ e))))
-sets-five l a b c d e at p q r s hp hq hr hs =
-    sets-three (sets (sets l at a) p b) c d e q r s hr hs ∙ sets-three l a b (c ++ (d ++ e)) at p q hp hq
+-- the columns from i on, and a byte
+module _ (last : ℕ) (cs : List (ℕ × ℕ)) (i : ℕ) where
+  abbrev pub columns_from : List ℕ
+  columns_from = columns_then last (drop i cs)
 
--- four columns and a byte
-pub put_four : (l : List ℕ) (at a b c width d last : ℕ)
-    → set (sets (sets (sets (sets l at (column 5 a)) (at + 5) (column 15 b)) (at + 20) (column 15 c)) (at + 35) (column width d)) (at + 35 + width) last ≡ sets l at (four_columns a b c width d last)
-put_four l at a b c width d last =
-    sets-five l (column 5 a) (column 15 b) (column 15 c) (column width d) (last ∷ []) at (at + 5) (at + 20) (at + 35) (at + 35 + width)
-    (omega (arith, column-length 5 a))
-    (omega (arith, column-length 15 b))
-    (omega (arith, column-length 15 c))
-    (omega (arith, column-length width d))
+  abbrev pub here : ℕ × ℕ
+  here = get_or cs i (0, 0)
+
+  pub column-next : i < length cs → columns_from ≡ column here.0 here.1 ++ columns_then last (drop (i + 1) cs)
+  column-next h = rw (add-one i) (ap (columns_then last) (drop-cons cs i (0, 0) h))
+
+  pub length-next : i < length cs → length columns_from ≡ here.0 + length (columns_then last (drop (i + 1) cs))
+  length-next h =
+      rw (column-next h, length-append (column here.0 here.1) (columns_then last (drop (i + 1) cs)), column-length here.0 here.1)
+
+  pub put_next_column : (l : List ℕ) (at : ℕ) → i < length cs
+      → sets (sets l at (column here.0 here.1)) (at + here.0) (columns_then last (drop (i + 1) cs)) ≡ sets l at columns_from
+  put_next_column l at h =
+      rw (column-next h)
+      (sets-two l (column here.0 here.1) (columns_then last (drop (i + 1) cs)) at (at + here.0) (ap (λ (k : ℕ). at + k) (sym (column-length here.0 here.1))))
+
+  pub column-none : length cs ≤ i → columns_from ≡ last ∷ []
+  column-none h = rw (drop_of_length-le cs {i = i} h)
+
+-- the column of a pad holds 1
+pub pad-shown : (flags n : ℕ) (b : Bool) → b ≡ has flags 1 → n ≡ from_bool b → n ≡ flags % 2
+pad-shown flags n true e h = let q = eqb-true (flags / 1 % 2) 1 (sym e) in omega (arith, h)
+pad-shown flags n false e h = let q = eqb-false (flags / 1 % 2) 1 (sym e) in omega (arith, h)
 
 -- a path is at most one byte longer than its parts
 pub joined-few : (d n : List ℕ) → length (appended d n) ≤ length d + 1 + length n
@@ -168,10 +183,6 @@ module _ (text out : List ℕ) where
 module _ (k line : ℕ) where
   pub refusal-length : length (printed (stopped k line)) ≡ 11
   refusal-length = rw (length-append (column 5 k), length-append (column 5 line), column-length 5 k, column-length 5 line)
-
-  pub refusal-put : (out : List ℕ) → set (sets (sets out 0 (column 5 k)) 5 (column 5 line)) 10 10 ≡ sets out 0 (printed (stopped k line))
-  refusal-put out =
-      sets-three out (column 5 k) (column 5 line) (10 ∷ []) 0 5 10 (omega (arith, column-length 5 k)) (omega (arith, column-length 5 line))
 
 -- a set's text
 module _ (fs : FileStorage) (rows dirs text : List ℕ) where

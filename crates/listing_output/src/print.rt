@@ -1,28 +1,29 @@
 // Printing: numbers in columns, a file's line by its row, and a set's or a refusal's whole text. Room is
-// decided first and written after. Relies on `lists`, `path`, `tables` and the laws of proofs/Printed.antt.
+// decided first and written after. Relies on `lists`, `path`, `tables`, `rules` and the laws of proofs/Printed.antt.
 ghost use Rattle.std.specs.Prelude.{◌≡◌, ◌+◌, ◌≤◌, ◌<◌, length};
 ghost use Rattle.std.proofs.lemmas.List.Edits.{sets};
 ghost use Rattle.types.specs.Refusals.{number_of};
 ghost use Rattle.path.specs.Join.{joined_says, appended};
 ghost use Rattle.listing_output.specs.Output.{printed, listed, stopped};
-ghost use Rattle.listing_output.specs.private.Lines.{four_columns, left_in};
+ghost use Rattle.listing_output.specs.private.Lines.{columns_then, left_in};
 ghost use Rattle.listing_output.specs.private.Lent.{path_in, line_in, lines_in};
 ghost use Rattle.listing_output.specs.Printing.{shown, put_text};
 
 use tables::{FileStorage, Lent, LentSet};
 use types::Refusal;
 
-// Writes numbers in columns of 5, 15, 15 and `width` from position `at` on, and a byte after them.
+// Writes numbers, each in a column of its width, from position `at` on, and a byte after them.
 // Stays: a column keeps the last digits of a longer number, where `write!` with a width would write all of them.
-fn put_columns(out: &mut [u8], at: usize, a: u64, b: u64, c: u64, width: usize, d: u64, last: u8)
-    requires { at + (35 + width) < length out.old }
-    ensures { out.new ≡ sets out.old at (four_columns a b c width d last) }
+fn put_columns(out: &mut [u8], at: usize, columns: &[(usize, u64)], last: u8)
+    requires { at + length (columns_then last columns.now) ≤ length out.old }
+    ensures { out.new ≡ sets out.old at (columns_then last columns.now) }
 {
-    lists::put_column(out, at, 5, a);
-    lists::put_column(out, at + 5, 15, b);
-    lists::put_column(out, at + 20, 15, c);
-    lists::put_column(out, at + 35, width, d);
-    lists::put(out, at + 35 + width, last);
+    let mut to = at;
+    for (width, n) in columns {
+        lists::put_column(out, to, *width, *n);
+        to += *width;
+    }
+    lists::put(out, to, last);
 }
 
 // Writes the path of a directory and a name from position `at` on, and gives the position after it. The rest of
@@ -42,10 +43,7 @@ fn path_length(lent: Lent<'_>, i: usize) -> usize
     ensures { result ≡ length (path_in lent.entry i) }
 {
     let row = tables::row_at(lent.rows, i);
-    path::joined_length(
-        tables::directory_of(lent.dirs, lent.text, row),
-        tables::text_at(lent.text, row.name),
-    )
+    path::joined_length(lent.directory_of(row), tables::text_at(lent.text, row.name))
 }
 
 // Writes the line of file i from position `at` on, and gives the position after it.
@@ -56,20 +54,17 @@ fn put_row_line(out: &mut [u8], at: usize, i: usize, lent: Lent<'_>) -> usize
     ensures out_after { out.new ≡ sets out.old at (line_in lent.entry i) }
 {
     let row = tables::row_at(lent.rows, i);
-    put_columns(
-        out,
-        at,
-        i as u64,
-        row.offset,
-        row.size,
-        2,
-        row.flags % 2,
-        b' ',
-    );
+    let columns = [
+        (5, i as u64),
+        (15, row.offset),
+        (15, row.size),
+        (2, u64::from(tables::is_pad(row.flags))),
+    ];
+    put_columns(out, at, &columns, b' ');
     let end = put_path(
         out,
         at + 38,
-        tables::directory_of(lent.dirs, lent.text, row),
+        lent.directory_of(row),
         tables::text_at(lent.text, row.name),
     );
     lists::put(out, end, b'\n');
@@ -117,31 +112,31 @@ pub fn put_set(
     ensures { joined_says result out.new
         ≡ put_text (printed (listed (shown fs rows.now dirs.now text.now))) out.old }
 {
-    let lent = Lent { rows, dirs, text };
-    let set = LentSet { fs, lent };
+    let set = LentSet::new(fs, rows, dirs, text);
     let left = room_left(set, out.len()).ok_or(Refusal::NoRoom)?;
     if left < 46 {
         return Err(Refusal::NoRoom);
     }
     let at = put_lines(set, out);
-    let files = fs.num_files as u64;
-    let total = fs.total_size;
-    let disk = fs.size_on_disk;
-    let pieces = lists::div_ceil(total, fs.piece_length);
-    put_columns(out, at, files, total, disk, 10, pieces, b'\n');
+    let columns = [
+        (5, fs.num_files as u64),
+        (15, fs.total_size),
+        (15, fs.size_on_disk),
+        (10, rules::count_pieces(fs)),
+    ];
+    put_columns(out, at, &columns, b'\n');
     Ok(at + 46)
 }
 
 // Writes what is printed of a refusal at a line to the start of `out`, and gives its length.
-// Stays: both columns keep the last digits of a longer number, as those of `put_columns` do.
+// Stays: as `put_set`: a buffer that is too short is left as it was, and a column keeps the last digits.
 pub fn put_refusal(refusal: Refusal, line: usize, out: &mut [u8]) -> Result<usize, Refusal>
     ensures { joined_says result out.new ≡ put_text (printed (stopped (number_of refusal) line)) out.old }
 {
     if out.len() < 11 {
         return Err(Refusal::NoRoom);
     }
-    lists::put_column(out, 0, 5, u64::from(u32::from(refusal)));
-    lists::put_column(out, 5, 5, line as u64);
-    lists::put(out, 10, b'\n');
+    let columns = [(5, u64::from(u32::from(refusal))), (5, line as u64)];
+    put_columns(out, 0, &columns, b'\n');
     Ok(11)
 }

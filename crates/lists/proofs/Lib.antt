@@ -7,5 +7,7 @@ pub mod Equality
 pub mod Tests
 pub mod Searches
 pub mod Sums
+pub mod Spelt
+pub mod Takings
 pub mod Quotients
 pub mod Decimals

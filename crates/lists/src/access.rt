@@ -2,7 +2,7 @@
 // It relies on the laws of proofs/Parts.antt, Runs.antt and Equality.antt.
 ghost use Rattle.std.specs.Prelude.{◌≡◌, get_or, set};
 ghost use Rattle.std.proofs.lemmas.List.Edits.{sets};
-ghost use Rattle.lists.specs.Lists.{part_of, cleared, equal};
+ghost use Rattle.lists.specs.Lists.{part_of, equal};
 
 // The item at position i, or `default` past the end.
 pub fn item_or<T: Copy>(items: &[T], i: usize, default: T) -> T
@@ -12,19 +12,14 @@ pub fn item_or<T: Copy>(items: &[T], i: usize, default: T) -> T
 }
 
 // Stores an item at position i, or nothing past the end.
+// Stays: std's `get_mut` on a slice says which item it lends, and nothing of the slice once the item is written: with it
+// only the slice's length is known after the write.
 pub fn put<T: Copy>(items: &mut [T], i: usize, value: T)
     ensures { items.new ≡ set items.old i value }
 {
     if i < items.len() {
         items[i] = value;
     }
-}
-
-// Writes zeros over all bytes.
-pub fn clear(bytes: &mut [u8])
-    ensures { bytes.new ≡ cleared bytes.old }
-{
-    bytes.fill(0);
 }
 
 // The n bytes from position `at` on, or as many of them as there are.
@@ -38,8 +33,9 @@ pub fn part(bytes: &[u8], at: usize, n: usize) -> &[u8]
 }
 
 // Whether two slices hold the same bytes. It goes from the back: texts of one set often begin alike.
-// Stays: tried, `a == b` takes 10.7 ns for two paths of 25 bytes whose names differ at the end, and this loop 8.0; an
-// addition to a v2 set with 50 directories compares up to 50, and takes as long as the Rust's already.
+// Stays: tried, `a == b` takes 10.7 ns for two paths of 25 bytes whose names differ at the end, and this loop 8.0. With
+// `a.iter().rev().zip(b.iter().rev()).all(..)` a search over 50 directories takes 43 ns by rustc, and so 35; an addition
+// to a v2 set with 50 directories takes as long as the Rust's already.
 #[tactic(auto, using(crate::proofs::Equality::comparing))]
 pub fn same(a: &[u8], b: &[u8]) -> bool
     ensures { result ≡ equal a.now b.now }
@@ -68,7 +64,7 @@ pub fn copy_in(target: &mut [u8], source: &[u8])
 
 // Copies `source` to `target` after its first `used` bytes, as much of it as there is room for: the
 // rest of the buffer is lent to the copy.
-// Stays: `used` may lie past the end of `target`, where no slice of the rest can be lent.
+// Stays: tried, `get_mut(used..)` says which bytes it lends, and nothing of `target` once they are written.
 #[tactic(auto, using(crate::proofs::Runs::storing))]
 pub fn copy_after(target: &mut [u8], used: usize, source: &[u8])
     ensures { target.new ≡ sets target.old used source.now }

@@ -19,11 +19,12 @@ fn glyph(digit: u64) -> u8
     requires { digit < 10 }
     ensures { result ≡ 48 + digit }
 {
-    48 + digit as u8
+    b'0' + digit as u8
 }
 
 // Writes the last `count` digits of n from position `at` on, the last of them first.
-// Stays: std writes a number to a heap's `String` or to a formatter, and `count` digits may pass the end of `target`.
+// Stays: std writes a number to a heap's `String` or to a formatter. An array of the 20 digits that a number may have would
+// be filled by this loop too, since one over `iter_mut().rev()` leaves only the array's length known, and then be copied.
 #[tactic(auto, using(crate::proofs::Decimals::writing))]
 fn put_digits(target: &mut [u8], at: usize, count: usize, n: u64)
     requires { (at < length target.old) × (count ≤ length (decimal n)) }
@@ -53,14 +54,14 @@ pub fn put_decimal(target: &mut [u8], at: usize, n: u64) -> usize
 }
 
 // Writes `count` blanks from position `at` on, as many of them as there is room for.
-// Stays: it is std's `fill` over the blanks that fit, and `count` also counts those that don't.
+// Stays: tried, `get_mut(at..)` says which bytes it lends, and nothing of `target` once they are written.
 #[tactic(auto, using(crate::proofs::Runs::storing))]
 fn put_blanks(target: &mut [u8], at: usize, count: usize)
     ensures { target.new ≡ sets target.old at (replicate count 32) }
 {
     let n = count.min(target.len().saturating_sub(at));
     if 0 < n {
-        target[at..at + n].fill(32);
+        target[at..at + n].fill(b' ');
     }
 }
 
@@ -87,19 +88,13 @@ pub fn parse_decimal(digits: &[u8]) -> Option<u64>
     if let [] | [b'0', _, ..] = digits {
         return None;
     }
-    let mut n = 0;
-    for c in digits {
-        n = with_digit(n, *c)?;
-    }
-    Some(n)
+    digits.iter().try_fold(0, |n, c| with_digit(n, *c))
 }
 
 // n with one more digit, where 64 bits hold it.
 fn with_digit(n: u64, c: u8) -> Option<u64>
     ensures { result ≡ with_digit n (digit_of c) }
 {
-    if !c.is_ascii_digit() {
-        return None;
-    }
-    n.checked_mul(10)?.checked_add(u64::from(c - b'0'))
+    let digit = char::from(c).to_digit(10)?;
+    n.checked_mul(10)?.checked_add(u64::from(digit))
 }

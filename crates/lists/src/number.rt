@@ -3,15 +3,13 @@
 ghost use Rattle.std.specs.Prelude.{◌≡◌, ◌/◌, ◌%◌, ◌^◌, ◌<◌, ℕ, Some, IfSome};
 ghost use Rattle.lists.specs.Lists.{ceiling};
 
-// The exponent of d, where d is a power of two. The power is made from the number's low zero bits and compared with it,
-// so that nothing rests on their count.
+// The exponent of d, where d is a power of two: the number of its low zero bits.
 pub fn exponent(d: u64) -> Option<u32>
     ensures power { IfSome result (λ bits. (bits < 64) × (d ≡ 2 ^ bits)) }
     ensures only { (k : ℕ) → k < 64 → d ≡ 2 ^ k → result ≡ Some k }
 {
-    let bits = u64::trailing_zeros(d) % 64;
-    if 1u64 << bits == d {
-        return Some(bits);
+    if d.is_power_of_two() {
+        return Some(d.trailing_zeros());
     }
     None
 }
@@ -37,6 +35,7 @@ pub fn rem(n: u64, d: u64) -> u64
 }
 
 // `n / d` rounded up, or 0 where d is 0.
+// Stays: std's `div_ceil` asks for a d that is not 0, and divides where `div` shifts.
 pub fn div_ceil(n: u64, d: u64) -> u64
     ensures { result ≡ ceiling n d }
 {

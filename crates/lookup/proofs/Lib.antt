@@ -2,3 +2,4 @@
 pub mod Paths
 pub mod Rows
 pub mod Spaces
+pub mod Last

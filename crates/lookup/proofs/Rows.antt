@@ -2,7 +2,7 @@
 -- scan has still before it. They rely on the laws of tables by their places (`tables`) and of names at a path's end.
 use Prim.Native.Nat.{ℕ, zero, suc, ◌+◌, ◌-◌, ◌%◌, ◌/◌, ◌<◌, ◌≤◌}
 use mathlib.Core.Path.{◌≡◌, refl, sym, ap, ◌∙◌}
-use mathlib.Core.Bool.{Bool, true, false, cond, not, false≢true, ◌&&◌}
+use mathlib.Core.Bool.{Bool, true, false, cond, not, ◌&&◌}
 use mathlib.Core.List.{List, [], ◌∷◌}
 use native.Mathlib.Omega.{arith}
 use native.Mathlib.Nat.{sub-zero}
@@ -19,9 +19,7 @@ use Rattle.tables.specs.Rows.{row_at, dir_at, no_path, is_absolute, directory_sp
 use Rattle.tables.specs.Model.{present_if, single, absolute, stored, path_in, Store, directory_text, directory_in, internal_path, tabled}
 use Rattle.tables.proofs.Paths.{path-parts}
 use Rattle.tables.proofs.Tabled.{tabled-same}
-use Rattle.lookup.specs.Lookup.{Entry, own_path, is_held, held_text, covers, ends_with, is_directory, or_here, file_at, is_there, is_flagged, entries_of, directories_of}
-use Rattle.lookup.specs.declared.set.Seen.{Seen}
-use Rattle.lookup.specs.declared.set.Seen.TheVariants.{Nothing, RegularFile, FlaggedLink}
+use Rattle.lookup.specs.Lookup.{Entry, own_path, is_held, held_text, covers, ends_with, is_directory, is_flagged, entries_of, directories_of}
 use Rattle.lookup.specs.Space.{directory_length}
 use Rattle.lookup.specs.private.Rows.{entry_at, entries_from, directories_from}
 use Rattle.lookup.proofs.Paths.{ends-joined}
@@ -49,16 +47,12 @@ module _ (s : Store) (i : ℕ) where
   pub text_at_lem : cond (has (row_at s.rows i).flags 16) (text_at s.text (row_at s.rows i).link) [] ≡ (entry_at s i).text
   text_at_lem = text-if (has (row_at s.rows i).flags 16) (text_at s.text (row_at s.rows i).link)
 
--- a path that does not end with a row's name is not the row's internal path
-pub not_own : (dirs text p : List ℕ) (r : Row) → ends_with (text_at text r.name) p ≡ false → equal (internal_path dirs text r) p ≡ false
-not_own dirs text p r h =
-    ap (λ (x : List ℕ). equal x p) (sym (path-parts dirs text r (text_at text r.name)))
-    ∙ ends-joined (text_at text r.name) p h (text_at text (directory_span dirs r))
-
--- how many marks a file has, at most
-pub one-or-none : (b : Bool) (j : ℕ) → j ≡ cond b 1 0 → j ≤ 1
-one-or-none true j h = omega arith
-one-or-none false j h = omega arith
+-- a path that does not end with a row's name is not the row's internal path, and the test for that says so
+pub not_own : (dirs text p : List ℕ) (r : Row) (b : Bool) → b ≡ ends_with (text_at text r.name) p → b ≡ false → b ≡ equal (internal_path dirs text r) p
+not_own dirs text p r b e h =
+    h
+    ∙ sym (ends-joined (text_at text r.name) p (sym e ∙ h) (text_at text (directory_span dirs r)))
+    ∙ ap (λ (x : List ℕ). equal x p) (path-parts dirs text r (text_at text r.name))
 
 -- a directory by its path index: of a single name, an absolute path, or a file in it
 kinds-length : (a b outside : Bool) (text : List ℕ) (c : Span)
@@ -167,51 +161,3 @@ module _ (s : Store) (p : List ℕ) where
       list-any (λ k. covers (directory_text s k) p) (range_with_len 0 s.fs.num_paths)
       ∙ any-from s.fs.num_paths 0
       ∙ ap (λ (l : List (List ℕ)). is_directory l p) (directories-all s)
-
--- what stands at p among later files stands there among all
-stays : (x : Seen) (a b : Bool) → is_there x ≡ true → or_here x a b ≡ x
-stays Nothing a b h = absurd (false≢true h)
-stays RegularFile a b h = refl
-stays FlaggedLink a b h = refl
-
-module _ (s : Store) (p : List ℕ) (n : ℕ) where
-  at_row : (j : ℕ) → j < n → file_at (entries_from s (n - j) j) p ≡ or_here (file_at (entries_from s (n - (j + 1)) (j + 1)) p) (equal (own_path (entry_at s j)) p) (entry_at s j).flagged
-  at_row j h = rw (entries-cons s n j h)
-
-  up : (j : ℕ) → j ≤ n → is_there (file_at (entries_from s (n - j) j) p) ≡ true → file_at (entries_from s n 0) p ≡ file_at (entries_from s (n - j) j) p
-  up zero h k = rw sub-zero
-  up (suc j) h k =
-      let q : suc j ≡ j + 1 = omega arith in
-      let k' : is_there (file_at (entries_from s (n - (j + 1)) (j + 1)) p) ≡ true = rw q at k in
-      let e : file_at (entries_from s (n - j) j) p ≡ file_at (entries_from s (n - (j + 1)) (j + 1)) p = at_row j (omega arith) ∙ stays (file_at (entries_from s (n - (j + 1)) (j + 1)) p) (equal (own_path (entry_at s j)) p) (entry_at s j).flagged k' in
-      rw q (up j (omega arith) (ap is_there e ∙ k') ∙ e)
-
-  -- the files, from the last on: file j behind which none is at p
-  module _ (i j : ℕ) (q : i ≡ j + 1) (h : j < n) (inv : file_at (entries_from s (n - i) i) p ≡ Nothing) where
-    pub back-turn : equal (own_path (entry_at s j)) p ≡ false → file_at (entries_from s (n - j) j) p ≡ Nothing
-    back-turn e = at_row j h ∙ rw (e, rw q at inv)
-
-    found : equal (own_path (entry_at s j)) p ≡ true → file_at (entries_from s (n - j) j) p ≡ or_here Nothing true (entry_at s j).flagged
-    found e = at_row j h ∙ rw (e, rw q at inv)
-
-    module _ (m : n ≡ s.fs.num_files) (e : equal (own_path (entry_at s j)) p ≡ true) where
-      from_all : is_there (file_at (entries_from s (n - j) j) p) ≡ true → file_at (entries_of s) p ≡ file_at (entries_from s (n - j) j) p
-      from_all k =
-          let z : entries_from s n 0 ≡ entries_of s = rw m (entries-all s) in
-          sym (ap (λ (l : List Entry). file_at l p) z) ∙ up j (omega arith) k
-
-      pub back-file : (entry_at s j).flagged ≡ false → RegularFile ≡ file_at (entries_of s) p
-      back-file f =
-          let g : file_at (entries_from s (n - j) j) p ≡ RegularFile = found e ∙ ap (or_here Nothing true) f in
-          sym (from_all (ap is_there g) ∙ g)
-
-      pub back-link : (entry_at s j).flagged ≡ true → FlaggedLink ≡ file_at (entries_of s) p
-      back-link f =
-          let g : file_at (entries_from s (n - j) j) p ≡ FlaggedLink = found e ∙ ap (or_here Nothing true) f in
-          sym (from_all (ap is_there g) ∙ g)
-
-  pub back_start : file_at (entries_from s (n - n) n) p ≡ Nothing
-  back_start = rw (entries_none s n n (omega arith))
-
-  pub back_end : (i : ℕ) → n ≡ s.fs.num_files → i ≡ 0 → file_at (entries_from s (n - i) i) p ≡ Nothing → Nothing ≡ file_at (entries_of s) p
-  back_end i m z inv = sym (ap (λ (l : List Entry). file_at l p) (sym (entries-start s n m)) ∙ rw z at inv)

@@ -2,31 +2,41 @@
 -- laws of proofs/Rows.antt.
 use Prim.Native.Nat.{ℕ, zero, suc, ◌+◌, ◌-◌, ◌*◌, ◌/◌, ◌<◌, ◌≤◌, min}
 use mathlib.Core.Path.{◌≡◌, refl, sym, ap, ◌∙◌}
-use mathlib.Core.Bool.{Bool, true, cond, ◌||◌}
-use mathlib.Core.List.{List, []}
+use mathlib.Core.Bool.{Bool, true, false, cond, ◌||◌}
+use mathlib.Core.List.{List, [], ◌∷◌}
 use mathlib.Core.Logic.{◌⊎◌, inl, inr}
 use native.Mathlib.Omega.{arith}
 use lib.Dec.{eqb, ltb}
 use lib.ListN.{length}
 use borrow.Author.Tests.{lt-ltb, le-ltb, eq-eqb, ne_eqb}
+use Rattle.std.specs.List.{filter, fold, range_with_len}
 use Rattle.lists.proofs.Orders.{le-or-lt}
 use Rattle.tables.specs.Span.{text_at}
 use Rattle.tables.specs.Rows.{row_at, has}
 use Rattle.tables.specs.Model.{Store}
 use Rattle.lookup.specs.Lookup.{Entry, is_flagged, entries_of}
 use Rattle.lookup.specs.Space.{directory_length, space, link_count, lacks_space}
-use Rattle.lookup.specs.private.Rows.{entry_at, entries_from}
-use Rattle.lookup.proofs.Rows.{flagged-at, text_at_lem, branch_at, length_at, entries-cons, entries_none, entries-all}
+use Rattle.lookup.specs.private.Rows.{entry_at, entries_from, row_space}
+use Rattle.lookup.proofs.Rows.{flagged-at, text_at_lem, branch_at, length_at, entries-all}
 
 -- ---- the count
 
-module _ (s : Store) (n i : ℕ) where
-  -- one file more, and no more of them
-  pub count_turn : i < n → link_count (entries_from s (n - i) i) ≡ cond (entry_at s i).flagged 1 0 + link_count (entries_from s (n - (i + 1)) (i + 1))
-  count_turn h = rw (entries-cons s n i h)
+-- the flagged links of the files, as an iterator's `filter` leaves them
+module _ (s : Store) where
+  abbrev pub flagged_row : ℕ → Bool
+  flagged_row i = is_flagged (row_at s.rows i).flags
 
-  pub count-end : n ≤ i → link_count (entries_from s (n - i) i) ≡ 0
-  count-end h = rw (entries_none s n i h)
+  filtered-from : (n i : ℕ) → length (filter flagged_row (range_with_len i n)) ≡ link_count (entries_from s n i)
+  unfolding entries_from
+  filtered-from zero i = refl
+  filtered-from (suc n) i = one (flagged_row i) ∙ rw (filtered-from n (i + 1), flagged-at s i)
+    where
+      one : (b : Bool) → length (cond b (i ∷ filter flagged_row (range_with_len (i + 1) n)) (filter flagged_row (range_with_len (i + 1) n))) ≡ cond b 1 0 + length (filter flagged_row (range_with_len (i + 1) n))
+      one true = omega arith
+      one false = omega arith
+
+  pub count-filtered : length (filter flagged_row (range_with_len 0 s.fs.num_files)) ≡ link_count (entries_of s)
+  count-filtered = filtered-from s.fs.num_files 0 ∙ ap link_count (entries-all s)
 
 -- links are counted by the rows alone
 pub count-rows : (s s' : Store) → s.rows ≡ s'.rows → s.fs ≡ s'.fs → link_count (entries_of s) ≡ link_count (entries_of s')
@@ -54,13 +64,15 @@ need-row s i =
     ∙ ap (λ (n : ℕ). cond (entry_at s i).flagged (n + length (cond (has (row_at s.rows i).flags 16) (text_at s.text (row_at s.rows i).link) []) + 2) 0) (length_at s i)
     ∙ ap (λ (t : List ℕ). cond (entry_at s i).flagged (directory_length (entry_at s i).directory + length t + 2) 0) (text_at_lem s i)
 
-module _ (s : Store) (n i : ℕ) where
-  -- one file more, and no more of them
-  pub space-turn : (left rest : ℕ) → i < n → rest ≡ left - need_at s i → rest - space (entries_from s (n - (i + 1)) (i + 1)) ≡ left - space (entries_from s (n - i) i)
-  space-turn left rest h e = rw (entries-cons s n i h, e) (omega arith)
+module _ (s : Store) where
+  -- what the files from i on leave of u
+  left-from : (n i u : ℕ) → fold (λ left k. left - row_space s.rows s.dirs s.text k) u (range_with_len i n) ≡ u - space (entries_from s n i)
+  unfolding entries_from
+  left-from zero i u = omega arith
+  left-from (suc n) i u = left-from n (i + 1) (u - row_space s.rows s.dirs s.text i) ∙ omega (arith, need-row s i)
 
-  pub space-end : (left : ℕ) → n ≤ i → left ≡ left - space (entries_from s (n - i) i)
-  space-end left h = rw (entries_none s n i h) (omega arith)
+  pub space-folded : (u : ℕ) → fold (λ left k. left - row_space s.rows s.dirs s.text k) u (range_with_len 0 s.fs.num_files) ≡ u - space (entries_of s)
+  space-folded u = left-from s.fs.num_files 0 u ∙ ap (λ (l : List Entry). u - space l) (entries-all s)
 
 -- ---- the test
 

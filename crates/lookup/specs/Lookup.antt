@@ -4,7 +4,7 @@ use Rattle.std.specs.Prelude.{ℕ, ◌-◌, Bool, true, false, cond, List, [], �
 use Rattle.lists.specs.Lists.{equal}
 use Rattle.path.specs.Split.{is_separator}
 use Rattle.tables.specs.declared.storage.FileStorage.{FileStorage}
-use Rattle.tables.specs.Rows.{has, link_held_bit, symlink_bit}
+use Rattle.tables.specs.Rows.{row_at, has, link_held_bit, symlink_bit}
 use Rattle.tables.specs.Model.{Directory, path_in, File, Store, store_of, file_of}
 use Rattle.tables.specs.Model.{directory_text, tabled}
 use Rattle.lookup.specs.declared.set.Seen.{Seen}
@@ -100,3 +100,8 @@ files_in fs rows dirs text = entries_of (lent fs rows dirs text)
 
 abbrev pub dirs_in : FileStorage → List ℕ → List ℕ → List ℕ → List (List ℕ)
 dirs_in fs rows dirs text = directories_of (lent fs rows dirs text)
+
+-- what a file is that a scan of the rows found, or none
+abbrev pub seen_as : List ℕ → Option ℕ → Seen
+seen_as rows None = Nothing
+seen_as rows (Some i) = cond (is_flagged (row_at rows i).flags) FlaggedLink RegularFile

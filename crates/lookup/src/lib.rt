@@ -7,7 +7,7 @@ mod set;
 mod space;
 
 pub use set::{
-    Seen, covers_at, ends_with_name, file_at, is_directory, is_flagged, is_link, link_count,
-    link_text, own_is,
+    Seen, covers, ends_with_name, file_at, is_directory, is_flagged, is_link, link_text, own_is,
+    seen_as,
 };
 pub use space::{count_links, lacks_space};

@@ -1,15 +1,16 @@
 // The set that the lent tables hold: what a row says of a link, of a file's directory and of its path, and scans
-// over all directories and files. They rely on parts.rt, on the total accessors of `tables` and on proofs/Rows.antt.
-ghost use Rattle.std.specs.Prelude.{◌≡◌, cond, [], take, drop};
+// over all directories and files. They rely on parts.rt, on the total accessors of `tables` and on proofs/Rows.antt and
+// proofs/Last.antt.
+ghost use Rattle.std.specs.Prelude.{◌≡◌, cond, []};
 ghost use Rattle.lists.specs.Lists.{equal};
 ghost use Rattle.tables.specs.Span.{text_at};
 ghost use Rattle.tables.specs.Rows.{row_at, dir_at, has, link_held_bit};
 ghost use Rattle.tables.specs.Model.{internal_path};
 ghost use Rattle.lookup.specs.Lookup.{covers, ends_with, is_directory, file_at, is_flagged};
-ghost use Rattle.lookup.specs.Lookup.{files_in, dirs_in};
+ghost use Rattle.lookup.specs.Lookup.{files_in, dirs_in, seen_as};
 
 use crate::parts::{ends_with, is_covered, joins_to};
-use tables::{FileStorage, Row, Span};
+use tables::{FileStorage, Row};
 
 // What stands at a path: nothing, a file that is no flagged link, or a flagged link.
 #[derive(Clone, Copy, PartialEq, Eq)]
@@ -33,21 +34,11 @@ pub fn is_link(rows: &[u64], i: usize) -> bool
     is_flagged(tables::flags_at(rows, i))
 }
 
-// 1 for a flagged link, else 0: how many marks file i has.
-pub fn link_count(rows: &[u64], i: usize) -> usize
-    ensures { result ≡ cond (is_flagged (row_at rows.now i).flags) 1 0 }
-{
-    if is_link(rows, i) { 1 } else { 0 }
-}
-
 // The link text of the file with that row, nothing where none is held.
 pub fn link_text(text: &[u8], row: Row) -> &[u8]
     ensures { result.now ≡ cond (has row.flags link_held_bit) (text_at text.now row.link) [] }
 {
-    if tables::holds_link(row.flags) {
-        return tables::text_at(text, row.link);
-    }
-    tables::text_at(text, Span { at: 0, len: 0 })
+    tables::text_at(text, tables::link_span(row))
 }
 
 // Whether p ends with the name of file i.
@@ -57,11 +48,10 @@ pub fn ends_with_name(rows: &[u64], text: &[u8], i: usize, p: &[u8]) -> bool
     ends_with(tables::text_at(text, tables::row_at(rows, i).name), p)
 }
 
-// Whether the internal path of file i is p.
-pub fn own_is(rows: &[u64], dirs: &[u64], text: &[u8], i: usize, p: &[u8]) -> bool
-    ensures { result ≡ equal (internal_path dirs.now text.now (row_at rows.now i)) p.now }
+// Whether the internal path of the file with that row is p.
+fn row_joins_to(dirs: &[u64], text: &[u8], row: Row, p: &[u8]) -> bool
+    ensures { result ≡ equal (internal_path dirs.now text.now row) p.now }
 {
-    let row = tables::row_at(rows, i);
     joins_to(
         tables::directory_of(dirs, text, row),
         tables::text_at(text, row.name),
@@ -69,35 +59,48 @@ pub fn own_is(rows: &[u64], dirs: &[u64], text: &[u8], i: usize, p: &[u8]) -> bo
     )
 }
 
-// Whether p is a stored directory of the set, or the part of one that stands before one of its separators.
+// Whether the internal path of file i is p: its name first, so that a scan passes most files by that.
+// Stays: public functions are lent each table by itself, as most of them read only some (docs/DECISIONS.md), here and
+// below.
+pub fn own_is(rows: &[u64], dirs: &[u64], text: &[u8], i: usize, p: &[u8]) -> bool
+    ensures { result ≡ equal (internal_path dirs.now text.now (row_at rows.now i)) p.now }
+{
+    ends_with_name(rows, text, i, p) && row_joins_to(dirs, text, tables::row_at(rows, i), p)
+}
+
+// Whether directory d covers p: it is p, or begins with p and a separator.
+pub fn covers(dirs: &[u64], text: &[u8], d: usize, p: &[u8]) -> bool
+    ensures { result ≡ covers (text_at text.now (dir_at dirs.now d)) p.now }
+{
+    is_covered(tables::text_at(text, tables::dir_at(dirs, d)), p)
+}
+
+// Whether a directory of the set covers p.
 pub fn is_directory(fs: FileStorage, dirs: &[u64], text: &[u8], p: &[u8]) -> bool
     ensures { result ≡ is_directory (dirs_in fs [] dirs.now text.now) p.now }
 {
-    (0..fs.num_paths).any(|d| is_covered(tables::text_at(text, tables::dir_at(dirs, d)), p))
+    (0..fs.num_paths).any(|d| covers(dirs, text, d, p))
 }
 
-// Whether directory d covers the e bytes of the path from `at` on.
-pub fn covers_at(dirs: &[u64], text: &[u8], d: usize, path: &[u8], at: usize, e: usize) -> bool
-    ensures { result ≡ covers (text_at text.now (dir_at dirs.now d)) (take e (drop at path.now)) }
+// What the file is that was found, by its number.
+pub fn seen_as(rows: &[u64], found: Option<usize>) -> Seen
+    ensures { result ≡ seen_as rows.now found }
 {
-    is_covered(
-        tables::text_at(text, tables::dir_at(dirs, d)),
-        lists::part(path, at, e),
-    )
+    match found {
+        None => Seen::Nothing,
+        Some(i) if is_link(rows, i) => Seen::FlaggedLink,
+        Some(_) => Seen::RegularFile,
+    }
 }
 
 // What stands at p. Of files with one internal path the last counts, so it goes from the last to the first.
+// Stays: links' `file_in` is the same scan with another test, and `seen_as` is shared; one function for both would be
+// passed the test, and be no shorter than the chain.
 pub fn file_at(fs: FileStorage, rows: &[u64], dirs: &[u64], text: &[u8], p: &[u8]) -> Seen
     ensures { result ≡ file_at (files_in fs rows.now dirs.now text.now) p.now }
 {
-    for i in (0..fs.num_files).rev() {
-        if ends_with_name(rows, text, i, p) && own_is(rows, dirs, text, i, p) {
-            return if is_link(rows, i) {
-                Seen::FlaggedLink
-            } else {
-                Seen::RegularFile
-            };
-        }
-    }
-    Seen::Nothing
+    let found = (0..fs.num_files)
+        .rev()
+        .find(|i| own_is(rows, dirs, text, *i, p));
+    seen_as(rows, found)
 }

@@ -6,28 +6,26 @@ ghost use Rattle.lookup.specs.Lookup.{files_in, entries_of};
 ghost use Rattle.lookup.specs.private.Rows.{row_space};
 ghost use Rattle.lookup.specs.private.Sets.{stored_in};
 
-use crate::set::{is_link, link_count, link_text};
+use crate::set::{is_link, link_text};
 use tables::{FileStorage, Lent, LentSet};
 
 // How many flagged links the set has.
 pub fn count_links(fs: FileStorage, rows: &[u64]) -> usize
     ensures { result ≡ link_count (files_in fs rows.now [] []) }
 {
-    let mut n = 0;
-    for i in 0..fs.num_files {
-        n += link_count(rows, i);
-    }
-    n
+    (0..fs.num_files).filter(|i| is_link(rows, *i)).count()
 }
 
 // What is left of `left` bytes after the space that file i needs: directory length + text length + 2 for a flagged
 // link, else nothing.
+// Stays: 0 is what is left where the room is used up, as in the definition, which subtracts down to 0; with an `Option`
+// each of three subtractions would be passed on, and the room still be the least of two lengths.
 fn left_after(lent: Lent<'_>, i: usize, left: usize) -> usize
     ensures { result ≡ left - row_space lent.entry.rows.now lent.entry.dirs.now lent.entry.text.now i }
 {
     if is_link(lent.rows, i) {
         let row = tables::row_at(lent.rows, i);
-        let directory = tables::directory_of(lent.dirs, lent.text, row);
+        let directory = lent.directory_of(row);
         let target = link_text(lent.text, row);
         let rest = left.saturating_sub(directory.len());
         return rest.saturating_sub(target.len()).saturating_sub(2);
@@ -39,11 +37,7 @@ fn left_after(lent: Lent<'_>, i: usize, left: usize) -> usize
 fn space_left(set: LentSet<'_>, room: usize) -> usize
     ensures { result ≡ room - space (entries_of (stored_in set.entry)) }
 {
-    let mut left = room;
-    for i in 0..set.fs.num_files {
-        left = left_after(set.lent, i, left);
-    }
-    left
+    (0..set.fs.num_files).fold(room, |left, i| left_after(set.lent, i, left))
 }
 
 // Whether there are fewer marks than links, or `scratch` or `walk_path` is shorter than the links need; all three are
@@ -60,10 +54,7 @@ pub fn lacks_space(
     ensures { result ≡ lacks_space (files_in fs rows.now dirs.now text.now) marks scratch
         walk_path }
 {
-    if marks < count_links(fs, rows) {
-        return true;
-    }
     let room = scratch.min(walk_path / 2) + 1;
-    let lent = Lent { rows, dirs, text };
-    space_left(LentSet { fs, lent }, room) == 0
+    let set = LentSet::new(fs, rows, dirs, text);
+    marks < count_links(fs, rows) || space_left(set, room) == 0
 }

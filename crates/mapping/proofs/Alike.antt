@@ -1,7 +1,6 @@
 -- Document 02 (v): with the window of a true table of the file in which each piece begins, the outcome of `map_block` is the
 -- same whatever the rows before the window hold. It relies on the law of the block's slices in `layout`.
 --     block-mapped-alike     the answer and the table
-use Rattle.types.specs.Refusals.{outcome}
 use mathlib.Core.Path.{◌≡◌, ap, ◌∙◌}
 use mathlib.Core.List.{List, [], ◌∷◌}
 use Prim.Native.Nat.{ℕ, ◌*◌}
@@ -14,7 +13,8 @@ use Rattle.tables.specs.Rows.{row_width}
 use Rattle.rules.specs.Rules.{first_of}
 use Rattle.rules.specs.Questions.{short}
 use Rattle.layout.specs.Window.{window_for}
-use Rattle.layout.specs.Mapping.{Slice, block_of, block_rules}
+use Rattle.layout.specs.declared.slices.Slice.{Slice}
+use Rattle.layout.specs.Mapping.{block_of, block_rules}
 use Rattle.layout.proofs.Alike.{TrueTable, block-of-alike, block-rules-alike}
 use Rattle.mapping.specs.Table.{filled, block_mapped}
 

@@ -1,6 +1,4 @@
--- Laws of the steps through a block's slices and of the table that they fill, and the outcome for two tables that are
--- alike from a window on.
+-- Laws of the table that a block's slices fill, and the outcome for two tables that are alike from a window on.
 pub mod Alike
 pub mod Filling
 pub mod Plans
-pub mod Steps

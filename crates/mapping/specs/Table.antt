@@ -13,7 +13,8 @@ use Rattle.tables.specs.declared.storage.FileStorage.{FileStorage}
 use Rattle.rules.specs.Rules.{first_of}
 use Rattle.rules.specs.Questions.{short}
 use Rattle.layout.specs.declared.window.Window.{Window}
-use Rattle.layout.specs.Mapping.{Slice, block_of, block_rules}
+use Rattle.layout.specs.declared.slices.Slice.{Slice}
+use Rattle.layout.specs.Mapping.{block_of, block_rules}
 
 -- a slice as the record of signed numbers that the Rust has
 abbrev pub record_of : Slice → FileSlice

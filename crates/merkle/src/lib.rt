@@ -8,6 +8,9 @@ ghost use Rattle.merkle.specs.Width.{width_of, num_leafs, first_node};
 
 use types::Refusal;
 
+// The most blocks or pieces that a tree is over.
+const MAX_LEAVES: usize = 1073741823;
+
 // The tree width of an accepted count, from the leading zeros of the count less one.
 // Stays: document 01 asks for the width from the leading zeros of the count less one.
 #[tactic(auto, using(crate::proofs::Widths::by_digits))]
@@ -15,7 +18,7 @@ fn width(count: usize) -> usize
     requires { (1 ≤ count) × (count ≤ 1073741823) }
     ensures { result ≡ width_of count }
 {
-    let zeros = usize::leading_zeros(count - 1);
+    let zeros = (count - 1).leading_zeros();
     1 << (64 - zeros)
 }
 
@@ -23,7 +26,7 @@ fn width(count: usize) -> usize
 pub fn merkle_num_leafs(blocks: usize) -> Result<usize, Refusal>
     ensures { outcome result ≡ num_leafs blocks }
 {
-    if blocks < 1 || blocks > 1073741823 {
+    if !(1..=MAX_LEAVES).contains(&blocks) {
         return Err(Refusal::NoTree);
     }
     Ok(width(blocks))

@@ -1,20 +1,17 @@
 -- Laws of `appended`: a path whose first part is kept only grows, by lengths that are known from the parts, and parts
 -- that are written one behind the other are the composed text. They rely on the laws of runs of stores of `lists`.
-use Prim.Native.Nat.{ℕ, ◌+◌, ◌-◌, ◌≤◌, ◌<◌}
+use Prim.Native.Nat.{ℕ, ◌+◌, ◌≤◌, ◌<◌}
 use mathlib.Core.Path.{◌≡◌, refl, sym, ◌∙◌}
 use mathlib.Core.Bool.{Bool, true, false, cond, true≢false}
 use mathlib.Core.List.{List, [], ◌∷◌, ◌++◌}
 use native.Mathlib.Omega.{arith}
-use lib.Dec.{eqb}
 use lib.ListN.{length, take, length-append}
 use lib.Seq.{sets, length-sets}
-use Rattle.lists.specs.Lists.{equal}
 use Rattle.lists.proofs.Runs.{part-sets, sets_over}
-use Rattle.path.specs.Join.{Joined, is_alone, is_empty, closed_from, is_closed, glued, appended, joined_if, fits}
-
--- a part that stands alone is dropped
-pub dropped : (a b : List ℕ) → is_alone a ≡ true → appended a b ≡ b
-dropped a b e = rw e
+use Rattle.path.specs.Join.{Joined, is_alone, is_empty, closed_from, is_closed, separator, glued, appended, joined_if, fits}
+use Rattle.path.proofs.Joins.{longer_stays, length_parts}
+use Rattle.names.specs.declared.kept.KeptParts.{KeptParts}
+use Rattle.names.specs.private.Parts.{composed}
 
 -- no part is appended to another by leaving it out
 pub append-none : (a b : List ℕ) → appended (appended a []) b ≡ appended a b
@@ -24,47 +21,25 @@ append-none a b = at (is_alone a) refl
     at true e = rw e
     at false e = refl
 
--- a path of at least two bytes is kept
-kept-long : (p : List ℕ) → 1 < length p → is_alone p ≡ false
-kept-long [] h = absurd (omega arith)
-kept-long (c ∷ []) h = absurd (omega arith)
-kept-long (c ∷ d ∷ t) h = at (eqb c 46)
-  where
-    at : (b : Bool) → cond b (equal (d ∷ t) []) false ≡ false
-    at true = refl
-    at false = refl
-
-pub kept-some : (p : List ℕ) → is_alone p ≡ false → 0 < length p
+-- a path that is kept has a byte
+kept-some : (p : List ℕ) → is_alone p ≡ false → 0 < length p
 kept-some [] e = absurd (true≢false e)
 kept-some (c ∷ t) e = omega arith
 
 -- how long the composed path is
-length-tail : (b : Bool) (l : List ℕ) → length (cond b l (47 ∷ l)) ≡ cond b (length l) (length l + 1)
-length-tail true l = refl
-length-tail false l = omega arith
-
-abbrev pub growth : Bool → List ℕ → ℕ
-growth closed part = cond (is_empty part) 0 (cond closed (length part) (length part + 1))
-
-pub length-appended : (a b : List ℕ) → is_alone a ≡ false → length (appended a b) ≡ length a + growth (is_closed a) b
-length-appended a [] e = rw e (omega arith)
-length-appended a (c ∷ t) e = rw (e, length-append, length-tail (is_closed a) (c ∷ t))
+pub length-appended : (a b : List ℕ) → is_alone a ≡ false → length (appended a b) ≡ length a + (length (separator a b) + length b)
+length-appended a b e = rw e (rw e at (sym (length_parts a b)))
 
 pub longer : (a b : List ℕ) → is_alone a ≡ false → length a ≤ length (appended a b)
 longer a b e = omega (arith, length-appended a b e)
 
 pub kept-appended : (a b : List ℕ) → is_alone a ≡ false → is_alone (appended a b) ≡ false
 kept-appended a [] e = rw (e, e)
-kept-appended a (c ∷ t) e = rw e (kept-long (glued a (c ∷ t)) (long (is_closed a)))
+kept-appended a (c ∷ t) e = rw e (longer_stays (glued a (c ∷ t)) (long (is_closed a)))
   where
-    long : (b : Bool) → 1 < length (a ++ cond b (c ∷ t) (47 ∷ c ∷ t))
+    long : (b : Bool) → 2 ≤ length (a ++ cond b (c ∷ t) (47 ∷ c ∷ t))
     long true = omega (arith, length-append a (c ∷ t), kept-some a e)
     long false = omega (arith, length-append a (47 ∷ c ∷ t), kept-some a e)
-
--- the whole of four parts has a byte
-pub composed_some : (a b c d : List ℕ) → is_alone a ≡ false → 0 < length (appended (appended (appended a b) c) d)
-composed_some a b c d e =
-    kept-some (appended (appended (appended a b) c) d) (kept-appended (appended (appended a b) c) d (kept-appended (appended a b) c (kept-appended a b e)))
 
 -- whether it ends in a separator
 closed-behind : (x : ℕ) (a : List ℕ) (c : ℕ) (t : List ℕ) → closed_from x (a ++ (c ∷ t)) ≡ closed_from c t
@@ -83,17 +58,36 @@ closed-appended a (c ∷ t) e = rw e (at (is_closed a))
     at true = closed-append a c t
     at false = closed-append a 47 (c ∷ t)
 
--- the room behind a path, from its last byte on, and whether it is closed, once a part is appended
-room-step : (room n g : ℕ) → 0 < n → room - (n - 1) - g ≡ room - (n + g - 1)
-room-step room n g h = omega arith
+-- the same of a path that ends as `end` does
+module _ (a b end : List ℕ) (kept : is_alone a ≡ false) (e : is_closed end ≡ is_closed a) where
+  grows : length (appended a b) ≡ length a + (length (separator end b) + length b)
+  grows = rw e (length-appended a b kept)
 
-module _ (a b : List ℕ) (k : Bool) (kept : is_alone a ≡ false) (e : k ≡ is_closed a) where
-  pub room-behind : (room l r : ℕ) → l ≡ room - (length a - 1) → r ≡ l - growth k b → r ≡ room - (length (appended a b) - 1)
-  room-behind room l r q h =
-      h ∙ rw (q, e, length-appended a b kept) (room-step room (length a) (growth (is_closed a) b) (kept-some a kept))
+  ends : is_closed (cond (is_empty b) end b) ≡ is_closed (appended a b)
+  ends = sym (closed-appended a b kept ∙ rw (← e) (at (is_empty b)))
+    where
+      at : (t : Bool) → cond t (is_closed end) (is_closed b) ≡ is_closed (cond t end b)
+      at true = refl
+      at false = refl
 
-  pub closed_is : (r : Bool) → r ≡ cond (is_empty b) k (is_closed b) → r ≡ is_closed (appended a b)
-  closed_is r h = h ∙ rw e (sym (closed-appended a b kept))
+-- and of all parts
+pub composed_length : (p : KeptParts) (end2 end3 : List ℕ) → end2 ≡ cond (is_empty p.second.now) p.first.now p.second.now → end3 ≡ cond (is_empty p.third.now) end2 p.third.now
+    → length (composed p)
+    ≡ length p.first.now + (length (separator p.first.now p.second.now) + length p.second.now) + (length (separator end2 p.third.now) + length p.third.now)
+    + (length (separator end3 p.last.now) + length p.last.now)
+composed_length p end2 end3 f g =
+    let a = p.first.now in
+    let b = appended a p.second.now in
+    let k2 = kept-appended a p.second.now p.kept in
+    let k3 = kept-appended b p.third.now k2 in
+    let q2 : is_closed end2 ≡ is_closed b = rw f (ends a p.second.now a p.kept refl) in
+    let q3 : is_closed end3 ≡ is_closed (appended b p.third.now) = rw g (ends b p.third.now end2 k2 q2) in
+    omega (
+      arith,
+      grows a p.second.now a p.kept refl,
+      grows b p.third.now end2 k2 q2,
+      grows (appended b p.third.now) p.last.now end3 k3 q3,
+    )
 
 -- a path stands at the start of `held`: its n bytes are written over the first of `buf`
 pub record Stands (buf path : List ℕ) (n : ℕ) (held : List ℕ) : Type 0 where

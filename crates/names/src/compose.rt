@@ -1,52 +1,43 @@
 // A path composed of four parts in a lent buffer, by the rule of `append_path`. Parts that a later join drops
 // are left out before anything is written, then the length is tested, and each part is written after those
 // before it. Relies on the joins of `path` and on the laws of proofs/Composed.antt.
-ghost use Rattle.std.specs.Prelude.{◌≡◌, cond, ◌+◌, ◌-◌, ◌≤◌, length, take};
+ghost use Rattle.std.specs.Prelude.{◌≡◌, cond, ◌+◌, ◌-◌, ◌≤◌, length, take, SomeIff};
 ghost use Rattle.std.proofs.lemmas.List.Edits.{sets};
-ghost use Rattle.path.specs.Join.{joined_says, is_empty, is_closed, appended};
+ghost use Rattle.path.specs.Join.{joined_says, is_empty, separator, appended};
 ghost use Rattle.names.specs.Paths.{composed_of, written_into};
 ghost use Rattle.names.specs.private.Parts.{composed};
 
 use crate::kept::KeptParts;
-use path::{is_alone, is_closed};
+use path::is_alone;
 use types::Refusal;
 
-// Whether a path ends in a separator after `part` is appended to it; `closed` says whether it did before.
-fn is_closed_after(closed: bool, part: &[u8]) -> bool
-    ensures { result ≡ cond (is_empty part.now) closed (is_closed part.now) }
+// The last of two parts that is not empty: the joined path ends as it does.
+fn end_of<'a>(end: &'a [u8], part: &'a [u8]) -> &'a [u8]
+    ensures { result.now ≡ cond (is_empty part.now) end.now part.now }
 {
-    if part.is_empty() {
-        closed
-    } else {
-        is_closed(part)
-    }
+    if part.is_empty() { end } else { part }
 }
 
-// What is left of `left` bytes after `part` is appended, 0 where they are too few; `closed` says whether the path
-// before it ends in a separator.
-fn left_after(left: usize, closed: bool, part: &[u8]) -> usize
-    ensures { result ≡ left
-        - cond (is_empty part.now) 0
-        (cond closed (length part.now) (length part.now + 1)) }
+// What is left of `left` bytes after `part` is appended to a path that ends as `end` does, if they are enough.
+fn left_after(left: usize, end: &[u8], part: &[u8]) -> Option<usize>
+    ensures { SomeIff result (length (separator end.now part.now) + length part.now ≤ left)
+        (left - (length (separator end.now part.now) + length part.now)) }
 {
-    if part.is_empty() {
-        return left;
-    }
-    let rest = left.saturating_sub(part.len());
-    if closed { rest } else { rest.saturating_sub(1) }
+    left.checked_sub(path::separator(end, part).len())?
+        .checked_sub(part.len())
 }
 
-// The room from the last byte of the composed path on, 0 where it doesn't fit.
-fn room_left(parts: KeptParts<'_>, room: usize) -> usize
-    ensures { result ≡ room - (length (composed parts.entry) - 1) }
+// What is left of `room` bytes after the composed path, if it fits.
+#[tactic(auto, using(crate::proofs::Composed::composed_length))]
+fn room_left(parts: KeptParts<'_>, room: usize) -> Option<usize>
+    ensures { SomeIff result (length (composed parts.entry) ≤ room) (room - length (composed parts.entry)) }
 {
-    let closed1 = is_closed(parts.first);
-    let closed2 = is_closed_after(closed1, parts.second);
-    let closed3 = is_closed_after(closed2, parts.third);
-    let left1 = room.saturating_sub(parts.first.len().saturating_sub(1));
-    let left2 = left_after(left1, closed1, parts.second);
-    let left3 = left_after(left2, closed2, parts.third);
-    left_after(left3, closed3, parts.last)
+    let end2 = end_of(parts.first, parts.second);
+    let end3 = end_of(end2, parts.third);
+    let left1 = room.checked_sub(parts.first.len())?;
+    let left2 = left_after(left1, parts.first, parts.second)?;
+    let left3 = left_after(left2, end2, parts.third)?;
+    left_after(left3, end3, parts.last)
 }
 
 // Appends `part`, for which there is room, to the path in the first `used` bytes, and gives the new length.
@@ -78,9 +69,7 @@ fn put_kept(parts: KeptParts<'_>, buf: &mut [u8]) -> usize
 fn compose_kept(parts: KeptParts<'_>, buf: &mut [u8]) -> Result<usize, Refusal>
     ensures { joined_says result buf.new ≡ written_into (composed parts.entry) buf.old }
 {
-    if room_left(parts, buf.len()) == 0 {
-        return Err(Refusal::NoRoom);
-    }
+    room_left(parts, buf.len()).ok_or(Refusal::NoRoom)?;
     Ok(put_kept(parts, buf))
 }
 

@@ -5,7 +5,7 @@ ghost use Rattle.types.specs.Refusals.{outcome};
 ghost use Rattle.rules.specs.Questions.{file_answer, rows_are_held};
 ghost use Rattle.names.specs.Paths.{set_leads};
 
-use rules::is_held;
+use rules::holds_rows;
 use tables::{FileStorage, Row, Span};
 use types::{FileIndex, Refusal};
 
@@ -18,6 +18,7 @@ pub fn are_held(fs: FileStorage, words: usize, bytes: usize) -> bool
 
 // The number of the file that a question is about, or why the question isn't answered; `held` says whether
 // the other tables hold what the set counts.
+// Stays: a record of all tables would ask for those that it doesn't read (docs/DECISIONS.md).
 pub fn file_in(
     fs: FileStorage,
     rows: &[u64],
@@ -26,8 +27,7 @@ pub fn file_in(
 ) -> Result<usize, Refusal>
     ensures { outcome result ≡ file_answer fs index.0 (rows_are_held fs rows.now && held) (λ k. k) }
 {
-    let rows_held = is_held(fs.num_files, rows.len() / 8);
-    rules::file_in(fs, index, rows_held && held)
+    rules::file_in(fs, index, holds_rows(fs, rows) && held)
 }
 
 // Whether the set's name leads a file's path.
@@ -41,9 +41,5 @@ pub(crate) fn is_led(row: Row) -> bool
 pub fn set_span(fs: FileStorage, row: Row) -> Span
     ensures { result ≡ cond (set_leads row) fs.name (record { at = 0; len = 0 }) }
 {
-    if is_led(row) {
-        fs.name
-    } else {
-        Span { at: 0, len: 0 }
-    }
+    if is_led(row) { fs.name } else { Span::empty() }
 }

@@ -4,14 +4,15 @@ ghost use Rattle.std.specs.Prelude.{◌≡◌, cond, [], ◌∷◌, ◌++◌, ma
 ghost use Rattle.types.specs.Refusals.{outcome};
 ghost use Rattle.path.specs.Join.{joined_says};
 ghost use Rattle.crc32c.specs.Crc.{crc_from, lower};
-ghost use Rattle.tables.specs.Rows.{path_is_absolute};
+ghost use Rattle.tables.specs.Rows.{path_is_absolute, row_at};
 ghost use Rattle.tables.specs.Span.{text_at};
 ghost use Rattle.rules.specs.Composed.{composed_if};
-ghost use Rattle.names.specs.Paths.{set_leads, led, hash_of, file_path_into, file_path_hash};
+ghost use Rattle.rules.specs.Questions.{file_answer};
+ghost use Rattle.names.specs.Paths.{set_leads, led, hash_of, names_held, file_path_into, file_path_hash};
 ghost use Rattle.names.specs.private.Sets.{path_of, hashed_of};
 
 use crate::compose::compose_path;
-use crate::decide::{are_held, file_in, is_led, set_span};
+use crate::decide::{file_in, is_led, set_span};
 use tables::{FileStorage, Lent, LentSet, Row};
 use types::{FileIndex, Refusal};
 
@@ -36,7 +37,7 @@ fn put_path(set: LentSet<'_>, row: Row, save_path: &[u8], buf: &mut [u8]) -> Res
     let text = set.lent.text;
     let save = save_of(save_path, row.path_index);
     let lead = tables::text_at(text, set_span(set.fs, row));
-    let directory = tables::directory_of(set.lent.dirs, text, row);
+    let directory = set.lent.directory_of(row);
     let name = tables::text_at(text, row.name);
     compose_path(save, lead, directory, name, buf)
 }
@@ -77,7 +78,7 @@ fn hash_path(set: LentSet<'_>, row: Row, save_path: &[u8]) -> u32
 {
     let text = set.lent.text;
     let save = save_of(save_path, row.path_index);
-    let directory = tables::directory_of(set.lent.dirs, text, row);
+    let directory = set.lent.directory_of(row);
     let name = tables::text_at(text, row.name);
     let crc1 = hash_led(0, save);
     let crc2 = hash_set(crc1, set.fs, text, row);
@@ -85,8 +86,21 @@ fn hash_path(set: LentSet<'_>, row: Row, save_path: &[u8]) -> u32
     crc32c::crc32c_append_lowercase(crc3, name)
 }
 
+// The row of the file that a question about its path is about, or its refusal.
+fn row_in(set: LentSet<'_>, index: FileIndex) -> Result<Row, Refusal>
+    ensures { outcome result
+        ≡ file_answer set.entry.fs index.0
+        (names_held set.entry.fs set.entry.lent.rows.now set.entry.lent.dirs.now set.entry.lent.text.now)
+        (row_at set.entry.lent.rows.now) }
+{
+    let Lent { rows, dirs, text } = set.lent;
+    let held = rules::holds_dirs(set.fs, dirs) && rules::holds_text(set.fs, text);
+    Ok(tables::row_at(rows, file_in(set.fs, rows, index, held)?))
+}
+
 // Writes the whole path of a file, after `save_path`, to `buf`.
-// Stays: it takes the tables as the other public questions do, of which most read fewer (docs/DECISIONS.md).
+// Stays: it takes the tables as the other public questions do, of which most read fewer (docs/DECISIONS.md), here
+// and below.
 pub fn file_path(
     fs: FileStorage,
     rows: &[u64],
@@ -100,11 +114,8 @@ pub fn file_path(
         ≡ file_path_into fs rows.now dirs.now text.now index.0
         save_path.now buf.old }
 {
-    let held = are_held(fs, dirs.len(), text.len());
-    let k = file_in(fs, rows, index, held)?;
-    let lent = Lent { rows, dirs, text };
-    let row = tables::row_at(rows, k);
-    put_path(LentSet { fs, lent }, row, save_path, buf)
+    let set = LentSet::new(fs, rows, dirs, text);
+    put_path(set, row_in(set, index)?, save_path, buf)
 }
 
 // The hash of a file's whole path, after `save_path`.
@@ -119,9 +130,6 @@ pub fn file_path_hash(
     ensures { outcome result ≡ file_path_hash fs rows.now dirs.now text.now index.0
         save_path.now }
 {
-    let held = are_held(fs, dirs.len(), text.len());
-    let k = file_in(fs, rows, index, held)?;
-    let lent = Lent { rows, dirs, text };
-    let row = tables::row_at(rows, k);
-    Ok(hash_path(LentSet { fs, lent }, row, save_path))
+    let set = LentSet::new(fs, rows, dirs, text);
+    Ok(hash_path(set, row_in(set, index)?, save_path))
 }

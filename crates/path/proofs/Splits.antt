@@ -5,12 +5,12 @@ use mathlib.Core.Path.{◌≡◌, refl, sym, ap, ◌∙◌}
 use mathlib.Core.Bool.{Bool, true, false, cond, true≢false, false≢true}
 use mathlib.Core.List.{List, [], ◌∷◌, ◌++◌}
 use native.Mathlib.Omega.{arith}
-use lib.ListN.{length, get_or, take, drop, drop_of_length-le}
+use lib.ListN.{length, get_or, take, drop, length-drop, drop_of_length-le}
 use lib.Seq.{split_at, take_all, take-add, drop-drop}
 use Rattle.std.specs.Prelude.{Option, Some, None}
 use Rattle.std.specs.List.{position_or_len}
 use Rattle.std.specs.Option.{unwrap_or}
-use borrow.Author.Tests.{eqb-true, ne_eqb, leb-true, leb-false}
+use borrow.Author.Tests.{eqb-true, ne_eqb, leb-true, leb-false, ltb-true}
 use lib.Dec.{leb, ltb}
 use Rattle.lists.specs.Lists.{any}
 use Rattle.lists.proofs.Searches.{found}
@@ -163,3 +163,24 @@ first-found p i k e =
     let t : take (f + k) p ≡ take f p ++ before_first (drop f p) = rw e (take-add f (length (before_first (drop f p))) p ∙ ap (λ (l : List ℕ). take f p ++ l) d.0) in
     let s : drop (f + k + 1) p ≡ after_first (drop f p) = ap (λ (j : ℕ). drop j p) (omega arith) ∙ (sym (drop-drop (suc k) f p) ∙ rw e d.1) in
     (rw (q.0, q.1) at t, rw q.1 at s)
+
+-- and as one behind the place finds it
+module _ (p : List ℕ) (i x : ℕ) (r : Option ℕ) (none : r ≡ None → x ≡ length p) (some : (k : ℕ) → r ≡ Some k → x ≡ i + k) where
+  abbrev n : ℕ
+  n = position_or_len is_separator (drop i p)
+
+  place-by : (b : Bool) → ltb n (length (drop i p)) ≡ b → r ≡ cond b (Some n) None → unwrap_or r (length (drop i p)) ≡ length (before_first (drop i p))
+      → x ≡ min i (length p) + length (before_first (drop i p))
+  place-by true q e u =
+      let f : n ≡ length (before_first (drop i p)) = rw e at u in
+      omega (arith, some n e, f, ltb-true n (length (drop i p)) q, length-drop i p)
+  place-by false q e u =
+      let f : length (drop i p) ≡ length (before_first (drop i p)) = rw e at u in
+      omega (arith, none e, f, length-drop i p)
+
+  pub first_place : r ≡ cond (ltb n (length (drop i p))) (Some n) None
+      → (take x p ≡ take i p ++ before_first (drop i p)) × (drop (x + 1) p ≡ after_first (drop i p))
+  first_place e =
+      let g = place-by (ltb n (length (drop i p))) refl e (separator_found (drop i p) r e) in
+      let q = (end-places p i (leb i (length p)) refl).1 in
+      rw g (first-found p i (length (before_first (drop i p))) (ap (λ (l : List ℕ). length (before_first l)) (sym q)))

@@ -25,6 +25,10 @@ abbrev pub is_closed : List ℕ → Bool
 is_closed [] = false
 is_closed (c ∷ t) = closed_from c t
 
+-- what stands between a branch that a join keeps and a leaf
+abbrev pub separator : List ℕ → List ℕ → List ℕ
+separator branch leaf = cond (is_empty leaf) [] (cond (is_closed branch) [] (47 ∷ []))
+
 -- one separator between the two, unless the branch ends in one
 abbrev pub glued : List ℕ → List ℕ → List ℕ
 glued branch leaf = branch ++ cond (is_closed branch) leaf (47 ∷ leaf)

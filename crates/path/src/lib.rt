@@ -1,12 +1,14 @@
 // Path splits and joins over bytes, from path.rs, with `/` as the separator. A split gives parts of
 // the caller's slice; a join is written into a lent buffer, or refused with the buffer untouched.
-// Relies on `lists` for parts and copies and on `types` for the refusal.
+// Relies on `types` for the refusal.
 #![tactic(auto)]
 
 mod join;
 mod split;
 
-pub use join::{append_path, combine_path, is_alone, join_path, joined_length};
+pub use join::{
+    append_path, combine_path, is_alone, join_path, join_prefix, joined_length, separator,
+};
 pub use split::{
     filename, has_parent_path, is_closed, is_complete, lsplit_path_at_first, lsplit_path_at_rest,
     lsplit_path_first, lsplit_path_rest, rsplit_path_branch, rsplit_path_leaf, trimmed_length,

@@ -1,5 +1,5 @@
-// Splits of a path and tests on it. Each split gives a part of the caller's slice. Relies on the
-// accessors of `lists`, on the scans below and on the laws of proofs/Splits.antt and proofs/Ends.antt.
+// Splits of a path and tests on it. Each split gives a part of the caller's slice. Relies on the scans below and on the
+// laws of proofs/Splits.antt and proofs/Ends.antt.
 ghost use Rattle.std.specs.Prelude.{◌≡◌, cond, ◌++◌, ◌+◌, ◌-◌, ◌≤◌, length, take, drop};
 ghost use Rattle.lists.specs.Lists.{any};
 ghost use Rattle.path.specs.Join.{is_closed};
@@ -12,7 +12,7 @@ ghost use Rattle.path.specs.Split.{lsplit_first, lsplit_rest, lsplit_at_first, l
 pub fn is_complete(path: &[u8]) -> bool
     ensures { result ≡ is_complete path.now }
 {
-    lists::item_or(path, 0, 0) == b'/'
+    path.first() == Some(&b'/')
 }
 
 // Whether a path ends in a separator.
@@ -20,7 +20,7 @@ pub fn is_complete(path: &[u8]) -> bool
 pub fn is_closed(path: &[u8]) -> bool
     ensures { result ≡ is_closed path.now }
 {
-    lists::item_or(path, path.len().saturating_sub(1), 0) == b'/'
+    path.last() == Some(&b'/')
 }
 
 // Whether a byte is `/`, or where `EITHER` is true `\`.
@@ -42,6 +42,8 @@ fn trim<const EITHER: bool>(path: &[u8]) -> &[u8]
 }
 
 // Where a path ends once a `/` at its end is dropped.
+// Stays: the bound is of each result, a place in the path; a type of places would be opened at once by each one's
+// caller. So too in the next two that give a place.
 #[tactic(auto, using(crate::proofs::Ends::trimmed_front))]
 pub fn trimmed_length(path: &[u8]) -> usize
     ensures { (result ≤ length path.now) × (take result path.now ≡ trimmed is_separator path.now) }
@@ -54,7 +56,8 @@ pub fn trimmed_length(path: &[u8]) -> usize
 // set of 65,000 files is 1 ns ahead of the Rust's.
 #[tactic(auto, using(crate::proofs::Splits::leaf_before))]
 fn leaf_start(path: &[u8]) -> usize
-    ensures { (take (result - 1) path.now ≡ before_last path.now)
+    ensures { (result ≤ length path.now)
+        × (take (result - 1) path.now ≡ before_last path.now)
         × (drop result path.now ≡ after_last path.now) }
 {
     let mut i = path.len();
@@ -80,9 +83,10 @@ fn first_separator(path: &[u8], from: usize) -> usize
         ≡ take from path.now ++ before_first (drop from path.now) }
     ensures path_value_2 { drop (result + 1) path.now ≡ after_first (drop from path.now) }
 {
-    let begin = from.min(path.len());
-    let rest = &path[begin..];
-    begin + rest.iter().position(|c| *c == b'/').unwrap_or(rest.len())
+    path.iter()
+        .skip(from)
+        .position(|c| *c == b'/')
+        .map_or(path.len(), |k| from + k)
 }
 
 // Whether a path has a `/` or `\`.
@@ -92,61 +96,68 @@ fn has_either(path: &[u8]) -> bool
     path.iter().any(|&b| is_separator::<true>(b))
 }
 
-// The number of separators that lead a path: 1 or 0.
-fn lead(path: &[u8]) -> usize
-    ensures { result ≡ cond (is_complete path.now) 1 0 }
-{
-    usize::from(is_complete(path))
-}
-
 // A path without its leading separator, if it has one.
 fn skip(path: &[u8]) -> &[u8]
     ensures { result.now ≡ skipped path.now }
 {
-    lists::part(path, lead(path), path.len())
+    path.strip_prefix(b"/").unwrap_or(path)
 }
 
 // A position in a path, counted from after its leading separator.
 fn position_in(path: &[u8], pos: usize) -> usize
     ensures { result ≡ position_in path.now pos }
 {
-    pos.saturating_sub(lead(path))
+    pos.saturating_sub(usize::from(is_complete(path)))
 }
 
-// What stands before the last separator, one at the end dropped.
-pub fn rsplit_path_branch(path: &[u8]) -> &[u8]
-    ensures { result.now ≡ rsplit_branch path.now }
+// What stands before the last separator and what stands after it, one at the end dropped.
+fn rsplit(path: &[u8]) -> (&[u8], &[u8])
+    ensures branch { result.0.now ≡ rsplit_branch path.now }
+    ensures leaf { result.1.now ≡ rsplit_leaf path.now }
 {
     let whole = trim::<false>(path);
     let k = leaf_start(whole);
-    lists::part(whole, 0, k.saturating_sub(1))
+    (&whole[..k.saturating_sub(1)], &whole[k..])
+}
+
+// What stands before the last separator, one at the end dropped.
+// Stays: a split is two public functions, since each caller in the library wants one part (docs/DECISIONS.md, Forms 2);
+// so below.
+pub fn rsplit_path_branch(path: &[u8]) -> &[u8]
+    ensures { result.now ≡ rsplit_branch path.now }
+{
+    rsplit(path).0
 }
 
 // What stands after the last separator, one at the end dropped.
 pub fn rsplit_path_leaf(path: &[u8]) -> &[u8]
     ensures { result.now ≡ rsplit_leaf path.now }
 {
-    let whole = trim::<false>(path);
-    let k = leaf_start(whole);
-    lists::part(whole, k, whole.len())
+    rsplit(path).1
+}
+
+// What stands before the first separator at or after `pos` and what stands after it, a leading one skipped.
+fn lsplit_at(path: &[u8], pos: usize) -> (&[u8], &[u8])
+    ensures first { result.0.now ≡ lsplit_at_first path.now pos }
+    ensures rest { result.1.now ≡ lsplit_at_rest path.now pos }
+{
+    let whole = skip(path);
+    let k = first_separator(whole, position_in(path, pos));
+    (&whole[..k], whole.get(k + 1..).unwrap_or(b""))
 }
 
 // What stands before the first separator at or after `pos`, a leading one skipped.
 pub fn lsplit_path_at_first(path: &[u8], pos: usize) -> &[u8]
     ensures { result.now ≡ lsplit_at_first path.now pos }
 {
-    let whole = skip(path);
-    let k = first_separator(whole, position_in(path, pos));
-    lists::part(whole, 0, k)
+    lsplit_at(path, pos).0
 }
 
 // What stands after the first separator at or after `pos`, a leading one skipped.
 pub fn lsplit_path_at_rest(path: &[u8], pos: usize) -> &[u8]
     ensures { result.now ≡ lsplit_at_rest path.now pos }
 {
-    let whole = skip(path);
-    let k = first_separator(whole, position_in(path, pos));
-    lists::part(whole, k + 1, whole.len())
+    lsplit_at(path, pos).1
 }
 
 // The first part of a path, a leading separator skipped.
@@ -171,6 +182,7 @@ pub fn has_parent_path(path: &[u8]) -> bool
 }
 
 // The leaf of a path, one separator at the end dropped.
+// Stays: document 01 names both; it is one call of the other (docs/DECISIONS.md, Forms 7).
 pub fn filename(path: &[u8]) -> &[u8]
     ensures { result.now ≡ rsplit_leaf path.now }
 {

@@ -1,7 +1,8 @@
 -- Laws of the search for a directory: the last index of a text among others, whether it is there, and both once one
 -- more is stored; and the same of the search over a table's rows from the back.
-use Rattle.std.proofs.Common.{◌≡◌, ℕ, zero, suc, ◌+◌, ◌-◌, ◌*◌, ◌/◌, ◌<◌, ◌≤◌, min, Bool, true, false, cond, not, ◌&&◌, ◌||◌, eqb, List, [], ◌∷◌, ◌++◌, map, length, get_or, take, Option, Some, None, unwrap_or, MatchOption, IsSomeAnd, Bor, Iter, sym, refl, ap, subst, ◌∙◌, true≢false, arith, length-append, eq-eqb, ne_eqb}
+use Rattle.std.proofs.Common.{◌≡◌, ℕ, zero, suc, ◌+◌, ◌-◌, ◌*◌, ◌/◌, ◌<◌, ◌≤◌, min, Bool, true, false, cond, not, ◌&&◌, ◌||◌, eqb, List, [], ◌∷◌, ◌++◌, map, length, get_or, take, Option, Some, None, unwrap_or, MatchOption, IsSomeAnd, Bor, Iter, sym, refl, ap, subst, ◌∙◌, true≢false, arith, length-append}
 use mathlib.Core.Bool.{false≢true}
+use borrow.Author.Tests.{eqb-true, eqb-false}
 use lib.ListN.{length-map, get_or-eq_default}
 use denote.Param.Members.{Mut, Called}
 use Rattle.std.specs.Bool.{then_some}
@@ -21,7 +22,7 @@ use Rattle.tables.specs.Model.{tabled, stored}
 use Rattle.tables.proofs.Tabled.{length-tabled, tabled-more, tabled-same}
 use Rattle.additions.specs.Addition.{is_among, pad_directory_name}
 use Rattle.plan.specs.Write.{directory_index_from, directory_index}
-use Rattle.plan.specs.private.Steps.{dir_texts, dir_plan_of, dirs_with, count_with, pad_dir_plan_of, known_at, added_at}
+use Rattle.plan.specs.private.Steps.{dir_texts, dir_plan_of, dirs_with, count_with, pad_dir_plan_of, known_at, added_at, plan_among}
 
 -- one more text, at the end
 index-more : (d : List ℕ) (xs : List (List ℕ)) (x : List ℕ) (found i : ℕ)
@@ -129,23 +130,32 @@ row_text dirs text i = text_at text (dir_at dirs i)
 past : (dirs text : List ℕ) (i : ℕ) → length dirs / 2 ≤ i → row_text dirs text i ≡ []
 past dirs text i h = let l : length dirs ≤ i * 2 + 1 = omega arith in rw (get_or-eq_default dirs 0 {n = i * 2 + 1} l)
 
-empty-is : (d : List ℕ) → length d ≡ 0 → equal d [] ≡ true
-empty-is [] e = refl
-empty-is (x ∷ d) e = absurd (omega arith)
+-- where no row is stored there is none with the text
+pub none-stored : (dirs text d : List ℕ) (n : ℕ) → n ≡ 0 → n ≡ directory_index d (dir_texts dirs text n)
+unfolding tabled directory_index_from
+none-stored dirs text d n e = rw e
 
--- so the empty text has the last of n indices that are more than the table's rows, and any other is searched in the table alone
-module _ (dirs text d : List ℕ) where
-  pub empty-last : (n : ℕ) → length dirs / 2 < n → length d ≡ 0 → n - 1 ≡ directory_index d (dir_texts dirs text n)
-  empty-last n h e =
-      search-found (row_text dirs text) d n n (omega arith) (ap (equal d) (past dirs text (n - 1) (omega arith)) ∙ empty-is d e) ∙ search_is (row_text dirs text) d n
+-- so the last of n rows has the text, or only the rows before it that the table holds may have it
+module _ (dirs text d : List ℕ) (n : ℕ) (h : 0 < n) where
+  pub last-found : true ≡ equal d (row_text dirs text (n - 1)) → n - 1 ≡ directory_index d (dir_texts dirs text n)
+  last-found e = search-found (row_text dirs text) d n n h (sym e) ∙ search_is (row_text dirs text) d n
 
-  pub table-alone : (n m : ℕ) → m ≡ min n (length dirs / 2) → (m < n → length d ≡ 0 → ⊥)
+  pub last-missed : (m : ℕ) → m ≡ min (n - 1) (length dirs / 2) → equal d (row_text dirs text (n - 1)) ≡ false
       → directory_index_from n 0 d (dir_texts dirs text m) ≡ directory_index d (dir_texts dirs text n)
-  table-alone n m e q =
+  last-missed m e q =
       let k : m + (n - m) ≡ n = omega arith in
-      search-past (row_text dirs text) d n m (n - m) (omega arith) (λ j l h. ap (equal d) (past dirs text j (omega arith)) ∙ equal-length d [] (q (omega arith)))
+      search-past (row_text dirs text) d n m (n - m) (omega arith) others
       ∙ ap (λ (i : ℕ). directory_index_from n 0 d (dir_texts dirs text i)) k
       ∙ search_is (row_text dirs text) d n
+    where
+      others : (j : ℕ) → m ≤ j → j < n → equal d (row_text dirs text j) ≡ false
+      others j l b = at (eqb j (n - 1)) refl
+        where
+          at : (t : Bool) → eqb j (n - 1) ≡ t → equal d (row_text dirs text j) ≡ false
+          at true p = ap (λ (i : ℕ). equal d (row_text dirs text i)) (eqb-true j (n - 1) p) ∙ q
+          at false p =
+              let c = eqb-false j (n - 1) p in
+              ap (equal d) (past dirs text j (omega (arith, c)) ∙ sym (past dirs text (n - 1) (omega (arith, c)))) ∙ q
 
 -- the texts of the first m rows of a table, as chunks of two words
 row-behind : (text dirs : List ℕ) (a b i : ℕ) → row_text dirs text i ≡ row_text (a ∷ b ∷ dirs) text (suc i)
@@ -155,7 +165,7 @@ row-behind text dirs a b i =
     rw (at, len)
 
 row-texts : (text : List ℕ) (m k : ℕ) (dirs : List ℕ) → m ≤ k → k * 2 ≤ length dirs → map (λ ws. text_at text (row_of ws)) (take m (first_chunks 2 k dirs)) ≡ dir_texts dirs text m
-unfolding tabled
+unfolding tabled directory_index_from
 row-texts text zero k dirs h l = refl
 row-texts text (suc m) zero dirs h l = absurd (omega arith)
 row-texts text (suc m) (suc k) [] h l = absurd (omega arith)
@@ -233,19 +243,26 @@ module _ (d : List ℕ) (xs : List (List ℕ)) (n : ℕ) (l : length xs ≡ n) w
       let p : directory_index d xs ≡ n = index-none d xs (length xs) 0 h ∙ l in
       rw (h, p, f, length-append xs (d ∷ []), l)
 
-  pub found : (k : ℕ) → k < n → k ≡ directory_index d xs → known_at k n ≡ dir_plan_of (stored d false) xs
-  found k h e = old-is k n e (there d xs (omega arith)) refl
+  pub plan-stored : plan_among d n xs ≡ dir_plan_of (stored d false) xs
+  plan-stored = at (is_among d xs) refl
+    where
+      at : (t : Bool) → is_among d xs ≡ t
+          → cond t (known_at (directory_index d xs) n) (added_at n (length d)) ≡ dir_plan_of (stored d false) xs
+      at true q = old-is (directory_index d xs) n refl q refl
+      at false q = new_is n q refl
 
-  pub missing : n ≡ directory_index d xs → added_at n (length d) ≡ dir_plan_of (stored d false) xs
-  missing e = new_is n (not_there d xs (omega arith)) refl
+-- the same where n directories come before it, some of them not among those
+module _ (d : List ℕ) (xs : List (List ℕ)) (n : ℕ) where
+  pub found : (k : ℕ) → k < length xs → k ≡ directory_index d xs → known_at k n ≡ plan_among d n xs
+  found k h e = let t = there d xs (omega arith) in rw (t, e)
+
+  pub missing : length xs ≡ directory_index d xs → added_at n (length d) ≡ plan_among d n xs
+  missing e = rw (not_there d xs (omega arith))
 
 -- the length of a text that is new
-length-new : (t : Bool) (d : List ℕ) → then_some (not t) (length (cond t [] d)) ≡ then_some (not t) (length d)
+pub length-new : (t : Bool) (d : List ℕ) → then_some (not t) (length (cond t [] d)) ≡ then_some (not t) (length d)
 length-new true d = refl
 length-new false d = refl
-
-pad-is : (pad : ℕ) (xs : List (List ℕ)) → eqb pad 0 ≡ false → dir_plan_of (stored pad_directory_name false) xs ≡ pad_dir_plan_of pad xs
-pad-is pad xs e = rw (e, length-new (is_among pad_directory_name xs) pad_directory_name)
 
 -- the same once a file's directory is stored, where that is new
 with-length : (new : Bool) (d : List ℕ) (xs : List (List ℕ)) (n : ℕ) → length xs ≡ n → length (dirs_with new d xs) ≡ count_with new n
@@ -285,38 +302,35 @@ module _ (p : List ℕ) (d : List ℕ) (xs : List (List ℕ)) where
   new-there false e a = a
 
 -- the plan of a pad's directory, where a file's own is new or not
-module _ (pad : ℕ) (new : Bool) (d : List ℕ) (xs : List (List ℕ)) (n count : ℕ) (l : length xs ≡ n) (c : count ≡ count_with new n) where
+module _ (new : Bool) (d : List ℕ) (xs : List (List ℕ)) (n count : ℕ) (l : length xs ≡ n) (c : count ≡ count_with new n) where
   abbrev ds : List (List ℕ)
   ds = dirs_with new d xs
 
   together : length ds ≡ count
   together = with-length new d xs n l ∙ sym c
 
-  pub pad-none : pad ≡ 0 → known_at 0 count ≡ pad_dir_plan_of pad ds
-  pad-none z = rw (eq-eqb pad 0 z, together)
+  pub pad-none : known_at 0 count ≡ pad_dir_plan_of false ds
+  pad-none = rw together
 
-  module _ (some : pad ≡ 0 → ⊥) where
-    pub pad-own : (new && equal pad_directory_name d) ≡ true → known_at n count ≡ pad_dir_plan_of pad ds
-    pad-own e =
-        old-is pad_directory_name ds count together n count (sym l ∙ own-index pad_directory_name d xs new e) (own-there pad_directory_name d xs new e) refl
-        ∙ pad-is pad ds (ne_eqb pad 0 some)
+  pub pad-own : (new && equal pad_directory_name d) ≡ true → known_at n count ≡ pad_dir_plan_of true ds
+  pad-own e =
+      old-is pad_directory_name ds count together n count (sym l ∙ own-index pad_directory_name d xs new e) (own-there pad_directory_name d xs new e) refl
 
-    pub pad-found : (k : ℕ) → (new && equal pad_directory_name d) ≡ false → k < n → k ≡ directory_index pad_directory_name xs
-        → known_at k count ≡ pad_dir_plan_of pad ds
-    pad-found k e h f =
-        let t = there pad_directory_name xs (omega (arith, l, f)) in
-        old-is pad_directory_name ds count together k count (f ∙ old-index pad_directory_name d xs t new e) (old-there pad_directory_name d xs t new e) refl
-        ∙ pad-is pad ds (ne_eqb pad 0 some)
-
-    pub pad-missing : (new && equal pad_directory_name d) ≡ false → n ≡ directory_index pad_directory_name xs → added_at count 4 ≡ pad_dir_plan_of pad ds
-    pad-missing e f =
-        let t = not_there pad_directory_name xs (omega (arith, l, f)) in
-        new_is pad_directory_name ds count together count (new-there pad_directory_name d xs new e t) refl
-        ∙ pad-is pad ds (ne_eqb pad 0 some)
+  pub pad-stored : (new && equal pad_directory_name d) ≡ false → plan_among pad_directory_name count xs ≡ pad_dir_plan_of true ds
+  pad-stored e = at (is_among pad_directory_name xs) refl
+    where
+      at : (t : Bool) → is_among pad_directory_name xs ≡ t
+          → cond t (known_at (directory_index pad_directory_name xs) count) (added_at count 4) ≡ pad_dir_plan_of true ds
+      at true q =
+          old-is pad_directory_name ds count together (directory_index pad_directory_name xs) count
+          (old-index pad_directory_name d xs q new e) (old-there pad_directory_name d xs q new e) refl
+      at false q = new_is pad_directory_name ds count together count (new-there pad_directory_name d xs new e q) refl
 
 -- the rows of a table have as many texts
 pub counted : (dirs text : List ℕ) (n : ℕ) → length (dir_texts dirs text n) ≡ n
 counted dirs text n = length-tabled n (row_text dirs text)
 
--- what the plan of a pad's directory needs
-pub ruleset padding = (pad-none, pad-own, pad-found, pad-missing, counted)
+-- what the plan of a file's directory needs, and that of a pad's
+pub ruleset planning = (plan-stored, counted)
+
+pub ruleset padding = (pad-none, pad-own, pad-stored, counted)

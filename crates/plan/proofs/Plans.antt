@@ -1,11 +1,12 @@
 -- The plan of an addition, made on numbers and searches, is the one that the public definitions give on the model that the
 -- tables mean. They rely on the laws of rules and of directories.
-use Rattle.std.specs.Prelude.{Option, option_map, unwrap_or}
+use Rattle.std.specs.Prelude.{is_some, option_map, unwrap_or}
 use Rattle.std.specs.Bool.{then_some}
 use Rattle.std.proofs.Common.{◌≡◌, ℕ, suc, ◌+◌, ◌≤◌, Bool, true, false, cond, not, ◌&&◌, ◌||◌, eqb, ltb, List, [], ◌∷◌, ◌++◌, length, sym, refl, ap, ◌∙◌, arith, length-append}
 use mathlib.Core.Bool.{or_assoc}
 use borrow.Author.Tests.{not-false}
 use Rattle.lists.specs.Lists.{equal}
+use Rattle.lists.specs.Decimal.{decimal}
 use Rattle.path.specs.Split.{has_parent_path, rsplit_branch, rsplit_leaf, is_complete, lsplit_first, lsplit_rest}
 use Rattle.path.specs.Join.{is_empty}
 use Rattle.types.specs.Refusals.{number_of, Outcome, value, refused}
@@ -17,10 +18,11 @@ use Rattle.tables.specs.declared.storage.FileStorage.{FileStorage}
 use Rattle.tables.specs.declared.rows.Presence.{Presence}
 use Rattle.tables.specs.declared.rows.Presence.TheVariants.{Absent, Present}
 use Rattle.tables.specs.Span.{text_at}
+use Rattle.tables.specs.Entry.{is_here}
 use Rattle.tables.specs.Model.{Directory, single, absolute, stored, File, Model, Store, tabled, file_of, view_of}
 use Rattle.tables.proofs.Tabled.{length-tabled}
 use Rattle.rules.specs.Rules.{Rule, when, first_of, outcome_of}
-use Rattle.rules.specs.Bounds.{is_negative, limit}
+use Rattle.rules.specs.Bounds.{is_negative}
 use Rattle.rules.proofs.Rules.{or_else, first-append, outcome-value, outcome-refused, either-false, passed}
 use Rattle.change.specs.declared.rooms.Rooms.{Rooms}
 use Rattle.change.specs.Rooms.{rooms_of, holds, files_room, dirs_room}
@@ -30,11 +32,10 @@ use Rattle.additions.specs.declared.info.FileInfo.{FileInfo}
 use Rattle.additions.specs.declared.parts.PathKind.{PathKind}
 use Rattle.additions.specs.declared.parts.PathKind.TheVariants.{Single, Absolute, Inside, Outside}
 use Rattle.additions.specs.declared.parts.PathParts.{PathParts}
-use Rattle.additions.specs.Addition.{Addition, addition_of, link_is_kept, optional_of, is_present, name_after, without_leading, directory_for, stored_name, bad_name, decides, is_left_open, keeps, is_v2, pad_directory_name, is_among, with_directory_of, pad_added, directory_added, added, lacks, size_rules, name_rules, version_rules, pad_rules, adding_rules, files_of, pad_of, file_added, size_added}
-use Rattle.additions.specs.private.Texts.{is_here, name_from, link_text_of, set_text_of, text_under, directory_at, outside_kind}
+use Rattle.additions.specs.Addition.{Addition, addition_of, link_is_kept, optional_of, is_present, name_after, without_leading, directory_for, bad_name, decides, is_left_open, keeps, is_v2, pad_directory_name, is_among, with_directory, with_directory_of, pad_added, directory_added, added, lacks, size_rules, name_rules, version_rules, pad_rules, adding_rules, files_of, pad_of, file_added, size_added}
+use Rattle.additions.specs.private.Texts.{name_from, link_text_of, set_text_of, text_under, directory_at, outside_kind}
 use Rattle.additions.specs.Parts.{kind_for, name_span, parts_of}
-use Rattle.additions.specs.private.Checks.{limited_length, sizes_for, number_rules}
-use Rattle.additions.proofs.Rules.{sum-in}
+use Rattle.additions.specs.private.Checks.{limited_length, pad_if, sizes_for, number_rules}
 use Rattle.additions.proofs.Texts.{set-read, directory-read, name-read, name-is, limited-is, bad-is}
 use Rattle.plan.specs.declared.dirs.DirPlan.{DirPlan}
 use Rattle.plan.specs.declared.counts.Counts.{Counts}
@@ -42,10 +43,11 @@ use Rattle.plan.specs.declared.counts.FileFacts.{FileFacts}
 use Rattle.plan.specs.declared.plan.TextSpans.{TextSpans}
 use Rattle.plan.specs.declared.plan.TextLengths.{TextLengths}
 use Rattle.plan.specs.declared.plan.AddPlan.{AddPlan}
-use Rattle.plan.specs.Write.{set_text, directory_new, name_text, link_new, pad_directory_new, pad_text, new_text_of, row_of_pad, is_outside, text_kept, text_after}
+use Rattle.plan.specs.Write.{directory_index, is_new, set_text, directory_new, name_text, link_new, pad_directory_new, pad_text, new_text_of, row_of_pad, is_outside, text_kept, text_after}
 use Rattle.plan.specs.Outcomes.{lacks_places, adding_number}
-use Rattle.plan.specs.private.Steps.{dir_plan_of, pad_dir_plan_of, counts_of, short_of, places_lack, text_spans_of, dir_texts, facts_of, lengths_of, planned_beside, TextsOf}
+use Rattle.plan.specs.private.Steps.{dir_plan_of, pad_dir_plan_of, pad_length, counts_of, short_of, places_lack, text_spans_of, dir_texts, facts_of, lengths_of, planned_beside, TextsOf}
 use Rattle.plan.specs.Plan.{plan_of, planned_for}
+use Rattle.plan.proofs.Directories.{length-new}
 
 -- ---- the texts
 
@@ -65,14 +67,19 @@ by_kind false false false branch = refl
 pub directory-is : (name path : List ℕ) → directory_at (kind_for name path) (text_under (kind_for name path) (rsplit_branch path)) ≡ directory_for name path
 directory-is name path = by_kind (is_complete path) (is_empty (rsplit_branch path)) (equal (lsplit_first (rsplit_branch path)) name) (rsplit_branch path)
 
+out-is : (kind : PathKind) (d : List ℕ) → outside_kind kind ≡ is_outside (directory_at kind d)
+out-is Single d = refl
+out-is Absolute d = refl
+out-is Inside d = refl
+out-is Outside d = refl
+
 -- the texts of an addition, as the parts of its path give them
-pub texts-of : (s : Store) (a : Addition) (given : Presence) (filename : List ℕ) (p : PathParts)
-    → a.given ≡ optional_of given filename
+pub texts-of : (s : Store) (a : Addition) (p : PathParts)
     → p ≡ parts_of s.fs.num_files (view_of s).name a.path
     → TextsOf (view_of s) a (text_at a.path p.set_name) p.kind (text_at a.path p.directory)
-    (name_from given filename (text_at a.path p.name))
+    (name_from a.given (text_at a.path p.name))
     (link_text_of s.fs.num_symlinks a.link)
-texts-of s a given filename p eg ep =
+texts-of s a p ep =
     record {
       set_is =
           ap (λ (q : PathParts). text_at a.path q.set_name) ep
@@ -85,9 +92,8 @@ texts-of s a given filename p eg ep =
           ∙ directory-is (name_after s.fs.num_files (view_of s).name a.path) a.path
           ∙ ap (λ (n : ℕ). directory_for (name_after n (view_of s).name a.path) a.path) (sym count);
       name-is =
-          ap (λ (q : PathParts). name_from given filename (text_at a.path q.name)) ep
-          ∙ name-is given filename a.path (text_at a.path (name_span a.path)) (name-read a.path)
-          ∙ ap (λ (g : Option (List ℕ)). stored_name g a.path) (sym eg);
+          ap (λ (q : PathParts). name_from a.given (text_at a.path q.name)) ep
+          ∙ name-is a.given a.path (text_at a.path (name_span a.path)) (name-read a.path);
       link-is = refl;
     }
   where
@@ -141,9 +147,10 @@ length_of_pads true u d = refl
 length_of_pads false true d = refl
 length_of_pads false false d = refl
 
--- the path index of a pad's row counts only where there is a pad
+-- the row of a pad of that size; its path index counts only where there is a pad
 row-if-pad : (t : Bool) (r : Row)
-    → then_some (not t) (record { offset = r.offset; size = r.size; name = r.name; link = r.link; path_index = cond t 0 r.path_index; flags = r.flags; time = r.time })
+    → option_map (λ size. record { offset = r.offset; size = size; name = r.name; link = r.link; path_index = cond t 0 r.path_index; flags = r.flags; time = r.time })
+    (then_some (not t) r.size)
     ≡ then_some (not t) r
 row-if-pad true r = refl
 row-if-pad false r = refl
@@ -153,18 +160,37 @@ map-then_some : {A B : Type 0} (f : A → B) (t : Bool) (x : A) → option_map f
 map-then_some f true x = refl
 map-then_some f false x = refl
 
+-- a pad's directory, how many digits name the pad, and how many files an addition is, by whether there is no pad
+pads-directory : (t : Bool) (pad : ℕ) (ds : List (List ℕ))
+    → pad_dir_plan_of (is_some (then_some (not t) pad)) ds
+    ≡ record {
+      index = cond t 0 (directory_index pad_directory_name ds);
+      new = then_some (not t && is_new pad_directory_name ds) (length pad_directory_name);
+      count = length (cond t ds (with_directory pad_directory_name ds));
+    }
+pads-directory true pad ds = refl
+pads-directory false pad ds = rw (length-new (is_among pad_directory_name ds) pad_directory_name)
+
+pads-length : (t : Bool) (pad : ℕ) → pad_length (then_some (not t) pad) ≡ length (cond t [] (decimal pad))
+pads-length true pad = refl
+pads-length false pad = refl
+
+pads-count : (t : Bool) (pad : ℕ) → ◌≡◌ {A = ℕ} (cond (is_some (then_some (not t) pad)) 2 1) (cond t 1 2)
+pads-count true pad = refl
+pads-count false pad = refl
+
 module _ (fs : FileStorage) (name : List ℕ) (files : List File) (ds : List (List ℕ)) (e : length files ≡ fs.num_files) (a : Addition) where
   abbrev m : Model
   m = seen fs name files ds
 
   abbrev sizes : Sizes
-  sizes = record { size = size_added a; v2 = is_v2 m a; pad = pad_of m a }
+  sizes = record { size = size_added a; v2 = is_v2 m a; pad = pad_if (pad_of m a); file_end = fs.total_size + size_added a; total_size = fs.total_size + size_added a + pad_of m a }
 
   abbrev first : DirPlan
   first = dir_plan_of (directory_added m a) ds
 
   abbrev second : DirPlan
-  second = pad_dir_plan_of (pad_of m a) (with_directory_of (directory_added m a) ds)
+  second = pad_dir_plan_of (is_some sizes.pad) (with_directory_of (directory_added m a) ds)
 
   abbrev lengths : TextLengths
   lengths = record { set_name = length (set_text m a); name = length (name_text m a); link = length (link_new m a) }
@@ -205,32 +231,35 @@ module _ (fs : FileStorage) (name : List ℕ) (files : List File) (ds : List (Li
   pub sizes-are : sizes_for fs a.size a.link (is_present a.root) ≡ sizes
   sizes-are = rw e
 
+  -- the directory stands outside the set's name, as the kind of its path says
+  outside-is : outside_kind parts.kind ≡ is_outside (directory_added m a)
+  outside-is =
+      out-is parts.kind (text_under parts.kind (rsplit_branch a.path))
+      ∙ ap is_outside (directory-is (name_after fs.num_files name a.path) a.path)
+      ∙ ap (λ (n : ℕ). is_outside (directory_for (name_after n name a.path) a.path)) (sym e)
+
   -- the plan by these numbers is the one by the public definitions
   pub planned-is : (rooms : Rooms)
-      → planned_beside fs rooms ds sizes facts (is_outside (directory_added m a)) (directory_added m a) lengths parts
+      → planned_beside fs rooms ds (record { sizes = sizes; facts = facts; lengths = lengths; parts = parts }) (directory_added m a)
       ≡ outcome_of (cond (short_of rooms counts.num_files second.count || ltb rooms.text spans.end) 10 0) (plan_of fs m a)
   planned-is rooms =
-      rw (length_of_directory (directory_added m a) ds, length_of_pads (eqb (pad_of m a) 0) (is_among pad_directory_name (with_directory_of (directory_added m a) ds)) pad_directory_name, row-if-pad (eqb (pad_of m a) 0) (row_of_pad fs m a))
-      (simp map-then_some)
+      rw (outside-is, pads-directory (eqb (pad_of m a) 0) (pad_of m a) (with_directory_of (directory_added m a) ds), pads-length (eqb (pad_of m a) 0) (pad_of m a), pads-count (eqb (pad_of m a) 0) (pad_of m a))
+      (rw (length_of_directory (directory_added m a) ds, length_of_pads (eqb (pad_of m a) 0) (is_among pad_directory_name (with_directory_of (directory_added m a) ds)) pad_directory_name, row-if-pad (eqb (pad_of m a) 0) (row_of_pad fs m a))
+      (simp map-then_some))
 
   -- room is lacking where a count or the text's end passes it
   pub room-is : (rooms : Rooms)
       → lacks rooms (added m a) (text_after fs m a) ≡ (short_of rooms counts.num_files second.count || ltb rooms.text spans.end)
   room-is rooms =
-      room rooms (files_of (added m a)) counts.num_files second.count (ltb rooms.text (text_after fs m a))
-      (length-pads files (file_added m a) (fs.total_size + size_added a) (pad_of m a) ∙ ap (λ (n : ℕ). n + cond (eqb (pad_of m a) 0) 1 2) e)
+      rw (pads-directory (eqb (pad_of m a) 0) (pad_of m a) (with_directory_of (directory_added m a) ds), pads-count (eqb (pad_of m a) 0) (pad_of m a))
+      (room rooms (files_of (added m a)) _ _ (ltb rooms.text (text_after fs m a))
+      (length-pads files (file_added m a) (fs.total_size + size_added a) (pad_of m a) ∙ ap (λ (n : ℕ). n + cond (eqb (pad_of m a) 0) 1 2) e))
 
 -- ---- the same on the model that the tables mean
 
 here-is : (p : Presence) (xs : List ℕ) → is_here p ≡ is_present (optional_of p xs)
 here-is Absent xs = refl
 here-is Present xs = refl
-
-pub out-is : (kind : PathKind) (d : List ℕ) → outside_kind kind ≡ is_outside (directory_at kind d)
-out-is Single d = refl
-out-is Absolute d = refl
-out-is Inside d = refl
-out-is Outside d = refl
 
 pub store-held : (s : Store) → holds s ≡ true → Held s.fs (rooms_of s)
 store-held s h = held s.fs (rooms_of s) h
@@ -278,9 +307,9 @@ module _ (s : Store) (a : Addition) where
 
   -- the test of the code, by the sizes that it decided
   full_is : (z : Sizes) → z ≡ sizes_for s.fs a.size a.link (is_present a.root)
-      → (not (holds s) || places_lack s.fs (length s.firsts) (s.fs.total_size + z.size + z.pad)) ≡ full
+      → (not (holds s) || places_lack s.fs (length s.firsts) (z.total_size)) ≡ full
   full_is z e =
-      ap (λ (v : Sizes). not (holds s) || places_lack s.fs (length s.firsts) (s.fs.total_size + v.size + v.pad))
+      ap (λ (v : Sizes). not (holds s) || places_lack s.fs (length s.firsts) v.total_size)
       (e ∙ sizes-are s.fs (text_at s.text s.fs.name) (tabled s.fs.num_files (file_of s)) dirs count a)
 
   module _ (p : before ≡ 0) where
@@ -301,11 +330,11 @@ module _ (s : Store) (a : Addition) where
       number-held = number_by_lem false h
 
       -- what the code decides, by sizes, facts, the directory, the lengths of the texts and the parts of the path
-      abbrev decided : Sizes → FileFacts → Bool → Directory → TextLengths → PathParts → Outcome AddPlan
-      decided z f o d l p = planned_beside s.fs (rooms_of s) dirs z f o d l p
+      abbrev decided : Sizes → FileFacts → Directory → TextLengths → PathParts → Outcome AddPlan
+      decided z f d l p = planned_beside s.fs (rooms_of s) dirs (record { sizes = z; facts = f; lengths = l; parts = p }) d
 
       abbrev sizes_seen : Sizes
-      sizes_seen = record { size = size_added a; v2 = is_v2 (view_of s) a; pad = pad_of (view_of s) a }
+      sizes_seen = sizes s.fs (text_at s.text s.fs.name) (tabled s.fs.num_files (file_of s)) dirs count a
 
       abbrev facts_seen : FileFacts
       facts_seen =
@@ -320,7 +349,7 @@ module _ (s : Store) (a : Addition) where
       abbrev parts_seen : PathParts
       parts_seen = parts_of s.fs.num_files (view_of s).name a.path
 
-      decided-is : decided sizes_seen facts_seen (is_outside directory) directory (lengths_for (set_text (view_of s) a) (name_text (view_of s) a) (link_new (view_of s) a)) parts_seen ≡ result
+      decided-is : decided sizes_seen facts_seen directory (lengths_for (set_text (view_of s) a) (name_text (view_of s) a) (link_new (view_of s) a)) parts_seen ≡ result
       decided-is =
           planned-is s.fs (text_at s.text s.fs.name) (tabled s.fs.num_files (file_of s)) dirs count a (rooms_of s)
           ∙ ap (λ (t : Bool). outcome_of (cond t 10 0) (plan_of s.fs (view_of s) a))
@@ -330,17 +359,16 @@ module _ (s : Store) (a : Addition) where
       add-planned : (z : Sizes) (f : FileFacts) (kind : PathKind) (x dir name link : List ℕ) (p : PathParts)
           → z ≡ sizes_for s.fs a.size a.link (is_present a.root) → f ≡ facts_seen → p ≡ parts_seen
           → TextsOf (view_of s) a x kind dir name link
-          → decided z f (outside_kind kind) (directory_at kind dir) (lengths_for x name link) p ≡ result
+          → decided z f (directory_at kind dir) (lengths_for x name link) p ≡ result
       add-planned z f kind x dir name link p ez ef ep t =
           let q : z ≡ sizes_seen = ez ∙ sizes-are s.fs (text_at s.text s.fs.name) (tabled s.fs.num_files (file_of s)) dirs count a in
-          ap (λ (v : Sizes). decided v f (outside_kind kind) (directory_at kind dir) (lengths_for x name link) p) q
-          ∙ ap (λ (v : FileFacts). decided sizes_seen v (outside_kind kind) (directory_at kind dir) (lengths_for x name link) p) ef
-          ∙ ap (λ (v : PathParts). decided sizes_seen facts_seen (outside_kind kind) (directory_at kind dir) (lengths_for x name link) v) ep
-          ∙ ap (λ (v : Bool). decided sizes_seen facts_seen v (directory_at kind dir) (lengths_for x name link) parts_seen) (out-is kind dir)
-          ∙ ap (λ (v : Directory). decided sizes_seen facts_seen (is_outside v) v (lengths_for x name link) parts_seen) t.dir-is
-          ∙ ap (λ (v : List ℕ). decided sizes_seen facts_seen (is_outside directory) directory (lengths_for v name link) parts_seen) t.set_is
-          ∙ ap (λ (v : List ℕ). decided sizes_seen facts_seen (is_outside directory) directory (lengths_for (set_text (view_of s) a) v link) parts_seen) t.name-is
-          ∙ ap (λ (v : List ℕ). decided sizes_seen facts_seen (is_outside directory) directory (lengths_for (set_text (view_of s) a) (name_text (view_of s) a) v) parts_seen) t.link-is
+          ap (λ (v : Sizes). decided v f (directory_at kind dir) (lengths_for x name link) p) q
+          ∙ ap (λ (v : FileFacts). decided sizes_seen v (directory_at kind dir) (lengths_for x name link) p) ef
+          ∙ ap (λ (v : PathParts). decided sizes_seen facts_seen (directory_at kind dir) (lengths_for x name link) v) ep
+          ∙ ap (λ (v : Directory). decided sizes_seen facts_seen v (lengths_for x name link) parts_seen) t.dir-is
+          ∙ ap (λ (v : List ℕ). decided sizes_seen facts_seen directory (lengths_for v name link) parts_seen) t.set_is
+          ∙ ap (λ (v : List ℕ). decided sizes_seen facts_seen directory (lengths_for (set_text (view_of s) a) v link) parts_seen) t.name-is
+          ∙ ap (λ (v : List ℕ). decided sizes_seen facts_seen directory (lengths_for (set_text (view_of s) a) (name_text (view_of s) a) v) parts_seen) t.link-is
           ∙ decided-is
 
 -- ---- the same by what a call brings and the parts of its path
@@ -353,7 +381,7 @@ module _ {s : Store} {file : FileInfo} {filename path link : List ℕ} {p : Path
   call = addition_of file filename path link
 
   -- what the tests on numbers and on the path say
-  abbrev said : Outcome Sizes
+  abbrev pub said : Outcome Sizes
   said =
       outcome_of (first_of (number_rules s.fs (optional_of file.given filename) p file.size link (is_here file.rooted)))
       (sizes_for s.fs file.size link (is_here file.rooted))
@@ -368,28 +396,25 @@ module _ {s : Store} {file : FileInfo} {filename path link : List ℕ} {p : Path
     settled : (before s call ≡ 0) × (z ≡ sizes_for s.fs file.size link (is_present call.root))
     settled = outcome-value (before s call) z (sizes_for s.fs file.size link (is_present call.root)) (h ∙ said-is)
 
-    pub plan-sum : s.fs.total_size + z.size + z.pad ≤ limit
-    plan-sum = sum-in s.fs call.given (parts_of s.fs.num_files (view_of s).name path) file.size link (is_present call.root) z settled.1 settled.0
-
     abbrev test : Bool
-    test = not (holds s) || places_lack s.fs (length s.firsts) (s.fs.total_size + z.size + z.pad)
+    test = not (holds s) || places_lack s.fs (length s.firsts) (z.total_size)
 
     pub plan-full : test ≡ true → refused 10 ≡ planned_for s call
     plan-full t = add-full s call settled.0 (sym (full_is s call z settled.1) ∙ t)
 
     pub plan-whole : test ≡ false
-        → planned_beside s.fs (rooms_of s) (dir_texts s.dirs s.text s.fs.num_paths) z (facts_of s.fs file link)
-        (outside_kind p.kind) (directory_at p.kind (text_at path p.directory))
-        (lengths_of s.fs.num_symlinks file.given filename path p link) p
+        → planned_beside s.fs (rooms_of s) (dir_texts s.dirs s.text s.fs.num_paths)
+        (record { sizes = z; facts = facts_of s.fs file link; lengths = lengths_of s.fs.num_symlinks call.given path p link; parts = p })
+        (directory_at p.kind (text_at path p.directory))
         ≡ planned_for s call
     plan-whole t =
         add-planned s call settled.0 (sym (full_is s call z settled.1) ∙ t) z (facts_of s.fs file link) p.kind
         (text_at path p.set_name)
         (text_at path p.directory)
-        (name_from file.given filename (text_at path p.name))
+        (name_from call.given (text_at path p.name))
         (link_text_of s.fs.num_symlinks link)
         p settled.1 facts-are k.parts-are
-        (texts-of s call file.given filename p refl k.parts-are)
+        (texts-of s call p k.parts-are)
       where
         facts-are : facts_of s.fs file link
             ≡ record { flags = file.flags; keeps_link = link_is_kept s.fs.num_symlinks link; has_root = is_present call.root; time = zigzag file.mtime }

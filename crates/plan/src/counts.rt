@@ -1,22 +1,20 @@
-// What a set counts after an addition, and the flags and the time of the file's row. The bounds that keep every sum
-// small are in `Countable`.
-ghost use Rattle.std.specs.Prelude.{◌≡◌, ◌+◌, ◌≤◌, false, not, ◌||◌};
-ghost use Rattle.rules.specs.Bounds.{limit, bad_length};
+// What a set counts after an addition, and the flags of the file's row. The bounds that keep every sum small are in
+// `Countable`.
+ghost use Rattle.std.specs.Prelude.{◌≡◌, false, not, ◌||◌};
+ghost use Rattle.rules.specs.Bounds.{bad_length};
 ghost use Rattle.change.specs.Rooms.{holds_in};
-ghost use Rattle.plan.specs.private.Steps.{Countable, bit_of, row_flags, row_facts_of, counts_of, short_of};
+ghost use Rattle.plan.specs.private.Steps.{Countable, bit_of, row_flags, counts_of, short_of};
 ghost use Rattle.plan.specs.private.Steps.{places_lack};
 
 use additions::Sizes;
 use change::Rooms;
 use tables::{FileStorage, LINK_HELD_BIT, OUTSIDE_BIT, ROOT_BIT, SYMLINK_BIT};
 
-// What a set counts after an addition; `file_end` is where the added file ends.
+// What a set counts after an addition.
 #[derive(Drop)]
 pub(crate) struct Counts {
     pub num_files: usize,
     pub num_symlinks: usize,
-    pub file_end: u64,
-    pub total_size: u64,
     pub size_on_disk: u64,
 }
 
@@ -31,22 +29,15 @@ pub(crate) struct FileFacts {
     pub time: u64,
 }
 
-// What a file's row says besides where things are.
-#[derive(Drop)]
-pub(crate) struct RowFacts {
-    pub flags: u64,
-    pub time: u64,
-}
-
 // A number where a flag is set, 0 where not.
 fn bit(on: bool, value: u64) -> u64
     ensures { result ≡ bit_of on value }
 {
-    if on { value } else { 0 }
+    u64::from(on) * value
 }
 
 // The flags of a file's row.
-fn row_flags(facts: FileFacts, outside: bool) -> u64
+pub(crate) fn row_flags(facts: FileFacts, outside: bool) -> u64
     ensures { result ≡ row_flags facts outside }
 {
     facts.flags % SYMLINK_BIT
@@ -59,32 +50,19 @@ fn row_flags(facts: FileFacts, outside: bool) -> u64
         + bit(facts.has_root, ROOT_BIT)
 }
 
-// The flags and the time of a file's row.
-pub(crate) fn row_facts(facts: FileFacts, outside: bool) -> RowFacts
-    ensures { result ≡ row_facts_of facts outside }
-{
-    RowFacts {
-        flags: row_flags(facts, outside),
-        time: facts.time,
-    }
-}
-
 // What the set counts after an addition. A pad counts for no bytes on disk; past 64 bits their sum begins anew.
 pub(crate) fn counts_after(fs: FileStorage, sizes: Sizes, facts: FileFacts) -> Counts
-    requires { Countable fs sizes facts.keeps_link }
+    requires { Countable fs facts.keeps_link }
     ensures { result ≡ counts_of fs sizes facts }
 {
-    let file_end = fs.total_size + sizes.size;
     let on_disk = if tables::is_pad(facts.flags) {
         0
     } else {
         sizes.size
     };
     Counts {
-        num_files: fs.num_files + 1 + usize::from(sizes.pad != 0),
+        num_files: fs.num_files + 1 + usize::from(sizes.pad.is_some()),
         num_symlinks: fs.num_symlinks + usize::from(facts.keeps_link),
-        file_end,
-        total_size: file_end + sizes.pad,
         size_on_disk: fs.size_on_disk.wrapping_add(on_disk),
     }
 }
@@ -107,16 +85,15 @@ fn lacks_places(fs: FileStorage, places: usize, total: u64) -> bool
 // Whether the tables do not hold what the set counts, or the table of first files has too few places for it with a file
 // and its pad.
 pub(crate) fn is_full(fs: FileStorage, rooms: Rooms, places: usize, sizes: Sizes) -> bool
-    requires piece_length_value { bad_length fs.piece_length ≡ false }
-    requires pad_bound { fs.total_size + sizes.size + sizes.pad ≤ limit }
-    ensures { result ≡ (not (holds_in fs rooms) || places_lack fs places (fs.total_size + sizes.size + sizes.pad)) }
+    requires { bad_length fs.piece_length ≡ false }
+    ensures { result ≡ (not (holds_in fs rooms) || places_lack fs places sizes.total_size) }
 {
-    !change::holds(fs, rooms) || lacks_places(fs, places, fs.total_size + sizes.size + sizes.pad)
+    !change::holds(fs, rooms) || lacks_places(fs, places, sizes.total_size)
 }
 
 // Whether the file rows or directory rows are too few for these counts.
 pub(crate) fn is_short(rooms: Rooms, files: usize, dirs: usize) -> bool
     ensures { result ≡ short_of rooms files dirs }
 {
-    change::files_room(rooms) < files || change::dirs_room(rooms) < dirs
+    !rooms.fit(files, dirs)
 }

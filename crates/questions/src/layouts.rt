@@ -1,7 +1,7 @@
 // Questions on the layout of a set; those that search for a file begin by the set's table of first files. Relies on
 // `layout`, `files` and `blocks`, on `script` and on `replies`.
 use crate::answer::Question;
-use crate::first;
+use crate::{first, words};
 use std::io;
 use tables::Sha256Hash;
 use types::{FileIndex, PieceIndex};
@@ -14,15 +14,17 @@ pub(crate) fn answer(question: Question<'_>) -> io::Result<bool> {
     if on_number(question)? {
         return Ok(true);
     }
-    let forms = b"file_index_at_offset O, file_index_for_root ROOT, map_file I OFFSET SIZE, \
-        map_block PIECE OFFSET SIZE";
-    // Stays: a form says the most words of a line too; a match on the first word would need that test in each arm.
-    match script::form_of(forms, question.line) {
-        Some(0) => at_offset(question)?,
-        Some(1) => for_root(question)?,
-        Some(2) => map_file(question)?,
-        Some(3) => map_block(question)?,
-        _ => return Ok(false),
+    let line = question.line;
+    if script::has_form(line, b"file_index_at_offset O") {
+        at_offset(question)?;
+    } else if script::has_form(line, b"file_index_for_root ROOT") {
+        for_root(question)?;
+    } else if script::has_form(line, b"map_file I OFFSET SIZE") {
+        map_file(question)?;
+    } else if script::has_form(line, b"map_block PIECE OFFSET SIZE") {
+        map_block(question)?;
+    } else {
+        return Ok(false);
     }
     Ok(true)
 }
@@ -39,62 +41,67 @@ fn on_number(question: Question<'_>) -> io::Result<bool> {
     )
 }
 
-// Answers a question on the pieces of a file; an arm stands for each form, in their order.
+// Answers a question on the pieces of a file.
 fn range_of(question: Question<'_>, index: FileIndex) -> io::Result<bool> {
     let Question { out, line, set } = question;
-    let forms =
-        b"exclusive I, inclusive I, file_piece_range I, piece_index_at_file I, last_piece_index_at_file I";
     let fs = set.fs;
     let rows = set.rows;
-    // Stays: a form says the most words of a line too; a match on the first word would need that test in each arm.
-    match script::form_of(forms, line) {
-        Some(0) => replies::answer(out, files::file_piece_range_exclusive(fs, rows, index))?,
-        Some(1) => replies::answer(out, files::file_piece_range_inclusive(fs, rows, index))?,
-        Some(2) => replies::answer(out, files::file_piece_range(fs, rows, index))?,
-        Some(3) => replies::answer(out, files::piece_index_at_file(fs, rows, index))?,
-        Some(4) => replies::answer(out, files::last_piece_index_at_file(fs, rows, index))?,
-        _ => return Ok(false),
+    if script::has_form(line, b"exclusive I") {
+        replies::answer(out, files::file_piece_range_exclusive(fs, rows, index))?;
+    } else if script::has_form(line, b"inclusive I") {
+        replies::answer(out, files::file_piece_range_inclusive(fs, rows, index))?;
+    } else if script::has_form(line, b"file_piece_range I") {
+        replies::answer(out, files::file_piece_range(fs, rows, index))?;
+    } else if script::has_form(line, b"piece_index_at_file I") {
+        replies::answer(out, files::piece_index_at_file(fs, rows, index))?;
+    } else if script::has_form(line, b"last_piece_index_at_file I") {
+        replies::answer(out, files::last_piece_index_at_file(fs, rows, index))?;
+    } else {
+        return Ok(false);
     }
     Ok(true)
 }
 
-// Answers a question on the tree of a file; an arm stands for each form, in their order.
+// Answers a question on the tree of a file.
 fn tree_of(question: Question<'_>, index: FileIndex) -> io::Result<bool> {
     let Question { out, line, set } = question;
-    let forms =
-        b"file_num_pieces I, file_num_blocks I, file_first_piece_node I, file_first_block_node I";
     let fs = set.fs;
     let rows = set.rows;
-    // Stays: a form says the most words of a line too; a match on the first word would need that test in each arm.
-    match script::form_of(forms, line) {
-        Some(0) => replies::answer(out, files::file_num_pieces(fs, rows, index))?,
-        Some(1) => replies::answer(out, files::file_num_blocks(fs, rows, index))?,
-        Some(2) => replies::answer(out, files::file_first_piece_node(fs, rows, index))?,
-        Some(3) => replies::answer(out, files::file_first_block_node(fs, rows, index))?,
-        _ => return Ok(false),
+    if script::has_form(line, b"file_num_pieces I") {
+        replies::answer(out, files::file_num_pieces(fs, rows, index))?;
+    } else if script::has_form(line, b"file_num_blocks I") {
+        replies::answer(out, files::file_num_blocks(fs, rows, index))?;
+    } else if script::has_form(line, b"file_first_piece_node I") {
+        replies::answer(out, files::file_first_piece_node(fs, rows, index))?;
+    } else if script::has_form(line, b"file_first_block_node I") {
+        replies::answer(out, files::file_first_block_node(fs, rows, index))?;
+    } else {
+        return Ok(false);
     }
     Ok(true)
 }
 
-// Answers a question on a piece; an arm stands for each form, in their order.
+// Answers a question on a piece.
 fn piece_of(question: Question<'_>, piece: PieceIndex) -> io::Result<bool> {
     let Question { out, line, set } = question;
-    let forms =
-        b"piece_size P, piece_size2 P, blocks_in_piece2 P, file_index_at_piece P, last_file_index_at_piece P";
     let fs = set.fs;
     let rows = set.rows;
     let window = layout::window_for(fs, set.firsts, piece, 0);
-    // Stays: a form says the most words of a line too; a match on the first word would need that test in each arm.
-    match script::form_of(forms, line) {
-        Some(0) => replies::answer(out, layout::piece_size(fs, piece))?,
-        Some(1) => replies::answer(out, layout::piece_size2(fs, rows, window, piece))?,
-        Some(2) => replies::answer(out, layout::blocks_in_piece2(fs, rows, window, piece))?,
-        Some(3) => replies::answer(out, layout::file_index_at_piece(fs, rows, window, piece))?,
-        Some(4) => replies::answer(
+    if script::has_form(line, b"piece_size P") {
+        replies::answer(out, layout::piece_size(fs, piece))?;
+    } else if script::has_form(line, b"piece_size2 P") {
+        replies::answer(out, layout::piece_size2(fs, rows, window, piece))?;
+    } else if script::has_form(line, b"blocks_in_piece2 P") {
+        replies::answer(out, layout::blocks_in_piece2(fs, rows, window, piece))?;
+    } else if script::has_form(line, b"file_index_at_piece P") {
+        replies::answer(out, layout::file_index_at_piece(fs, rows, window, piece))?;
+    } else if script::has_form(line, b"last_file_index_at_piece P") {
+        replies::answer(
             out,
             layout::last_file_index_at_piece(fs, rows, window, piece),
-        )?,
-        _ => return Ok(false),
+        )?;
+    } else {
+        return Ok(false);
     }
     Ok(true)
 }
@@ -126,10 +133,10 @@ fn for_root(question: Question<'_>) -> io::Result<()> {
 
 // The three numbers of `map_file I OFFSET SIZE`.
 fn file_block_in(line: &[u8]) -> Option<(FileIndex, i64, i32)> {
-    let n = script::to_i32(script::word(line, 1))?;
+    let index = words::file(line)?;
     let offset = script::to_i64(script::word(line, 2))?;
     let size = script::to_i32(script::word(line, 3))?;
-    Some((FileIndex(n), offset, size))
+    Some((index, offset, size))
 }
 
 // `map_file I OFFSET SIZE`.
@@ -142,6 +149,8 @@ fn map_file(question: Question<'_>) -> io::Result<()> {
 }
 
 // The three numbers of `map_block PIECE OFFSET SIZE`.
+// Stays: `file_block_in` differs in the types of the first and the last number; a function for both would be told how
+// each is read, which is the whole body.
 fn block_in(line: &[u8]) -> Option<(PieceIndex, i64, i64)> {
     let n = script::to_i32(script::word(line, 1))?;
     let offset = script::to_i64(script::word(line, 2))?;

@@ -4,16 +4,14 @@
 // libraries' answers, on `script` and on `replies`.
 #![tactic(auto)]
 
-ghost use Rattle.std.specs.Prelude.{◌≡◌, replicate};
-
 mod answer;
 mod file_paths;
 mod file_rows;
-mod file_words;
 mod layouts;
 mod no_set;
 mod renamed_files;
 mod whole_set;
+mod words;
 
 pub use answer::{Asked, on_set};
 pub use no_set::on_no_set;
@@ -26,17 +24,8 @@ pub struct Lent {
     pub hashes: usize,
 }
 
-// Room for a line, for a block of input, or for what the words of a line stand for: zeros.
-pub fn large_buffer() -> [u8; 65536]
-    ensures { result ≡ replicate 65536 0 }
-{
-    [0u8; 65536]
-}
-
-// Room to compose a text in.
-pub(crate) fn room() -> [u8; 262144] {
-    [0u8; 262144]
-}
+// The most bytes that a composed text has.
+pub(crate) const ROOM: usize = 262144;
 
 // The first n places of a table, or as many as there are.
 // Stays: it makes the slice that a library is lent; n comes from the script, and may pass the table's end.

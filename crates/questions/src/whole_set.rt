@@ -7,44 +7,51 @@ pub(crate) fn answer(question: Question<'_>) -> io::Result<bool> {
     Ok(on_pieces(question)? || on_files(question)?)
 }
 
-// Answers a question on pieces and ranges; an arm stands for each form, in their order.
+// Answers a question on pieces and ranges.
 fn on_pieces(question: Question<'_>) -> io::Result<bool> {
     let Question { out, line, set } = question;
-    let forms =
-        b"piece_length, num_pieces, last_piece, piece_range, file_range, blocks_per_piece, v2, first_files";
     let fs = set.fs;
-    // Stays: a form says the most words of a line too; a match on the first word would need that test in each arm.
-    match script::form_of(forms, line) {
-        Some(0) => replies::answer(out, answers::piece_length(fs))?,
-        Some(1) => replies::answer(out, layout::num_pieces(fs))?,
-        Some(2) => replies::answer(out, layout::last_piece(fs))?,
-        Some(3) => replies::answer(out, layout::piece_range(fs))?,
-        Some(4) => replies::answer(out, layout::file_range(fs))?,
-        Some(5) => replies::answer(out, layout::blocks_per_piece(fs))?,
-        Some(6) => replies::answer(out, answers::v2(fs))?,
-        Some(7) => replies::first_files(out, fs, set.firsts)?,
-        _ => return Ok(false),
+    if script::has_form(line, b"piece_length") {
+        replies::answer(out, answers::piece_length(fs))?;
+    } else if script::has_form(line, b"num_pieces") {
+        replies::answer(out, layout::num_pieces(fs))?;
+    } else if script::has_form(line, b"last_piece") {
+        replies::answer(out, layout::last_piece(fs))?;
+    } else if script::has_form(line, b"piece_range") {
+        replies::answer(out, layout::piece_range(fs))?;
+    } else if script::has_form(line, b"file_range") {
+        replies::answer(out, layout::file_range(fs))?;
+    } else if script::has_form(line, b"blocks_per_piece") {
+        replies::answer(out, layout::blocks_per_piece(fs))?;
+    } else if script::has_form(line, b"v2") {
+        replies::answer(out, answers::v2(fs))?;
+    } else if script::has_form(line, b"first_files") {
+        replies::first_files(out, fs, set.firsts)?;
+    } else {
+        return Ok(false);
     }
     Ok(true)
 }
 
-// Answers a question on files, directories and text; an arm stands for each form, in their order.
+// Answers a question on files, directories and text.
 fn on_files(question: Question<'_>) -> io::Result<bool> {
     let Question { out, line, set } = question;
     let fs = set.fs;
     let text = set.text;
-    // Stays: a form says the most words of a line too; a match on the first word would need that test in each arm.
-    match script::form_of(
-        b"name, num_files, total_size, size_on_disk, text_bytes, dirs",
-        line,
-    ) {
-        Some(0) => replies::text(out, answers::name(fs, text), text)?,
-        Some(1) => replies::answer(out, answers::num_files(fs))?,
-        Some(2) => replies::answer(out, answers::total_size(fs))?,
-        Some(3) => replies::answer(out, answers::size_on_disk(fs))?,
-        Some(4) => replies::value(out, fs.text_len)?,
-        Some(5) => replies::directories(out, fs, set.dirs, text)?,
-        _ => return Ok(false),
+    if script::has_form(line, b"name") {
+        replies::text(out, answers::name(fs, text), text)?;
+    } else if script::has_form(line, b"num_files") {
+        replies::answer(out, answers::num_files(fs))?;
+    } else if script::has_form(line, b"total_size") {
+        replies::answer(out, answers::total_size(fs))?;
+    } else if script::has_form(line, b"size_on_disk") {
+        replies::answer(out, answers::size_on_disk(fs))?;
+    } else if script::has_form(line, b"text_bytes") {
+        replies::value(out, fs.text_len)?;
+    } else if script::has_form(line, b"dirs") {
+        replies::directories(out, fs, set.dirs, text)?;
+    } else {
+        return Ok(false);
     }
     Ok(true)
 }

@@ -1,6 +1,6 @@
 -- Laws of the questions through the renames: what a rename that was found tells, a leaf's place, and what the name's place reads as
 -- in the list of renames. They rely on the laws of `renames` about renames that are read back.
-use Rattle.std.specs.Prelude.{Option, Some, None, Result, Ok, Err, IsErrAnd}
+use Rattle.std.specs.Prelude.{Option, Some, None, MatchOption, Result, Ok, Err, IsErrAnd}
 use Prim.Native.Nat.{ℕ, ◌+◌, ◌-◌, ◌≤◌}
 use mathlib.Core.Path.{◌≡◌, refl, sym, ap, ◌∙◌}
 use mathlib.Core.Bool.{Bool, true, false, cond, not, ◌&&◌}
@@ -66,11 +66,11 @@ module _ {A B : Type 0} (fs : FileStorage) (z : ℤ) (held : Bool) (rf : Renamed
       let w = found-refused rf e t (clamped_of z) m p in
       ap refused w.1 ∙ asked-disorder fs z held (in_order rf e t) own new v h w.0
 
-  rename-told : (x y : Option Rename) → x ≡ y → value x ≡ find_given rf e (length t) (clamped_of z)
-      → (w : B) → (rename_for (clamped_of z) (renames_of rf e t) ≡ read_found t y → w ≡ new (clamped_of z)) → value w ≡ file_answer fs z (held && in_order rf e t) new
-  rename-told x y is p w q =
+  rename-told : (x : Option Rename) → value x ≡ find_given rf e (length t) (clamped_of z)
+      → (w : B) → (rename_for (clamped_of z) (renames_of rf e t) ≡ read_found t x → w ≡ new (clamped_of z)) → value w ≡ file_answer fs z (held && in_order rf e t) new
+  rename-told x p w q =
       let f = found-value rf e t (clamped_of z) x p in
-      asked-value fs z held (in_order rf e t) own new v h f.0 w (q (listed rf e t (clamped_of z) f.0 y (f.1 ∙ is)))
+      asked-value fs z held (in_order rf e t) own new v h f.0 w (q (listed rf e t (clamped_of z) f.0 x f.1))
 
 -- ---- whether a file's path is absolute
 
@@ -82,15 +82,12 @@ module _ (fs : FileStorage) (rows : List ℕ) (rf : RenamedFiles) (e t : List �
   new_absolute k = renamed_absolute (rename_for k (renames_of rf e t)) (own_absolute k)
 
   module _ (own : Bool) (h : value own ≡ file_absolute_path_given fs rows z) where
-    pub absolute-renamed : (x : Option Rename) (r : Rename) → x ≡ Some r → value x ≡ find_given rf e (length t) (clamped_of z)
-        → (w : Bool) → w ≡ is_by_itself r.mode → value w ≡ absolute_given fs rows rf e t z
-    absolute-renamed x r is p w q =
-        rename-told fs z (rows_are_held fs rows) rf e t own_absolute new_absolute own h x (Some r) is p w (λ one. rw one q)
-
-    pub absolute-own : (x : Option Rename) → x ≡ None → value x ≡ find_given rf e (length t) (clamped_of z) → value own ≡ absolute_given fs rows rf e t z
-    absolute-own x is p =
-        rename-told fs z (rows_are_held fs rows) rf e t own_absolute new_absolute own h x None is p own
-        (λ none. rw none (asked-own fs z (rows_are_held fs rows) own_absolute own h))
+    pub absolute-said : (x : Option Rename) → value x ≡ find_given rf e (length t) (clamped_of z)
+        → (w : Bool) → MatchOption x (w ≡ own) (λ r. w ≡ is_by_itself r.mode) → value w ≡ absolute_given fs rows rf e t z
+    absolute-said None p w q =
+        rename-told fs z (rows_are_held fs rows) rf e t own_absolute new_absolute own h None p w
+        (λ none. rw none (q ∙ asked-own fs z (rows_are_held fs rows) own_absolute own h))
+    absolute-said (Some r) p w q = rename-told fs z (rows_are_held fs rows) rf e t own_absolute new_absolute own h (Some r) p w (λ one. rw one q)
 
 -- ---- where a file's name lies
 

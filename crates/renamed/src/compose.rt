@@ -1,4 +1,4 @@
-// A file's whole path through its rename, composed into a lent buffer. Relies on lent.rt for the rename, on
+// A file's whole path through its rename, composed into a lent buffer. Relies on `renames` for the rename, on
 // `names` and `path` for joins and on the laws of proofs/Paths.antt.
 ghost use Rattle.std.specs.Prelude.{◌&&◌, ◌≡◌};
 ghost use Rattle.types.specs.Refusals.{outcome};
@@ -10,9 +10,8 @@ ghost use Rattle.renames.specs.Renames.{in_order};
 ghost use Rattle.renames.specs.Finding.{rename_found};
 ghost use Rattle.renamed.specs.Questions.{path_by, path_into};
 
-use crate::lent::LentRenames;
 use names::are_held;
-use renames::{Rename, RenameMode, RenamedFiles};
+use renames::{LentRenames, Rename, RenameMode, RenamedFiles};
 use tables::{FileStorage, Lent, LentSet};
 use types::{FileIndex, Refusal};
 

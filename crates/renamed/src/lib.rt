@@ -3,7 +3,6 @@
 #![tactic(auto)]
 
 mod compose;
-mod lent;
 mod question;
 mod result;
 

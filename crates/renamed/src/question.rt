@@ -1,13 +1,12 @@
-// A file's name through its rename, and whether its path is absolute. Relies on lent.rt for the rename, on
+// A file's name through its rename, and whether its path is absolute. Relies on `renames` for the rename, on
 // `answers` for the set's own answers and on the laws of proofs/Questions.antt.
 ghost use Rattle.std.specs.Prelude.{◌≡◌};
 ghost use Rattle.types.specs.Refusals.{outcome};
 ghost use Rattle.renamed.specs.Results.{name_says};
-ghost use Rattle.renamed.specs.Questions.{leaf_span, is_by_itself, name_given, absolute_given};
+ghost use Rattle.renamed.specs.Questions.{leaf_span, name_given, absolute_given};
 
-use crate::lent::LentRenames;
 use crate::result::FileName;
-use renames::{RenameMode, RenamedFiles};
+use renames::{LentRenames, RenameMode, RenamedFiles};
 use tables::{FileStorage, Span};
 use types::{FileIndex, Refusal};
 
@@ -21,13 +20,6 @@ fn leaf_of(rename_text: &[u8], span: Span) -> Span
         at: span.at + path::trimmed_length(name).saturating_sub(leaf),
         len: leaf,
     }
-}
-
-// Whether a rename's text is read alone.
-fn is_by_itself(mode: RenameMode) -> bool
-    ensures { result ≡ is_by_itself mode }
-{
-    matches!(mode, RenameMode::AbsolutePath)
 }
 
 // Where a file's name lies: the leaf of its rename, or its own.
@@ -73,8 +65,9 @@ pub fn file_absolute_path(
         entries: rename_entries,
         text: rename_text,
     };
-    match names.find(index)? {
-        Some(rename) => Ok(is_by_itself(rename.mode)),
-        None => Ok(own),
-    }
+    Ok(
+        names
+            .find(index)?
+            .map_or(own, |rename| rename.mode == RenameMode::AbsolutePath),
+    )
 }

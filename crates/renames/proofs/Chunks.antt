@@ -11,6 +11,7 @@ use lib.ListN.{length, get_or, take, drop, length-append}
 use lib.Seq.{take_at, drop_at, drop-drop, get_or-drop, get_or-take}
 use denote.Ref.{Bor}
 use Rattle.std.specs.Prelude.{Some, None}
+use Rattle.std.specs.Simd.{first_chunks}
 use Rattle.std.specs.List.{sum_by}
 use Rattle.std.specs.declared.slice.ChunksExact.{ChunksExact}
 use Rattle.std.specs.Slice.Iter.{chunks_exact_size, chunks_exact_rest, chunks_exact_steps}
@@ -108,3 +109,15 @@ bytes-at (suc n) i e =
 
 pub all-bytes : (e : List ℕ) → sum_by (λ x. get_or x 2 0) (all_entries e) ≡ bytes_from (length e / 3) 0 e
 all-bytes e = bytes-at (length e / 3) 0 e
+
+-- ---- an entry read as an array of its words
+
+-- word j of entry i
+pub chunk-word : (k i j : ℕ) (e : List ℕ) → i < k → j < 3 → get_or (get_or (first_chunks 3 k e) i []) j 0 ≡ get_or e (i * 3 + j) 0
+chunk-word zero i j e h l = absurd (omega arith)
+chunk-word (suc k) zero j e h l =
+    let front : j ≡ 0 + j = omega arith in
+    get_or-take 3 e j 0 l ∙ ap (λ (n : ℕ). get_or e n 0) front
+chunk-word (suc k) (suc i) j e h l =
+    let behind : 3 + (i * 3 + j) ≡ suc i * 3 + j = omega arith in
+    chunk-word k i j (drop 3 e) (omega arith) l ∙ get_or-drop 3 e (i * 3 + j) 0 ∙ ap (λ (n : ℕ). get_or e n 0) behind

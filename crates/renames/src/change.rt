@@ -8,7 +8,7 @@ ghost use Rattle.renames.specs.Renames.{renames_changed_of, rename_file_answer};
 ghost use Rattle.renames.specs.private.Slots.{slot_of};
 ghost use Rattle.renames.specs.private.Changing.{slot_given, is_short, renames_with};
 
-use crate::check::is_in_order;
+use crate::lent::LentRenames;
 use crate::rename::{RenameMode, RenamedFiles};
 use crate::slot::{Slot, slot_of};
 use crate::splice::splice;
@@ -26,25 +26,27 @@ fn is_short(renames: RenamedFiles, p: Slot, words: usize, room: usize, len: usiz
     words / 3 < renames.num_renames + 1 - p.same || room - (renames.text_len - p.old) < len
 }
 
-// The slot of a rename whose text has `len` bytes, or why the rename is refused; `room` is the length of the text area.
-// Stays: `room` and `len` are the lengths of the text area and of the new text, of which no byte is read.
+// The slot of a rename whose text has `len` bytes, or why the rename is refused.
+// Stays: `len` is the length of the new text, of which no byte is read.
 #[tactic(auto, using(crate::proofs::Decisions::orders, crate::proofs::Used::in_use))]
 fn slot_in(
     fs: FileStorage,
-    renames: RenamedFiles,
-    entries: &[u64],
-    room: usize,
+    names: LentRenames<'_>,
     index: FileIndex,
     len: usize,
 ) -> Result<Slot, Refusal>
-    ensures { outcome result ≡ slot_given fs renames entries.now room index.0 len }
+    ensures { outcome result
+        ≡ slot_given fs names.entry.renames names.entry.entries.now (length names.entry.text.now)
+        index.0 len }
 {
     let file = rules::file_in(fs, index, true)?;
-    if !is_in_order(renames, entries, room) {
+    // Stays: each caller cuts the entries itself; a function that gives them would have to say in its clause that they
+    // are in order.
+    if !names.is_in_order() {
         return Err(Refusal::NoRoom);
     }
-    let p = slot_of(&entries[..renames.num_renames * 3], file as u64);
-    if is_short(renames, p, entries.len(), room, len) {
+    let p = slot_of(&names.entries[..names.renames.num_renames * 3], file as u64);
+    if is_short(names.renames, p, names.entries.len(), names.text.len(), len) {
         return Err(Refusal::NoRoom);
     }
     Ok(p)
@@ -62,7 +64,8 @@ fn mode_for(name: &[u8]) -> RenameMode
 }
 
 // Writes a rename, for which there is room, at its slot p, and gives the record.
-// Stays: std's `splice` is of `Vec`, which needs a heap.
+// Stays: std's `splice` is of `Vec`, which needs a heap. The record and both tables go side by side: as one record lent
+// for writing, each clause would name a field before and after.
 #[tactic(auto, using(crate::proofs::Changes::slot_in))]
 pub(crate) fn put_rename(
     renames: RenamedFiles,
@@ -115,14 +118,12 @@ pub fn rename_file(
         ≡ rename_file_answer fs renames rename_entries.old rename_text.old index.0
         new_filename.now }
 {
-    let p = slot_in(
-        fs,
+    let names = LentRenames {
         renames,
-        rename_entries,
-        rename_text.len(),
-        index,
-        new_filename.len(),
-    )?;
+        entries: rename_entries,
+        text: rename_text,
+    };
+    let p = slot_in(fs, names, index, new_filename.len())?;
     Ok(put_rename(
         renames,
         rename_entries,

@@ -1,8 +1,9 @@
 // Whether the lent tables of renames are in order. Relies on the laws of proofs/Ordered.antt and
 // proofs/Used.antt.
 ghost use Rattle.std.specs.Prelude.{◌&&◌, ◌≡◌, ◌/◌, leb, length};
-ghost use Rattle.renames.specs.Renames.{ordered_from, in_order_in};
+ghost use Rattle.renames.specs.Renames.{ordered_from, in_order_in, in_order};
 
+use crate::lent::LentRenames;
 use crate::rename::RenamedFiles;
 
 // Whether an entry is in order: its number is at least `least` and has 31 bits, its mode is one of three, and its text
@@ -42,4 +43,13 @@ pub fn is_in_order(renames: RenamedFiles, entries: &[u64], room: usize) -> bool
     renames.num_renames <= entries.len() / 3
         && renames.text_len <= room
         && are_in_order(&entries[..renames.num_renames * 3], renames.text_len)
+}
+
+impl LentRenames<'_> {
+    // The same of a record with its tables.
+    pub fn is_in_order(self) -> bool
+        ensures { result ≡ in_order self.entry.renames self.entry.entries.now self.entry.text.now }
+    {
+        is_in_order(self.renames, self.entries, self.text.len())
+    }
 }

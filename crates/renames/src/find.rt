@@ -2,10 +2,12 @@
 // the laws of proofs/Finding.antt and proofs/Used.antt.
 ghost use Rattle.std.specs.Prelude.{◌≡◌, ◌+◌, ◌*◌, ◌≤◌, ◌%◌, ◌^◌, pos, length, get_or};
 ghost use Rattle.types.specs.Refusals.{outcome};
+ghost use Rattle.rules.specs.Bounds.{clamped_of};
 ghost use Rattle.renames.specs.Renames.{mode_of};
 ghost use Rattle.renames.specs.Finding.{find_given, exported};
 
 use crate::check::is_in_order;
+use crate::lent::LentRenames;
 use crate::rename::{Rename, RenameMode, RenamedFiles};
 use crate::slot::{bytes_of, slot_of};
 use tables::Span;
@@ -19,12 +21,13 @@ fn rename_at(entries: &[u64], i: usize, at: usize) -> Rename
         × (result.name.at ≡ at)
         × (result.name.len ≡ get_or entries.now (i * 3 + 2) 0) }
 {
+    let [file, mode, len] = entries.as_chunks::<3>().0[i];
     Rename {
-        file_index: FileIndex::new(entries[i * 3]),
-        mode: RenameMode::from(entries[i * 3 + 1]),
+        file_index: FileIndex::new(file),
+        mode: RenameMode::from(mode),
         name: Span {
             at,
-            len: entries[i * 3 + 2] as usize,
+            len: len as usize,
         },
     }
 }
@@ -50,6 +53,18 @@ pub fn find_rename(
     Ok(Some(rename_at(rename_entries, p.entry, p.at)))
 }
 
+impl LentRenames<'_> {
+    // The rename of a file, if it has one.
+    pub fn find(self, index: FileIndex) -> Result<Option<Rename>, Refusal>
+        ensures { outcome result
+            ≡ find_given self.entry.renames self.entry.entries.now (length self.entry.text.now)
+            (clamped_of index.0) }
+    {
+        let file = index.get() as u64;
+        find_rename(self.renames, self.entries, self.text.len(), file)
+    }
+}
+
 // Rename i, ascending by file.
 #[tactic(auto, using(crate::proofs::Decisions::orders, crate::proofs::Used::in_use, crate::proofs::Slots::bytes_first))]
 pub fn export_filename(
@@ -63,7 +78,12 @@ pub fn export_filename(
     if renames.num_renames <= i {
         return Err(Refusal::NoSuchFile);
     }
-    if !is_in_order(renames, rename_entries, rename_text.len()) {
+    let names = LentRenames {
+        renames,
+        entries: rename_entries,
+        text: rename_text,
+    };
+    if !names.is_in_order() {
         return Err(Refusal::NoRoom);
     }
     let at = bytes_of(&rename_entries[..i * 3]);

@@ -5,6 +5,7 @@
 mod change;
 mod check;
 mod find;
+mod lent;
 mod rename;
 mod slot;
 mod splice;
@@ -12,5 +13,6 @@ mod splice;
 pub use change::rename_file;
 pub use check::is_in_order;
 pub use find::{export_filename, find_rename};
+pub use lent::LentRenames;
 pub use rename::{Rename, RenameMode, RenamedFiles};
 pub use slot::is_named;

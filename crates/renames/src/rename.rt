@@ -5,12 +5,13 @@ ghost use Rattle.renames.specs.Renames.{mode_word, mode_of};
 use tables::Span;
 use types::FileIndex;
 
-// How a rename's text is to be read: after the save path and the set's name, after the save path, or alone.
+// How a rename's text is to be read: after the save path and the set's name, after the save path, or alone. An entry
+// holds the mode as its number.
 #[derive(Clone, Copy, PartialEq, Eq)]
 pub enum RenameMode {
-    FullPath,
-    NoRootPath,
-    AbsolutePath,
+    FullPath = 0,
+    NoRootPath = 1,
+    AbsolutePath = 2,
 }
 
 // The word of a mode.
@@ -18,15 +19,13 @@ impl From<RenameMode> for u64 {
     ghost from_gives = { λ mode word. word ≡ mode_word mode };
 
     fn from(mode: RenameMode) -> u64 {
-        match mode {
-            RenameMode::FullPath => 0,
-            RenameMode::NoRootPath => 1,
-            RenameMode::AbsolutePath => 2,
-        }
+        mode as u64
     }
 }
 
 // The mode of a word.
+// Stays: with `TryFrom` each reading of an entry would take a `Result` apart, though the entries were found in order
+// before, their modes with them.
 impl From<u64> for RenameMode {
     ghost from_gives = { λ word mode. mode ≡ mode_of word };
 

@@ -49,8 +49,7 @@ fn number_at(entries: &[u64], i: usize) -> u64
 }
 
 // Whether entry i is one of n, and has the number `file`.
-// Stays: the merge of a list has the table lent for writing, with `total` entries in use. Were it asked of a slice of
-// these, the merge's clauses would speak of the table's first words where they speak of the table.
+// Stays: it is public, and it promises its answer for every n, also for one that is larger than the table's count.
 pub fn is_named(entries: &[u64], n: usize, file: u64, i: usize) -> bool
     ensures { result ≡ entry_is_named n file i entries.now }
 {
@@ -64,20 +63,16 @@ fn slot_at(entries: &[u64], file: u64, i: usize) -> Slot
     ensures { result ≡ slot_at (length entries.now / 3) file i entries.now }
 {
     let at = bytes_of(&entries[..i * 3]);
-    if is_named(entries, entries.len() / 3, file, i) {
-        Slot {
-            entry: i,
-            same: 1,
-            at,
-            old: entries[i * 3 + 2] as usize,
-        }
+    let (same, old) = if is_named(entries, entries.len() / 3, file, i) {
+        (1, entries[i * 3 + 2] as usize)
     } else {
-        Slot {
-            entry: i,
-            same: 0,
-            at,
-            old: 0,
-        }
+        (0, 0)
+    };
+    Slot {
+        entry: i,
+        same,
+        at,
+        old,
     }
 }
 

@@ -1,5 +1,7 @@
 // A line of standard output as it is put together: it is written out when its buffer is full, and at its end. Relies on
 // std's standard output.
+ghost use Rattle.std.specs.Prelude.{◌≤◌};
+
 use std::io;
 use std::io::{Stdout, Write};
 use types::Refusal;
@@ -14,6 +16,7 @@ pub struct Reply {
     out: Stdout,
     used: usize,
     bytes: [u8; ROOM],
+    ghost within: { used ≤ 256 },
 }
 
 impl Reply {
@@ -37,10 +40,10 @@ impl Reply {
 
 impl Write for Reply {
     fn write(&mut self, bytes: &[u8]) -> io::Result<usize> {
-        if ROOM <= self.used {
+        if self.used == ROOM {
             self.flush()?;
         }
-        let used = self.used.min(ROOM);
+        let used = self.used;
         let n = bytes.len().min(ROOM - used);
         self.bytes[used..used + n].copy_from_slice(&bytes[..n]);
         self.used = used + n;
@@ -48,7 +51,7 @@ impl Write for Reply {
     }
 
     fn flush(&mut self) -> io::Result<()> {
-        let n = self.used.min(ROOM);
+        let n = self.used;
         self.used = 0;
         let bytes = &self.bytes[..];
         self.out.write_all(&bytes[..n])

@@ -41,9 +41,8 @@ fn row<T: Shown + Copy>(out: Stdout, values: &[T]) -> io::Result<()> {
 }
 
 // The file in which each piece begins, of a set that keeps a table of them; else that there is none.
-pub fn first_files(out: Stdout, fs: FileStorage, firsts: &[u16]) -> io::Result<()> {
+pub fn first_files(mut out: Stdout, fs: FileStorage, firsts: &[u16]) -> io::Result<()> {
     if !fs.indexed {
-        let mut out = out;
         return out.write_all(b"ok -\n");
     }
     let n = rules::count_pieces(fs).min(firsts.len() as u64);
@@ -61,7 +60,7 @@ pub fn hashes(out: Stdout, res: Result<usize, Refusal>, table: &[u32]) -> io::Re
 // The texts of all directories of a set; a refusal, which no directory of a set gives, is left out.
 pub fn directories(out: Stdout, fs: FileStorage, dirs: &[u64], text: &[u8]) -> io::Result<()> {
     let n = match answers::num_paths(fs) {
-        Ok(n) => types::FileIndex(n).get(),
+        Ok(n) => types::clamped(i64::from(n)) as usize,
         Err(refusal) => return refused(out, refusal),
     };
     let mut reply = Reply::ok(out)?;

@@ -1,5 +1,6 @@
-// What the libraries answer, as a line: the values after `ok`, or the refusal. Relies on reply.rt and on the records
-// that the libraries answer with.
+// What the libraries answer, as a line: the values after `ok`, or the refusal. Relies on reply.rt, on `script` for
+// the bytes that are put plainly, on `lists` and `tables` for parts of texts, and on the records that the libraries
+// answer with.
 use crate::reply::{Reply, refused};
 use std::io;
 use std::io::{Stdout, Write};

@@ -1,31 +1,51 @@
--- Laws of the texts by which links lead: text v as it was given, or from its link's directory, as its row is read. They
--- rely on the kit's laws of tests.
-use Prim.Native.Nat.{ℕ, ◌/◌, ◌%◌, ◌<◌, ◌≤◌}
-use mathlib.Core.Path.{◌≡◌}
-use mathlib.Core.Bool.{cond}
-use mathlib.Core.List.{List, []}
-use borrow.Author.Tests.{lt-ltb, le-ltb}
+-- Laws of the texts by which links lead: the text of a lead is that of its number, and where the bytes of a join stand.
+-- They rely on the kit's laws of tests and of lists, and on the parts of a join of `path`.
+use Prim.Native.Nat.{ℕ, ◌+◌, ◌-◌, ◌*◌, ◌/◌, ◌%◌, ◌<◌, ◌≤◌}
+use mathlib.Core.Path.{◌≡◌, sym, ◌∙◌}
+use mathlib.Core.Bool.{Bool, true, false, cond}
+use mathlib.Core.Logic.{⊎_elim}
+use mathlib.Core.List.{List, ◌++◌}
+use native.Mathlib.Omega.{arith}
+use lib.Dec.{leb}
+use lib.ListN.{length, get_or, get_or-append}
+use lib.Seq.{get_or-append_right}
+use borrow.Author.Tests.{lt-ltb, le-ltb, lt-leb, le-leb}
+use Rattle.lists.proofs.Orders.{le-or-lt}
 use Rattle.path.specs.Join.{appended}
+use Rattle.path.proofs.Joins.{kept, between, parts}
 use Rattle.tables.specs.declared.lent.Lent.{Lent}
-use Rattle.tables.specs.declared.rows.Row.{Row}
-use Rattle.tables.specs.Span.{text_at}
-use Rattle.tables.specs.Rows.{row_at, directory_span, has, link_held_bit}
-use Rattle.lookup.specs.private.Rows.{row_text, row_branch}
-use Rattle.rope.specs.Rope.{leads, texts_of}
+use Rattle.rope.specs.Rope.{leads, texts_of, led_text, text_of}
 
-module _ (rows dirs text : List ℕ) (v : ℕ) where
-  pub lead-given : v % 4 < 2 → row_text rows text (v / 4) ≡ leads rows dirs text v
-  unfolding leads
-  lead-given h = rw (lt-ltb (v % 4) 2 h)
+-- the lead that a number is read as
+pub text_read : (l : Lent) (v n : ℕ) → n ≡ v → text_of l (record { file = n / 4; from_directory = leb 2 (n % 4) }) ≡ texts_of l v
+unfolding leads
+text_read l v n e =
+    rw e
+    (⊎_elim (λ (h : 2 ≤ v % 4). rw (le-leb 2 (v % 4) h, le-ltb (v % 4) 2 h))
+    (λ (h : v % 4 < 2). rw (lt-leb 2 (v % 4) h, lt-ltb (v % 4) 2 h))
+    (le-or-lt 2 (v % 4)))
 
-  pub lead-beside : 2 ≤ v % 4 → appended (row_branch rows dirs text (v / 4)) (row_text rows text (v / 4)) ≡ leads rows dirs text v
-  unfolding leads
-  lead-beside h = rw (le-ltb (v % 4) 2 h)
+-- and a number that it has
+pub text_numbered : (rows dirs text : List ℕ) (i v : ℕ) (b : Bool) → v ≡ i * 4 + cond b 2 0 → led_text rows dirs text (record { file = i; from_directory = b }) ≡ leads rows dirs text v
+unfolding leads
+text_numbered rows dirs text i v true e =
+    let a : v / 4 ≡ i = omega arith in
+    let m : v % 4 ≡ 2 = omega arith in
+    rw (a, m)
+text_numbered rows dirs text i v false e =
+    let a : v / 4 ≡ i = omega arith in
+    let m : v % 4 ≡ 0 = omega arith in
+    rw (a, m)
 
--- the same of the row that is read and of its link's text
-module _ (l : Lent) (v : ℕ) (row : Row) (t : List ℕ) (e : row ≡ row_at l.rows.now (v / 4)) (h : t ≡ cond (has row.flags link_held_bit) (text_at l.text.now row.link) []) where
-  pub read_given : v % 4 < 2 → t ≡ texts_of l v
-  read_given k = rw (h, e) (lead-given l.rows.now l.dirs.now l.text.now v k)
+-- a byte of a join stands in what is kept of the branch, in what stands between, or in the leaf
+module _ (d n a b : List ℕ) (j : ℕ) (e : a ≡ kept d n) (f : b ≡ between d n) where
+  pub join_kept : j < length a → get_or a j 0 ≡ get_or (appended d n) j 0
+  join_kept h = rw (← parts d n, ← e, ← f) (sym (get_or-append a (b ++ n) 0 j h))
 
-  pub read_beside : 2 ≤ v % 4 → (d : List ℕ) → d ≡ text_at l.text.now (directory_span l.dirs.now row) → appended d t ≡ texts_of l v
-  read_beside k d q = rw (q, h, e) (lead-beside l.rows.now l.dirs.now l.text.now v k)
+  pub join_between : length a ≤ j → j - length a < length b → get_or b (j - length a) 0 ≡ get_or (appended d n) j 0
+  join_between h l = rw (← parts d n, ← e, ← f) (sym (get_or-append_right a (b ++ n) j 0 h ∙ get_or-append b n 0 (j - length a) l))
+
+  pub join_leaf : (r : ℕ) → length a ≤ j → length b ≤ j - length a → r ≡ get_or n (j - length a - length b) 0 → r ≡ get_or (appended d n) j 0
+  join_leaf r h l q = q ∙ rw (← parts d n, ← e, ← f) (sym (get_or-append_right a (b ++ n) j 0 h ∙ get_or-append_right b n (j - length a) 0 l))
+
+pub ruleset joined_bytes = (join_kept, join_between, join_leaf)

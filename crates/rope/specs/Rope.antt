@@ -8,6 +8,7 @@ use Rattle.path.specs.Join.{appended}
 use Rattle.lookup.specs.Lookup.{covers}
 use Rattle.lookup.specs.private.Rows.{row_text, row_branch}
 use Rattle.tables.specs.declared.lent.Lent.{Lent}
+use Rattle.rope.specs.declared.lead.Lead.{Lead}
 use Rattle.rope.specs.declared.frame.Path.{Path}
 use Rattle.rope.specs.declared.place.Place.{Place}
 use Rattle.rope.specs.declared.bytes.Bytes.{Bytes}
@@ -22,6 +23,14 @@ row_lead rows dirs text i m =
 -- text v is that of file v / 4 with the lead v % 4
 unfoldable pub leads : List ℕ → List ℕ → List ℕ → ℕ → List ℕ
 leads rows dirs text v = row_lead rows dirs text (v / 4) (v % 4)
+
+-- the text of a lead
+abbrev pub led_text : List ℕ → List ℕ → List ℕ → Lead → List ℕ
+led_text rows dirs text t =
+    cond t.from_directory (appended (row_branch rows dirs text t.file) (row_text rows text t.file)) (row_text rows text t.file)
+
+abbrev pub text_of : Lent → Lead → List ℕ
+text_of l = led_text l.rows.now l.dirs.now l.text.now
 
 -- those of lent tables as a value
 abbrev pub texts_of : Lent → ℕ → List ℕ

@@ -1,27 +1,23 @@
 // A path as frames hold it, and one frame of it: which text it is, how much of it is left, and the bytes of that. They
 // rely on lead.rt.
 ghost use Rattle.std.specs.Prelude.{◌≡◌, ◌+◌, ◌/◌, ◌%◌, ◌^◌, ◌<◌, ltb, length, get_or};
-ghost use Rattle.rope.specs.Rope.{texts_of, kind, start, unused};
+ghost use Rattle.rope.specs.Rope.{texts_of, text_of, kind, start, unused};
 
-use crate::lead::{lead_byte, lead_length};
+use crate::lead::{Lead, lead_byte, lead_length};
 use tables::Lent;
 
-// The words of a frame.
+// The words of a frame: its text's number with its separator, and both halves of its start.
+// Stays: a record whose start has eight bytes takes sixteen in place of twelve, so a walk's 65536 frames would take 1 MiB
+// of stack and not 768 KiB (docs/DECISIONS.md); a record of three words would still have a start in two halves.
 pub const FRAME_WIDTH: usize = 3;
 
 // The path that the first `depth` frames hold, with the texts of the lent tables.
+// Stays: `depth` may pass the frames that are lent, which then read as zeros; no slice of so many could be lent.
 #[derive(Clone, Copy)]
 pub struct Path<'a> {
     pub lent: Lent<'a>,
     pub frames: &'a [u32],
     pub depth: u32,
-}
-
-// The number of the text of frame k.
-fn lead_in(frames: &[u32], k: u32) -> u32
-    ensures { result ≡ kind frames.now k / 2 }
-{
-    lists::item_or(frames, k as usize * FRAME_WIDTH, 0) / 2
 }
 
 // The number of separators after the text of frame k: 0 or 1.
@@ -62,13 +58,25 @@ impl<'a> Path<'a> {
 }
 
 impl Path<'_> {
+    // The lead whose text frame k holds.
+    #[tactic(auto, using(crate::proofs::Leads::text_read))]
+    fn lead(self, k: u32) -> Lead
+        ensures { text_of self.entry.lent result ≡ texts_of self.entry.lent (kind self.entry.frames.now k / 2) }
+    {
+        let number = lists::item_or(self.frames, k as usize * FRAME_WIDTH, 0) / 2;
+        Lead {
+            file: number / 4,
+            from_directory: 2 <= number % 4,
+        }
+    }
+
     // How many bytes of frame k's text are left. Start and that add up.
     pub fn text_left(self, k: u32) -> usize
         ensures value { result ≡ length
             (unused (texts_of self.entry.lent) self.entry.frames.now k) }
         ensures result_bound { start self.entry.frames.now k + result < 2 ^ 64 }
     {
-        let n = lead_length(self.lent, lead_in(self.frames, k));
+        let n = lead_length(self.lent, self.lead(k));
         n.saturating_sub(start_in(self.frames, k))
     }
 
@@ -79,6 +87,6 @@ impl Path<'_> {
         ensures { result ≡ get_or (unused (texts_of self.entry.lent) self.entry.frames.now k) j 0 }
     {
         let from = start_in(self.frames, k);
-        lead_byte(self.lent, lead_in(self.frames, k), from + j)
+        lead_byte(self.lent, self.lead(k), from + j)
     }
 }

@@ -1,55 +1,62 @@
 // The texts by which links lead, read where they stand. They rely on `lookup`, `tables` and `path`.
 ghost use Rattle.std.specs.Prelude.{◌≡◌, length, get_or};
 ghost use Rattle.path.specs.Join.{appended};
-ghost use Rattle.rope.specs.Rope.{texts_of};
+ghost use Rattle.rope.specs.Rope.{text_of};
 
 use tables::Lent;
 
+// A text by which a link leads: that of the link `file`, as it was given or from the link's directory.
+// Stays: the flag does not say whether there is a file; it says how the text is taken, and the file is used either way.
+// Stays: the tables go beside a lead. A frame holds the lead alone as a number, and a record of both would be made at
+// each byte and taken apart at once.
+#[derive(Clone, Copy)]
+pub struct Lead {
+    pub file: u32,
+    pub from_directory: bool,
+}
+
 // Byte j of a directory and a name joined, 0 past the end.
-pub(crate) fn joined_byte(d: &[u8], n: &[u8], j: usize) -> u8
+// Stays: byte j is asked for at each step of a walk; a chain of the three would be passed over up to j.
+#[tactic(auto, using(crate::proofs::Leads::joined_bytes))]
+fn joined_byte(d: &[u8], n: &[u8], j: usize) -> u8
     ensures { result ≡ get_or (appended d.now n.now) j 0 }
 {
-    if path::is_alone(d) {
-        return lists::item_or(n, j, 0);
+    let (kept, separator) = path::join_prefix(d, n);
+    if j < kept.len() {
+        return kept[j];
     }
-    if n.len() == 0 {
-        return lists::item_or(d, j, 0);
+    let k = j - kept.len();
+    if k < separator.len() {
+        return separator[k];
     }
-    if j < d.len() {
-        return lists::item_or(d, j, 0);
-    }
-    let k = j - d.len();
-    if path::is_closed(d) {
-        return lists::item_or(n, k, 0);
-    }
-    if k == 0 {
-        return b'/';
-    }
-    lists::item_or(n, k - 1, 0)
+    lists::item_or(n, k - separator.len(), 0)
 }
 
-// The length of text v.
-#[tactic(auto, using(crate::proofs::Leads::read_given, crate::proofs::Leads::read_beside))]
-pub fn lead_length(lent: Lent<'_>, v: u32) -> usize
-    ensures { result ≡ length (texts_of lent.entry v) }
+// The directory and the text that a lead's text joins; no directory where the text is as it was given.
+fn lead_parts(lent: Lent<'_>, lead: Lead) -> (&[u8], &[u8])
+    ensures { appended result.0.now result.1.now ≡ text_of lent.entry lead }
 {
-    let row = tables::row_at(lent.rows, (v / 4) as usize);
+    let row = tables::row_at(lent.rows, lead.file as usize);
     let t = lookup::link_text(lent.text, row);
-    if v % 4 < 2 {
-        return t.len();
+    if lead.from_directory {
+        (lent.directory_of(row), t)
+    } else {
+        (b"", t)
     }
-    path::joined_length(tables::directory_of(lent.dirs, lent.text, row), t)
 }
 
-// Byte j of text v, 0 past its end.
-#[tactic(auto, using(crate::proofs::Leads::read_given, crate::proofs::Leads::read_beside))]
-pub fn lead_byte(lent: Lent<'_>, v: u32, j: usize) -> u8
-    ensures { result ≡ get_or (texts_of lent.entry v) j 0 }
+// The length of a lead's text.
+pub fn lead_length(lent: Lent<'_>, lead: Lead) -> usize
+    ensures { result ≡ length (text_of lent.entry lead) }
 {
-    let row = tables::row_at(lent.rows, (v / 4) as usize);
-    let t = lookup::link_text(lent.text, row);
-    if v % 4 < 2 {
-        return lists::item_or(t, j, 0);
-    }
-    joined_byte(tables::directory_of(lent.dirs, lent.text, row), t, j)
+    let (d, t) = lead_parts(lent, lead);
+    path::joined_length(d, t)
+}
+
+// Byte j of a lead's text, 0 past its end.
+pub fn lead_byte(lent: Lent<'_>, lead: Lead, j: usize) -> u8
+    ensures { result ≡ get_or (text_of lent.entry lead) j 0 }
+{
+    let (d, t) = lead_parts(lent, lead);
+    joined_byte(d, t, j)
 }

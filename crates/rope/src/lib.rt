@@ -10,5 +10,5 @@ mod place;
 
 pub use bytes::Bytes;
 pub use frame::{FRAME_WIDTH, Path, is_in, start_in, tail_in};
-pub use lead::{lead_byte, lead_length};
+pub use lead::{Lead, lead_byte, lead_length};
 pub use place::Place;

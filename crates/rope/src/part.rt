@@ -8,7 +8,6 @@ ghost use Rattle.lookup.specs.Lookup.{covers};
 ghost use Rattle.rope.specs.Rope.{held, is_front, covers_front};
 
 use crate::frame::Path;
-use crate::lead::joined_byte;
 
 // Whether the directory d ends at place e, or has a separator there.
 fn is_end(d: &[u8], e: usize) -> bool
@@ -22,10 +21,9 @@ impl Path<'_> {
     fn is_joined(self, d: &[u8], n: &[u8], e: usize) -> bool
         ensures { result ≡ is_front (appended d.now n.now) (held self.entry) e }
     {
-        path::joined_length(d, n) == e
-            && (0..e)
-                .map(|i| joined_byte(d, n, i))
-                .eq(self.bytes_from(0).take(e))
+        let (kept, separator) = path::join_prefix(d, n);
+        let joined = kept.iter().chain(separator).chain(n).copied();
+        path::joined_length(d, n) == e && joined.eq(self.bytes_from(0).take(e))
     }
 
     // Whether the path has e bytes and the directory d covers them.
@@ -33,13 +31,7 @@ impl Path<'_> {
     pub fn is_covered(self, d: &[u8], e: usize) -> bool
         ensures { result ≡ covers_front d.now (held self.entry) e }
     {
-        if d.len() < e {
-            return false;
-        }
-        if is_end(d, e) {
-            return self.is_joined(b"", &d[..e], e);
-        }
-        false
+        e <= d.len() && is_end(d, e) && self.is_joined(b"", &d[..e], e)
     }
 
     // Whether the internal path of file i is the first e bytes of the path.
@@ -51,7 +43,7 @@ impl Path<'_> {
             (held self.entry) e }
     {
         let row = tables::row_at(self.lent.rows, i);
-        let d = tables::directory_of(self.lent.dirs, self.lent.text, row);
+        let d = self.lent.directory_of(row);
         self.is_joined(d, tables::text_at(self.lent.text, row.name), e)
     }
 }

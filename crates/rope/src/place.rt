@@ -6,6 +6,8 @@ ghost use Rattle.rope.specs.Rope.{texts_of, unused, place_in, held, held_to, Sta
 use crate::frame::{Path, is_in, tail_in};
 
 // A place in a path: the number of frames that are left there, and of their bytes that are passed.
+// Stays: k counts frames, and 0 of them are left at the path's end; a reader stands there too, and before all frames,
+// where no frame's number says where it stands.
 #[derive(Clone, Copy)]
 pub struct Place {
     pub k: u32,

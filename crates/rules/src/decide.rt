@@ -1,78 +1,115 @@
 // What is decided before an answer: document 01's refusals of a question, in its order. It relies on the tests of
 // test.rt and on the laws of proofs/Deciding.antt.
-ghost use Rattle.std.specs.Prelude.{◌≡◌, ◌&&◌, [], ◌∷◌, leb};
+ghost use Rattle.std.specs.Prelude.{◌≡◌, false, not, ◌&&◌, [], ◌∷◌};
 ghost use Rattle.types.specs.Refusals.{outcome};
 ghost use Rattle.rules.specs.Rules.{when, first_of};
 ghost use Rattle.rules.specs.Results.{check_number};
+ghost use Rattle.rules.specs.Bounds.{bad_length};
 ghost use Rattle.rules.specs.Questions.{bad_piece_length, no_file, no_directory, many_pieces, no_piece};
 ghost use Rattle.rules.specs.Questions.{short, few_entries};
 ghost use Rattle.rules.specs.Questions.{file_answer};
 
-use crate::test::{
-    are_held, has_few_entries, has_many, is_bad_length, is_held, is_no_file, is_no_piece,
-};
+use crate::test::{are_held, has_many, is_bad_length, is_no_file, is_no_piece};
 use tables::FileStorage;
 use types::{FileIndex, PieceIndex, Refusal};
 
-// The first refusal whose test holds.
-pub fn first_refusal(
-    bad_length: bool,
-    no_file: bool,
-    many: bool,
-    no_piece: bool,
-    bad_range: bool,
-    no_tree: bool,
-    held: bool,
-) -> Result<(), Refusal>
-    ensures { check_number result
-        ≡ first_of
-        (when bad_length 1 ∷
-        when no_file 11 ∷
-        when many 13 ∷
-        when no_piece 12 ∷
-        when bad_range 14 ∷
-        when no_tree 16 ∷
-        short held ∷
-        []) }
-{
-    if bad_length {
-        return Err(Refusal::InvalidPieceLength);
-    }
-    if no_file {
-        return Err(Refusal::NoSuchFile);
-    }
-    if many {
-        return Err(Refusal::TooManyPieces);
-    }
-    if no_piece {
-        return Err(Refusal::NoSuchPiece);
-    }
-    if bad_range {
-        return Err(Refusal::OutOfRange);
-    }
-    if no_tree {
-        return Err(Refusal::NoTree);
-    }
-    if held {
-        return Ok(());
-    }
-    Err(Refusal::NoRoom)
+// The tests of a question, each named by what it finds; those that a question doesn't make are false.
+// Stays: each field is one test of document 01's, and none of them guards another.
+#[derive(Clone, Copy, Default)]
+pub struct Tests {
+    pub bad_length: bool,
+    pub no_file: bool,
+    pub many: bool,
+    pub no_piece: bool,
+    pub bad_range: bool,
+    pub no_tree: bool,
+    pub no_room: bool,
 }
 
-// Decides a question about the set as a whole, or about an offset in it.
-pub fn ask_set(fs: FileStorage, bad_range: bool, held: bool) -> Result<(), Refusal>
-    ensures { check_number result
-        ≡ first_of (bad_piece_length fs ∷ when bad_range 14 ∷ short (held && few_entries fs) ∷ []) }
+impl Tests {
+    // The tests that every question about a set makes; `held` says whether the tables that are lent are long enough.
+    pub fn of_set(fs: FileStorage, held: bool) -> Tests
+        ensures { result
+            ≡ record {
+              bad_length = bad_length fs.piece_length;
+              no_file = false;
+              many = false;
+              no_piece = false;
+              bad_range = false;
+              no_tree = false;
+              no_room = not (held && few_entries fs);
+            } }
+    {
+        Tests {
+            bad_length: is_bad_length(fs.piece_length),
+            no_room: !are_held(fs, held),
+            ..Tests::default()
+        }
+    }
+
+    // Those of a question about a piece.
+    pub fn of_piece(fs: FileStorage, piece: PieceIndex, held: bool) -> Tests
+        ensures { result
+            ≡ record {
+              bad_length = bad_length fs.piece_length;
+              no_file = false;
+              many = (many_pieces fs).test;
+              no_piece = (no_piece fs piece.0).test;
+              bad_range = false;
+              no_tree = false;
+              no_room = not (held && few_entries fs);
+            } }
+    {
+        Tests {
+            many: has_many(fs),
+            no_piece: is_no_piece(fs, piece),
+            ..Tests::of_set(fs, held)
+        }
+    }
+
+    // The refusal of the first test that holds, in document 01's order.
+    pub fn first_refusal(self) -> Result<(), Refusal>
+        ensures { check_number result
+            ≡ first_of
+            (when self.bad_length 1 ∷
+            when self.no_file 11 ∷
+            when self.many 13 ∷
+            when self.no_piece 12 ∷
+            when self.bad_range 14 ∷
+            when self.no_tree 16 ∷
+            when self.no_room 10 ∷
+            []) }
+    {
+        if self.bad_length {
+            return Err(Refusal::InvalidPieceLength);
+        }
+        if self.no_file {
+            return Err(Refusal::NoSuchFile);
+        }
+        if self.many {
+            return Err(Refusal::TooManyPieces);
+        }
+        if self.no_piece {
+            return Err(Refusal::NoSuchPiece);
+        }
+        if self.bad_range {
+            return Err(Refusal::OutOfRange);
+        }
+        if self.no_tree {
+            return Err(Refusal::NoTree);
+        }
+        if self.no_room {
+            return Err(Refusal::NoRoom);
+        }
+        Ok(())
+    }
+}
+
+// Decides a question about the set as a whole.
+pub fn ask_set(fs: FileStorage) -> Result<(), Refusal>
+    ensures { check_number result ≡ first_of (bad_piece_length fs ∷ short (few_entries fs) ∷ []) }
 {
-    first_refusal(
-        is_bad_length(fs.piece_length),
-        false,
-        false,
-        false,
-        bad_range,
-        false,
-        are_held(fs, held),
-    )
+    Tests::of_set(fs, true).first_refusal()
 }
 
 // Decides a question about directory i.
@@ -80,99 +117,66 @@ pub fn ask_directory(fs: FileStorage, i: usize, held: bool) -> Result<(), Refusa
     ensures { check_number result
         ≡ first_of (bad_piece_length fs ∷ no_directory fs i ∷ short (held && few_entries fs) ∷ []) }
 {
-    first_refusal(
-        is_bad_length(fs.piece_length),
-        fs.num_paths <= i,
-        false,
-        false,
-        false,
-        false,
-        are_held(fs, held),
-    )
+    Tests {
+        no_file: fs.num_paths <= i,
+        ..Tests::of_set(fs, held)
+    }
+    .first_refusal()
 }
 
 // Decides a question about the set's pieces.
 pub fn ask_pieces(fs: FileStorage) -> Result<(), Refusal>
     ensures { check_number result ≡ first_of (bad_piece_length fs ∷ many_pieces fs ∷ short (few_entries fs) ∷ []) }
 {
-    first_refusal(
-        is_bad_length(fs.piece_length),
-        false,
-        has_many(fs),
-        false,
-        false,
-        false,
-        has_few_entries(fs),
-    )
+    Tests {
+        many: has_many(fs),
+        ..Tests::of_set(fs, true)
+    }
+    .first_refusal()
 }
 
 // Decides a question about a piece.
-pub fn ask_piece(
-    fs: FileStorage,
-    piece: PieceIndex,
-    bad_range: bool,
-    held: bool,
-) -> Result<(), Refusal>
+// Stays: it gives no number. In layout and in files one function each asks so and makes of the number, in the type that
+// it needs, a record of the question.
+pub fn ask_piece(fs: FileStorage, piece: PieceIndex, held: bool) -> Result<(), Refusal>
     ensures { check_number result
         ≡ first_of
-        (bad_piece_length fs ∷
-        many_pieces fs ∷
-        no_piece fs piece.0 ∷
-        when bad_range 14 ∷
-        short (held && few_entries fs) ∷
-        []) }
+        (bad_piece_length fs ∷ many_pieces fs ∷ no_piece fs piece.0 ∷ short (held && few_entries fs) ∷ []) }
 {
-    first_refusal(
-        is_bad_length(fs.piece_length),
-        false,
-        has_many(fs),
-        is_no_piece(fs, piece),
-        bad_range,
-        false,
-        are_held(fs, held),
-    )
+    Tests::of_piece(fs, piece, held).first_refusal()
 }
 
-// Decides a question about a file whose rows stand in a table with `room` places.
+// Decides a question about a file, which may be about its pieces or its tree.
 pub fn ask_file(
     fs: FileStorage,
     index: FileIndex,
     many: bool,
-    bad_range: bool,
     no_tree: bool,
-    room: usize,
+    held: bool,
 ) -> Result<(), Refusal>
     ensures { check_number result
         ≡ first_of
         (bad_piece_length fs ∷
         no_file fs index.0 ∷
         when many 13 ∷
-        when bad_range 14 ∷
         when no_tree 16 ∷
-        short (leb fs.num_files room && few_entries fs) ∷
+        short (held && few_entries fs) ∷
         []) }
 {
-    first_refusal(
-        is_bad_length(fs.piece_length),
-        is_no_file(fs, index),
+    Tests {
+        no_file: is_no_file(fs, index),
         many,
-        false,
-        bad_range,
         no_tree,
-        are_held(fs, is_held(fs.num_files, room)),
-    )
+        ..Tests::of_set(fs, held)
+    }
+    .first_refusal()
 }
 
 // The number of the file that a question is about, or its refusal; `held` says whether the lent tables are long enough.
+// Stays: `link_in` of `answers` makes one test more, between the two last ones here, so one can't call the other.
 pub fn file_in(fs: FileStorage, index: FileIndex, held: bool) -> Result<usize, Refusal>
     ensures { outcome result ≡ file_answer fs index.0 held (λ k. k) }
 {
-    if is_bad_length(fs.piece_length) {
-        return Err(Refusal::InvalidPieceLength);
-    }
-    let k = index.within(fs.num_files)?;
-    if are_held(fs, held) {
-        return Ok(k);
-    }
-    Err(Refusal::NoRoom)
+    ask_file(fs, index, false, false, held)?;
+    Ok(index.get())
 }

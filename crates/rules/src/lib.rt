@@ -5,8 +5,9 @@
 mod decide;
 mod test;
 
-pub use decide::{ask_directory, ask_file, ask_piece, ask_pieces, ask_set, file_in, first_refusal};
+pub use decide::{Tests, ask_directory, ask_file, ask_piece, ask_pieces, ask_set, file_in};
 pub use test::{
-    DEFAULT_BLOCK_SIZE, MAX_ENTRIES, MAX_PIECES, are_held, count_pieces, has_few_entries, has_many,
-    is_bad_length, is_bad_offset, is_bad_range, is_held, is_no_file, is_no_tree, is_there,
+    DEFAULT_BLOCK_SIZE, MAX_ENTRIES, MAX_FILE_OFFSET, MAX_PIECES, are_held, count_pieces,
+    has_few_entries, has_many, holds_dirs, holds_roots, holds_rows, holds_set, holds_text,
+    is_bad_length, is_bad_offset, is_bad_range, is_no_file, is_no_tree, is_there,
 };

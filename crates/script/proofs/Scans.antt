@@ -1,9 +1,8 @@
--- Laws of the scans of a line: how far a scan goes, the words that are left, and one place of a search for a form.
-use Rattle.std.proofs.Common.{ℕ, suc, ◌+◌, ◌-◌, ◌≤◌, ◌<◌, Bool, true, false, not, cond, ◌&&◌, eqb, List, ◌∷◌, length, get_or, drop, Option, Some, ◌≡◌, refl, sym, ◌∙◌, arith, add-one, drop-cons}
-use mir.Val.{bool_byte}
+-- Laws of the scans of a line: how far a scan goes, the words that are left, and their number.
+use Rattle.std.proofs.Common.{ℕ, suc, ◌+◌, ◌-◌, ◌<◌, Bool, true, false, not, cond, eqb, List, [], ◌∷◌, length, drop, ◌≡◌, refl, sym, ap, ◌∙◌, arith, ne_eqb}
+use Rattle.std.specs.List.{filter, slice_split, onto_first}
 use Rattle.std.proofs.lemmas.List.{take_rest}
-use Rattle.script.specs.Words.{count_before, part_before, blanks_of, word_end, from_word}
-use Rattle.script.specs.Forms.{has_form, form_from}
+use Rattle.script.specs.Words.{count_before, blanks_of, word_end, from_word, words_from}
 
 count-by : (b : Bool) (n : ℕ) → cond b 0 (suc n) ≡ cond b 0 (1 + n)
 count-by true n = refl
@@ -23,27 +22,37 @@ blanks-more x xs = blank-by (eqb x 32) (blanks_of xs)
 pub word-turn : (n i k : ℕ) (l s : List ℕ) → i < n → k ≡ word_end l → s ≡ drop k l → from_word (n - (i + 1)) s ≡ from_word (n - i) l
 word-turn n i k l s h e p = let q : n - i ≡ suc (n - (i + 1)) = omega arith in rw (q, p, e)
 
--- one place of a search for a form
-module _ (l : List ℕ) (i : ℕ) (h : i < length l) where
-  module _ (n : ℕ) (begins : Bool) (line s : List ℕ) (b : Bool) (p : s ≡ drop i l) (e : b ≡ begins && has_form line (part_before 44 s)) where
-    form-turn : form_from n begins (drop i l) line ≡ cond b (Some n) (form_from (n + cond (eqb (get_or l i 0) 44) 1 0) (eqb (get_or l i 0) 44) (drop (i + 1) l) line)
-    form-turn = rw (e, p, add-one i, drop-cons l i 0 h)
+-- for the loop over words
+pub ruleset turns = (word-turn, take_rest)
 
-    pub form-stop : b ≡ true → Some n ≡ form_from n begins (drop i l) line
-    form-stop q = sym (form-turn ∙ rw q)
+-- how many parts hold a byte
+abbrev pub held-parts : List (List ℕ) → ℕ
+held-parts parts = length (filter (λ w. not (eqb (length w) 0)) parts)
 
-    byte_is : (d : Bool) → bool_byte d ≡ cond d 1 0
-    byte_is true = refl
-    byte_is false = refl
+held-more : (x : ℕ) (w : List ℕ) (parts : List (List ℕ)) → held-parts ((x ∷ w) ∷ parts) ≡ suc (held-parts parts)
+held-more x w parts =
+    let rest = filter (λ w. not (eqb (length w) 0)) parts in
+    ap (λ b. length (cond (not b) ((x ∷ w) ∷ rest) rest)) (ne_eqb (suc (length w)) 0 (λ e. omega (arith, e)))
 
-    byte-le : (d : Bool) → bool_byte d ≤ 1
-    byte-le true = omega arith
-    byte-le false = omega arith
+-- a byte c before a line, where b says whether it is a blank and k the line's words: how many parts hold a byte
+blank-parts : (b : Bool) (c : ℕ) (parts : List (List ℕ)) (k : Bool → ℕ) → held-parts parts ≡ k false → held-parts (onto_first c parts) ≡ suc (k true)
+    → held-parts (cond b ([] ∷ parts) (onto_first c parts)) ≡ cond b 0 1 + k (not b)
+blank-parts true c parts k p q = omega (arith, p)
+blank-parts false c parts k p q = omega (arith, q)
 
-    pub form-pass : (m : ℕ) (whole : Option ℕ) → b ≡ false → m ≡ bool_byte (eqb (get_or l i 0) 44) → (n ≤ i) × (form_from n begins (drop i l) line ≡ whole)
-        → (n + m ≤ i + 1) × (form_from (n + m) (eqb (get_or l i 0) 44) (drop (i + 1) l) line ≡ whole)
-    form-pass m whole q k v =
-        (omega (arith, byte-le (eqb (get_or l i 0) 44), k, v.0), rw (k, byte_is (eqb (get_or l i 0) 44)) (sym (form-turn ∙ rw q) ∙ v.1))
+-- the same with a byte x of a word before it
+onto-parts : (b : Bool) (x c : ℕ) (parts : List (List ℕ)) (k : Bool → ℕ) → held-parts parts ≡ k false → held-parts (onto_first c parts) ≡ suc (k true)
+    → held-parts (onto_first x (cond b ([] ∷ parts) (onto_first c parts))) ≡ suc (k (not b))
+onto-parts true x c parts k p q = held-more x [] parts ∙ ap suc p
+onto-parts false x c [] k p q = q
+onto-parts false x c (part ∷ parts) k p q = held-more x (c ∷ part) parts ∙ sym (held-more c part parts) ∙ q
 
--- for the loops over words and over forms
-pub ruleset turns = (word-turn, form-stop, take_rest)
+-- the words of a line are the parts between its blanks that hold a byte; the second fact is for a line after a byte x of a word
+pub words-parted : (line : List ℕ) → (held-parts (slice_split (λ b. eqb b 32) line) ≡ words_from false line)
+    × ((x : ℕ) → held-parts (onto_first x (slice_split (λ b. eqb b 32) line)) ≡ suc (words_from true line))
+words-parted [] = (refl, λ x. refl)
+words-parted (c ∷ t) =
+    let k = λ (within : Bool). words_from within t in
+    let more = words-parted t in
+    let parts = slice_split (λ b. eqb b 32) t in
+    (blank-parts (eqb c 32) c parts k more.0 (more.1 c), λ x. omega (arith, onto-parts (eqb c 32) x c parts k more.0 (more.1 c)))

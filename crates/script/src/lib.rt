@@ -9,7 +9,7 @@ mod scan;
 mod strings;
 mod words;
 
-pub use forms::form_of;
+pub use forms::has_form;
 pub use lists::parse_decimal as to_u64;
 pub use numbers::{to_i32, to_i64};
 pub use roots::to_root;

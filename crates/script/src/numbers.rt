@@ -18,8 +18,10 @@ pub fn to_i64(word: &[u8]) -> Option<i64>
 fn minus(n: u64) -> Option<i64>
     ensures { result ≡ negative_of 63 (Some n) }
 {
-    let distance = i64::try_from(n.checked_sub(1)?).ok()?;
-    Some(-1 - distance)
+    if n == 0 {
+        return None;
+    }
+    0i64.checked_sub_unsigned(n)
 }
 
 // The `i32` that a word is.

@@ -1,7 +1,7 @@
 // Roots in a script's form: 64 lower-case hex digits, or `*XX` for 32 bytes of that value, its digits of either case.
 // Relies on strings.rt for hex digits, and on an invariant of proofs/Units.antt.
 ghost use Rattle.std.specs.Prelude.{◌≡◌, ◌<◌, IfSome};
-ghost use Rattle.script.specs.Roots.{root_of, repeated_of, spelt_of, either_of};
+ghost use Rattle.script.specs.Roots.{root_of, spelt_of, either_of};
 
 use crate::strings::{hex_byte, hex_value};
 
@@ -10,21 +10,11 @@ use crate::strings::{hex_byte, hex_value};
 pub fn to_root(word: &[u8]) -> Option<[u8; 32]>
     ensures { result ≡ root_of word.now }
 {
-    if word.first() == Some(&b'*') {
-        return repeated(word);
+    match word {
+        [b'*', high, low] => Some([hex_byte(either_value(*high), either_value(*low))?; 32]),
+        [b'*', ..] => None,
+        _ => spelt(word),
     }
-    spelt(word)
-}
-
-// The root of 32 bytes of one value.
-fn repeated(word: &[u8]) -> Option<[u8; 32]>
-    ensures { result ≡ repeated_of word.now }
-{
-    let [_, high, low] = word else {
-        return None;
-    };
-    let byte = hex_byte(either_value(*high), either_value(*low))?;
-    Some([byte; 32])
 }
 
 // The root that 64 digits spell.
@@ -45,6 +35,7 @@ fn spelt(word: &[u8]) -> Option<[u8; 32]>
 }
 
 // The value of a hex digit of either case.
+// Stays: std's `to_digit` reads a `char` and gives a `u32`, so the byte and the value would each be converted.
 fn either_value(c: u8) -> Option<u8>
     ensures value { result ≡ either_of c }
     ensures small { IfSome result (λ v. v < 16) }

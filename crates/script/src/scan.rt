@@ -11,6 +11,8 @@ pub fn before_first(bytes: &[u8], c: u8) -> usize
 }
 
 // How many blanks stand at the start.
+// Stays: it is one call of std's `position`, as `before_first` is; a function for both would take the test, and say in
+// its contract what is now the whole body of each.
 pub(crate) fn blanks(bytes: &[u8]) -> usize
     ensures value { result ≡ blanks_of bytes.now }
     ensures within { result ≤ length bytes.now }

@@ -25,6 +25,7 @@ pub fn decode(word: &[u8], target: &mut [u8], used: usize) -> Option<usize>
     // Stays: a byte has one character or three, and no iterator over slices steps by the one or the other.
     while !rest.is_empty() {
         let (byte, after) = first_byte(rest)?;
+        // Stays: std's `get_mut` says which byte it lends, and nothing of `target` once the byte is written.
         if target.len() <= n {
             return None;
         }
@@ -60,6 +61,8 @@ pub(crate) fn hex_byte(high: Option<u8>, low: Option<u8>) -> Option<u8>
 }
 
 // The value of a hex digit whose letters begin with `ten`, `A` or `a`.
+// Stays: std's `to_digit` takes letters of either case, and a string takes upper-case ones only, the 64 digits of
+// a root lower-case ones.
 pub(crate) fn hex_value(c: u8, ten: u8) -> Option<u8>
     requires { ten < 128 }
     ensures value { result ≡ hex_from ten c }
@@ -68,7 +71,7 @@ pub(crate) fn hex_value(c: u8, ten: u8) -> Option<u8>
     if c.is_ascii_digit() {
         return Some(c - b'0');
     }
-    if ten <= c && c <= ten + 5 {
+    if (ten..=ten + 5).contains(&c) {
         return Some(c - ten + 10);
     }
     None

@@ -1,11 +1,13 @@
 // The words of a line, parted by blanks and numbered from 0. A word that a line lacks has no bytes, and so is no string
 // and no number. Relies on scan.rt, and on the laws of proofs/Scans.antt.
 ghost use Rattle.std.specs.Prelude.{◌≡◌, ◌≤◌, length, false};
-ghost use Rattle.script.specs.Words.{word_end, from_word, word_of, after_word, begun, words_from};
+ghost use Rattle.script.specs.Words.{word_end, from_word, word_of, after_word, words_from};
 
 use crate::scan::{before_first, blanks};
 
 // The word of a number.
+// Stays: callers hand the word to what reads it; a function for a number or a string of a line would only join the two,
+// one for each kind of value.
 pub fn word(line: &[u8], number: usize) -> &[u8]
     ensures { result.now ≡ word_of line.now number }
 {
@@ -49,24 +51,11 @@ fn word_end(line: &[u8]) -> usize
     blanks(line) + before_first(unblanked(line), b' ')
 }
 
-// The number of words of a line.
+// The number of words of a line: the parts between blanks that hold a byte.
 pub(crate) fn count(line: &[u8]) -> usize
     ensures { result ≡ words_from false line.now }
 {
-    let mut n = 0;
-    let mut within = false;
-    // Stays: the definition counts words by their first bytes; of `split` it would first have to be shown that as many
-    // of its parts hold a byte.
-    for c in line {
-        n += words_begun(within, *c);
-        within = *c != b' ';
-    }
-    n
-}
-
-// How many words begin with a byte c, where `within` says whether the byte before is part of a word.
-fn words_begun(within: bool, c: u8) -> usize
-    ensures { result ≡ begun within c }
-{
-    usize::from(!within && c != b' ')
+    line.split(|c| *c == b' ')
+        .filter(|part| !part.is_empty())
+        .count()
 }

@@ -1,6 +1,6 @@
 // The program `setlist` of document 01: it reads standard input, and writes the listing of what it read.
-// One byte more than an input may have is read, so that a longer one is known. Relies on `listing`, and on std's
-// standard input and output.
+// One byte more than an input may have is read, so that a longer one is known. Relies on `listing`, on
+// `lists` for the part that is written, and on std's standard input and output.
 #![tactic(auto)]
 
 ghost use Rattle.std.specs.Prelude.{◌≤◌, length, IfOk};

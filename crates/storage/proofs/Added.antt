@@ -3,7 +3,6 @@
 use mathlib.Core.Path.{◌≡◌, refl, sym, ap, subst, ◌∙◌}
 use mathlib.Core.List.{List}
 use Prim.Native.Nat.{ℕ, ◌≤◌}
-use lib.ListN.{length}
 use Rattle.types.specs.Refusals.{number_of, value, refused}
 use Rattle.types.specs.declared.refusal.Refusal.{Refusal}
 use Rattle.types.proofs.Refusals.{numbered}
@@ -13,8 +12,7 @@ use Rattle.rules.proofs.Rules.{outcome-value, outcome-refused}
 use Rattle.change.specs.Changes.{Changed, changed_of, answering}
 use Rattle.additions.specs.declared.info.FileInfo.{FileInfo}
 use Rattle.additions.specs.Addition.{Addition, optional_of, addition_of}
-use Rattle.additions.specs.private.Texts.{name_from, link_text_of, PartsWithin}
-use Rattle.additions.proofs.Texts.{parts_within}
+use Rattle.additions.specs.private.Texts.{name_from, link_text_of}
 use Rattle.plan.specs.declared.plan.AddPlan.{AddPlan}
 use Rattle.plan.specs.Write.{store_added, roots_added}
 use Rattle.plan.specs.Outcomes.{adding_number, add_stored}
@@ -45,7 +43,7 @@ module _ (s : Store) (file : FileInfo) (filename path link : List ℕ) where
       text_written p.before.num_files p.before.text_len p s.text
       (text_at path p.parts.set_name)
       (text_at path p.parts.directory)
-      (name_from file.given filename (text_at path p.parts.name))
+      (name_from call.given (text_at path p.parts.name))
       (link_text_of p.before.num_symlinks link)
 
   abbrev pub written_by : AddPlan → Changed
@@ -61,8 +59,8 @@ module _ (s : Store) (file : FileInfo) (filename path link : List ℕ) where
   all-written =
       let text =
       text-is s (view_of s) call (text_at path plan.parts.set_name) (text_at path plan.parts.directory)
-      (name_from file.given filename (text_at path plan.parts.name)) (link_text_of s.fs.num_symlinks link) plan.parts.kind
-      (texts-of s call file.given filename plan.parts refl refl) in
+      (name_from call.given (text_at path plan.parts.name)) (link_text_of s.fs.num_symlinks link) plan.parts.kind
+      (texts-of s call plan.parts refl) in
       rw (rows_are s (view_of s) call, dirs-are s (view_of s) call, text)
 
 -- the plan of a call
@@ -75,12 +73,6 @@ module _ {s : Store} {file : FileInfo} {filename path link : List ℕ} {p : AddP
 
   pub add-few : p.before.num_files ≤ 65535
   add-few = subst (λ (q : AddPlan). q.before.num_files ≤ 65535) (sym planned.1) (add-held s (call s file filename path link) planned.0)
-
-  pub add-within : PartsWithin (length path) p.parts
-  add-within = subst (λ (q : AddPlan). PartsWithin (length path) q.parts) (sym planned.1) (parts_within s.fs.num_files (view_of s).name path)
-
-  pub add-pieces : p.after.piece_length ≡ p.before.piece_length
-  add-pieces = subst (λ (q : AddPlan). q.after.piece_length ≡ q.before.piece_length) (sym planned.1) refl
 
   pub add-written : written_by s file filename path link p ≡ add_stored s (call s file filename path link)
   add-written = ap (written_by s file filename path link) planned.1 ∙ all-written s file filename path link ∙ rw planned.0

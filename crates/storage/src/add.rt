@@ -9,7 +9,7 @@ ghost use Rattle.plan.specs.Outcomes.{add_stored};
 
 use crate::firsts::write_firsts;
 use crate::write::write_all;
-use additions::FileInfo;
+use additions::{FileInfo, Given};
 use tables::FileStorage;
 use types::Refusal;
 
@@ -53,9 +53,12 @@ pub fn add_file(
         text,
         plan,
         file,
-        filename,
-        path,
-        symlink_path,
+        Given {
+            name: additions::given_name(file.given, filename),
+            path,
+            link: symlink_path,
+            parts: plan.parts,
+        },
     );
     write_firsts(firsts, plan.before, plan.after);
     Ok(plan.after)

@@ -72,8 +72,7 @@ fn fill_places(firsts: &mut [u16], from: usize, to: usize, file: u16)
 
 // Writes the table of first files of a set that keeps one, by its record before and after an addition.
 pub(crate) fn write_firsts(firsts: &mut [u16], before: FileStorage, after: FileStorage)
-    requires num_files_bound { before.num_files ≤ max_entries }
-    requires piece_length_value { after.piece_length ≡ before.piece_length }
+    requires { before.num_files ≤ max_entries }
     ensures { firsts.new ≡ firsts_written before after firsts.old }
 {
     if before.indexed {

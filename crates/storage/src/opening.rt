@@ -7,6 +7,7 @@ use tables::{FileStorage, Span};
 use types::Refusal;
 
 // A set without files, with that piece length; below 1 it is refusal 1.
+// Stays: each field of a new record is written out, so that a new field isn't left at a derived `Default` unseen.
 fn open_with(piece_length: i32, indexed: bool) -> Result<FileStorage, Refusal>
     ensures { outcome result ≡ opened piece_length indexed }
 {
@@ -20,7 +21,7 @@ fn open_with(piece_length: i32, indexed: bool) -> Result<FileStorage, Refusal>
         num_files: 0,
         num_paths: 0,
         num_symlinks: 0,
-        name: Span { at: 0, len: 0 },
+        name: Span::empty(),
         text_len: 0,
         total_size: 0,
         size_on_disk: 0,

@@ -1,18 +1,18 @@
 // The writers of an addition: each writes tables by the plan, and none can fail. Relies on the
 // writers of `tables` and `lists`.
-ghost use Rattle.std.specs.Prelude.{◌≡◌, ◌+◌, ◌≤◌, length};
+ghost use Rattle.std.specs.Prelude.{◌≡◌, ◌+◌, ◌≤◌, option_copied};
 ghost use Rattle.tables.specs.Span.{text_at};
 ghost use Rattle.rules.specs.Bounds.{max_entries};
-ghost use Rattle.additions.specs.private.Texts.{name_from, link_text_of, PartsWithin};
+ghost use Rattle.additions.specs.private.Texts.{name_from, link_text_of};
 ghost use Rattle.additions.specs.Addition.{optional_of};
 ghost use Rattle.plan.specs.Write.{roots_added};
 ghost use Rattle.storage.specs.private.Written.{renamed, dirs_renamed, dir_text_written, dir_written, texts_written};
 ghost use Rattle.storage.specs.private.Written.{pad_text_written, text_written, pad_dir_written, dirs_written};
 ghost use Rattle.storage.specs.private.Written.{pad_row_written, rows_written};
 
-use additions::FileInfo;
+use additions::{FileInfo, Given};
 use plan::{AddPlan, NewDir};
-use tables::{FileEntry, Presence};
+use tables::FileEntry;
 
 // Removes the old name of a set without files, which is named again, and lowers the directory rows for it.
 fn free_name(dirs: &mut [u64], text: &mut [u8], plan: AddPlan)
@@ -44,27 +44,27 @@ fn write_dir(dirs: &mut [u64], dir: Option<NewDir>)
 }
 
 // Writes the new texts of an addition but the pad's, which stand in its path, its given name and its link text.
-fn write_texts(
-    text: &mut [u8],
-    plan: AddPlan,
-    given: Presence,
-    filename: &[u8],
-    path: &[u8],
-    symlink_path: &[u8],
-)
-    requires { PartsWithin (length path.now) plan.parts }
+fn write_texts(text: &mut [u8], plan: AddPlan, given: Given)
     ensures { text.new
         ≡ texts_written plan text.old
-        (text_at path.now plan.parts.set_name)
-        (text_at path.now plan.parts.directory)
-        (name_from given filename.now (text_at path.now plan.parts.name))
-        (link_text_of plan.before.num_symlinks symlink_path.now) }
+        (text_at given.entry.path.now given.entry.parts.set_name)
+        (text_at given.entry.path.now given.entry.parts.directory)
+        (name_from (option_copied given.entry.name) (text_at given.entry.path.now given.entry.parts.name))
+        (link_text_of plan.before.num_symlinks given.entry.link.now) }
 {
-    let own = tables::text_at(path, plan.parts.name);
-    let name = additions::stored_name(given, filename, own);
-    let link = additions::link_text(plan.before.num_symlinks, symlink_path);
-    lists::copy_after(text, plan.start, tables::text_at(path, plan.parts.set_name));
-    write_dir_text(text, plan.dir, tables::text_at(path, plan.parts.directory));
+    let own = tables::text_at(given.path, given.parts.name);
+    let name = additions::stored_name(given.name, own);
+    let link = additions::link_text(plan.before.num_symlinks, given.link);
+    lists::copy_after(
+        text,
+        plan.start,
+        tables::text_at(given.path, given.parts.set_name),
+    );
+    write_dir_text(
+        text,
+        plan.dir,
+        tables::text_at(given.path, given.parts.directory),
+    );
     lists::copy_after(text, plan.row.name.at, name);
     lists::copy_after(text, plan.row.link.at, link);
 }
@@ -87,9 +87,10 @@ fn write_pad(rows: &mut [u64], dirs: &mut [u64], text: &mut [u8], plan: AddPlan)
 }
 
 // Writes an addition by its plan: row, root, directory row and texts, and then the pad.
-// Stays: document 01 lends texts as slices; `add_file`, which is public, is lent the three one by one and hands them on
-// to this function, which writes them. That files are few comes from the contract of `plan_add`: as a ghost field of
-// `AddPlan` the two functions that make a plan would have to ask for it in place of the two here.
+// Stays: the tables are lent one by one, as `write_pad` says. That files are few comes from the contract of `plan_add`:
+// as a ghost field of `AddPlan` the two functions that make a plan would have to ask for it in place of the two here.
+// The root goes on as it is lent, beside its presence: `tables::put_entry` takes document 01's record of a file, which
+// has both.
 pub(crate) fn write_all(
     rows: &mut [u64],
     roots: &mut [u8],
@@ -97,22 +98,19 @@ pub(crate) fn write_all(
     text: &mut [u8],
     plan: AddPlan,
     file: FileInfo,
-    filename: &[u8],
-    path: &[u8],
-    symlink_path: &[u8],
+    given: Given,
 )
-    requires num_files_bound { plan.before.num_files ≤ max_entries }
-    requires parts_within { PartsWithin (length path.now) plan.parts }
+    requires { plan.before.num_files ≤ max_entries }
     ensures rows_after { rows.new ≡ rows_written plan.before.num_files plan rows.old }
     ensures roots_after { roots.new
         ≡ roots_added roots.old plan.before.num_files (optional_of file.rooted file.root.bytes) }
     ensures dirs_after { dirs.new ≡ dirs_written plan.before.num_files plan.before.num_paths plan dirs.old }
     ensures text_after { text.new
         ≡ text_written plan.before.num_files plan.before.text_len plan text.old
-        (text_at path.now plan.parts.set_name)
-        (text_at path.now plan.parts.directory)
-        (name_from file.given filename.now (text_at path.now plan.parts.name))
-        (link_text_of plan.before.num_symlinks symlink_path.now) }
+        (text_at given.entry.path.now given.entry.parts.set_name)
+        (text_at given.entry.path.now given.entry.parts.directory)
+        (name_from (option_copied given.entry.name) (text_at given.entry.path.now given.entry.parts.name))
+        (link_text_of plan.before.num_symlinks given.entry.link.now) }
 {
     tables::put_entry(
         rows,
@@ -126,6 +124,6 @@ pub(crate) fn write_all(
     );
     free_name(dirs, text, plan);
     write_dir(dirs, plan.dir);
-    write_texts(text, plan, file.given, filename, path, symlink_path);
+    write_texts(text, plan, given);
     write_pad(rows, dirs, text, plan);
 }

@@ -9,6 +9,10 @@ abbrev pub presence_if : Bool → Presence
 presence_if true = Present
 presence_if false = Absent
 
+abbrev pub is_here : Presence → Bool
+is_here Absent = false
+is_here Present = true
+
 -- file i
 abbrev pub entry_at : List ℕ → List ℕ → ℕ → FileEntry
 entry_at rows roots i =

@@ -4,3 +4,4 @@ pub mod Span
 pub mod Rows
 pub mod Entry
 pub mod Model
+pub mod Lending

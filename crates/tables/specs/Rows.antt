@@ -123,6 +123,10 @@ is_inside r = is_stored r.path_index
 abbrev pub directory_span : List ℕ → Row → Span
 directory_span dirs r = cond (is_inside r) (dir_at dirs r.path_index) (record { at = 0; len = 0 })
 
+-- where a file's link text lies: a span of no bytes where none is held
+abbrev pub link_span : Row → Span
+link_span r = cond (has r.flags link_held_bit) r.link (record { at = 0; len = 0 })
+
 -- the root of row i, filled up with zeros past the end
 abbrev pub root_at : List ℕ → ℕ → List ℕ
 root_at roots i = take root_width (drop (i * root_width) roots ++ replicate root_width 0)

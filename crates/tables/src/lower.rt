@@ -18,7 +18,7 @@ fn lower_dir(dirs: &mut [u64], i: usize, c: Span)
 // Lowers the spans of the first n directory rows, or of as many as there are, once the bytes of the
 // span `c` are removed.
 // Stays: its twin of rows in `texts` calls another function in the same loop; with a closure the contract would be
-// longer than both. Here too n may pass the table's end.
+// longer than both. A loop over `chunks_exact_mut` would leave only the table's length known.
 pub fn lower_dirs(dirs: &mut [u64], n: usize, c: Span)
     ensures { dirs.new ≡ dirs_lowered dirs.old n c }
 {
@@ -29,6 +29,7 @@ pub fn lower_dirs(dirs: &mut [u64], n: usize, c: Span)
 }
 
 // The row that becomes row i where row f is removed.
+// Stays: the next row's number is made here and below; a type for a number that can grow by one would be opened at once.
 fn row_from(f: usize, i: usize) -> usize
     requires { i + 1 < 2 ^ 64 }
     ensures { result ≡ skip f i }

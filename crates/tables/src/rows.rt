@@ -2,10 +2,11 @@
 ghost use Rattle.std.specs.Prelude.{◌≡◌, ◌+◌, ◌*◌, ◌<◌, ◌^◌, get_or, replicate};
 ghost use Rattle.std.proofs.lemmas.List.Edits.{sets};
 ghost use Rattle.tables.specs.Rows.{row_width, row_at, packed, put_row, dir_at, put_dir, is_stored, directory_span};
+ghost use Rattle.tables.specs.Rows.{link_span};
 ghost use Rattle.tables.specs.Span.{text_at};
 ghost use Rattle.tables.specs.Rows.{root_at, put_root, has};
 ghost use Rattle.tables.specs.Rows.{pad_bit, symlink_bit, link_held_bit, outside_bit, root_bit};
-ghost use Rattle.tables.specs.Entry.{presence_if, entry_at, rows_with, roots_with};
+ghost use Rattle.tables.specs.Entry.{presence_if, is_here, entry_at, rows_with, roots_with};
 
 use crate::span::{Span, text_at};
 
@@ -37,20 +38,19 @@ pub const MADE_BIT: u64 = 64;
 pub const ROOT_BIT: u64 = 128;
 
 // Offsets and sizes are held in 48 bits.
-const SIZE_RANGE: u64 = 0x1_0000_0000_0000;
+pub const SIZE_RANGE: u64 = 0x1_0000_0000_0000;
 
 // Flags are held in 16 bits, in one word with the size.
 const FLAGS_RANGE: u64 = 0x1_0000;
 
 // The path index of a single name, which has no directory.
-// Stays: a path index is a word of a lent row, and the Rust's rows have these two numbers too.
 pub const NO_PATH: u64 = 1073741823;
 
 // The path index of a file that was added by an absolute path.
 pub const PATH_IS_ABSOLUTE: u64 = 1073741822;
 
 // A root.
-#[derive(Clone, Copy)]
+#[derive(Clone, Copy, PartialEq, Eq)]
 pub struct Sha256Hash {
     pub bytes: [u8; ROOT_WIDTH],
 }
@@ -73,13 +73,40 @@ pub enum Presence {
     Present,
 }
 
+// The presence that a test tells.
+impl From<bool> for Presence {
+    ghost from_gives = { λ there presence. presence ≡ presence_if there };
+
+    fn from(there: bool) -> Presence {
+        if there {
+            Presence::Present
+        } else {
+            Presence::Absent
+        }
+    }
+}
+
+// Whether what may be missing is there.
+impl From<Presence> for bool {
+    ghost from_gives = { λ presence there. there ≡ is_here presence };
+
+    fn from(presence: Presence) -> bool {
+        matches!(presence, Presence::Present)
+    }
+}
+
 // A file's row as the table holds it.
 #[derive(Clone, Copy)]
 pub struct Row {
     pub offset: u64,
     pub size: u64,
     pub name: Span,
+    // Stays: whether it is held is a bit of the table's word of flags. The words stay in the row where it is not, and a
+    // removal lowers every row's spans; an `Option` would be made of the bit at each reading and lose them.
     pub link: Span,
+    // The number of a directory, NO_PATH or PATH_IS_ABSOLUTE.
+    // Stays: any word may stand in a lent row, and a trim reads rows and writes them back. An enum of the three would be
+    // made of the word and turned back at each row, for `is_inside` and two tests for PATH_IS_ABSOLUTE.
     pub path_index: u64,
     pub flags: u64,
     // The modified time as a word (`types::zigzag64`).
@@ -99,33 +126,20 @@ pub struct FileEntry {
 pub fn row_at(rows: &[u64], i: usize) -> Row
     ensures { result ≡ row_at rows.now i }
 {
-    if rows.len() <= i {
-        return Row {
-            offset: 0,
-            size: 0,
-            name: Span { at: 0, len: 0 },
-            link: Span { at: 0, len: 0 },
-            path_index: 0,
-            flags: 0,
-            time: 0,
-        };
-    }
-    let base = i * ROW_WIDTH;
-    let packed = lists::item_or(rows, base + 1, 0);
     Row {
-        offset: lists::item_or(rows, base, 0) % SIZE_RANGE,
-        size: packed % SIZE_RANGE,
+        offset: offset_at(rows, i),
+        size: size_at(rows, i),
         name: Span {
-            at: lists::item_or(rows, base + 2, 0) as usize,
-            len: lists::item_or(rows, base + 3, 0) as usize,
+            at: word_at(rows, i, 2) as usize,
+            len: word_at(rows, i, 3) as usize,
         },
         link: Span {
-            at: lists::item_or(rows, base + 4, 0) as usize,
-            len: lists::item_or(rows, base + 5, 0) as usize,
+            at: word_at(rows, i, 4) as usize,
+            len: word_at(rows, i, 5) as usize,
         },
-        path_index: lists::item_or(rows, base + 6, 0),
-        flags: packed / SIZE_RANGE % FLAGS_RANGE,
-        time: lists::item_or(rows, base + 7, 0),
+        path_index: word_at(rows, i, 6),
+        flags: flags_at(rows, i),
+        time: time_at(rows, i),
     }
 }
 
@@ -175,7 +189,8 @@ fn packed_word(size: u64, flags: u64) -> u64
     size % SIZE_RANGE + flags % FLAGS_RANGE * SIZE_RANGE
 }
 
-// Stores words side by side from position `at` on, as many of them as there is room for.
+// Stores words side by side from position `at` on, as many of them as there is room for. Its callers test the length
+// before they multiply by their width; here the product would ask for a bound of both.
 // Stays: tried, `copy_from_slice` takes 15.0 ns for a row's eight words, and this loop, which is unrolled, 7.9; additions
 // to sets of one directory are ahead of the Rust's by less than that.
 #[tactic(auto, using(crate::proofs::Words::storing))]
@@ -183,13 +198,14 @@ fn put_words<const N: usize>(target: &mut [u64], at: usize, words: &[u64; N])
     requires { (N < 2 ^ 63) × (at + N < 2 ^ 64) }
     ensures { target.new ≡ sets target.old at words.now }
 {
-    for k in 0..N {
-        lists::put(target, at + k, words[k]);
+    for (k, word) in words.iter().enumerate() {
+        lists::put(target, at + k, *word);
     }
 }
 
 // Writes row i, nothing past the end.
-// Stays: a row is words of a lent table, and std copies no record into words; document 01 asks for lent tables.
+// Stays: document 01 asks for lent tables of words; size and flags share one word of a row, so that the record's own
+// memory is no row that could be copied.
 pub fn put_row(rows: &mut [u64], i: usize, row: Row)
     ensures { rows.new ≡ put_row rows.old i row }
 {
@@ -210,6 +226,8 @@ pub fn put_row(rows: &mut [u64], i: usize, row: Row)
 }
 
 // Directory row i, zeros past the end; one test of the length serves both words of a whole row.
+// Stays: tried with `word_at` of both words: going over 50 directories, as `hashes` and `links` do, takes 144 ns by rustc,
+// and so 59.
 pub fn dir_at(dirs: &[u64], i: usize) -> Span
     ensures { result ≡ dir_at dirs.now i }
 {
@@ -220,7 +238,7 @@ pub fn dir_at(dirs: &[u64], i: usize) -> Span
         };
     }
     if dirs.len() <= i {
-        return Span { at: 0, len: 0 };
+        return Span::empty();
     }
     Span {
         at: lists::item_or(dirs, i * DIR_WIDTH, 0) as usize,
@@ -254,7 +272,7 @@ pub fn directory_span(dirs: &[u64], row: Row) -> Span
     if is_inside(row.path_index) {
         return dir_at(dirs, row.path_index as usize);
     }
-    Span { at: 0, len: 0 }
+    Span::empty()
 }
 
 // The text of a file's directory; no bytes for a single name and an absolute path.
@@ -262,6 +280,17 @@ pub fn directory_of<'a>(dirs: &[u64], text: &'a [u8], row: Row) -> &'a [u8]
     ensures { result.now ≡ text_at text.now (directory_span dirs.now row) }
 {
     text_at(text, directory_span(dirs, row))
+}
+
+// Where a file's link text lies; a span of no bytes where none is held.
+pub fn link_span(row: Row) -> Span
+    ensures { result ≡ link_span row }
+{
+    if holds_link(row.flags) {
+        row.link
+    } else {
+        Span::empty()
+    }
 }
 
 // The root of row i, zeros past the end.
@@ -334,17 +363,6 @@ pub fn has_root(flags: u64) -> bool
     has(flags, ROOT_BIT)
 }
 
-// The presence that a test tells.
-fn presence_if(there: bool) -> Presence
-    ensures { result ≡ presence_if there }
-{
-    if there {
-        Presence::Present
-    } else {
-        Presence::Absent
-    }
-}
-
 // File i, its row and its root.
 pub fn entry_at(rows: &[u64], roots: &[u8], i: usize) -> FileEntry
     ensures { result ≡ entry_at rows.now roots.now i }
@@ -352,7 +370,7 @@ pub fn entry_at(rows: &[u64], roots: &[u8], i: usize) -> FileEntry
     let row = row_at(rows, i);
     FileEntry {
         row,
-        presence: presence_if(has_root(row.flags)),
+        presence: Presence::from(has_root(row.flags)),
         root: root_at(roots, i),
     }
 }

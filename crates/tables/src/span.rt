@@ -10,6 +10,15 @@ pub struct Span {
     pub len: usize,
 }
 
+impl Span {
+    // A span of no bytes, at 0.
+    pub fn empty() -> Span
+        ensures { result ≡ record { at = 0; len = 0 } }
+    {
+        Span { at: 0, len: 0 }
+    }
+}
+
 // The text of a span.
 pub fn text_at(text: &[u8], s: Span) -> &[u8]
     ensures { result.now ≡ text_at text.now s }

@@ -1,45 +1,37 @@
 -- Laws of the parts of a link's new text: a join by its parts, and where they lie. They rely on the laws of lists and `path`.
-use Prim.Native.Nat.{ℕ, suc, ◌+◌}
+use Prim.Native.Nat.{ℕ, ◌+◌}
 use mathlib.Core.Path.{◌≡◌, refl, sym, ap, ◌∙◌}
-use mathlib.Core.Bool.{Bool, true, false, cond, not}
+use mathlib.Core.Bool.{Bool, true, false, cond}
 use mathlib.Core.List.{List, [], ◌∷◌, ◌++◌, append-nil, append_assoc}
-use native.Mathlib.Omega.{arith}
-use borrow.Author.Tests.{ne_eqb}
-use lib.Dec.{eqb}
 use lib.ListN.{length, length-append}
 use Rattle.path.specs.Join.{is_alone, is_closed, is_empty, appended}
 use Rattle.tables.specs.declared.span.Span.{Span}
 use Rattle.tables.specs.declared.rows.Row.{Row}
 use Rattle.tables.specs.Span.{text_at}
-use Rattle.tables.specs.Rows.{row_at, directory_span, has}
+use Rattle.tables.specs.Rows.{row_at, directory_span, link_span, has}
 use Rattle.tables.specs.Model.{present_if, Store}
 use Rattle.tables.proofs.Paths.{path-parts}
 use Rattle.lookup.specs.Lookup.{held_text}
-use Rattle.texts.specs.Texts.{own_text, text_beside, link_span}
-use Rattle.texts.specs.private.Parts.{is_parted, prefix_of}
+use Rattle.texts.specs.Texts.{own_text, text_beside}
+use Rattle.texts.specs.private.Parts.{prefix_of}
 
 -- ---- joins
 
 -- a join is what stands before the leaf, and the leaf
-pub join-parts : (d l : List ℕ) → appended d l ≡ prefix_of d (length l) ++ l
+pub join-parts : (d l : List ℕ) → appended d l ≡ prefix_of d l ++ l
 join-parts d l = at (is_alone d) (is_closed d) l
   where
     at : (alone closed : Bool) (l : List ℕ)
         → cond alone l (cond (is_empty l) d (d ++ cond closed l (47 ∷ l)))
-        ≡ cond alone [] (cond (cond (eqb (length l) 0) false (not closed)) (d ++ (47 ∷ [])) d) ++ l
+        ≡ cond alone [] (d ++ cond (is_empty l) [] (cond closed [] (47 ∷ []))) ++ l
     at true closed l = refl
-    at false closed [] = sym (append-nil d)
-    at false true (x ∷ l) = rw (ne_eqb (suc (length l)) 0 (λ e. omega arith))
-    at false false (x ∷ l) = rw (ne_eqb (suc (length l)) 0 (λ e. omega arith)) (sym (append_assoc d (47 ∷ []) (x ∷ l)))
+    at false closed [] = sym (append-nil (d ++ []) ∙ append-nil d)
+    at false true (x ∷ l) = sym (ap (λ (y : List ℕ). y ++ (x ∷ l)) (append-nil d))
+    at false false (x ∷ l) = sym (append_assoc d (47 ∷ []) (x ∷ l))
 
 -- how long it is
-pub join-length : (d l : List ℕ) → length (appended d l) ≡ length (prefix_of d (length l)) + length l
-join-length d l = ap length (join-parts d l) ∙ length-append (prefix_of d (length l)) l
-
--- what stands before the leaf, in each case
-module _ (d : List ℕ) (n : ℕ) where
-  pub prefix-parted : is_alone d ≡ false → is_parted d n ≡ true → prefix_of d n ≡ d ++ (47 ∷ [])
-  prefix-parted e h = rw (e, h)
+pub join-length : (d l : List ℕ) → length (appended d l) ≡ length (prefix_of d l) + length l
+join-length d l = ap length (join-parts d l) ∙ length-append (prefix_of d l) l
 
 -- ---- places
 

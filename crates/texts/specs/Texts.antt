@@ -8,7 +8,7 @@ use Rattle.tables.specs.declared.span.Span.{Span}
 use Rattle.tables.specs.declared.rows.Row.{Row}
 use Rattle.tables.specs.declared.storage.FileStorage.{FileStorage}
 use Rattle.tables.specs.Span.{end_of, clip, slid, low}
-use Rattle.tables.specs.Rows.{row_at, words, put_row, directory_span, filled, dirs_lowered, has, link_held_bit, row_width}
+use Rattle.tables.specs.Rows.{row_at, words, put_row, directory_span, filled, dirs_lowered, row_width}
 use Rattle.tables.specs.Model.{path_in, Store, file_of}
 use Rattle.lookup.specs.Lookup.{own_path, entry_of}
 
@@ -102,10 +102,6 @@ own_fits s i t =
 abbrev pub beside_fits : ℕ → Store → ℕ → List ℕ → Bool
 beside_fits n s i t =
     leb (length t) n && leb (length t) (length s.text - (s.fs.text_len - (gone_at s i).len))
-
--- the span of a link's text: one of no bytes where it holds none
-abbrev pub link_span : Row → Span
-link_span r = cond (has r.flags link_held_bit) r.link (record { at = 0; len = 0 })
 
 -- a link's own path, and its text from its directory
 abbrev pub own_text : Store → ℕ → List ℕ

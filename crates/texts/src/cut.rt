@@ -1,10 +1,10 @@
 // A text is cut out of the text area, and every span after it is lowered. Relies on the writers of `tables`.
 ghost use Rattle.std.specs.Prelude.{◌≡◌};
 ghost use Rattle.tables.specs.Rows.{row_at, put_row};
-ghost use Rattle.lookup.specs.Lookup.{lent};
+ghost use Rattle.tables.specs.Lending.{held, SameTables};
 ghost use Rattle.texts.specs.Texts.{row_lowered, rows_lowered, cut_out};
 
-use tables::{FileStorage, Row, Span};
+use tables::{LentSetMut, Row, Span};
 
 // Lowers the spans of row i as the removal of span `c` asks.
 fn lower_row(rows: &mut [u64], i: usize, c: Span)
@@ -22,29 +22,20 @@ fn lower_row(rows: &mut [u64], i: usize, c: Span)
 fn lower_rows(rows: &mut [u64], n: usize, c: Span)
     ensures { rows.new ≡ rows_lowered rows.old n c }
 {
-    let m = n.min(rows.len() / 8);
+    let m = n.min(rows.len() / tables::ROW_WIDTH);
     for i in 0..m {
         lower_row(rows, i, c);
     }
 }
 
-// Removes the bytes of span `c` from the text area, and gives the set's record after it.
-pub(crate) fn cut_out(
-    fs: FileStorage,
-    rows: &mut [u64],
-    dirs: &mut [u64],
-    text: &mut [u8],
-    c: Span,
-) -> FileStorage
-    ensures { lent result rows.new dirs.new text.new
-        ≡ cut_out (lent fs rows.old dirs.old text.old) c }
+// Removes the bytes of span `c` from the text area.
+pub(crate) fn cut_out(set: &mut LentSetMut<'_>, c: Span)
+    ensures after { held set.new ≡ cut_out (held set.old) c }
+    ensures same { SameTables set.old set.new }
 {
-    lower_rows(rows, fs.num_files, c);
-    tables::lower_dirs(dirs, fs.num_paths, c);
-    tables::remove_text(text, fs.text_len, c);
-    FileStorage {
-        name: tables::low_span(c, fs.name),
-        text_len: fs.text_len.saturating_sub(c.len),
-        ..fs
-    }
+    lower_rows(set.rows, set.fs.num_files, c);
+    tables::lower_dirs(set.dirs, set.fs.num_paths, c);
+    tables::remove_text(set.text, set.fs.text_len, c);
+    set.fs.name = tables::low_span(c, set.fs.name);
+    set.fs.text_len = set.fs.text_len.saturating_sub(c.len);
 }

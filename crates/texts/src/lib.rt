@@ -6,5 +6,4 @@ mod cut;
 mod parts;
 mod put;
 
-pub use parts::link_span;
 pub use put::{empty_text, write_beside, write_own};

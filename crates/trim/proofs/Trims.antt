@@ -1,6 +1,12 @@
 -- Laws of a trim: the search for the pad, which from the back on the rows finds what `tail_pad` finds on what the tables
 -- mean; what the removal of a file leaves; and the outcomes. They rely on the laws of `tabled`.
 use Rattle.std.specs.Prelude.{Option, Some, None}
+use Rattle.std.specs.Option.{option_map}
+use Rattle.std.specs.List.{find}
+use Rattle.std.specs.Iterator.{AlwaysYields}
+use Rattle.std.specs.declared.ops.Range.{Range}
+use Rattle.std.specs.Range.{range_steps_back}
+use Rattle.std.proofs.lemmas.Iterator.{YieldsList}
 use Prim.Native.Nat.{ℕ, zero, suc, ◌+◌, ◌-◌, ◌*◌, ◌/◌, ◌%◌, ◌<◌, ◌≤◌}
 use mathlib.Core.Path.{◌≡◌, refl, ap, ◌∙◌}
 use Rattle.std.specs.Bool.{then_some}
@@ -8,10 +14,10 @@ use mathlib.Core.Bool.{Bool, true, false, cond}
 use mathlib.Core.List.{List, [], ◌∷◌, ◌++◌}
 use native.Mathlib.Nat.{zero-add, add-zero}
 use native.Mathlib.Omega.{arith}
-use lib.Dec.{eqb}
+use lib.Dec.{eqb, ltb}
 use lib.ListN.{length, take, length-take}
 use lib.Seq.{get_or-take}
-use borrow.Author.Tests.{eq-eqb, ne_eqb}
+use borrow.Author.Tests.{lt-ltb, ne_eqb}
 use Rattle.tables.proofs.Words.{row-ext}
 use Rattle.tables.proofs.Tabled.{length-tabled, tabled-more}
 use Rattle.types.specs.Refusals.{value}
@@ -49,30 +55,51 @@ tail-pad-rows s (suc n) =
     let more = ap tail_pad (tabled-more n (file_of s)) ∙ tail-pad-more 0 None (tabled n (file_of s)) (file_of s n) in
     more ∙ rw (tail-pad-rows s n, pad-kept (row_at s.rows n).flags, length-tabled n (file_of s), zero-add n)
 
--- no rows are left
-pub search-none : (rows : List ℕ) (i : ℕ) → i ≤ 0 → None ≡ tail_pad_in rows i
-unfolding tail_pad_in
-search-none rows i h = let z : i ≡ 0 = omega arith in rw z
+-- the numbers below n, the last first, and a range from the back on
+abbrev down : ℕ → List ℕ
+down zero = []
+down (suc n) = n ∷ down n
 
--- an empty row is passed, and any other decides
-pass : (rows : List ℕ) (n : ℕ) → (row_at rows n).size ≤ 0 → tail_pad_in rows n ≡ tail_pad_in rows (suc n)
-unfolding tail_pad_in
-pass rows n h = rw (eq-eqb (row_at rows n).size 0 (omega arith))
+abbrev back : Range ℕ → Option ℕ → Range ℕ → Type 0
+back = range_steps_back (λ a b. b - a) (λ a b. b ≡ a + 1)
 
-decide : (rows : List ℕ) (n : ℕ) → 0 < (row_at rows n).size → (t : Bool) → t ≡ has (row_at rows n).flags 1 → then_some t n ≡ tail_pad_in rows (suc n)
-unfolding tail_pad_in
-decide rows n h true e = rw (ne_eqb (row_at rows n).size 0 (λ z. omega arith), ← e)
-decide rows n h false e = rw (ne_eqb (row_at rows n).size 0 (λ z. omega arith), ← e)
+down_gives : (n : ℕ) (s : Range ℕ) → s.start ≡ 0 → s.end ≡ n → AlwaysYields back (λ x. x) s (down n)
+down_gives zero s a e = λ x t p. absurd (omega (arith, p.1.0))
+down_gives (suc n) s a e = (
+  (λ t p. absurd (omega (arith, p.1.0))),
+  λ x t p. (omega (arith, p.1.1, p.1.2), down_gives n t (p.0 ∙ a) (omega (arith, p.1.2))),
+)
 
-module _ (rows : List ℕ) (i : ℕ) (some : 0 < i) where
-  next : suc (i - 1) ≡ i
-  next = omega arith
+pub YieldsList-from_back : (n : ℕ) → YieldsList back (λ x. x) (record { start = 0; end = n }) (down n)
+YieldsList-from_back n = record { runs = down_gives n (record { start = 0; end = n }) refl refl }
 
-  pub search-turn : (row_at rows (i - 1)).size ≤ 0 → tail_pad_in rows (i - 1) ≡ tail_pad_in rows i
-  search-turn h = pass rows (i - 1) h ∙ ap (tail_pad_in rows) next
+-- the search on the rows looks at them from the last on
+module _ (rows : List ℕ) where
+  abbrev pub has_bytes : ℕ → Bool
+  has_bytes i = ltb 0 (row_at rows i).size
 
-  pub search-stop : 0 < (row_at rows (i - 1)).size → (t : Bool) → t ≡ has (row_at rows (i - 1)).flags 1 → then_some t (i - 1) ≡ tail_pad_in rows i
-  search-stop h t e = decide rows (i - 1) h t e ∙ ap (tail_pad_in rows) next
+  abbrev pad_at : Option ℕ → Option ℕ
+  pad_at None = None
+  pad_at (Some i) = present_if (has (row_at rows i).flags 1) i
+
+  down_found : (n : ℕ) → pad_at (find has_bytes (down n)) ≡ tail_pad_in rows n
+  unfolding tail_pad_in
+  down_found zero = refl
+  down_found (suc n) = by (row_at rows n).size (down_found n)
+    where
+      by : (size : ℕ) → pad_at (find has_bytes (down n)) ≡ tail_pad_in rows n
+          → pad_at (cond (ltb 0 size) (Some n) (find has_bytes (down n))) ≡ cond (eqb size 0) (tail_pad_in rows n) (present_if (has (row_at rows n).flags 1) n)
+      by zero e = e
+      by (suc m) e = rw (lt-ltb 0 (suc m) (omega arith), ne_eqb (suc m) 0 (λ z. omega arith))
+
+  pub last_found : (n : ℕ) (r : Option ℕ) {o : Option ℕ} → option_map (λ (k : ℕ). k) r ≡ find has_bytes (down n)
+      → (r ≡ None → o ≡ None) → ((i : ℕ) → r ≡ Some i → o ≡ then_some (has (row_at rows i).flags 1) i) → o ≡ tail_pad_in rows n
+  last_found n None e f g = f refl ∙ ap pad_at e ∙ down_found n
+  last_found n (Some i) e f g = g i refl ∙ by (has (row_at rows i).flags 1) ∙ ap pad_at e ∙ down_found n
+    where
+      by : (t : Bool) → then_some t i ≡ present_if t i
+      by true = refl
+      by false = refl
 
 -- what is found is one of the rows
 found_below : (rows : List ℕ) (n f : ℕ) → tail_pad_in rows n ≡ Some f → f < n

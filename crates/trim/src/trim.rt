@@ -8,6 +8,7 @@ ghost use Rattle.trim.specs.Removal.{first_gone, second_gone, storage_without, s
 ghost use Rattle.change.specs.Changes.{changed_of};
 ghost use Rattle.trim.specs.private.Search.{tail_pad_in};
 
+use change::Rooms;
 use tables::{FileStorage, ROOT_WIDTH, ROW_WIDTH, Row, Span};
 use types::Refusal;
 
@@ -15,12 +16,9 @@ use types::Refusal;
 fn find_tail_pad(rows: &[u64]) -> Option<usize>
     ensures { result ≡ tail_pad_in rows.now (length rows.now / 8) }
 {
-    for i in (0..rows.len() / ROW_WIDTH).rev() {
-        if 0 < tables::size_at(rows, i) {
-            return tables::is_pad(tables::flags_at(rows, i)).then_some(i);
-        }
-    }
-    None
+    (0..rows.len() / ROW_WIDTH)
+        .rfind(|i| 0 < tables::size_at(rows, *i))
+        .filter(|i| tables::is_pad(tables::flags_at(rows, *i)))
 }
 
 // The bytes of a row's name within the used part of the text area.
@@ -42,6 +40,8 @@ fn second_gone(fs: FileStorage, row: Row) -> Span
 }
 
 // The set's record without a row's file, and with the spans `c` and then `d` removed.
+// Stays: `c` and `d` go together to this and to `remove_row` alone; the text and the directories are lowered by each for
+// itself, and a record of the two would be taken apart there.
 fn storage_without(fs: FileStorage, row: Row, c: Span, d: Span) -> FileStorage
     ensures { result ≡ storage_without fs row c d }
 {
@@ -94,6 +94,7 @@ fn remove_file(
 
 // Removes the last file that is not empty, where it is a pad. A table of first files is not lent: whatever it holds, a
 // trim leaves it, and the set has fewer pieces in it.
+// Stays: a public call is lent each table by itself (docs/DECISIONS.md, Forms 10).
 #[tactic(auto, using(crate::proofs::Trims::found_front, crate::proofs::Trims::few_files))]
 pub fn remove_tail_padding(
     fs: FileStorage,
@@ -112,7 +113,7 @@ pub fn remove_tail_padding(
     if rules::is_bad_length(fs.piece_length) {
         return Err(Refusal::InvalidPieceLength);
     }
-    let rooms = change::rooms_in(rows.len(), roots.len(), dirs.len(), text.len());
+    let rooms = Rooms::of(rows, roots, dirs, text);
     if !change::holds(fs, rooms) {
         return Err(Refusal::NoRoom);
     }

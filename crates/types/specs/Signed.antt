@@ -1,12 +1,7 @@
 -- Signed numbers at the boundary, as the Rust's signatures have them: `pos n` is n, `negsuc n` is −(n + 1). It
 -- relies on the outcomes of Refusals.antt.
-use Rattle.std.specs.Prelude.{ℕ, ◌+◌, ◌*◌, ◌/◌, ◌%◌, Bool, true, false, cond, ℤ, pos, negsuc, eqb, ltb, Option, Some, None}
+use Rattle.std.specs.Prelude.{ℕ, ◌+◌, ◌*◌, ◌/◌, ◌%◌, Bool, true, false, cond, ℤ, pos, negsuc, eqb, ltb}
 use Rattle.types.specs.Refusals.{Outcome, value, refused}
-
--- a number that is not negative is itself
-abbrev pub unsigned_of : ℤ → Option ℕ
-unsigned_of (pos n) = Some n
-unsigned_of (negsuc n) = None
 
 abbrev pub is_negative : ℤ → Bool
 is_negative (pos n) = false

@@ -11,4 +11,4 @@ pub use index::{
     FileIndex, FileIndexRange, FileSlice, I32Range, PeerRequest, PieceIndex, PieceIndexRange,
 };
 pub use refusal::Refusal;
-pub use signed::{clamped, is_negative, signed32, signed64, unsigned, unzigzag64, zigzag64};
+pub use signed::{clamped, signed32, signed64, unzigzag64, zigzag64};

@@ -2,26 +2,26 @@
 ghost use Rattle.std.specs.Prelude.{◌≡◌};
 ghost use Rattle.types.specs.Refusals.{number_of};
 
-// Why a call is refused; 01's table 'Refusals, by place' gives each its number.
+// Why a call is refused, with its number in 01's table 'Refusals, by place'.
 #[derive(Clone, Copy, PartialEq, Eq)]
 pub enum Refusal {
-    InvalidPieceLength,
-    NegativeSize,
-    FileTooLarge,
-    TorrentInvalidLength,
-    FilenameTooLong,
-    InvalidName,
-    MissingParentPath,
-    TorrentMissingPiecesRoot,
-    TorrentInconsistentFiles,
-    NoRoom,
-    NoSuchFile,
-    NoSuchPiece,
-    TooManyPieces,
-    OutOfRange,
-    NotASymlink,
-    NoTree,
-    ParseFailed,
+    InvalidPieceLength = 1,
+    NegativeSize = 2,
+    FileTooLarge = 3,
+    TorrentInvalidLength = 4,
+    FilenameTooLong = 5,
+    InvalidName = 6,
+    MissingParentPath = 7,
+    TorrentMissingPiecesRoot = 8,
+    TorrentInconsistentFiles = 9,
+    NoRoom = 10,
+    NoSuchFile = 11,
+    NoSuchPiece = 12,
+    TooManyPieces = 13,
+    OutOfRange = 14,
+    NotASymlink = 15,
+    NoTree = 16,
+    ParseFailed = 17,
 }
 
 // 01's number of a refusal.
@@ -29,24 +29,6 @@ impl From<Refusal> for u32 {
     ghost from_gives = { λ refusal n. n ≡ number_of refusal };
 
     fn from(refusal: Refusal) -> u32 {
-        match refusal {
-            Refusal::InvalidPieceLength => 1,
-            Refusal::NegativeSize => 2,
-            Refusal::FileTooLarge => 3,
-            Refusal::TorrentInvalidLength => 4,
-            Refusal::FilenameTooLong => 5,
-            Refusal::InvalidName => 6,
-            Refusal::MissingParentPath => 7,
-            Refusal::TorrentMissingPiecesRoot => 8,
-            Refusal::TorrentInconsistentFiles => 9,
-            Refusal::NoRoom => 10,
-            Refusal::NoSuchFile => 11,
-            Refusal::NoSuchPiece => 12,
-            Refusal::TooManyPieces => 13,
-            Refusal::OutOfRange => 14,
-            Refusal::NotASymlink => 15,
-            Refusal::NoTree => 16,
-            Refusal::ParseFailed => 17,
-        }
+        refusal as u32
     }
 }

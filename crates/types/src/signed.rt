@@ -1,32 +1,17 @@
 // Signed numbers at the boundary: unsigned inside, signed in the Rust's signatures. It relies on std only.
 ghost use Rattle.std.specs.Prelude.{◌≡◌, ◌%◌, ◌^◌, pos, negsuc};
-ghost use Rattle.types.specs.Refusals.{number_of, outcome};
-ghost use Rattle.types.specs.Signed.{unsigned_of, is_negative, clamped_of, below_or, zigzag, unzigzag};
+ghost use Rattle.types.specs.Refusals.{outcome};
+ghost use Rattle.types.specs.Signed.{clamped_of, below_or, zigzag, unzigzag};
 
 use crate::index::{FileIndex, PieceIndex};
 use crate::refusal::Refusal;
 
-// A signed number as an unsigned one, where it is not negative.
-// Stays: without it each of its four callers would write `u64::try_from(x).ok()`.
-pub fn unsigned(x: i64) -> Option<u64>
-    ensures { result ≡ unsigned_of x }
-{
-    u64::try_from(x).ok()
-}
-
 // A signed number as an unsigned one, 0 where it is negative.
-// Stays: without it callers in five crates would each write `unsigned(x).unwrap_or(0)`.
+// Stays: without it callers in five crates would each write `u64::try_from(x).unwrap_or(0)`.
 pub fn clamped(x: i64) -> u64
     ensures { result ≡ clamped_of x }
 {
-    unsigned(x).unwrap_or(0)
-}
-
-// Whether a signed number is negative.
-pub fn is_negative(x: i64) -> bool
-    ensures { result ≡ is_negative x }
-{
-    unsigned(x).is_none()
+    u64::try_from(x).unwrap_or(0)
 }
 
 // The low 63 bits of a number as an `i64`: the number itself below 2^63.
@@ -71,17 +56,6 @@ pub fn unzigzag64(word: u64) -> i64
     -1 - half
 }
 
-// A number below `count`, or the refusal.
-fn below(n: i32, count: usize, refusal: Refusal) -> Result<usize, Refusal>
-    ensures { outcome result ≡ below_or (number_of refusal) count n }
-{
-    let i = unsigned(i64::from(n)).ok_or(refusal)? as usize;
-    if i < count {
-        return Ok(i);
-    }
-    Err(refusal)
-}
-
 // Stays: document 01 asks for two tuple structs. A trait with these three methods needs two more, from an `i32` and to
 // it, with an impl for each struct: more lines than the three twins.
 impl PieceIndex {
@@ -93,6 +67,8 @@ impl PieceIndex {
     }
 
     // The number −1, for no piece.
+    // Stays: document 01 answers with −1 where a set or a file has no last piece, and the C interface hands that number
+    // out; what makes the answer has an `Option` until here.
     pub fn none() -> PieceIndex
         ensures { result.0 ≡ negsuc 0 }
     {
@@ -105,7 +81,7 @@ impl PieceIndex {
     pub fn get(self) -> usize
         ensures { result ≡ clamped_of self.0 }
     {
-        clamped(i64::from(self.0)) as usize
+        usize::try_from(self.0).unwrap_or(0)
     }
 }
 
@@ -118,6 +94,7 @@ impl FileIndex {
     }
 
     // The number −1, for no file.
+    // Stays: document 01 answers with −1 where no file has the root asked for, and the C interface hands that number out.
     pub fn none() -> FileIndex
         ensures { result.0 ≡ negsuc 0 }
     {
@@ -130,13 +107,16 @@ impl FileIndex {
     pub fn get(self) -> usize
         ensures { result ≡ clamped_of self.0 }
     {
-        clamped(i64::from(self.0)) as usize
+        usize::try_from(self.0).unwrap_or(0)
     }
 
     // The number of one of `count` files, or refusal 11.
     pub fn within(self, count: usize) -> Result<usize, Refusal>
         ensures { outcome result ≡ below_or 11 count self.0 }
     {
-        below(self.0, count, Refusal::NoSuchFile)
+        usize::try_from(self.0)
+            .ok()
+            .filter(|i| *i < count)
+            .ok_or(Refusal::NoSuchFile)
     }
 }

@@ -1,6 +1,7 @@
 -- What the rules of Addition.antt but that of room look at, by a set's record and the parts of a path, and what they
 -- settle.
-use Rattle.std.specs.Prelude.{ℕ, ◌+◌, Bool, false, not, ◌&&◌, ◌||◌, List, ℤ, length, Option, Some, None}
+use Rattle.std.specs.Prelude.{ℕ, ◌+◌, Bool, false, not, ◌&&◌, ◌||◌, List, ℤ, length, ◌==◌, Option, Some, None}
+use Rattle.std.specs.Bool.{then_some}
 use Rattle.path.specs.Split.{is_complete}
 use Rattle.path.specs.Join.{is_empty}
 use Rattle.tables.specs.declared.storage.FileStorage.{FileStorage}
@@ -34,13 +35,22 @@ abbrev pub version_for : FileStorage → ℤ → List ℕ → Bool → Bool
 version_for fs size link root =
     v2_after fs.v2 fs.total_size fs.num_symlinks fs.num_files (clamped_of size) link root
 
--- size, version and pad of such an addition
+-- the pad by its size, 0 for none
+abbrev pub pad_if : ℕ → Option ℕ
+pad_if size = then_some (not (size == 0)) size
+
+-- size, version and pad of such an addition, where its file ends, and the total after it
 abbrev pub sizes_for : FileStorage → ℤ → List ℕ → Bool → Sizes
 sizes_for fs size link root =
     record {
       size = clamped_of size;
       v2 = version_for fs size link root;
-      pad = pad_after (version_for fs size link root) fs.piece_length (fs.total_size + clamped_of size);
+      pad = pad_if (pad_after (version_for fs size link root) fs.piece_length (fs.total_size + clamped_of size));
+      file_end = fs.total_size + clamped_of size;
+      total_size =
+          fs.total_size
+          + clamped_of size
+          + pad_after (version_for fs size link root) fs.piece_length (fs.total_size + clamped_of size);
     }
 
 -- what the rules look at, by a set's record and the parts of a path
@@ -59,7 +69,7 @@ tested_for fs given parts size link root =
       plain = decides (clamped_of size) link;
       free = is_left_open fs.total_size fs.num_symlinks fs.num_files;
       root = root;
-      pad = (sizes_for fs size link root).pad;
+      pad = pad_after (version_for fs size link root) fs.piece_length (fs.total_size + clamped_of size);
     }
 
 -- every rule but that of room

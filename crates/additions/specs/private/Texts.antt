@@ -1,10 +1,8 @@
 -- The texts that an addition keeps, by what a call brings and the parts of its path. What they are is in Addition.antt;
 -- proofs/Texts.antt shows that they are the same.
-use Rattle.std.specs.Prelude.{Bool, true, false, cond, not, ◌&&◌, List, [], ℕ, ◌+◌, ◌≤◌, eqb}
+use Rattle.std.specs.Prelude.{Bool, true, false, cond, List, [], ℕ, ◌+◌, ◌≤◌, eqb, Option, Some, None}
 use Rattle.path.specs.Split.{rsplit_branch, lsplit_rest}
 use Rattle.path.specs.Join.{is_empty}
-use Rattle.tables.specs.declared.rows.Presence.{Presence}
-use Rattle.tables.specs.declared.rows.Presence.TheVariants.{Absent, Present}
 use Rattle.tables.specs.Model.{Directory, single, absolute, stored}
 use Rattle.additions.specs.declared.parts.PathKind.{PathKind}
 use Rattle.additions.specs.declared.parts.PathKind.TheVariants.{Single, Absolute, Inside, Outside}
@@ -13,13 +11,10 @@ use Rattle.additions.specs.declared.parts.Place.{Place}
 use Rattle.additions.specs.Addition.{set_name_of, without_leading, link_is_kept}
 use Rattle.additions.specs.Parts.{kind_for, directory_span}
 
-abbrev pub is_here : Presence → Bool
-is_here Absent = false
-is_here Present = true
-
 -- the given name where it has bytes, else the path's own
-abbrev pub name_from : Presence → List ℕ → List ℕ → List ℕ
-name_from given filename own = cond (is_here given && not (is_empty filename)) filename own
+abbrev pub name_from : Option (List ℕ) → List ℕ → List ℕ
+name_from None own = own
+name_from (Some given) own = cond (is_empty given) own given
 
 -- the link text that is kept where `links` are held
 abbrev pub link_text_of : ℕ → List ℕ → List ℕ

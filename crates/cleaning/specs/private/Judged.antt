@@ -1,18 +1,14 @@
 -- A set whose links are judged, as the private functions pass it, and the text that it needs. It relies on Writing.antt.
 use Rattle.std.specs.Prelude.{ℕ, List}
 use Rattle.tables.specs.Rows.{row_at}
-use Rattle.tables.specs.Model.{Store}
-use Rattle.lookup.specs.Lookup.{lent}
+use Rattle.tables.specs.Lending.{store_in}
 use Rattle.links.specs.declared.mark.LinkVerdict.{LinkVerdict}
 use Rattle.cleaning.specs.declared.room.JudgedSet.{JudgedSet}
 use Rattle.cleaning.specs.private.Writing.{all_verdicts, gone_bytes, new_length, left_by, sum_by}
 
--- the set, and the verdict on each of its files
-abbrev pub store_in : JudgedSet → Store
-store_in j = lent j.set.fs j.set.lent.rows.now j.set.lent.dirs.now j.set.lent.text.now
-
+-- the verdict on each of its files
 abbrev pub verdicts_on : JudgedSet → List LinkVerdict
-verdicts_on j = all_verdicts (store_in j) j.marks.now
+verdicts_on j = all_verdicts (store_in j.set) j.marks.now
 
 -- what is left of its texts after those that change are removed, and the bytes of the new ones
 abbrev pub gone_in : JudgedSet → LinkVerdict → ℕ → ℕ

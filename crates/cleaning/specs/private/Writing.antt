@@ -1,20 +1,19 @@
 -- What the private parts of a cleaning's code give: verdicts read from flags and marks, and the lengths of new texts.
 -- The meaning is that of Cleaning.antt; it relies on the joins of `path` and on the flags of a link in `lookup`.
-use Rattle.std.specs.Prelude.{ℕ, zero, suc, ◌+◌, ◌-◌, cond, List, [], ◌∷◌, eqb, ltb, length, get_or}
+use Rattle.std.specs.Prelude.{ℕ, zero, suc, ◌+◌, ◌-◌, Bool, true, false, cond, List, [], ◌∷◌, eqb, ltb, length, get_or}
 use Rattle.lists.specs.Lists.{cleared}
 use Rattle.types.specs.Refusals.{value, refused}
 use Rattle.path.specs.Join.{appended}
 use Rattle.tables.specs.declared.span.Span.{Span}
 use Rattle.tables.specs.declared.rows.Row.{Row}
 use Rattle.tables.specs.Span.{text_at, clip}
-use Rattle.tables.specs.Rows.{row_at, directory_span}
+use Rattle.tables.specs.Rows.{row_at, directory_span, link_span}
 use Rattle.tables.specs.Model.{Store}
 use Rattle.lookup.specs.Lookup.{is_flagged}
 use Rattle.links.specs.declared.mark.LinkVerdict.{LinkVerdict}
 use Rattle.links.specs.declared.mark.LinkVerdict.TheVariants.{Keep, OwnPath, FromDirectory}
 use Rattle.links.specs.Judging.{verdict_read}
-use Rattle.texts.specs.Texts.{link_span}
-use Rattle.cleaning.specs.Cleaning.{emptied, rewritten, cleaned_store, if_changed, kept_after, new_bytes, Cleaned}
+use Rattle.cleaning.specs.Cleaning.{emptied_at, emptied, rewritten_at, rewritten, cleaned_store, if_changed, kept_after, new_bytes, Cleaned}
 use Rattle.cleaning.specs.Cleaning.{cleaned_to, cleaning_number}
 
 -- ---- verdicts
@@ -34,12 +33,9 @@ unfoldable pub verdicts_by : (ℕ → ℕ) → List ℕ → ℕ → ℕ → ℕ 
 verdicts_by g marks zero i k = []
 verdicts_by g marks (suc n) i k = verdict_by (g i) marks k ∷ verdicts_by g marks n (i + 1) (mark_after (g i) k)
 
--- those of the first n files
-abbrev pub verdicts_in : List ℕ → List ℕ → ℕ → List LinkVerdict
-verdicts_in rows marks n = verdicts_by (flags_in rows) marks n 0 0
-
+-- those of all files
 abbrev pub all_verdicts : Store → List ℕ → List LinkVerdict
-all_verdicts s marks = verdicts_in s.rows marks s.fs.num_files
+all_verdicts s marks = verdicts_by (flags_in s.rows) marks s.fs.num_files 0 0
 
 -- ---- passes over the files
 
@@ -47,6 +43,11 @@ all_verdicts s marks = verdicts_in s.rows marks s.fs.num_files
 abbrev pub passed : (LinkVerdict → Store → ℕ → Store) → List LinkVerdict → ℕ → Store → Store
 passed f [] i s = s
 passed f (v ∷ vs) i s = passed f vs (i + 1) (f v s i)
+
+-- the step of the first pass, or of the second, with scratch space of n bytes
+abbrev pub step_at : Bool → ℕ → LinkVerdict → Store → ℕ → Store
+step_at true n = emptied_at
+step_at false n = rewritten_at n
 
 -- ---- the text needed
 

@@ -1,12 +1,7 @@
--- A composed path in the pieces that a comparison reads in a row. It relies on the tests of a join of `path`.
-use Rattle.std.specs.Prelude.{ℕ, Bool, cond, ◌&&◌, ◌||◌, List, [], ◌∷◌, ◌++◌}
+-- A composed path in the pieces that a comparison reads in a row. It relies on the equality of `lists`.
+use Rattle.std.specs.Prelude.{ℕ, Bool, ◌&&◌, List, ◌++◌}
 use Rattle.lists.specs.Lists.{equal}
-use Rattle.path.specs.Join.{is_empty, is_closed}
 use Rattle.compatible.specs.declared.walk.Pieces.{Pieces}
-
--- what stands between a part and the next: a separator, unless there is no next or the part ends in one
-abbrev pub end_of : List ℕ → List ℕ → List ℕ
-end_of part next = cond (is_empty next || is_closed part) [] (47 ∷ [])
 
 -- the path
 abbrev pub whole_of : Pieces → List ℕ

@@ -10,5 +10,6 @@ pub returns : goal.returns
 returns c =
     let x = c.args.state in
     let y = bit_xor x c.args.b in
-    ap (λ (v : ℕ). bit_xor v (x / 256)) (c.requires.entry (bit_and y 255) (mask_lt y 8) ∙ ap (bits 8) (and_mask y 8))
-    ∙ sym (byte-table x c.args.b c.ranges.b.fits)
+    rw c.from.ensures
+    (ap (λ (v : ℕ). bit_xor v (x / 256)) (c.requires.entry (bit_and y 255) (mask_lt y 8) ∙ ap (bits 8) (and_mask y 8))
+    ∙ sym (byte-table x c.args.b c.ranges.b.fits))

@@ -1,11 +1,19 @@
 -- The decision before `map_file` in two parts, and a request in the code's unsigned numbers. It relies on the rules of
 -- `rules`; the public definitions are those of Request.antt and Given.antt.
-use Rattle.std.specs.Prelude.{ℕ, ◌&&◌, List, [], ◌∷◌, ℤ, nat_le}
+use Rattle.std.specs.Prelude.{ℕ, ◌&&◌, List, [], ◌∷◌, ℤ, nat_le, Result, Ok, Err}
+use Rattle.types.specs.declared.refusal.Refusal.{Refusal}
+use Rattle.types.specs.Refusals.{Outcome, value, refused, number_of}
 use Rattle.tables.specs.declared.storage.FileStorage.{FileStorage}
 use Rattle.rules.specs.Rules.{Rule}
 use Rattle.rules.specs.Questions.{bad_piece_length, no_file, many_pieces, bad_range, short, few_entries}
 use Rattle.files.specs.declared.file.UnsignedRequest.{UnsignedRequest}
+use Rattle.files.specs.declared.asked.AskedFile.{AskedFile}
 use Rattle.files.specs.Request.{Request}
+
+-- the number of the file whose pieces a question is about
+abbrev pub asked_says : Result AskedFile Refusal → Outcome ℕ
+asked_says (Ok f) = value f.k
+asked_says (Err e) = refused (number_of e)
 
 abbrev pub request_of : UnsignedRequest → Request
 request_of p = record { piece = p.piece; start = p.start; length = p.length }

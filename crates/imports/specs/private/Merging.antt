@@ -1,7 +1,7 @@
 -- How the names of a list come to the renames that are kept, in time linear in both. For each file the last number of
 -- the list that names it is noted, and where its name begins. Then the files are gone through in order: each gets the
 -- name that is noted, or keeps its rename. It relies on the list of `renames` and on the kit's `set`.
-use Rattle.std.specs.Prelude.{ℕ, zero, suc, ◌+◌, ◌-◌, ◌*◌, ◌≤◌, ◌≡◌, Bool, cond, not, ◌&&◌, List, [], ◌∷◌, ◌++◌, eqb, ltb, ℤ, length, get_or, set, drop, replicate}
+use Rattle.std.specs.Prelude.{ℕ, zero, suc, ◌+◌, ◌-◌, ◌*◌, ◌≡◌, Bool, cond, not, List, [], ◌∷◌, ◌++◌, eqb, ℤ, length, get_or, set, drop, replicate}
 use Rattle.lists.specs.Lists.{part_of}
 use Rattle.rules.specs.Bounds.{clamped_of, is_below}
 use Rattle.renames.specs.declared.rename.RenameMode.TheVariants.{FullPath}
@@ -12,23 +12,23 @@ use Rattle.renames.specs.Renames.{Renamed, renames_from}
 
 -- the notes l, made of the numbers zs, the first of which is number i: for each file one more than the last that names
 -- it
-abbrev pub noted_from : ℕ → ℕ → List ℤ → List ℕ → List ℕ
-noted_from files i [] l = l
-noted_from files i (z ∷ zs) l = noted_from files (i + 1) zs (cond (is_below files z) (set l (clamped_of z) (i + 1)) l)
+abbrev pub noted_from : ℕ → List ℤ → List ℕ → List ℕ
+noted_from i [] l = l
+noted_from i (z ∷ zs) l = noted_from (i + 1) zs (cond (is_below (length l) z) (set l (clamped_of z) (i + 1)) l)
 
--- the notes of a whole list; each file has its cell
+-- the notes of a whole list, a cell for each file
 abbrev pub Noted : ℕ → List ℤ → List ℕ → Type 0
-Noted files zs l = (l ≡ noted_from files 0 zs (replicate 65536 0)) × (files ≤ 65536)
+Noted files zs l = l ≡ noted_from 0 zs (replicate files 0)
 
 -- likewise for each file where the name of that number begins; the first name begins at `at`
-abbrev pub placed_from : ℕ → ℕ → List ℤ → List ℕ → List ℕ → List ℕ
-placed_from files at [] lengths p = p
-placed_from files at (z ∷ zs) lengths p =
-    placed_from files (at + get_or lengths 0 0) zs (drop 1 lengths) (cond (is_below files z) (set p (clamped_of z) at) p)
+abbrev pub placed_from : ℕ → List ℤ → List ℕ → List ℕ → List ℕ
+placed_from at [] lengths p = p
+placed_from at (z ∷ zs) lengths p =
+    placed_from (at + get_or lengths 0 0) zs (drop 1 lengths) (cond (is_below (length p) z) (set p (clamped_of z) at) p)
 
 -- whether there is a note of file k
-abbrev pub is_noted : ℕ → List ℕ → ℕ → Bool
-is_noted files l k = ltb k files && not (eqb (get_or l k 0) 0)
+abbrev pub is_noted : List ℕ → ℕ → Bool
+is_noted l k = not (eqb (get_or l k 0) 0)
 
 -- the name that is noted for it
 abbrev pub name_noted : List ℕ → List ℕ → List ℕ → List ℕ → ℕ → List ℕ

@@ -1,6 +1,8 @@
 -- Where the judgement of links stands, for the private parts of its code: marks in use, frames written, and what a walk
 -- needs. The meaning is that of Clean.antt; the marks are those of Judging.antt.
 use Rattle.std.specs.Prelude.{ℕ, zero, suc, ◌+◌, ◌*◌, ◌/◌, ◌%◌, ◌^◌, ◌<◌, ◌≤◌, Bool, true, false, cond, ◌≡◌, List, [], ◌∷◌, map, eqb, ltb, length, get_or, set, drop, Option, MatchOption}
+use Rattle.std.specs.Option.{ForSome}
+use Rattle.std.specs.Borrow.{Bor}
 use Rattle.lists.specs.Lists.{equal}
 use Rattle.tables.specs.declared.lent.Lent.{Lent}
 use Rattle.tables.specs.declared.lent.LentSet.{LentSet}
@@ -11,6 +13,7 @@ use Rattle.lookup.specs.Lookup.{Entry, own_path, is_directory, known, is_flagged
 use Rattle.lookup.specs.private.Rows.{entry_at}
 use Rattle.lookup.specs.Space.{space}
 use Rattle.links.specs.Clean.{Link, links_of, goes, resolves, weight}
+use Rattle.rope.specs.declared.lead.Lead.{Lead}
 use Rattle.rope.specs.declared.frame.Path.{Path}
 use Rattle.rope.specs.Rope.{held_path, held, front, frame_width, half_word}
 use Rattle.links.specs.declared.flagged.Links.{Links}
@@ -119,6 +122,10 @@ lead_mark f m p later = cond f.flagged (cond (leading m) (cond (equal (own_path 
 
 -- ---- frames written
 
+-- the first word of a frame with a lead's text, and a separator after it or none
+abbrev pub word_of : Lead → Bool → ℕ
+word_of t s = (t.file * 4 + cond t.from_directory 2 0) * 2 + cond s 1 0
+
 -- frame k with its start at n, and frame k written with its whole text unused
 abbrev pub with_start : List ℕ → ℕ → ℕ → List ℕ
 with_start frames k n =
@@ -127,10 +134,10 @@ with_start frames k n =
 abbrev pub with_frame : List ℕ → ℕ → ℕ → List ℕ
 with_frame frames k w = with_start (set frames (k * frame_width) w) k 0
 
--- the path has e bytes, and h is its front: all e bytes, or as many as fit
-pub record Fronted (p : Path) (e : ℕ) (h : List ℕ) : Type 0 where
+-- the path has e bytes, and these are h, if they are held there
+pub record Fronted (p : Path) (e : ℕ) (h : Option (Bor (List ℕ))) : Type 0 where
   pub long : e ≤ length (held p)
-  pub head : h ≡ front_of p (length h)
+  pub head : ForSome h (λ b. b.now ≡ front_of p e)
 
 -- ---- walks
 

@@ -14,6 +14,7 @@ use Rattle.listing_input.specs.Form.{FileEntry}
 use Rattle.listing_output.specs.Output.{Run, listed, stopped}
 use Rattle.listing.specs.Run.{addition_of}
 use Rattle.listing.specs.declared.run.Stop.{Stop}
+use Rattle.listing.specs.declared.run.Tables.{Tables}
 
 abbrev pub opened_by : Option ℕ → Outcome FileStorage
 opened_by None = refused 17
@@ -35,10 +36,25 @@ abbrev pub counted_by : FileStorage → ℕ → Result FileStorage Stop
 counted_by fs line =
     cond (ltb 2147483647 (ceiling fs.total_size fs.piece_length)) (Err (record { refusal = TooManyPieces; line = line })) (Ok fs)
 
--- how a run ends, by its answer and what the tables then hold; the set keeps no table of first files
-abbrev pub run_says : Result FileStorage Stop → List ℕ → List ℕ → List ℕ → List ℕ → Run
-run_says (Ok fs) rows roots dirs text = listed (view_of (store_of fs rows roots [] dirs text))
-run_says (Err e) rows roots dirs text = stopped (number_of e.refusal) e.line
+-- the set in the tables of a run, and what a change to them says; the set keeps no table of first files
+abbrev pub store_in : FileStorage → Tables → Store
+store_in fs t = store_of fs t.rows.now t.roots.now [] t.dirs.now t.text.now
+
+abbrev pub changed_in : Outcome FileStorage → Tables → Changed
+changed_in says t =
+    record {
+      says = says;
+      rows = t.rows.now;
+      roots = t.roots.now;
+      firsts = [];
+      dirs = t.dirs.now;
+      text = t.text.now;
+    }
+
+-- how a run ends, by its answer and what the tables then hold
+abbrev pub run_in : Result FileStorage Stop → Tables → Run
+run_in (Ok fs) t = listed (view_of (store_in fs t))
+run_in (Err e) t = stopped (number_of e.refusal) e.line
 
 -- the lengths of tables with the places of `places`: 8 words and 32 bytes a file, 2 words a directory
 pub record Placed (rows roots dirs text : List ℕ) : Type 0 where
@@ -46,3 +62,6 @@ pub record Placed (rows roots dirs text : List ℕ) : Type 0 where
   pub roots-are : length roots ≡ 12800
   pub dirs-are : length dirs ≡ 800
   pub text-is : length text ≡ 65536
+
+abbrev pub PlacedIn : Tables → Type 0
+PlacedIn t = Placed t.rows.now t.roots.now t.dirs.now t.text.now

@@ -10,9 +10,14 @@ use Rattle.tables.specs.Rows.{directory_span}
 use Rattle.listing_output.specs.Output.{file_lines}
 use Rattle.listing_output.specs.Printing.{shown}
 
+-- numbers, each in a column of its width, and a byte after them
+abbrev pub columns_then : ℕ → List (ℕ × ℕ) → List ℕ
+columns_then last [] = last ∷ []
+columns_then last (c ∷ cs) = column c.0 c.1 ++ columns_then last cs
+
 -- numbers in columns of 5, 15, 15 and `width`, and a byte after them
 abbrev pub four_columns : ℕ → ℕ → ℕ → ℕ → ℕ → ℕ → List ℕ
-four_columns a b c width d last = column 5 a ++ (column 15 b ++ (column 15 c ++ (column width d ++ (last ∷ []))))
+four_columns a b c width d last = columns_then last ((5, a) ∷ (15, b) ∷ (15, c) ∷ (width, d) ∷ [])
 
 -- the text of a row's directory, empty where the row has none
 abbrev pub row_directory : List ℕ → List ℕ → Row → List ℕ

@@ -1,23 +1,23 @@
 -- The steps that the code takes to a plan: directories, counts, spans of the new texts. proofs/Plans.antt ties them to
 -- `planned_for` of Plan.antt.
-use Rattle.std.specs.Prelude.{◌≡◌, ℕ, ◌+◌, ◌<◌, ◌≤◌, Bool, true, cond, not, ◌&&◌, ◌||◌, List, [], ◌∷◌, ◌++◌, length, ◌==◌, nat_lt, Option, Some, None, option_map, unwrap_or}
+use Rattle.std.specs.Prelude.{◌≡◌, ℕ, ◌+◌, ◌<◌, ◌≤◌, Bool, true, false, cond, ◌&&◌, ◌||◌, List, [], ◌∷◌, ◌++◌, length, ◌==◌, nat_lt, Option, Some, None, is_some, option_map, unwrap_or}
 use Rattle.std.specs.Bool.{then_some}
 use Rattle.lists.specs.Lists.{ceiling}
+use Rattle.lists.specs.Decimal.{decimal}
 use Rattle.types.specs.Refusals.{Outcome}
 use Rattle.types.specs.Signed.{zigzag}
-use Rattle.tables.specs.Model.{Directory, is_pad, Model, tabled}
+use Rattle.tables.specs.Model.{Directory, stored, is_pad, Model, tabled}
 use Rattle.rules.specs.Rules.{outcome_of}
 use Rattle.additions.specs.Addition.{Addition, flags_kept, link_is_kept}
-use Rattle.additions.specs.Addition.{pad_directory_name, with_directory_of, with_directory, directory_added}
-use Rattle.additions.specs.private.Texts.{is_here, name_from, link_text_of, directory_at}
-use Rattle.plan.specs.Write.{directory_index, path_index_of, new_text_of, is_new, is_new_directory}
-use Rattle.plan.specs.Write.{set_text, name_text, link_new, pad_digits, old_name, text_kept, on_disk_added}
-use Rattle.tables.specs.declared.span.Span.{Span}
-use Rattle.tables.specs.declared.rows.Presence.{Presence}
+use Rattle.additions.specs.Addition.{is_among, pad_directory_name, with_directory_of, directory_added}
+use Rattle.additions.specs.private.Texts.{name_from, link_text_of, directory_at, outside_kind}
+use Rattle.plan.specs.Write.{directory_index, path_index_of, new_text_of, is_new_directory}
+use Rattle.plan.specs.Write.{set_text, name_text, link_new, old_name, text_kept, on_disk_added}
 use Rattle.tables.specs.declared.storage.FileStorage.{FileStorage}
 use Rattle.tables.specs.Span.{text_at}
+use Rattle.tables.specs.Entry.{is_here}
 use Rattle.tables.specs.Rows.{dir_at, link_held_bit, outside_bit, root_bit, made_pad_flags}
-use Rattle.rules.specs.Bounds.{limit, max_entries, max_links}
+use Rattle.rules.specs.Bounds.{max_entries, max_links}
 use Rattle.change.specs.declared.rooms.Rooms.{Rooms}
 use Rattle.change.specs.Rooms.{files_room, dirs_room}
 use Rattle.additions.specs.declared.checks.Sizes.{Sizes}
@@ -27,9 +27,10 @@ use Rattle.additions.specs.declared.parts.PathParts.{PathParts}
 use Rattle.plan.specs.declared.dirs.DirPlan.{DirPlan}
 use Rattle.plan.specs.declared.counts.Counts.{Counts}
 use Rattle.plan.specs.declared.counts.FileFacts.{FileFacts}
-use Rattle.plan.specs.declared.counts.RowFacts.{RowFacts}
 use Rattle.plan.specs.declared.plan.TextSpans.{TextSpans}
 use Rattle.plan.specs.declared.plan.TextLengths.{TextLengths}
+use Rattle.plan.specs.declared.plan.Decided.{Decided}
+use Rattle.plan.specs.declared.plan.DirPlans.{DirPlans}
 use Rattle.plan.specs.declared.plan.AddPlan.{AddPlan}
 
 -- the texts of the first n directory rows
@@ -54,6 +55,10 @@ known_at k n = record { index = k; new = None; count = n }
 abbrev pub added_at : ℕ → ℕ → DirPlan
 added_at n len = record { index = n; new = Some len; count = n + 1 }
 
+-- the plan of a directory by its text among those stored, where there are n directories before it
+abbrev pub plan_among : List ℕ → ℕ → List (List ℕ) → DirPlan
+plan_among d n ds = cond (is_among d ds) (known_at (directory_index d ds) n) (added_at n (length d))
+
 -- the directories with one more, where it is new
 abbrev pub dirs_with : Bool → List ℕ → List (List ℕ) → List (List ℕ)
 dirs_with new d ds = cond new (ds ++ (d ∷ [])) ds
@@ -61,14 +66,10 @@ dirs_with new d ds = cond new (ds ++ (d ∷ [])) ds
 abbrev pub count_with : Bool → ℕ → ℕ
 count_with new n = n + cond new 1 0
 
--- the same of the pad's directory; without a pad there is none
-abbrev pub pad_dir_plan_of : ℕ → List (List ℕ) → DirPlan
-pad_dir_plan_of pad ds =
-    record {
-      index = cond (pad == 0) 0 (directory_index pad_directory_name ds);
-      new = then_some (not (pad == 0) && is_new pad_directory_name ds) (length pad_directory_name);
-      count = length (cond (pad == 0) ds (with_directory pad_directory_name ds));
-    }
+-- the same of the pad's directory, where a pad follows; where none does there is none
+abbrev pub pad_dir_plan_of : Bool → List (List ℕ) → DirPlan
+pad_dir_plan_of true ds = dir_plan_of (stored pad_directory_name false) ds
+pad_dir_plan_of false ds = known_at 0 (length ds)
 
 -- ---- numbers
 
@@ -83,10 +84,6 @@ row_flags f outside =
     + cond outside outside_bit 0
     + cond f.has_root root_bit 0
 
--- what a file's row says besides where things are
-abbrev pub row_facts_of : FileFacts → Bool → RowFacts
-row_facts_of f outside = record { flags = row_flags f outside; time = f.time }
-
 -- the facts of a file and its link text, where a set is added to
 abbrev pub facts_of : FileStorage → FileInfo → List ℕ → FileFacts
 facts_of fs file link =
@@ -97,19 +94,16 @@ facts_of fs file link =
       time = zigzag file.mtime;
     }
 
--- counts and sums that fit
-pub record Countable (fs : FileStorage) (z : Sizes) (keeps : Bool) : Type 0 where
+-- counts that fit
+pub record Countable (fs : FileStorage) (keeps : Bool) : Type 0 where
   pub files : fs.num_files ≤ max_entries
   pub links : keeps ≡ true → fs.num_symlinks < max_links
-  pub total : fs.total_size + z.size + z.pad ≤ limit
 
 abbrev pub counts_of : FileStorage → Sizes → FileFacts → Counts
 counts_of fs z f =
     record {
-      num_files = fs.num_files + cond (z.pad == 0) 1 2;
+      num_files = fs.num_files + cond (is_some z.pad) 2 1;
       num_symlinks = fs.num_symlinks + cond f.keeps_link 1 0;
-      file_end = fs.total_size + z.size;
-      total_size = fs.total_size + z.size + z.pad;
       size_on_disk = on_disk_added fs.size_on_disk (cond (is_pad f.flags) 0 z.size);
     }
 
@@ -120,6 +114,11 @@ short_of rooms files dirs = nat_lt (files_room rooms) files || nat_lt (dirs_room
 -- a table of first files with that many places, where the set keeps one, is too short for a set with that total
 abbrev pub places_lack : FileStorage → ℕ → ℕ → Bool
 places_lack fs places total = fs.indexed && nat_lt places (ceiling total fs.piece_length)
+
+-- how many digits name a pad, where there is one
+abbrev pub pad_length : Option ℕ → ℕ
+pad_length None = 0
+pad_length (Some pad) = length (decimal pad)
 
 -- texts of these lengths, one after the other from `start` on
 abbrev pub text_spans_of : ℕ → ℕ → ℕ → ℕ → ℕ → ℕ → ℕ → TextSpans
@@ -140,86 +139,89 @@ spans_within room p = cond (nat_lt room p.end) None (Some p)
 
 -- ---- the plan
 
-abbrev pub plan_from : FileStorage → Sizes → Counts → RowFacts → DirPlan → DirPlan → TextSpans → Span → PathParts
-    → AddPlan
-plan_from fs z counts file first second spans old parts =
+abbrev pub plan_from : FileStorage → Decided → Counts → DirPlans → TextSpans → AddPlan
+plan_from fs a counts d spans =
     record {
       before = fs;
       after = record {
         piece_length = fs.piece_length;
-        v2 = z.v2;
+        v2 = a.sizes.v2;
         num_files = counts.num_files;
-        num_paths = second.count;
+        num_paths = d.pad.count;
         num_symlinks = counts.num_symlinks;
         name = cond (fs.num_files == 0) spans.set fs.name;
         text_len = spans.end;
-        total_size = counts.total_size;
+        total_size = a.sizes.total_size;
         size_on_disk = counts.size_on_disk;
         trimmed = fs.trimmed;
         indexed = fs.indexed;
       };
       row = record {
         offset = fs.total_size;
-        size = z.size;
+        size = a.sizes.size;
         name = spans.name;
         link = spans.link;
-        path_index = first.index;
-        flags = file.flags;
-        time = file.time;
+        path_index = d.file.index;
+        flags = row_flags a.facts (outside_kind a.parts.kind);
+        time = a.facts.time;
       };
       pad_row =
-          then_some (not (z.pad == 0))
-          (record {
-            offset = counts.file_end;
-            size = z.pad;
+          option_map
+          (λ size. record {
+            offset = a.sizes.file_end;
+            size = size;
             name = spans.pad_name;
             link = record { at = spans.end; len = 0 };
-            path_index = second.index;
+            path_index = d.pad.index;
             flags = made_pad_flags;
             time = 0;
-          });
+          })
+          a.sizes.pad;
       dir =
           option_map (λ len. record { slot = fs.num_paths; text = record { at = spans.directory; len = len } })
-          first.new;
+          d.file.new;
       pad_dir =
-          option_map (λ len. record { slot = first.count; text = record { at = spans.pad_directory; len = len } })
-          second.new;
-      old = old;
+          option_map (λ len. record { slot = d.file.count; text = record { at = spans.pad_directory; len = len } })
+          d.pad.new;
+      old = old_name fs;
       start = spans.set.at;
-      parts = parts;
+      parts = a.parts;
     }
 
 -- the spans of an addition whose texts have these lengths
-abbrev pub text_spans_for : FileStorage → Sizes → DirPlan → DirPlan → TextLengths → TextSpans
-text_spans_for fs z first second l =
+abbrev pub text_spans_for : FileStorage → Decided → DirPlans → TextSpans
+text_spans_for fs a d =
     text_spans_of (text_kept fs)
-    l.set_name (unwrap_or first.new 0) l.name l.link (unwrap_or second.new 0) (length (pad_digits z.pad))
+    a.lengths.set_name
+    (unwrap_or d.file.new 0)
+    a.lengths.name
+    a.lengths.link
+    (unwrap_or d.pad.new 0)
+    (pad_length a.sizes.pad)
 
 -- the plan where there is room, else refusal 10
-abbrev pub planned_in : FileStorage → Rooms → Sizes → Counts → RowFacts → DirPlan → DirPlan → TextLengths → PathParts
-    → Outcome AddPlan
-planned_in fs rooms z counts file first second l parts =
+abbrev pub planned_in : FileStorage → Rooms → Decided → DirPlans → Outcome AddPlan
+planned_in fs rooms a d =
     outcome_of
     (cond
-    (short_of rooms counts.num_files second.count
-    || nat_lt rooms.text (text_spans_for fs z first second l).end)
+    (short_of rooms (counts_of fs a.sizes a.facts).num_files d.pad.count
+    || nat_lt rooms.text (text_spans_for fs a d).end)
     10
     0)
-    (plan_from fs z counts file first second (text_spans_for fs z first second l) (old_name fs) parts)
+    (plan_from fs a (counts_of fs a.sizes a.facts) d (text_spans_for fs a d))
 
 -- the same of a directory's text beside the directories that are stored
-abbrev pub planned_beside : FileStorage → Rooms → List (List ℕ) → Sizes → FileFacts → Bool → Directory → TextLengths
-    → PathParts → Outcome AddPlan
-planned_beside fs rooms ds z f outside d l parts =
-    planned_in fs rooms z (counts_of fs z f) (row_facts_of f outside)
-    (dir_plan_of d ds) (pad_dir_plan_of z.pad (with_directory_of d ds)) l parts
+abbrev pub planned_beside : FileStorage → Rooms → List (List ℕ) → Decided → Directory → Outcome AddPlan
+planned_beside fs rooms ds a d =
+    planned_in fs rooms a
+    (record { file = dir_plan_of d ds; pad = pad_dir_plan_of (is_some a.sizes.pad) (with_directory_of d ds) })
 
 -- the lengths of the texts of an addition, whose path has these parts
-abbrev pub lengths_of : ℕ → Presence → List ℕ → List ℕ → PathParts → List ℕ → TextLengths
-lengths_of links given filename path parts link =
+abbrev pub lengths_of : ℕ → Option (List ℕ) → List ℕ → PathParts → List ℕ → TextLengths
+lengths_of links given path parts link =
     record {
       set_name = length (text_at path parts.set_name);
-      name = length (name_from given filename (text_at path parts.name));
+      name = length (name_from given (text_at path parts.name));
       link = length (link_text_of links link);
     }
 

@@ -1,12 +1,14 @@
 -- What the private parts of the writing of a text give: joins by their parts. The meaning is that of Texts.antt; it
 -- relies on the joins of `path`.
-use Rattle.std.specs.Prelude.{ℕ, Bool, false, cond, not, List, [], ◌∷◌, ◌++◌, eqb}
-use Rattle.path.specs.Join.{is_alone, is_closed}
+use Rattle.std.specs.Prelude.{ℕ, ◌-◌, cond, List, [], ◌++◌, length}
+use Rattle.path.specs.Join.{is_alone, separator}
+use Rattle.tables.specs.Model.{Store}
+use Rattle.texts.specs.Texts.{gone_at}
 
--- whether a separator stands between the branch d and a leaf of n bytes
-abbrev pub is_parted : List ℕ → ℕ → Bool
-is_parted d n = cond (eqb n 0) false (not (is_closed d))
+-- what a join has before its leaf
+abbrev pub prefix_of : List ℕ → List ℕ → List ℕ
+prefix_of branch leaf = cond (is_alone branch) [] (branch ++ separator branch leaf)
 
--- what a join has before its leaf of n bytes
-abbrev pub prefix_of : List ℕ → ℕ → List ℕ
-prefix_of d n = cond (is_alone d) [] (cond (is_parted d n) (d ++ (47 ∷ [])) d)
+-- the room for a new text of link i, once the old one is removed
+abbrev pub room_beside : Store → ℕ → ℕ
+room_beside s i = length s.text - (s.fs.text_len - (gone_at s i).len)

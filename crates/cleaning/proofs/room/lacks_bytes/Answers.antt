@@ -5,11 +5,12 @@ use native.Mathlib.Nat.{sub-zero}
 use Rattle.std.proofs.Common.{rules}
 use Rattle.std.proofs.lemmas.Iterator.{YieldsList-from_range, YieldsList-from_map, YieldsList-from_zip, YieldsList-from_slice}
 use Rattle.std.proofs.lemmas.Iterator.Consumers.{YieldsList-at, YieldsList-from_filter}
+use Rattle.lists.proofs.Takings.{all-taken}
 use Rattle.tables.specs.Rows.{row_at}
 use Rattle.lookup.specs.Lookup.{is_flagged}
 use Rattle.links.specs.Judging.{verdict_read}
 use Rattle.cleaning.specs.private.Writing.{new_length}
-use Rattle.cleaning.proofs.Links.{all-taken, links-more}
+use Rattle.cleaning.proofs.Links.{links-more}
 use Rattle.cleaning.proofs.room.lacks_bytes.Goals as goal
 
 pub returns : goal.returns

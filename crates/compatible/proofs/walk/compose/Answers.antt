@@ -8,4 +8,4 @@ pub returns : goal.returns
 returns c =
     let kept : is_alone c.args.first.now ≡ false = sym c.is_alone.ensures ∙ c.if-is_alone.false in
     let some : 0 < length c.args.second.now = search rules in
-    rw (c.end_of-first_end.ensures, c.end_of-second_end.ensures) (three-kept c.args.first.now c.args.second.now c.args.last.now kept some)
+    rw (c.separator-first_end.ensures, c.separator-second_end.ensures) (three-kept c.args.first.now c.args.second.now c.args.last.now kept some)

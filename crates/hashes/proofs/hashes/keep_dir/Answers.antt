@@ -1,63 +1,71 @@
--- `hashes::hashes::keep_dir` meets its contract. The loop's invariant: x is the hash of the directory's first `end` bytes behind the
--- state, and the hashes of the beginnings behind, kept in the table as it is, come to what is due.
-use Rattle.hashes.proofs.Hashing.{hashes_from, hashes-first, hashes-next, hashes-end, hash-next, hash-all, scan-within, empty-list}
-use Rattle.hashes.proofs.Inserting.{Going, going, gone-on, arrived, kept}
-use Rattle.hashes.specs.private.Gathering.{gathered, hashes_after, Begun, TableHolds}
-use Rattle.path.specs.Split.{before_first}
+-- `hashes::hashes::keep_dir` meets its contract. The loop's invariant: x is the hash of the directory's first `from` bytes behind the
+-- state, and the hashes of the beginnings that end at place `end` or behind it, kept in the table as it is, come to what is due.
+use Prim.Native.Nat.{ℕ, ◌+◌, ◌-◌, ◌≤◌, ◌<◌}
+use mathlib.Core.Path.{◌≡◌, sym, ◌∙◌, ap}
+use mathlib.Core.List.{List, [], ◌∷◌, ◌++◌, map}
+use native.Mathlib.Omega.{arith}
+use lib.ListN.{length, get_or, take, drop}
+use borrow.Author.Rules.{rules}
 use Rattle.crc32c.specs.Crc.{crc_from, lower}
 use Rattle.crc32c.proofs.Parts.{crc-none}
-use lib.Seq.{sets, length-take-le}
-use lib.ListN.{length, take, drop}
-use native.Mathlib.Omega.{arith}
-use borrow.Author.Rules.{rules}
-use mathlib.Core.List.{List, [], ◌∷◌, map}
-use mathlib.Core.Path.{◌≡◌, refl, sym, ◌∙◌, ap}
-use Prim.Native.Nat.{◌+◌, ◌-◌, min, ℕ, ◌<◌}
+use Rattle.hashes.specs.private.Gathering.{gathered, hashes_after, TableHolds}
+use Rattle.hashes.proofs.Hashing.{hash_by, hashes_at, hashes-start, hashes-here, hashes-later, hashes-end, hash-next, empty-list}
+use Rattle.hashes.proofs.Inserting.{Going, going, gone-on, arrived, kept}
 use Rattle.hashes.proofs.hashes.keep_dir.Goals as goal
-
--- after the first beginning
-started : (bound state n x k m : ℕ) (d table after : List ℕ) → Begun n table → 0 < length d → x ≡ crc_from state (map lower (take k d)) → k ≡ 0 + length (before_first (drop 0 d))
-    → TableHolds table (gathered bound (x ∷ []) (take n table)) after m
-    → Going bound (hashes_from state d k) m after (sets table 0 (gathered bound (hashes_after state d) (take n table))) (min (length table) (length (gathered bound (hashes_after state d) (take n table))))
-started bound state n x k m d table after b h e s t =
-    gone-on bound (x ∷ []) (hashes_from state d k) (going bound (hashes_after state d) n table b) (hashes-first state d x k e h s) t
+use Rattle.hashes.proofs.hashes.keep_dir.Goals.{then-end-d, then-end-d-via-then-end-d, then-end-d-via-else-end-d+then-d-end-eq47, else-end-d+else-d-end-eq47}
 
 pub returns-then-is_empty : goal.returns-then-is_empty
 returns-then-is_empty c =
     let e = empty-list c.args.d.now (search rules) in
-    (rw e (kept c.args.n c.args.table.now c.requires.within), rw e (sym (crc-none c.args.state)))
-
-pub slice_bounds-crc32c_append_lowercase-end : goal.slice_bounds-crc32c_append_lowercase-end
-slice_bounds-crc32c_append_lowercase-end c =
-    sym (length-take-le c.next_separator-end.result c.args.d.now (scan-within c.args.d.now 0 _ c.next_separator-end.ensures (omega arith)).1)
+    rw e (kept c.args.n c.args.table.now c.requires.within)
 
 pub loop-end-init : goal.loop-end-init
 loop-end-init c =
-    let k = c.next_separator-end in
-    let s = started _ _ _ _ _ _ _ _ _ c.requires (search rules) c.crc32c_append_lowercase-x.ensures k.ensures c.keep-m.ensures in
-    ((scan-within c.args.d.now 0 k.result k.ensures (omega arith)).1, refl, c.crc32c_append_lowercase-x.ensures, going c.args.bound (hashes_from c.args.state c.args.d.now k.result) c.keep-m.result c.keep-m.new.table s.begun)
+    let e = hashes-start c.args.state c.args.d.now (search rules) in
+    (omega arith, sym (crc-none c.args.state), rw e (going c.args.bound (hashes_after c.args.state c.args.d.now) c.args.n c.args.table.now c.requires))
 
-pub slice_bounds-crc32c_append_lowercase-end-in-loop-end : goal.slice_bounds-crc32c_append_lowercase-end-in-loop-end
-slice_bounds-crc32c_append_lowercase-end-in-loop-end c = omega (arith, scan-within c.args.d.now (c.loop-end.end + 1) c.next_separator-next.result c.next_separator-next.ensures (omega arith))
+-- the hash y of the beginning that ends at place e is kept, and those behind are left
+turn : (bound state x y from e m n count : ℕ) (d rest table after final : List ℕ) → from ≤ e → x ≡ crc_from state (map lower (take from d))
+    → y ≡ crc_from x (map lower (take (e - from) (drop from d))) → hashes_at state d e ≡ (hash_by state (take e d) ∷ []) ++ rest
+    → Going bound (hashes_at state d e) m table final count → TableHolds table (gathered bound (y ∷ []) (take m table)) after n
+    → (y ≡ hash_by state (take e d)) × Going bound rest n after final count
+turn bound state x y from e m n count d rest table after final w p q s g h =
+    let z : y ≡ hash_by state (take e d) = q ∙ ap (λ (v : ℕ). crc_from v (map lower (take (e - from) (drop from d)))) p ∙ hash-next state d from e w in
+    (z, gone-on bound (y ∷ []) rest g (rw z s) h)
+
+pub keep-m-requires : goal.keep-m-requires
+keep-m-requires c = let i = c.loop-end.invariant.2 in i.begun
 
 pub loop-end-preserved : goal.loop-end-preserved
 loop-end-preserved c =
     let l = c.loop-end in
     let a = c.args in
-    let x = c.crc32c_append_lowercase-x-in-loop-end in
-    let k = c.next_separator-next in
-    let n = scan-within a.d.now (l.end + 1) k.result k.ensures (omega arith) in
-    let e = x.ensures ∙ ap (λ (v : ℕ). crc_from v (map lower (take (k.result - l.end) (drop l.end a.d.now)))) l.invariant.2 ∙ hash-next a.state a.d.now l.end k.result (omega arith) in (
-      n.1,
-      c.keep-m-in-loop-end.auto.table ∙ l.invariant.1,
-      e,
-      gone-on a.bound (x.result ∷ []) (hashes_from a.state a.d.now k.result) l.invariant.3 (hashes-next a.state a.d.now x.result k.result e l.end c.loop-end-test.true k.ensures) c.keep-m-in-loop-end.ensures,
-    )
+    let i = l.invariant in
+    let k : l.end < length a.d.now = search rules in
+    elim c.if-end-d.branch [
+      | then-end-d w ↦
+          let ends : get_or a.d.now l.end 0 ≡ 47 = elim w.then-end-d.branch [
+            | then-end-d-via-then-end-d v ↦ absurd (omega (arith, v.if-end-d.true))
+            | then-end-d-via-else-end-d+then-d-end-eq47 v ↦ v.if-d-end-eq47.true
+          ] in
+          let t = turn a.bound a.state l.x w.crc32c_append_lowercase-x.result l.from l.end l.m w.keep-m.result _ a.d.now (hashes_at a.state a.d.now (l.end + 1)) l.table
+          w.keep-m.new.table _ i.0 i.1 w.crc32c_append_lowercase-x.ensures (hashes-here a.state a.d.now l.end k ends) i.2 w.keep-m.ensures in
+          rw (w.table-is, w.x-is, w.m-is, w.from-is) (omega arith, t.0, t.1)
+      | else-end-d+else-d-end-eq47 w ↦
+          rw (w.table-is, w.x-is, w.m-is, w.from-is, ← hashes-later a.state a.d.now l.end k w.if-d-end-eq47.false) (omega arith, i.1, i.2)
+    ]
 
-pub returns : goal.returns
-returns c =
+pub returns-after-end-d : goal.returns-after-end-d
+returns-after-end-d c =
     let l = c.loop-end in
     let a = c.args in
-    let s = started _ _ _ _ _ _ _ _ _ c.requires (search rules) c.crc32c_append_lowercase-x.ensures c.next_separator-end.ensures c.keep-m.ensures in
-    let r = arrived a.bound l.m (rw (hashes-end a.state a.d.now l.end c.loop-end-test.false) at l.invariant.3) in
-    (record { stored = r.0 ∙ s.stored; count = r.1 ∙ s.counted }, l.invariant.2 ∙ hash-all a.state a.d.now l.end c.loop-end-test.false)
+    let i = l.invariant in
+    let k : length a.d.now ≤ l.end = search rules in
+    elim c.if-end-d.branch [
+      | then-end-d w ↦
+          let t = turn a.bound a.state l.x w.crc32c_append_lowercase-x.result l.from l.end l.m w.keep-m.result _ a.d.now [] l.table
+          w.keep-m.new.table _ i.0 i.1 w.crc32c_append_lowercase-x.ensures (hashes-end a.state a.d.now l.end k) i.2 w.keep-m.ensures in
+          let r = arrived a.bound w.keep-m.result t.1 in
+          rw (w.table-is, w.m-is) (record { stored = r.0; count = r.1 })
+      | else-end-d+else-d-end-eq47 w ↦ absurd (w.if-end-d.false (omega arith))
+    ]

@@ -1,6 +1,6 @@
 -- `imports::keep::count_kept` meets its contract. The loop's invariant: what is counted and what the entries from i on count give
 -- the whole.
-use Prim.Native.Nat.{◌+◌, ◌-◌}
+use Prim.Native.Nat.{◌+◌, ◌-◌, ◌/◌}
 use mathlib.Core.Path.{◌≡◌}
 use lib.ListN.{length}
 use Rattle.imports.specs.private.Importing.{kept_count, kept_bytes}
@@ -11,8 +11,8 @@ abbrev pub invariant-loop-entry : goal.invariant-loop-entry
 invariant-loop-entry l =
     let i = length l.yielded in
     record {
-      counted : l.count + kept_count (is_noted l.files l.notes) (l.fn.renames.num_renames - i) i l.entries
-          ≡ kept_count (is_noted l.files l.notes) l.fn.renames.num_renames 0 l.entries;
-      summed : l.bytes + kept_bytes (is_noted l.files l.notes) (l.fn.renames.num_renames - i) i l.entries
-          ≡ kept_bytes (is_noted l.files l.notes) l.fn.renames.num_renames 0 l.entries;
+      counted : l.count + kept_count (is_noted l.notes) (length l.entries / 3 - i) i l.entries
+          ≡ kept_count (is_noted l.notes) (length l.entries / 3) 0 l.entries;
+      summed : l.bytes + kept_bytes (is_noted l.notes) (length l.entries / 3 - i) i l.entries
+          ≡ kept_bytes (is_noted l.notes) (length l.entries / 3) 0 l.entries;
     }

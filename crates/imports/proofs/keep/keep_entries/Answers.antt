@@ -12,7 +12,7 @@ pub loop-i-preserved : goal.loop-i-preserved
 loop-i-preserved c =
     let a = c.args in
     let l = c.loop-i in
-    let f = is_noted a.files a.notes.now in
+    let f = is_noted a.notes.now in
     elim c.if-not-is_noted.branch [
       | then-not-is_noted w ↦
           rw (w.entries-is, w.to-is, w.copy_within.ensures.after ∙ kept_entry l.entries (l.i * 3) (l.to * 3) (omega (arith, l.invariant.0)) (omega (arith, l.invariant.2, l.invariant.3, c.loop-i-test.true)))

@@ -1,19 +1,14 @@
 -- `imports::listed::do_fit` meets its contract.
-use Prim.Native.Nat.{◌+◌}
-use mathlib.Core.Path.{sym}
-use native.Mathlib.Omega.{arith}
-use borrow.Author.Tests.{lt-leb}
-use Rattle.lists.specs.Lists.{sum}
-use Rattle.lists.proofs.Sums.{sum-take-more, sum-take-le}
+use mathlib.Core.Path.{◌∙◌}
+use Rattle.std.proofs.Common.{rules}
+use Rattle.std.proofs.lemmas.Iterator.{YieldsList-from_slice}
+use Rattle.std.proofs.lemmas.Iterator.Consumers.{YieldsList-at, YieldsList-from_copied}
+use Rattle.lists.proofs.Takings.{all-taken}
 use Rattle.imports.proofs.listed.do_fit.Goals as goal
 
-pub returns-then-left-len : goal.returns-then-left-len
-returns-then-left-len c =
-    let xs = c.args.lengths.now in
-    let l = c.loop-len in
-    sym (lt-leb (sum xs) c.args.room (omega (arith, l.invariant, sum-take-more xs l.len-index, sum-take-le xs (l.len-index + 1), c.if-left-len.true)))
-
-pub loop-len-preserved : goal.loop-len-preserved
-loop-len-preserved c =
-    let l = c.loop-len in
-    omega (arith, l.invariant, sum-take-more c.args.lengths.now l.len-index, c.if-left-len.false)
+pub returns : goal.returns
+returns c =
+    c.is_some.ensures
+    ∙ all-taken _ _ _ (λ a x w q k. search rules) _ c.try_fold.result c.copied.result c.try_fold.new.self _ c.args.room
+    (YieldsList-from_copied (YieldsList-at c.copied.ensures.source (YieldsList-from_slice c.args.lengths.now cc)))
+    c.try_fold.ensures.ran

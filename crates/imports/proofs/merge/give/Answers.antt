@@ -1,6 +1,7 @@
 -- `imports::merge::give` meets its contract.
 use mathlib.Core.Path.{◌≡◌, ap, ◌∙◌}
 use mathlib.Core.List.{List}
+use lib.ListN.{length}
 use lib.Seq.{sets}
 use Rattle.renames.specs.Renames.{Renamed, renames_of, texts_of}
 use Rattle.renames.proofs.Used.{renames_in_use}
@@ -21,14 +22,14 @@ kept-texts c =
 
 pub merge-requires : goal.merge-requires
 merge-requires c =
-    merge-ready (named_in c.args.list) (given_in c.args.list) c.args.list.files c.args.renames c.args.stay c.args.come c.args.entries.now c.args.text.now
+    merge-ready (named_in c.args.list) (given_in c.args.list) (length c.args.list.notes.now) c.args.renames c.args.stay c.args.come c.args.entries.now c.args.text.now
     c.requires.0 c.requires.1 c.requires.2 c.requires.3 c.requires.4 c.requires.5 _ _ (moved-front (named_in c.args.list) c.args.renames.num_renames c.args.entries.now _ c.requires.0 c.keep_entries.ensures)
     (kept-texts (goal.at.merge-requires c).After-keep_texts)
     _ _ c.copy_within-2.ensures.after c.copy_within.ensures.after c.requires.6 c.requires.7
 
 pub returns : goal.returns
 returns c =
-    let whole = merge-done (named_in c.args.list) (given_in c.args.list) c.args.list.files c.args.renames c.args.stay c.args.come c.args.entries.now c.args.text.now
+    let whole = merge-done (named_in c.args.list) (given_in c.args.list) (length c.args.list.notes.now) c.args.renames c.args.stay c.args.come c.args.entries.now c.args.text.now
     c.requires.0 c.requires.1 c.requires.2 c.requires.3 c.requires.4 c.requires.5 _ _ (moved-front (named_in c.args.list) c.args.renames.num_renames c.args.entries.now _ c.requires.0 c.keep_entries.ensures)
     (kept-texts (goal.at.returns c).After-keep_texts)
     _ _ c.copy_within-2.ensures.after c.copy_within.ensures.after c.requires.6 c.requires.7 _ _ c.merge.ensures.entries_after c.merge.ensures.text_after in

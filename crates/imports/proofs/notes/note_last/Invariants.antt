@@ -5,4 +5,4 @@ use Rattle.imports.specs.private.Merging.{noted_from}
 use Rattle.imports.proofs.notes.note_last.Given as goal
 
 abbrev pub invariant-loop-i : goal.invariant-loop-i
-invariant-loop-i l = noted_from l.files l.i (drop l.i l.numbers) l.notes ≡ noted_from l.files 0 l.numbers l.initial.notes
+invariant-loop-i l = noted_from l.i (drop l.i l.numbers) l.notes ≡ noted_from 0 l.numbers l.initial.notes

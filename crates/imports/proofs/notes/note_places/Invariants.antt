@@ -1,13 +1,13 @@
--- `imports::notes::note_places` meets its contract. The loop's invariant: the names before number i end at `at`, and the numbers from i
--- on, written down too, give the whole.
+-- `imports::notes::note_places` meets its contract. The loop's invariant: the names of the numbers that came end at `at`,
+-- and the other numbers, written down too, give the whole.
 use mathlib.Core.Path.{◌≡◌}
-use lib.ListN.{take, drop}
+use lib.ListN.{length, take, drop}
 use Rattle.lists.specs.Lists.{sum}
 use Rattle.imports.specs.private.Merging.{placed_from}
 use Rattle.imports.proofs.notes.note_places.Given as goal
 
-abbrev pub invariant-loop-i : goal.invariant-loop-i
-invariant-loop-i l = record {
-  ends : l.at ≡ sum (take l.i l.lengths);
-  places : placed_from l.files l.at (drop l.i l.numbers) (drop l.i l.lengths) l.places ≡ placed_from l.files 0 l.numbers l.lengths l.initial.places;
+abbrev pub invariant-loop-number : goal.invariant-loop-number
+invariant-loop-number l = record {
+  ends : l.at ≡ sum (take (length l.yielded) l.lengths);
+  places : placed_from l.at (drop (length l.yielded) l.numbers) (drop (length l.yielded) l.lengths) l.places ≡ placed_from 0 l.numbers l.lengths l.initial.places;
 }

@@ -6,18 +6,19 @@ use Rattle.layout.proofs.Front.{point_front}
 use Rattle.layout.proofs.piece.size2_of.Goals as goal
 use Rattle.layout.proofs.piece.size2_of.Goals.{After-partition_point-next}
 
-next : (c : After-partition_point-next) → c.partition_point-next.result ≡ file_after c.args.fs c.args.rows.now c.args.window c.args.p
+next : (c : After-partition_point-next) → c.partition_point-next.result
+    ≡ file_after c.args.asked.fs c.args.rows.now c.args.window c.args.asked.p
 next c =
     c.partition_point-next.ensures
-    ∙ point_front c.args.rows.now c.args.fs.num_files c.requires.1 c.args.window c.args.start
-    ∙ ap (partition_point c.args.rows.now c.args.fs.num_files c.args.window) c.requires.0
+    ∙ point_front c.args.rows.now c.args.asked.fs.num_files c.requires c.args.window c.start-start.result
+    ∙ ap (partition_point c.args.rows.now c.args.asked.fs.num_files c.args.window) c.start-start.ensures
 
-pub returns-then-fs-next-clause-value : goal.returns-then-fs-next-clause-value
-returns-then-fs-next-clause-value c =
-    let e = next (goal.at.returns-then-fs-next-clause-value c).After-partition_point-next in
+pub returns-then-files-next-clause-value : goal.returns-then-files-next-clause-value
+returns-then-files-next-clause-value c =
+    let e = next (goal.at.returns-then-files-next-clause-value c).After-partition_point-next in
     search rules
 
 pub returns-clause-value : goal.returns-clause-value
 returns-clause-value c =
-    let e = next (goal.at.returns-clause-value c).After-partition_point-next in
-    search rules
+    let a = (goal.at.returns-clause-value c).After-partition_point-next in
+    rw (← next a, ← a.start-start.ensures) (search rules)

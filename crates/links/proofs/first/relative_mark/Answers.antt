@@ -14,7 +14,7 @@ use Rattle.links.proofs.first.relative_mark.Goals as goal
 pub new-front-requires : goal.new-front-requires
 new-front-requires c =
     rw c.new-path.ensures (one_long (set_of c.args.the_set) c.args.i c.lead_length-e.result (replicate frame_width 0) c.put_frame.new.frames
-    (omega arith) c.put_frame.ensures c.lead_length-e.ensures)
+    (omega arith) (rw c.from.ensures at c.put_frame.ensures) (rw c.from.ensures at c.lead_length-e.ensures))
 
 pub returns-then-is_inside : goal.returns-then-is_inside
 returns-then-is_inside c =
@@ -26,4 +26,4 @@ returns-then-is_inside c =
     walk_decides (set_of c.args.the_set) (row_at c.args.the_set.lent.rows.now c.args.i) _
     (inside ∙ c.if-is_inside.true)
     (one_part (set_of c.args.the_set) c.args.i c.lead_length-e.result (replicate frame_width 0) c.put_frame.new.frames (omega arith)
-    c.put_frame.ensures c.lead_length-e.ensures))
+    (rw c.from.ensures at c.put_frame.ensures) (rw c.from.ensures at c.lead_length-e.ensures)))

@@ -1,14 +1,16 @@
--- `links::head::put_head` meets its contract. Its loop keeps: the first i bytes of the buffer are those of the path, and
--- what is left of the path's bytes is what stands from byte i on.
+-- `links::head::put_head` meets its contract: the bytes that are written are the path's, one after another.
+use mathlib.Core.Path.{◌≡◌, ap, ◌∙◌}
 use native.Mathlib.Omega.{arith}
-use lib.ListN.{length-set}
-use Rattle.rope.specs.Rope.{held, bytes_left}
-use Rattle.links.proofs.Heads.{head_turn}
+use Rattle.std.proofs.Common.{rules}
+use lib.ListN.{length}
+use Rattle.rope.specs.Rope.{bytes_left}
+use Rattle.links.proofs.Heads.{filled, next_left}
 use Rattle.links.proofs.head.put_head.Goals as goal
 
-pub loop-byte-preserved : goal.loop-byte-preserved
-loop-byte-preserved c =
-    let l = c.loop-byte in
-    let turn = head_turn l.byte-items (held c.args.path) l.byte-index c.unwrap_or.result (omega arith) (omega arith) l.invariant.2
-    c.next.result (bytes_left l.bytes) (bytes_left c.next.new.self) c.next.ensures.steps c.unwrap_or.ensures l.invariant.1 in
-    (omega (arith, length-set l.byte-items l.byte-index c.unwrap_or.result), turn.0, turn.1)
+pub returns : goal.returns
+returns c =
+    let written = c.fill_with.new.self in
+    let left = c.bytes_from-bytes.ensures in
+    let long : length written ≡ length c.args.head.now = c.fill_with.ensures.len in
+    filled _ (λ f. bytes_left f.0) (λ f h x y ys q e. search (rules, next_left)) written _ c.fill_with.ensures.ran.0 c.fill_with.ensures.ran.1 (omega (arith, long, ap length left))
+    ∙ rw (long, left)

@@ -1,7 +1,10 @@
 -- `links::judge::judge_links` meets its contract.
 use Prim.Native.Nat.{ℕ}
+use mathlib.Core.Path.{ap, ◌∙◌}
 use lib.ListN.{length}
 use Rattle.lookup.specs.Lookup.{lent}
+use Rattle.links.specs.Judging.{verdicts}
+use Rattle.links.specs.private.Walking.{set_of}
 use Rattle.links.proofs.Judgements.{judged-none, judged-count, judged-fits, verdicts-set, judged-yes}
 use Rattle.links.proofs.judge.judge_links.Goals as goal
 
@@ -13,4 +16,4 @@ returns c =
     let n = c.in_ok-n.n in
     let count = judged-count whole m a.scratch a.walk_path n c.in_ok-n.ensures in
     judged-yes whole a.marks.now a.scratch a.walk_path n _ (judged-none whole m a.scratch a.walk_path n c.in_ok-n.ensures) count
-    (verdicts-set whole a.marks.now c.judge.new.marks n count (judged-fits whole m a.scratch a.walk_path n c.in_ok-n.ensures) c.judge.ensures)
+    (verdicts-set whole a.marks.now c.judge.new.marks n count (judged-fits whole m a.scratch a.walk_path n c.in_ok-n.ensures) (c.judge.ensures ∙ ap (λ s. verdicts (set_of s)) c.new.ensures))

@@ -1,9 +1,10 @@
--- The proof of `reopen`. Its loop keeps: of the leads, the first k are fresh and the others are those at the start; the verdicts stay.
+-- `links::mark::reopen` meets its contract. Its loop keeps: the marks before it have their leads untraversed, the others are
+-- as at the start.
 use mathlib.Core.Path.{◌≡◌}
-use mathlib.Core.List.{◌++◌, map}
-use lib.ListN.{length, take, drop}
-use Rattle.links.specs.private.Walking.{lead, verdict, untraversed}
+use mathlib.Core.List.{map, ◌++◌}
+use lib.ListN.{take, drop}
+use Rattle.links.proofs.Packed.{reopened}
 use Rattle.links.proofs.mark.reopen.Given as goal
 
-abbrev pub invariant-loop-k : goal.invariant-loop-k
-invariant-loop-k l = (length l.marks ≡ length l.initial.marks) × (map lead l.marks ≡ map untraversed (take l.k (map lead l.initial.marks)) ++ drop l.k (map lead l.initial.marks)) × (map verdict l.marks ≡ map verdict l.initial.marks)
+abbrev pub invariant-loop-mark : goal.invariant-loop-mark
+invariant-loop-mark l = l.marks ≡ map reopened (take l.mark-index l.initial.marks) ++ drop l.mark-index l.initial.marks

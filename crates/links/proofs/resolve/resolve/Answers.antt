@@ -19,7 +19,7 @@ use Rattle.links.specs.private.Walking.{lead, path_of, set_of, front_of}
 use Rattle.links.proofs.Passing.{left_all, at_link, past_link, at_end}
 use Rattle.links.proofs.Scans.{scan-start, scan-past}
 use Rattle.links.proofs.Events.{Met, no-dir, is-dir, link-past}
-use Rattle.links.proofs.Turning.{Traversed, Over, answer_of, text-number, left_end, left_dir, left_link, walking_start, walking-end, walking-dir, walking-link, walking-less, frame-free, frame-low, end_low, path-low}
+use Rattle.links.proofs.Turning.{Traversed, Over, answer_of, text-led, left_end, left_dir, left_link, walking_start, walking-end, walking-dir, walking-link, walking-less, frame-free, frame-low, end_low, path-low}
 use Rattle.links.proofs.resolve.resolve.Goals as goal
 use Rattle.links.proofs.resolve.resolve.Goals.{In-walk, After-has_byte-2, After-is_covered, After-lead_mark, After-go_through-depth, else-walk-test, then-walk-test+then-loop-d-test+then-is_covered+then-next-e, then-walk-test+else-loop-d-test+in-None}
 
@@ -62,10 +62,9 @@ leads_on c m q z = omega (arith, z, (leads _ m q c.lead_mark.ensures.result_boun
 gone : (c : After-go_through-depth) → Traversed (set_of c.args.the_set) c.walk.marks c.walk.frames c.walk.depth c.walk.e c.put_lead.new.marks
     c.go_through-depth.new.frames c.go_through-depth.result c.in-Some.i c.in-Some.k c.in-Some-lead_mark.m
 gone c =
-    let by-number =
-    text-number c.args.the_set.lent.rows.now c.args.the_set.lent.dirs.now c.args.the_set.lent.text.now c.in-Some.i c.in-Some-lead_mark.m (leads _ _ c.in-Some-lead_mark.is c.lead_mark.ensures.result_bound).1 in
+    let by-lead = text-led (set_of c.args.the_set) c.in-Some.i c.in-Some-lead_mark.m (leads _ _ c.in-Some-lead_mark.is c.lead_mark.ensures.result_bound).1 in
     record {
-      path-is = rw (c.loop-k.invariant.1, c.loop-k.invariant.2, c.new-front.ensures.end, by-number) at c.go_through-depth.ensures.result_after;
+      path-is = rw (c.loop-k.invariant.1, c.loop-k.invariant.2, c.new-front.ensures.end, by-lead) at c.go_through-depth.ensures.result_after;
       one_more = rw c.loop-k.invariant.1 at c.go_through-depth.ensures.upper_bound;
       leads-are = rw c.loop-k.invariant.0 at c.put_lead.ensures.marks_after;
       verdicts-kept = rw c.loop-k.invariant.0 at c.put_lead.ensures.marks_unchanged;

@@ -7,8 +7,8 @@ use Prim.Native.Nat.{◌+◌}
 use mathlib.Core.Path.{refl, ap, ◌∙◌}
 use Rattle.tables.specs.declared.storage.FileStorage.{FileStorage}
 use Rattle.listing.specs.declared.run.Stop.{Stop}
-use Rattle.listing.specs.private.Steps.{stopped_by, run_says}
-use Rattle.listing.proofs.Steps.{placed_after, run_ends, run-stops, run-goes, counted_is}
+use Rattle.listing.specs.private.Steps.{stopped_by, run_in}
+use Rattle.listing.proofs.Steps.{run_ends, run-stops, run-goes, counted_is}
 use Rattle.listing.proofs.run.add_lines.Goals as goal
 
 pub loop-at-init : goal.loop-at-init
@@ -16,18 +16,18 @@ loop-at-init c = record { after_line = c.requires.le_from.0; within = c.requires
 
 pub returns-in_default : goal.returns-in_default
 returns-in_default c =
-    let left = c.add_line-answer.new in
-    ap (λ (x : Result FileStorage Stop). run_says x left.rows left.roots left.dirs left.text)
+    ap (λ (x : Result FileStorage Stop). run_in x c.add_line-answer.new.to)
     (c.stopped_by.ensures ∙ ap (λ (a : Result FileStorage Refusal). stopped_by a (c.loop-at.line + 1)) c.in_default.is)
-    ∙ run-stops _ _ _ _ _ c.loop-at.invariant c.loop-at-test.true _ c.line_length-n.ensures _ c.part.ensures _ c.add_line-answer.ensures _ (ap outcome c.in_default.is)
+    ∙ run-stops _ _ _ _ _ c.loop-at.invariant c.loop-at-test.true _ c.line_length-n.ensures _ c.part.ensures _ c.add_line-answer.ensures.changed _ (ap outcome c.in_default.is)
 
 pub loop-at-preserved : goal.loop-at-preserved
 loop-at-preserved c =
-    let placed = placed_after _ _ _ _ c.loop-at.invariant.placed _ _ _ _ c.add_line-answer.auto.rows c.add_line-answer.auto.roots c.add_line-answer.auto.dirs c.add_line-answer.auto.text in
-    run-goes _ _ _ _ _ c.loop-at.invariant c.loop-at-test.true _ c.line_length-n.ensures _ c.part.ensures _ c.add_line-answer.ensures _ (ap outcome c.in-Ok.is) placed
+    let step = c.add_line-answer.ensures in
+    run-goes _ _ _ _ _ c.loop-at.invariant c.loop-at-test.true _ c.line_length-n.ensures _ c.part.ensures _ step.changed _ (ap outcome c.in-Ok.is) step.placed
 
 pub returns : goal.returns
 returns c =
-    ap (λ (x : Result FileStorage Stop). run_says x c.loop-at.rows c.loop-at.roots c.loop-at.dirs c.loop-at.text) c.counted_by.ensures
-    ∙ counted_is c.loop-at.set c.loop-at.rows c.loop-at.roots c.loop-at.dirs c.loop-at.text c.loop-at.line
-    ∙ run_ends _ _ _ _ _ c.loop-at.invariant c.loop-at-test.false
+    let l = c.loop-at in
+    ap (λ (x : Result FileStorage Stop). run_in x l.to) c.counted_by.ensures
+    ∙ counted_is l.set l.to l.line
+    ∙ run_ends _ _ _ _ _ l.invariant c.loop-at-test.false

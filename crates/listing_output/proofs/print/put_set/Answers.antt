@@ -11,9 +11,11 @@ pub returns : goal.returns
 returns c =
     let a = c.args in
     let lines = c.put_lines-at in
-    let room = cond_some (leb (length (lines_of a.fs a.rows.now a.dirs.now a.text.now)) (length a.out.now)) _ _ (sym c.room_left.ensures ∙ c.in_ok-left.ensures.ok_part) in
+    let end = rw c.new-set.ensures at lines.ensures.value in
+    let left = rw c.new-set.ensures at c.room_left.ensures in
+    let room = cond_some (leb (length (lines_of a.fs a.rows.now a.dirs.now a.text.now)) (length a.out.now)) _ _ (sym left ∙ c.in_ok-left.ensures.ok_part) in
     let whole = set-length a.fs a.rows.now a.dirs.now a.text.now in
     put-yes (printed (listed (shown a.fs a.rows.now a.dirs.now a.text.now))) a.out.now (lines.result + 46) c.put_columns.new.out
     (omega (arith, whole, room.1, leb-true _ _ room.0))
-    (omega (arith, lines.ensures.value, whole))
-    (c.put_columns.ensures ∙ rw lines.ensures.out_after (set-put a.fs a.rows.now a.dirs.now a.text.now a.out.now lines.result c.div_ceil-pieces.result lines.ensures.value c.div_ceil-pieces.ensures))
+    (omega (arith, end, whole))
+    (c.put_columns.ensures ∙ rw (lines.ensures.out_after, c.new-set.ensures) (set-put a.fs a.rows.now a.dirs.now a.text.now a.out.now lines.result c.count_pieces.result end c.count_pieces.ensures))

@@ -1,27 +1,18 @@
--- `lookup::space::count_links` meets its contract.
-use mathlib.Core.Path.{◌≡◌, refl, ap, ◌∙◌}
-use mathlib.Core.Bool.{Bool, cond}
+-- `lookup::space::count_links` meets its contract: the chain counts the files whose rows are those of flagged links.
+use mathlib.Core.Path.{◌∙◌}
 use mathlib.Core.List.{[]}
-use native.Mathlib.Omega.{arith}
-use Rattle.tables.specs.Model.{Store}
-use Rattle.lookup.specs.Space.{link_count}
-use Rattle.lookup.specs.Lookup.{lent}
-use Rattle.lookup.specs.private.Rows.{entry_at}
-use Rattle.lookup.proofs.Rows.{flagged-at, entries-start, one-or-none}
-use Rattle.lookup.proofs.Spaces.{count_turn, count-end}
+use native.Mathlib.Nat.{sub-zero}
+use Rattle.std.proofs.Common.{rules}
+use Rattle.std.proofs.lemmas.Iterator.{YieldsList-from_range}
+use Rattle.std.proofs.lemmas.Iterator.Consumers.{count_from_yields_List, YieldsList-from_filter}
+use Rattle.tables.specs.Rows.{row_at}
+use Rattle.lookup.specs.Lookup.{is_flagged, lent}
+use Rattle.lookup.proofs.Spaces.{count-filtered}
 use Rattle.lookup.proofs.space.count_links.Goals as goal
-
-pub loop-i-init : goal.loop-i-init
-loop-i-init c = (omega arith, omega (arith, ap link_count (entries-start (lent c.args.fs c.args.rows.now [] []) c.args.fs.num_files refl)))
-
-pub loop-i-preserved : goal.loop-i-preserved
-loop-i-preserved c =
-    let s : Store = lent c.args.fs c.args.rows.now [] [] in
-    let counted : c.link_count-n.result ≡ cond (entry_at s c.loop-i.i).flagged 1 0 = c.link_count-n.ensures ∙ ap (λ (b : Bool). cond b 1 0) (flagged-at s c.loop-i.i) in (
-      omega (arith, one-or-none (entry_at s c.loop-i.i).flagged c.link_count-n.result counted, c.loop-i.invariant.0),
-      omega (arith, counted, c.loop-i.invariant.1, count_turn s c.args.fs.num_files c.loop-i.i c.loop-i-test.true),
-    )
 
 pub returns : goal.returns
 returns c =
-    omega (arith, c.loop-i.invariant.1, count-end (lent c.args.fs c.args.rows.now [] []) c.args.fs.num_files c.loop-i.i c.loop-i-test.false)
+    let n = c.args.fs.num_files in
+    count_from_yields_List c.filter.result c.count.result c.count.ensures.ran
+    (YieldsList-from_filter _ (λ i. is_flagged (row_at c.args.rows.now i).flags) (YieldsList-from_range 0 n n c.filter.ensures.source (sub-zero n)) c.filter.ensures.closure (λ x b q k. search rules))
+    ∙ count-filtered (lent c.args.fs c.args.rows.now [] [])

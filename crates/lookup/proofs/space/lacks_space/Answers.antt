@@ -1,8 +1,10 @@
 -- `lookup::space::lacks_space` meets its contract: links are counted by the rows alone.
-use Prim.Native.Nat.{ℕ, ◌+◌, ◌-◌}
-use mathlib.Core.Path.{◌≡◌, refl, ap, ◌∙◌}
+use Prim.Native.Nat.{ℕ, ◌+◌, ◌-◌, ◌/◌, min}
+use mathlib.Core.Path.{◌≡◌, refl, ◌∙◌}
 use mathlib.Core.List.{List, []}
 use native.Mathlib.Omega.{arith}
+use borrow.Author.Tests.{lt-ltb}
+use Rattle.std.proofs.Common.{rules}
 use Rattle.tables.specs.declared.storage.FileStorage.{FileStorage}
 use Rattle.lookup.specs.Space.{space, link_count}
 use Rattle.lookup.specs.Lookup.{lent, files_in}
@@ -16,11 +18,14 @@ pub returns-then-marks-count_links : goal.returns-then-marks-count_links
 returns-then-marks-count_links c =
     let a = c.args in
     let k = counted a.fs a.rows.now a.dirs.now a.text.now c.count_links.result c.count_links.ensures in
-    lacks-marks (files_in a.fs a.rows.now a.dirs.now a.text.now) a.marks a.scratch a.walk_path (omega (arith, k, c.if-marks-count_links.true))
+    lt-ltb a.marks c.count_links.result c.if-marks-count_links.true
+    ∙ lacks-marks (files_in a.fs a.rows.now a.dirs.now a.text.now) a.marks a.scratch a.walk_path (omega (arith, k, c.if-marks-count_links.true))
 
-pub returns : goal.returns
-returns c =
+pub returns-else-marks-count_links : goal.returns-else-marks-count_links
+returns-else-marks-count_links c =
     let a = c.args in
     let k = counted a.fs a.rows.now a.dirs.now a.text.now c.count_links.result c.count_links.ensures in
     let files = files_in a.fs a.rows.now a.dirs.now a.text.now in
-    lacks-room files a.marks a.scratch a.walk_path (omega (arith, k, c.if-marks-count_links.false)) c.space_left.result (c.space_left.ensures ∙ ap (λ (j : ℕ). j + 1 - space files) c.min-room.ensures)
+    let room : c.space_left.result ≡ min a.scratch (a.walk_path / 2) + 1 - space files = c.space_left.ensures ∙ rw (c.new-set.ensures, c.min-room.ensures) in
+    let law = lacks-room files a.marks a.scratch a.walk_path (omega (arith, k, c.if-marks-count_links.false)) c.space_left.result room in
+    search (rules, law)

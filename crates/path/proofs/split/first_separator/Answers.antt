@@ -1,29 +1,22 @@
 -- `path::split::first_separator` meets its contract: the search passes what stands before the first separator.
-use Rattle.std.proofs.Common.{◌≡◌, ◌-◌, ℕ, List, length, take, drop, min, length-drop, ap, ◌∙◌, arith, rules, tests}
-use Rattle.std.specs.Option.{unwrap_or}
+use Rattle.std.proofs.Common.{◌≡◌, ◌+◌, ◌++◌, take, drop, rules, tests}
 use Rattle.std.proofs.lemmas.Iterator.{YieldsList-from_slice}
 use Rattle.std.proofs.lemmas.Iterator.Search.{position_from_yields_List}
-use lib.Seq.{take_all}
-use Rattle.path.specs.Split.{is_separator, before_first}
-use Rattle.path.proofs.Splits.{separator_found, first-found}
+use Rattle.std.proofs.lemmas.Iterator.Adapters.{YieldsList-from_skip}
+use Rattle.path.specs.Split.{is_separator, before_first, after_first}
+use Rattle.path.proofs.Splits.{first_place}
 use Rattle.path.proofs.split.first_separator.Goals as goal
-use Rattle.path.proofs.split.first_separator.Goals.{After-unwrap_or}
+use Rattle.path.proofs.split.first_separator.Goals.{After-map_or}
 
--- the search stops behind what stands before the first separator
-searched : (c : After-unwrap_or) → c.unwrap_or.result ≡ length (before_first (drop (min c.args.from (length c.args.path.now)) c.args.path.now))
-searched c =
-    let p = c.args.path.now in
-    let b = c.min-begin.result in
-    let m = c.min-begin.ensures in
-    let d = drop b p in
-    let n = length p - b in
-    let e : take n d ≡ d = take_all n d (omega (arith, length-drop b p)) in
-    let r = position_from_yields_List is_separator _ _ c.position.result c.position.ensures.ran (YieldsList-from_slice d (c.iter.ensures.rest ∙ e)) (λ x b q k. search (rules, tests)) in
-    c.unwrap_or.ensures ∙ ap (λ (l : List ℕ). unwrap_or c.position.result (length l)) e ∙ separator_found d c.position.result r
-    ∙ ap (λ (j : ℕ). length (before_first (drop j p))) m
+found : (c : After-map_or) → let p = c.args.path.now in let x = c.map_or.result in (take x p ≡ take c.args.from p ++ before_first (drop c.args.from p)) × (drop (x + 1) p ≡ after_first (drop c.args.from p))
+found c =
+    let a = c.args in
+    first_place a.path.now a.from c.map_or.result c.position.result (λ e. search (rules, tests)) (λ k e. search (rules, tests))
+    (position_from_yields_List is_separator _ _ c.position.result c.position.ensures.ran
+    (YieldsList-from_skip a.from (YieldsList-from_slice a.path.now cc) c.skip.ensures.count) (λ x b q k. search (rules, tests)))
 
 pub returns-clause-path_value : goal.returns-clause-path_value
-returns-clause-path_value c = rw c.min-begin.ensures (first-found c.args.path.now c.args.from c.unwrap_or.result (searched c)).0
+returns-clause-path_value c = (found c).0
 
 pub returns-clause-path_value_2 : goal.returns-clause-path_value_2
-returns-clause-path_value_2 c = rw c.min-begin.ensures (first-found c.args.path.now c.args.from c.unwrap_or.result (searched c)).1
+returns-clause-path_value_2 c = (found c).1

@@ -5,7 +5,7 @@ use Rattle.types.proofs.Refusals.{exit}
 use Rattle.tables.specs.declared.storage.FileStorage.{FileStorage}
 use Rattle.tables.specs.Model.{store_of}
 use Rattle.change.specs.Changes.{answering}
-use Rattle.storage.proofs.Added.{Planned, add-kept, add-few, add-within, add-pieces, add-written}
+use Rattle.storage.proofs.Added.{Planned, add-kept, add-few, add-written}
 use Rattle.storage.proofs.add.add_file.Goals as goal
 use Rattle.storage.proofs.add.add_file.Goals.{In_ok-plan}
 
@@ -21,19 +21,13 @@ returns-in_err-plan c =
     ∙ add-kept (store_of c.args.fs c.args.rows.now c.args.roots.now c.args.firsts.now c.args.dirs.now c.args.text.now)
     c.args.file c.args.filename.now c.args.path.now c.args.symlink_path.now c.in_err-plan.field-0.0 c.in_err-plan.ensures
 
-pub write_all-requires-clause-num_files_bound : goal.write_all-requires-clause-num_files_bound
-write_all-requires-clause-num_files_bound c = add-few (planned (goal.at.write_all-requires-clause-num_files_bound c).In_ok-plan)
+pub write_all-requires : goal.write_all-requires
+write_all-requires c = add-few (planned (goal.at.write_all-requires c).In_ok-plan)
 
-pub write_all-requires-clause-parts_within : goal.write_all-requires-clause-parts_within
-write_all-requires-clause-parts_within c = add-within (planned (goal.at.write_all-requires-clause-parts_within c).In_ok-plan)
-
-pub write_firsts-requires-clause-num_files_bound : goal.write_firsts-requires-clause-num_files_bound
-write_firsts-requires-clause-num_files_bound c = add-few (planned (goal.at.write_firsts-requires-clause-num_files_bound c).In_ok-plan)
-
-pub write_firsts-requires-clause-piece_length_value : goal.write_firsts-requires-clause-piece_length_value
-write_firsts-requires-clause-piece_length_value c = add-pieces (planned (goal.at.write_firsts-requires-clause-piece_length_value c).In_ok-plan)
+pub write_firsts-requires : goal.write_firsts-requires
+write_firsts-requires c = add-few (planned (goal.at.write_firsts-requires c).In_ok-plan)
 
 pub returns : goal.returns
 returns c =
-    rw (c.write_all.ensures.rows_after, c.write_all.ensures.roots_after, c.write_firsts.ensures, c.write_all.ensures.dirs_after, c.write_all.ensures.text_after)
+    rw (c.write_all.ensures.rows_after, c.write_all.ensures.roots_after, c.write_firsts.ensures, c.write_all.ensures.dirs_after, c.write_all.ensures.text_after, c.given_name.ensures)
     (add-written (planned (goal.at.returns c).In_ok-plan))

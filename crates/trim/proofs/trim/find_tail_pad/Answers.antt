@@ -1,26 +1,14 @@
--- `trim::trim::find_tail_pad` meets its contract.
-use mathlib.Core.Path.{ap, ◌∙◌}
-use native.Mathlib.Omega.{arith}
-use Prim.Native.Nat.{ℕ, ◌-◌, ◌<◌, ◌≤◌}
-use Rattle.tables.specs.Rows.{row_at, has}
-use Rattle.trim.proofs.Trims.{search-none, search-turn, search-stop}
+-- `trim::trim::find_tail_pad` meets its contract: the chain asks the rows from the last on.
+use Rattle.std.proofs.Common.{◌/◌, length, rules, tests}
+use Rattle.std.proofs.lemmas.Iterator.Search.{find_from_yields_List}
+use Rattle.trim.proofs.Trims.{YieldsList-from_back, has_bytes, last_found}
 use Rattle.trim.proofs.trim.find_tail_pad.Goals as goal
 
-pub returns-then-size_at-gt0 : goal.returns-then-size_at-gt0
-returns-then-size_at-gt0 c =
-    let l = c.loop-i in
-    let size = c.size_at.ensures in
-    let h : 0 < (row_at c.args.rows.now (l.i - 1)).size = omega arith in
-    c.then_some.ensures
-    ∙ search-stop c.args.rows.now l.i c.loop-i-test.true h c.is_pad.result (c.is_pad.ensures ∙ ap (λ (x : ℕ). has x 1) c.flags_at.ensures)
-    ∙ l.invariant
-
-pub loop-i-preserved : goal.loop-i-preserved
-loop-i-preserved c =
-    let l = c.loop-i in
-    let size = c.size_at.ensures in
-    let h : (row_at c.args.rows.now (l.i - 1)).size ≤ 0 = omega arith in
-    search-turn c.args.rows.now l.i c.loop-i-test.true h ∙ l.invariant
-
 pub returns : goal.returns
-returns c = search-none c.args.rows.now c.loop-i.i c.loop-i-test.false ∙ c.loop-i.invariant
+returns c =
+    let rows = c.args.rows.now in
+    let n = length rows / 8 in
+    last_found rows n c.rfind.result
+    (find_from_yields_List (has_bytes rows) _ _ c.rfind.result c.rfind.ensures.ran (YieldsList-from_back n) (λ x b q h. search (rules, tests)))
+    (λ e. search rules)
+    (λ i e. search rules)

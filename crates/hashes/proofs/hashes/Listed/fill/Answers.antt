@@ -18,9 +18,8 @@ window-end at places all size h e k = (omega arith, omega arith, omega arith, om
 window : (c : After-fill_window-n) → let at = c.loop-at.at in let end = at + c.min.result in let all = length c.args.out.now in
     (at < end) × (end ≤ all) × (min (at + 8192) all ≡ end) × Filling (due c.args.self) c.args.out.now at c.loop-at.bound c.loop-at.out
 window c =
-    let l = c.loop-at in
-    let w = window-end l.at (length l.out) (length c.args.out.now) c.min.result c.loop-at-test.true l.invariant.0 (search rules) in
-    (w.0, w.1, w.2, rw w.3 at l.invariant.1)
+    let w = window-end c.loop-at.at (length c.loop-at.out) (length c.args.out.now) c.min.result c.loop-at-test.true c.loop-at.invariant.0 (search rules) in
+    (w.0, w.1, w.2, rw w.3 at c.loop-at.invariant.1)
 
 next : (c : After-fill_window-n) → let end = c.loop-at.at + c.min.result in let after = c.fill_window-n.new.out in end - c.loop-at.at ≤ c.fill_window-n.result
     → (b : ℕ) → b ≡ get_or after (end - 1) 0 + 1 → Filling (due c.args.self) c.args.out.now end b after
@@ -44,6 +43,5 @@ returns-else-n-end c =
 
 pub returns : goal.returns
 returns c =
-    let l = c.loop-at in
-    let e : min l.at (length c.args.out.now) ≡ length l.out = omega (arith, l.invariant.0, c.loop-at-test.false) in
-    rw (← e) (filled-all _ _ _ _ _ l.invariant.1 (omega (arith, l.invariant.0, c.loop-at-test.false)))
+    let e : min c.loop-at.at (length c.args.out.now) ≡ length c.loop-at.out = omega (arith, c.loop-at.invariant.0, c.loop-at-test.false) in
+    rw (← e) (filled-all _ _ _ _ _ c.loop-at.invariant.1 (omega (arith, c.loop-at.invariant.0, c.loop-at-test.false)))

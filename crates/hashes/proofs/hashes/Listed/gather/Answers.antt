@@ -23,9 +23,9 @@ loop-i-preserved c =
     let g : ℕ → List ℕ = λ i. text_at s.text.now (dir_at s.dirs.now i) in
     let e : t.result.now ≡ g l.i = t.ensures ∙ ap (λ (x : Span). text_at s.text.now x) c.dir_at-place.ensures in
     let hs = hashes_after s.state t.result.now in (
-      c.keep_dir-kept.auto.table ∙ l.invariant.0,
+      c.keep_dir-held.auto.table ∙ l.invariant.0,
       gone-on c.args.bound hs (joined_lists (map (hashes_after s.state) (drop (l.i + 1) (listed_dirs s)))) l.invariant.1
-          (dirs-turn (hashes_after s.state) (length s.dirs.now / 2) g l.i hs c.loop-i-test.true (ap (hashes_after s.state) e)) c.keep_dir-kept.ensures.0,
+          (dirs-turn (hashes_after s.state) (length s.dirs.now / 2) g l.i hs c.loop-i-test.true (ap (hashes_after s.state) e)) c.keep_dir-held.ensures,
     )
 
 pub returns : goal.returns
@@ -34,7 +34,7 @@ returns c =
     let a = c.args in
     let s = a.self in
     let g = rw (dirs-end (hashes_after s.state) (length s.dirs.now / 2) (λ i. text_at s.text.now (dir_at s.dirs.now i)) l.i c.loop-i-test.false) at l.invariant.1 in
-    let r = arrived a.bound l.kept.held g in
+    let r = arrived a.bound l.held g in
     record {
       stored = r.0 ∙ ap (sets a.table.now 0) (gathered-is a.bound (due s));
       count = r.1 ∙ ap (λ (xs : List ℕ). min (length a.table.now) (length xs)) (gathered-is a.bound (due s));

@@ -14,5 +14,5 @@ use Rattle.hashes.proofs.hashes.Listed.gather.Given as goal
 abbrev pub invariant-loop-i : goal.invariant-loop-i
 invariant-loop-i l =
     (length l.table ≡ length l.initial.table)
-    × Going l.bound (joined_lists (map (hashes_after l.self.state) (drop l.i (listed_dirs l.self)))) l.kept.held l.table
+    × Going l.bound (joined_lists (map (hashes_after l.self.state) (drop l.i (listed_dirs l.self)))) l.held l.table
     (sets l.initial.table 0 (gathered l.bound (due l.self) [])) (min (length l.initial.table) (length (gathered l.bound (due l.self) [])))

@@ -1,17 +1,19 @@
--- `plan::dirs::Stored::find` meets its contract.
-use Rattle.std.proofs.Common.{length, sym, ◌∙◌, true≢false, arith, rules, eq-eqb}
-use Rattle.plan.proofs.Directories.{empty-last, table-alone}
+-- `plan::dirs::Stored::find` meets its contract: there is no row, the last one has the text, or those before it are searched.
+use Rattle.std.proofs.Common.{sym, ◌∙◌, arith}
+use Rattle.plan.proofs.Directories.{none-stored, last-found, last-missed}
 use Rattle.plan.proofs.dirs.Stored.find.Goals as goal
-use Rattle.plan.proofs.dirs.Stored.find.Goals.{else-m-self-via-then-m-self+else-is_empty, else-m-self-via-else-m-self}
 
-pub returns-then-is_empty-clause-value : goal.returns-then-is_empty-clause-value
-returns-then-is_empty-clause-value c =
-    let a = c.args in
-    empty-last a.self.now.dirs.now a.self.now.text.now a.dir.now a.self.now.count (omega arith) (search rules)
+pub returns-then-self-eq0-clause-value : goal.returns-then-self-eq0-clause-value
+returns-then-self-eq0-clause-value c =
+    none-stored c.args.self.now.dirs.now c.args.self.now.text.now c.args.dir.now c.args.self.now.count (omega arith)
+
+pub returns-then-is_text-clause-value : goal.returns-then-is_text-clause-value
+returns-then-is_text-clause-value c =
+    last-found c.args.self.now.dirs.now c.args.self.now.text.now c.args.dir.now c.args.self.now.count (omega arith)
+    (sym c.if-is_text.true ∙ c.is_text.ensures ∙ rw c.dir_at.ensures)
 
 pub returns-clause-value : goal.returns-clause-value
 returns-clause-value c =
-    let a = c.args in
-    c.find_among.ensures.value a.self.now.count
-    ∙ table-alone a.self.now.dirs.now a.self.now.text.now a.dir.now a.self.now.count c.min-m.result c.min-m.ensures
-    (λ h e. elim c.else-m-self.branch [ else-m-self-via-then-m-self+else-is_empty w ↦ true≢false (sym (eq-eqb (length a.dir.now) 0 e) ∙ sym w.is_empty.ensures ∙ w.if-is_empty.false) | else-m-self-via-else-m-self w ↦ omega arith ])
+    c.find_among.ensures.value c.args.self.now.count
+    ∙ last-missed c.args.self.now.dirs.now c.args.self.now.text.now c.args.dir.now c.args.self.now.count (omega arith) c.min.result c.min.ensures
+    (sym (sym c.if-is_text.false ∙ c.is_text.ensures ∙ rw c.dir_at.ensures))

@@ -1,2 +1,0 @@
--- Definitions that only private functions cite: the slices still to come, as records.
-pub mod Records
