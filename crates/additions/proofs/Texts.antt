@@ -8,7 +8,7 @@ use mathlib.Core.List.{List, [], ◌∷◌, ◌++◌, append_assoc}
 use native.Mathlib.Omega.{arith}
 use lib.Dec.{eqb}
 use lib.ListN.{length, take, drop, length-append, length-drop, drop_of_length-le, take-append-drop}
-use lib.Seq.{take-length, take-append_seam, take-append-le, drop-append_seam}
+use lib.Seq.{take-length, take-append_seam, drop-append_seam}
 use Rattle.std.specs.List.{prefix_len}
 use Rattle.std.proofs.lemmas.List.Sums.{prefix_len-le-length}
 use Rattle.lists.specs.Lists.{any, equal, part_of}
@@ -17,30 +17,15 @@ use Rattle.path.specs.Join.{is_empty}
 use Rattle.path.proofs.Splits.{last-parts, leaf-all, branch-none, first-parts, first-all, rest-none}
 use Rattle.path.proofs.Ends.{trimmed-rest}
 use Rattle.tables.specs.declared.span.Span.{Span}
-use Rattle.tables.specs.Span.{text_at}
+use Rattle.tables.specs.Span.{text_at, leaf_span}
 use Rattle.additions.specs.declared.parts.PathKind.{PathKind}
 use Rattle.additions.specs.declared.parts.PathKind.TheVariants.{Single, Absolute, Inside, Outside}
 use Rattle.additions.specs.declared.parts.Place.{Place}
 use Rattle.additions.specs.declared.parts.PathParts.{PathParts}
 use Rattle.additions.specs.Addition.{set_name_of, name_after, without_leading, path_name, stored_name, limited_name, bad_name}
 use Rattle.additions.specs.private.Texts.{name_from, set_text_of, text_under, absolute_kind, PartsWithin, place_for}
-use Rattle.additions.specs.Parts.{kind_for, no_span, whole_span, leaf_span, first_span, set_name_span, name_span, directory_span, parts_of}
+use Rattle.additions.specs.Parts.{kind_for, no_span, whole_span, first_span, set_name_span, name_span, directory_span, parts_of}
 use Rattle.additions.specs.private.Checks.{limited_length, bad_beside}
-
--- a path's branch lies before its leaf and the separator between them, one at the end dropped
-branch-at : (q : List ℕ) → take (length q - (length (after_last q) + 1)) q ≡ before_last q
-branch-at q = at (any is_separator q) refl
-  where
-    at : (t : Bool) → any is_separator q ≡ t → take (length q - (length (after_last q) + 1)) q ≡ before_last q
-    at true e =
-        let l : length q ≡ length (before_last q) + suc (length (after_last q)) = ap length (last-parts q e) ∙ length-append (before_last q) (47 ∷ after_last q) in
-        let n : length q - (length (after_last q) + 1) ≡ length (before_last q) = omega arith in
-        ap (λ (k : ℕ). take k q) n
-        ∙ ap (take (length (before_last q))) (last-parts q e)
-        ∙ take-append_seam (before_last q) (47 ∷ after_last q)
-    at false e =
-        let n : length q - (length (after_last q) + 1) ≡ 0 = omega (arith, ap length (leaf-all q e)) in
-        rw (n, branch-none q e)
 
 -- what a span at the end of a part reads. A list ends in x:
 abbrev pub Ends : List ℕ → List ℕ → Type 0
@@ -66,17 +51,6 @@ leaf-ends q = at (any is_separator q) refl
     at : (t : Bool) → any is_separator q ≡ t → Ends (after_last q) q
     at true e = (before_last q ++ (47 ∷ []), last-parts q e ∙ sym (append_assoc (before_last q) (47 ∷ []) (after_last q)))
     at false e = ([], sym (leaf-all q e))
-
-pub branch-is : (p : List ℕ) (s : Span) → s ≡ leaf_span p → take (s.at - 1) p ≡ rsplit_branch p
-branch-is p s e =
-    let q = trimmed is_separator p in
-    let w = trimmed-rest is_separator p in
-    let n : length q - length (after_last q) - 1 ≡ length q - (length (after_last q) + 1) = omega arith in
-    ap (λ (x : Span). take (x.at - 1) p) e
-    ∙ ap (λ (k : ℕ). take k p) n
-    ∙ ap (take (length q - (length (after_last q) + 1))) w.1
-    ∙ take-append-le (length q - (length (after_last q) + 1)) q w.0 (omega arith)
-    ∙ branch-at q
 
 -- the name that a path gives its file
 pub name-read : (path : List ℕ) → text_at path (name_span path) ≡ path_name path

@@ -2,10 +2,10 @@
 -- shows it.
 use Rattle.std.specs.Prelude.{ℕ, ◌-◌, Bool, cond, List, eqb, length}
 use Rattle.lists.specs.Lists.{equal}
-use Rattle.path.specs.Split.{is_separator, trimmed, has_parent_path, is_complete}
-use Rattle.path.specs.Split.{rsplit_branch, rsplit_leaf, lsplit_first, lsplit_rest}
+use Rattle.path.specs.Split.{has_parent_path, is_complete, rsplit_branch, lsplit_first, lsplit_rest}
 use Rattle.path.specs.Join.{is_empty}
 use Rattle.tables.specs.declared.span.Span.{Span}
+use Rattle.tables.specs.Span.{leaf_span}
 use Rattle.additions.specs.declared.parts.PathKind.{PathKind}
 use Rattle.additions.specs.declared.parts.PathKind.TheVariants.{Single, Absolute, Inside, Outside}
 use Rattle.additions.specs.declared.parts.PathParts.{PathParts}
@@ -23,11 +23,6 @@ no_span = record { at = 0; len = 0 }
 
 abbrev pub whole_span : List ℕ → Span
 whole_span path = record { at = 0; len = length path }
-
--- the leaf ends where the path does once a separator at its end is dropped
-abbrev pub leaf_span : List ℕ → Span
-leaf_span path =
-    record { at = length (trimmed is_separator path) - length (rsplit_leaf path); len = length (rsplit_leaf path) }
 
 -- the first part, a leading separator skipped
 abbrev pub first_span : List ℕ → Span

@@ -10,6 +10,7 @@ ghost use Rattle.additions.specs.Addition.{version_by, pad_after, size_rules, ve
 ghost use Rattle.additions.specs.private.Checks.{limited_length, bad_beside};
 ghost use Rattle.additions.specs.private.Checks.{names_of, pad_if, sizes_for, number_rules};
 
+use crate::info::Given;
 use crate::parts::{PathParts, is_absolute};
 use rules::MAX_FILE_OFFSET;
 use tables::FileStorage;
@@ -20,7 +21,7 @@ const NAME_LIMIT: usize = 4096;
 
 // The size of an addition, whether the set is v2 after it, and the size of the pad that follows it, where one does: in
 // a v2 set whose total is no multiple of the piece length; where the file ends, and the set's total after it.
-// Stays: `v2` is a fact of the set, and no field is there or missing by it.
+// Stays: `v2` is a fact of the set; `pad` may be missing in a v2 set too, and says so itself.
 #[derive(Clone, Copy)]
 pub struct Sizes {
     pub size: u64,
@@ -95,7 +96,7 @@ fn is_open(total: u64, links: usize, files: usize) -> bool
 
 // What decides between v1 and v2: what the set is before an addition, whether the file fixes it or must agree, whether
 // the set may still become either, and whether the file has a root.
-// Stays: the four are tests on one addition; none of them guards another.
+// Stays: two are facts of the set, two of the file; none guards another.
 #[derive(Clone, Copy)]
 struct Version {
     v2: bool,
@@ -148,20 +149,19 @@ fn pad_after(v2: bool, piece_length: u64, total: u64) -> Option<u64>
 pub fn decide_sizes(
     fs: FileStorage,
     size: i64,
-    given: Option<&[u8]>,
     rooted: bool,
-    parts: PathParts,
-    link: &[u8],
+    given: Given<'_>,
 ) -> Result<Sizes, Refusal>
     ensures { outcome result
-        ≡ outcome_of (first_of (number_rules fs (option_copied given.entry) parts size link.now rooted))
-        (sizes_for fs size link.now rooted) }
+        ≡ outcome_of (first_of
+        (number_rules fs (option_copied given.entry.name) given.entry.parts size given.entry.link.now rooted))
+        (sizes_for fs size given.entry.link.now rooted) }
 {
     let size = check_size(fs.piece_length, fs.total_size, size)?;
-    check_names(fs.num_files, given, parts)?;
+    check_names(fs.num_files, given.name, given.parts)?;
     let version = Version {
         v2: fs.v2,
-        plain: is_plain(size, link),
+        plain: is_plain(size, given.link),
         free: is_open(fs.total_size, fs.num_symlinks, fs.num_files),
         root: rooted,
     };

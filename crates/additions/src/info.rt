@@ -1,5 +1,7 @@
-// A file to add, and what is kept of it: its name and its link text. Relies on the presence of `tables`.
+// A file to add, and the texts that are kept of it: those of its path, its name and its link text. Relies on the
+// presence and the spans of `tables`, and on the parts of a path.
 ghost use Rattle.std.specs.Prelude.{◌≡◌, option_copied};
+ghost use Rattle.tables.specs.Span.{text_at};
 ghost use Rattle.additions.specs.Addition.{optional_of, link_is_kept};
 ghost use Rattle.additions.specs.private.Texts.{name_from, link_text_of};
 
@@ -12,7 +14,7 @@ const MAX_LINKS: usize = 32766;
 // A file to add, besides its texts: whether a name is given, its size, flags and modified time, and its root, if it is
 // there.
 // Stays: document 01 puts an enum of presence in the place of `Option`, with the value beside it: the root's bytes
-// here, and the given name among the texts. `given_name` makes an `Option` of the name once, for the calls inside.
+// here, and the given name among the texts. `given_name` makes an `Option` of the name in `plan` and in `storage`.
 #[derive(Clone, Copy)]
 pub struct FileInfo {
     pub given: Presence,
@@ -32,6 +34,44 @@ pub struct Given<'a> {
     pub parts: PathParts,
 }
 
+impl<'a> Given<'a> {
+    // The name that the path gives the set; no bytes where it gives none.
+    pub fn set_name(self) -> &'a [u8]
+        ensures { result.now ≡ text_at self.entry.path.now self.entry.parts.set_name }
+    {
+        tables::text_at(self.path, self.parts.set_name)
+    }
+
+    // The text of the file's directory.
+    pub fn directory(self) -> &'a [u8]
+        ensures { result.now ≡ text_at self.entry.path.now self.entry.parts.directory }
+    {
+        tables::text_at(self.path, self.parts.directory)
+    }
+
+    // The name that is stored: the given one where it has bytes, else that of the path.
+    pub fn stored_name(self) -> &'a [u8]
+        ensures { result.now
+            ≡ name_from (option_copied self.entry.name) (text_at self.entry.path.now self.entry.parts.name) }
+    {
+        let own = tables::text_at(self.path, self.parts.name);
+        match self.name {
+            Some(name) if !name.is_empty() => name,
+            _ => own,
+        }
+    }
+
+    // The link text where a set of `links` link texts keeps it, no bytes where not.
+    pub fn link_text(self, links: usize) -> &'a [u8]
+        ensures { result.now ≡ link_text_of links self.entry.link.now }
+    {
+        if keeps_link(links, self.link) {
+            return self.link;
+        }
+        &self.link[..0]
+    }
+}
+
 // The name that is given, if one is.
 pub fn given_name(given: Presence, filename: &[u8]) -> Option<&[u8]>
     ensures { option_copied result ≡ optional_of given filename.now }
@@ -39,29 +79,9 @@ pub fn given_name(given: Presence, filename: &[u8]) -> Option<&[u8]>
     bool::from(given).then_some(filename)
 }
 
-// The name that is stored: the given one where it has bytes, else `own`, that of the path.
-pub fn stored_name<'a>(given: Option<&'a [u8]>, own: &'a [u8]) -> &'a [u8]
-    ensures { result.now ≡ name_from (option_copied given.entry) own.now }
-{
-    match given {
-        Some(name) if !name.is_empty() => name,
-        _ => own,
-    }
-}
-
 // Whether an addition keeps its link text: it has one, and a set of `links` link texts may hold one more.
 pub fn keeps_link(links: usize, link: &[u8]) -> bool
     ensures { result ≡ link_is_kept links link.now }
 {
     !link.is_empty() && links < MAX_LINKS
-}
-
-// The link text where it is kept, no bytes where not.
-pub fn link_text(links: usize, link: &[u8]) -> &[u8]
-    ensures { result.now ≡ link_text_of links link.now }
-{
-    if keeps_link(links, link) {
-        return link;
-    }
-    &link[..0]
 }

@@ -8,5 +8,5 @@ mod info;
 mod parts;
 
 pub use checks::{Sizes, decide_sizes};
-pub use info::{FileInfo, Given, given_name, keeps_link, link_text, stored_name};
+pub use info::{FileInfo, Given, given_name, keeps_link};
 pub use parts::{PathKind, PathParts, is_outside, parts_of};

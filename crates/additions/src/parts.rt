@@ -3,8 +3,7 @@ ghost use Rattle.std.specs.Prelude.{◌≡◌, false, cond, ◌+◌, ◌≤◌, 
 ghost use Rattle.path.specs.Split.{rsplit_branch, rsplit_leaf, lsplit_first, is_complete, has_parent_path};
 ghost use Rattle.tables.specs.Span.{text_at};
 ghost use Rattle.additions.specs.declared.parts.PathKind.TheVariants.{Inside};
-ghost use Rattle.additions.specs.Parts.{whole_span, leaf_span, first_span};
-ghost use Rattle.additions.specs.Parts.{set_name_span, directory_span, parts_of};
+ghost use Rattle.additions.specs.Parts.{whole_span, first_span, set_name_span, directory_span, parts_of};
 ghost use Rattle.additions.specs.private.Texts.{outside_kind, absolute_kind, place_for};
 
 use tables::{FileStorage, Span};
@@ -37,6 +36,8 @@ pub struct PathParts {
     // The name that it gives its file: the leaf, or all of an absolute path.
     pub name: Span,
     // The name that it gives a set without files; no bytes where the set has files.
+    // Stays: the plan takes the length of this text and the writer its bytes, without a test whether there are any; an
+    // `Option<Span>` would be tested by both.
     pub set_name: Span,
     // The text of its directory; no bytes where it has none.
     pub directory: Span,
@@ -55,26 +56,6 @@ fn whole_span(text: &[u8]) -> Span
     }
 }
 
-// The span of a path's last part.
-fn leaf_span(path: &[u8]) -> Span
-    ensures { result ≡ leaf_span path.now }
-{
-    let end = path::trimmed_length(path);
-    let leaf = path::rsplit_path_leaf(path);
-    Span {
-        at: end.saturating_sub(leaf.len()),
-        len: leaf.len(),
-    }
-}
-
-// What stands before the separator before a path's leaf, without a second scan.
-fn branch_before(path: &[u8], leaf: Span) -> &[u8]
-    requires { leaf ≡ leaf_span path.now }
-    ensures { result.now ≡ rsplit_branch path.now }
-{
-    lists::part(path, 0, leaf.at.saturating_sub(1))
-}
-
 // Whether a path has a part above its leaf, whose length is known. A path longer than its leaf and one separator has
 // one, without a scan.
 fn is_below(path: &[u8], leaf: usize) -> bool
@@ -90,7 +71,7 @@ fn first_span(path: &[u8]) -> Span
 {
     Span {
         at: usize::from(path::is_complete(path)),
-        len: path::lsplit_path_first(path).len(),
+        len: path::lsplit_path(path).0.len(),
     }
 }
 
@@ -148,7 +129,7 @@ fn place_of(path: &[u8], branch: &[u8], set_name: &[u8]) -> Place
             directory: Span::empty(),
         };
     }
-    let first = path::lsplit_path_first(branch);
+    let (first, _) = path::lsplit_path(branch);
     if lists::same(first, set_name) {
         return Place {
             kind: PathKind::Inside,
@@ -165,8 +146,7 @@ fn place_of(path: &[u8], branch: &[u8], set_name: &[u8]) -> Place
 pub fn parts_of(fs: FileStorage, text: &[u8], path: &[u8]) -> PathParts
     ensures { result ≡ parts_of fs.num_files (text_at text.now fs.name) path.now }
 {
-    let leaf = leaf_span(path);
-    let branch = branch_before(path, leaf);
+    let (branch, leaf) = tables::split_leaf(path);
     let has_parent = is_below(path, leaf.len);
     let set_name = set_name_span(fs.num_files, has_parent, path);
     let called = if fs.num_files == 0 {

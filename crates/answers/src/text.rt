@@ -9,12 +9,11 @@ ghost use Rattle.rules.specs.Composed.{composed_if};
 ghost use Rattle.answers.specs.Answers.{internal_path, symlink_path};
 ghost use Rattle.answers.specs.Given.{file_name_given, internal_symlink_given, symlink_given, internal_file_path_given};
 
-use rules::{file_in, holds_dirs, holds_rows, holds_text};
-use tables::{FileStorage, Lent, Row, Span};
+use rules::{file_in, holds_rows, holds_text};
+use tables::{FileStorage, Lent, LentSet, Row, Span};
 use types::{FileIndex, Refusal};
 
 // Whether a table of rows and a text area are long enough for the set.
-// Stays: `names` has such a test of directories and text; one function for both would be passed what is compared.
 fn are_held(fs: FileStorage, rows: &[u64], text: &[u8]) -> bool
     ensures { result ≡ (rows_are_held fs rows.now && text_held fs text.now) }
 {
@@ -31,7 +30,8 @@ fn is_unlinked(rows: &[u64], k: usize) -> bool
 // The number of the file whose link text a question is about, or its refusal; `held` says whether the lent tables are
 // long enough.
 // Stays: it is no call of `file_in`: whether the file is a link is tested between that function's two last tests, since
-// a file that is none is refused before tables that are too short.
+// a file that is none is refused before tables that are too short. As a field of `rules::Tests` it would
+// stand in the clauses of `of_set`, `of_piece` and `of_file`, for this one question.
 // Stays: a record of all tables would ask for those that a question doesn't read (docs/DECISIONS.md), here and below.
 fn link_in(fs: FileStorage, rows: &[u64], index: FileIndex, held: bool) -> Result<usize, Refusal>
     ensures { outcome result
@@ -138,7 +138,7 @@ pub fn internal_file_path(
         ≡ internal_file_path_given fs rows.now dirs.now text.now index.0
         buf.old }
 {
-    let held = are_held(fs, rows, text) && holds_dirs(fs, dirs);
-    let k = file_in(fs, index, held)?;
-    put_internal(Lent { rows, dirs, text }, k, buf)
+    let set = LentSet::new(fs, rows, dirs, text);
+    let k = file_in(fs, index, rules::holds_set(set))?;
+    put_internal(set.lent, k, buf)
 }

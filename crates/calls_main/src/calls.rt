@@ -33,8 +33,12 @@ pub(crate) fn answer(
         return Ok(made);
     }
     if let Some(set) = all.current() {
-        let call = Call { line: content, set };
-        if let Some(made) = changes::make(call, &mut tables[all.at.number]) {
+        let call = Call {
+            line: content,
+            set,
+            tables: &mut tables[all.at.number],
+        };
+        if let Some(made) = changes::make(call) {
             return Ok(made);
         }
     }

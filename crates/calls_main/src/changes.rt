@@ -2,31 +2,31 @@
 // whole, and the functions that call the library lend it the set's places of them. Relies on `storage` and `trim`, on
 // addition.rt for the words of an addition, and on cleanings.rt, renaming.rt and importing.rt.
 use crate::input::ROOM;
-use crate::places::{Tables, first_mut};
+use crate::places::first_mut;
 use crate::sets::{Call, Made, Set};
 use crate::{addition, cleanings, importing, renaming};
 
 // Makes the change of a set that a line says, if it says one.
-pub(crate) fn make(call: Call<'_>, tables: &mut Tables) -> Option<Made> {
+pub(crate) fn make(call: Call<'_>) -> Option<Made> {
     let line = call.line;
     if script::has_form(line, b"add NAME PATH SIZE FLAGS MTIME LINK ROOT") {
-        add(call, tables)
+        add(call)
     } else if script::has_form(line, b"trim") {
-        Some(trim(call.set, tables))
+        Some(trim(call))
     } else if script::has_form(line, b"clean") {
-        Some(cleanings::clean(call.set, tables))
+        Some(cleanings::clean(call))
     } else if script::has_form(line, b"rename I :NEW") {
-        renaming::rename(call, tables)
+        renaming::rename(call)
     } else if script::has_form(line, b"import I :N ..") {
-        importing::import(call, tables)
+        importing::import(call)
     } else {
         None
     }
 }
 
 // `add NAME PATH SIZE FLAGS MTIME LINK ROOT`.
-fn add(call: Call<'_>, tables: &mut Tables) -> Option<Made> {
-    let Call { line, set } = call;
+fn add(call: Call<'_>) -> Option<Made> {
+    let Call { line, set, tables } = call;
     let mut texts = [0u8; ROOM];
     let words = addition::read(line, &mut texts)?;
     let counts = set.counts;
@@ -46,7 +46,8 @@ fn add(call: Call<'_>, tables: &mut Tables) -> Option<Made> {
 }
 
 // `trim`.
-fn trim(set: Set, tables: &mut Tables) -> Made {
+fn trim(call: Call<'_>) -> Made {
+    let Call { set, tables, .. } = call;
     let counts = set.counts;
     let res = trim::remove_tail_padding(
         set.fs,

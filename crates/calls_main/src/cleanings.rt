@@ -1,10 +1,10 @@
 // `clean`: the set's places of the tables and a work space of the program's own are lent to the library. Relies on
-// `cleaning`. A small work space serves most sets; the large one is filled only where that is too short. The work space
-// is lent full of one byte: a refusal must leave it so, and a cleaning must clear it.
+// `cleaning`. A small work space serves most sets; the large one is filled only where a cleaning in the small one is
+// refused. The work space is lent full of one byte: a refusal must leave it so, and a cleaning must clear it.
 ghost use Rattle.std.specs.Prelude.{◌<◌};
 
-use crate::places::{Tables, first, first_mut};
-use crate::sets::{Made, Set};
+use crate::places::{Tables, first_mut};
+use crate::sets::{Call, Made, Set};
 
 // The byte that the work space is lent full of.
 const FILL: u8 = 7;
@@ -14,7 +14,8 @@ const FILL: u8 = 7;
 pub(crate) const LARGE_STAGE: usize = 1311232;
 
 // `clean`.
-pub(crate) fn clean(set: Set, tables: &mut Tables) -> Made {
+pub(crate) fn clean(call: Call<'_>) -> Made {
+    let Call { set, tables, .. } = call;
     let made = clean_in::<2048, 4096>(set, tables);
     match made {
         Made::Refused(_) => clean_in::<LARGE_STAGE, 2622464>(set, tables),
@@ -46,9 +47,9 @@ fn clean_in<const STAGE: usize, const PATH: usize>(set: Set, tables: &mut Tables
         Ok(_) => 0,
         Err(_) => FILL,
     };
-    if !all_are(first(&marks, work.marks), byte)
-        || !all_are(first(&stage, work.sum), byte)
-        || !all_are(first(&path, twice), byte)
+    if !all_are(lists::part(&marks, 0, work.marks), byte)
+        || !all_are(lists::part(&stage, 0, work.sum), byte)
+        || !all_are(lists::part(&path, 0, twice), byte)
     {
         return Made::Spoilt;
     }

@@ -1,6 +1,6 @@
 // `compat A B`, the question on two sets: both are lent their places of the tables. Relies on `compatible`,
 // `script` and `replies`, and on the module for sets.
-use crate::places::{Tables, first};
+use crate::places::Tables;
 use crate::sets::{Place, Set, Sets};
 use std::io;
 use std::io::Stdout;
@@ -12,8 +12,7 @@ struct Held<'a> {
     tables: &'a Tables,
 }
 
-// Answers whether the sets that a line names are compatible, and says whether it asks that. A set that was never opened
-// is none.
+// Answers whether the sets that a line names are compatible, if it asks that. A set that was never opened is none.
 // Stays: the four come from `asking::answer` alone, which uses each of them too; a record would be made before that
 // call and taken apart in both. `calls::answer` has the tables to be changed, so it can't take the same record.
 pub(crate) fn answer(
@@ -21,15 +20,13 @@ pub(crate) fn answer(
     line: &[u8],
     all: Sets,
     tables: &[Tables; 4],
-) -> io::Result<bool> {
+) -> Option<io::Result<()>> {
     if !script::has_form(line, b"compat A B") {
-        return Ok(false);
+        return None;
     }
-    match (held_in(line, 1, all, tables), held_in(line, 2, all, tables)) {
-        (Some(a), Some(b)) => of_sets(out, a, b)?,
-        _ => replies::bad_call(out)?,
-    }
-    Ok(true)
+    let a = held_in(line, 1, all, tables)?;
+    let b = held_in(line, 2, all, tables)?;
+    Some(of_sets(out, a, b))
 }
 
 // The set that a word of the line names.
@@ -50,13 +47,13 @@ fn of_sets(out: Stdout, a: Held<'_>, b: Held<'_>) -> io::Result<()> {
         out,
         compatible::files_compatible(
             a.set.fs,
-            first(&a.tables.rows, m.rows),
-            first(&a.tables.dirs, m.dirs),
-            first(&a.tables.text, m.text),
+            lists::part(&a.tables.rows, 0, m.rows),
+            lists::part(&a.tables.dirs, 0, m.dirs),
+            lists::part(&a.tables.text, 0, m.text),
             b.set.fs,
-            first(&b.tables.rows, n.rows),
-            first(&b.tables.dirs, n.dirs),
-            first(&b.tables.text, n.text),
+            lists::part(&b.tables.rows, 0, n.rows),
+            lists::part(&b.tables.dirs, 0, n.dirs),
+            lists::part(&b.tables.text, 0, n.text),
         ),
     )
 }

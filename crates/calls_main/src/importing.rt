@@ -1,15 +1,15 @@
 // `import I :N I :N …`: the pairs of the line are read into columns, which are lent to the library with the
 // set's places of the tables of renames. Relies on `imports` and `script`, and on the module for sets.
 use crate::input::{Buffer, ROOM};
-use crate::places::{Tables, first_mut};
+use crate::places::first_mut;
 use crate::sets::{Call, Made, Set};
 
 // The most pairs that a line has.
 const MAX_PAIRS: usize = 16384;
 
 // Imports names for files of a set; the names stand in a buffer, one after the other.
-pub(crate) fn import(call: Call<'_>, tables: &mut Tables) -> Option<Made> {
-    let Call { line, set } = call;
+pub(crate) fn import(call: Call<'_>) -> Option<Made> {
+    let Call { line, set, tables } = call;
     // Stays: `imports::import_filenames` is lent the numbers, and the lengths of the names, each as a slice.
     let mut files = [0i32; MAX_PAIRS];
     let mut lengths = [0u64; MAX_PAIRS];
@@ -21,7 +21,7 @@ pub(crate) fn import(call: Call<'_>, tables: &mut Tables) -> Option<Made> {
         set.held,
         first_mut(&mut tables.entries, counts.entries),
         first_mut(&mut tables.area, counts.area),
-        &files[..n.min(MAX_PAIRS)],
+        lists::part(&files, 0, n),
         &lengths,
         &names,
     );

@@ -128,8 +128,8 @@ fn open(line: &[u8]) -> Option<Made> {
     Some(Made::from(res.map(|fs| Set::opened(counts, lent, work, fs))))
 }
 
-// A kind of room by its name, with `=` after it. Eleven words may name room; of one kind the first counts. It is out of
-// form where it is more than the program has.
+// A kind of room by its name, with `=` after it. Eleven words may name room, each another kind (`Rooms::read`). It is
+// out of form where it is more than the program has.
 fn room_of(line: &[u8], name: &[u8], most: usize) -> Option<Room> {
     let named = (2..13).find_map(|number| script::word(line, number).strip_prefix(name));
     let Some(digits) = named else {

@@ -64,12 +64,6 @@ pub(crate) struct Counts {
     pub area: usize,
 }
 
-// The first n places of a table, or as many as there are.
-// Stays: it makes the slice that a library is lent; n comes from the script, and may pass the table's end.
-pub(crate) fn first<T>(table: &[T], n: usize) -> &[T] {
-    &table[..n.min(table.len())]
-}
-
 // The first n places of a table, or as many as there are, to be changed.
 // Stays: `questions` lends its own room by the same two lines; a public function for both would promise, beside the
 // part, what the table is after it is written through, and no caller needs that.

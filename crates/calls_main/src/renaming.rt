@@ -1,13 +1,13 @@
 // `rename I :NEW`: the set's places of the tables of renames are lent to the library. Relies on `renames` and
 // `script`, and on the module for sets.
 use crate::input::{ROOM, between};
-use crate::places::{Tables, first_mut};
+use crate::places::first_mut;
 use crate::sets::{Call, Made, Set};
 use types::FileIndex;
 
 // `rename I :NEW`.
-pub(crate) fn rename(call: Call<'_>, tables: &mut Tables) -> Option<Made> {
-    let Call { line, set } = call;
+pub(crate) fn rename(call: Call<'_>) -> Option<Made> {
+    let Call { line, set, tables } = call;
     let index = FileIndex(script::to_i32(script::word(line, 1))?);
     let mut name = [0u8; ROOM];
     let length = script::decode(script::word(line, 2), &mut name, 0)?;

@@ -1,9 +1,9 @@
 // The four sets of a script, and the one that calls speak of. They are handed on by value; the tables are not among
-// them, and a set's counts say how much of its own it is lent. Relies on `tables` and `renames` for the records, and on
-// `script`.
+// them, and a set's counts say how much of its own it is lent. Relies on places.rt, on `tables`, `renames` and
+// `questions` for the records, and on `script`.
 ghost use Rattle.std.specs.Prelude.{◌<◌};
 
-use crate::places::Counts;
+use crate::places::{Counts, Tables};
 use questions::Lent;
 use renames::RenamedFiles;
 use tables::FileStorage;
@@ -20,11 +20,12 @@ pub(crate) struct Set {
     pub work: Work,
 }
 
-// A call that may change a set: its line, and the set that is spoken of.
-#[derive(Clone, Copy)]
+// A call that may change a set: its line, the set that is spoken of, and the tables of that set.
+#[derive(Drop)]
 pub(crate) struct Call<'a> {
     pub line: &'a [u8],
     pub set: Set,
+    pub tables: &'a mut Tables,
 }
 
 // The work space of a cleaning: the marks, and the sum over the links for which it has room.

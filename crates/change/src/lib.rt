@@ -1,5 +1,5 @@
 // What every change of a set shares: its answer, a set's record or a refusal, and how much the lent tables hold. Relies
-// on `tables`, `rules` and `lists`.
+// on `types`, `tables` and `rules`.
 #![tactic(auto)]
 
 mod rooms;

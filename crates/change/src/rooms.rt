@@ -34,6 +34,8 @@ impl Rooms {
 }
 
 // Whether the lent tables hold what a set counts.
+// Stays: `holds_rows` of `rules` and those beside it test the tables themselves. An addition asks of the counts after
+// it too, for which `plan` has the rooms, so the test here is over lengths.
 pub fn holds(fs: FileStorage, rooms: Rooms) -> bool
     ensures { result ≡ holds_in fs rooms }
 {

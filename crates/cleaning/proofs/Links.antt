@@ -1,15 +1,14 @@
--- The flagged links of a set, each with its mark, as an iterator gives them: what is taken off a number for each is what the verdicts
--- of all files take off. These laws rely on the definitions of specs/private/Writing.antt and on the laws of iterators of `std`.
+-- The flagged links of a set, each with its mark, as `links` gives them: what is taken off a number for each is what the verdicts of
+-- all files take off. These laws rely on the definitions of specs/private/Writing.antt.
 use Prim.Native.Nat.{ℕ, zero, suc, ◌+◌, ◌-◌, ◌≤◌, ◌<◌}
 use mathlib.Core.Path.{◌≡◌, refl, sym, ap, ◌∙◌}
 use mathlib.Core.Bool.{Bool, true, false, cond, not}
 use mathlib.Core.List.{List, [], ◌∷◌, map}
 use native.Mathlib.Omega.{arith}
 use lib.Dec.{leb, ltb}
-use lib.ListN.{get_or, drop}
-use lib.Seq.{get_or-drop, drop-drop}
+use lib.ListN.{get_or}
 use borrow.Author.Tests.{lt-ltb, le-ltb, le-leb, lt-leb}
-use Rattle.std.specs.List.{filter, fold, zip, range_with_len}
+use Rattle.std.specs.List.{fold}
 use mathlib.Core.Logic.{◌⊎◌, inl, inr}
 use Rattle.lists.specs.Lists.{sum}
 use Rattle.lists.proofs.Orders.{le-or-lt}
@@ -18,6 +17,7 @@ use Rattle.tables.specs.Rows.{row_at}
 use Rattle.lookup.specs.Lookup.{is_flagged}
 use Rattle.links.specs.declared.mark.LinkVerdict.{LinkVerdict}
 use Rattle.links.specs.declared.mark.LinkVerdict.TheVariants.{Keep}
+use Rattle.links.specs.Flagged.{links_from}
 use Rattle.links.specs.Judging.{verdict_read}
 use Rattle.cleaning.specs.private.Writing.{flags_in, verdicts_by, left_by, sum_by}
 
@@ -43,50 +43,30 @@ taken-by h (v ∷ vs) i u = taken-by h vs (i + 1) (u - h v i) ∙ omega arith
 
 -- ---- the flagged links
 
--- the rows of those of the n files from file i on, each with its mark; the next link has the k-th mark
-abbrev pub links_from : List ℕ → List ℕ → ℕ → ℕ → ℕ → List (Row × ℕ)
-links_from rows marks n i k = zip (filter (λ r. is_flagged r.flags) (map (row_at rows) (range_with_len i n))) (drop k marks)
-
 module _ (h : LinkVerdict → Row → ℕ) (kept : (r : Row) → h Keep r ≡ 0) (rows marks : List ℕ) where
-  abbrev by_mark : Row × ℕ → ℕ
-  by_mark p = h (verdict_read p.1) p.0
+  abbrev pub by_link : ℕ × ℕ → ℕ
+  by_link p = h (verdict_read (get_or marks p.0 0)) (row_at rows p.1)
 
   abbrev by_file : LinkVerdict → ℕ → ℕ
   by_file v i = h v (row_at rows i)
 
-  -- one row, before others
-  one-link : (b : Bool) (r : Row) (rs : List Row) (n i k : ℕ)
-      → ((j : ℕ) → total by_mark (zip rs (drop j marks)) ≡ sum_by by_file (verdicts_by (flags_in rows) marks n (i + 1) j) (i + 1))
-      → total by_mark (zip (cond b (r ∷ rs) rs) (drop k marks))
-      ≡ h (cond b (verdict_read (get_or marks k 0)) Keep) r + sum_by by_file (verdicts_by (flags_in rows) marks n (i + 1) (cond b (k + 1) k)) (i + 1)
-  one-link false r rs n i k others = rw (others k, kept r) (omega arith)
-  one-link true r rs n i k others = at (drop k marks) refl
-    where
-      read : (ms : List ℕ) → drop k marks ≡ ms → get_or marks k 0 ≡ get_or ms 0 0
-      read ms e = let z : k + 0 ≡ k = omega arith in ap (λ (x : ℕ). get_or marks x 0) (sym z) ∙ sym (get_or-drop k marks 0 0) ∙ ap (λ (l : List ℕ). get_or l 0 0) e
-
-      next : (ms : List ℕ) → drop k marks ≡ ms → total by_mark (zip rs (drop 1 ms)) ≡ sum_by by_file (verdicts_by (flags_in rows) marks n (i + 1) (k + 1)) (i + 1)
-      next ms e = ap (λ (l : List ℕ). total by_mark (zip rs l)) (ap (drop 1) (sym e) ∙ drop-drop 1 k marks) ∙ others (k + 1)
-
-      none : (rs : List Row) → total by_mark (zip rs []) ≡ 0
-      none [] = refl
-      none (r ∷ rs) = refl
-
-      at : (ms : List ℕ) → drop k marks ≡ ms → total by_mark (zip (r ∷ rs) ms) ≡ h (verdict_read (get_or marks k 0)) r + sum_by by_file (verdicts_by (flags_in rows) marks n (i + 1) (k + 1)) (i + 1)
-      at [] e = rw (read [] e) (omega (arith, kept r, none rs, next [] e))
-      at (m ∷ ms) e = rw (read (m ∷ ms) e, ← next (m ∷ ms) e) refl
-
-  links-total : (n i k : ℕ) → total by_mark (links_from rows marks n i k) ≡ sum_by by_file (verdicts_by (flags_in rows) marks n i k) i
+  links-total : (n i k : ℕ) → total by_link (links_from rows n i k) ≡ sum_by by_file (verdicts_by (flags_in rows) marks n i k) i
   unfolding verdicts_by
   links-total zero i k = refl
-  links-total (suc n) i k = one-link (is_flagged (flags_in rows i)) (row_at rows i) _ n i k (λ j. links-total n (i + 1) j)
+  links-total (suc n) i k = one (is_flagged (flags_in rows i)) (links-total n (i + 1))
+    where
+      one : (b : Bool) → ((j : ℕ) → total by_link (links_from rows n (i + 1) j) ≡ sum_by by_file (verdicts_by (flags_in rows) marks n (i + 1) j) (i + 1))
+          → total by_link (cond b ((k, i) ∷ links_from rows n (i + 1) (k + 1)) (links_from rows n (i + 1) k))
+          ≡ h (cond b (verdict_read (get_or marks k 0)) Keep) (row_at rows i) + sum_by by_file (verdicts_by (flags_in rows) marks n (i + 1) (cond b (k + 1) k)) (i + 1)
+      one true others = ap (λ (x : ℕ). by_link (k, i) + x) (others (k + 1))
+      one false others = rw (others k, kept (row_at rows i)) (omega arith)
 
   -- what they leave, and whether they have more than there is room for
-  pub links-left : (n u : ℕ) → fold (λ left p. left - by_mark p) u (links_from rows marks n 0 0) ≡ left_by by_file (verdicts_by (flags_in rows) marks n 0 0) 0 u
-  links-left n u = taken by_mark (links_from rows marks n 0 0) u ∙ ap (λ (x : ℕ). u - x) (links-total n 0 0) ∙ sym (taken-by by_file (verdicts_by (flags_in rows) marks n 0 0) 0 u)
+  pub links-left : (n u : ℕ) → fold (λ left p. left - by_link p) u (links_from rows n 0 0) ≡ left_by by_file (verdicts_by (flags_in rows) marks n 0 0) 0 u
+  links-left n u = taken by_link (links_from rows n 0 0) u ∙ ap (λ (x : ℕ). u - x) (links-total n 0 0) ∙ sym (taken-by by_file (verdicts_by (flags_in rows) marks n 0 0) 0 u)
 
-  pub links-more : (n room : ℕ) (b : Bool) → leb (sum (map by_mark (links_from rows marks n 0 0))) room ≡ not b → b ≡ ltb room (sum_by by_file (verdicts_by (flags_in rows) marks n 0 0) 0)
-  links-more n room b e = same b _ (sym e ∙ rw (total-map by_mark (links_from rows marks n 0 0), links-total n 0 0) (fits (le-or-lt (sum_by by_file (verdicts_by (flags_in rows) marks n 0 0) 0) room)))
+  pub links-more : (n room : ℕ) (b : Bool) → leb (sum (map by_link (links_from rows n 0 0))) room ≡ not b → b ≡ ltb room (sum_by by_file (verdicts_by (flags_in rows) marks n 0 0) 0)
+  links-more n room b e = same b _ (sym e ∙ rw (total-map by_link (links_from rows n 0 0), links-total n 0 0) (fits (le-or-lt (sum_by by_file (verdicts_by (flags_in rows) marks n 0 0) 0) room)))
     where
       fits : {k : ℕ} → (k ≤ room) ⊎ (room < k) → leb k room ≡ not (ltb room k)
       fits {k} (inl h) = rw (le-leb k room h, le-ltb room k h)

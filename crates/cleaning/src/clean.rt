@@ -15,6 +15,10 @@ use tables::{FileStorage, LentSet, LentSetMut};
 use types::Refusal;
 
 // Writes the texts of a set whose links are judged, where they have room, and then clears the scratch space.
+// Stays: `same`, here and below, and in rewrite.rt: a record that holds `&mut`s has to say of each call that they are
+// the same references. It is a fact of two values, before and after, so that no invariant or ghost field says it.
+// Stays: set, marks and scratch space, here and in rewrite.rt: the set and the scratch space are written and the marks
+// read; a record of them would hold a `&mut` of a record of `&mut`s, and each clause name a field before and after.
 fn write_judged(
     set: &mut LentSetMut<'_>,
     marks: &[u8],
@@ -38,6 +42,8 @@ fn write_judged(
 }
 
 // Cleans a set, with a mark for each of 65535 links on the stack; `walk_path` is a length.
+// Stays: the work space is passed on, here and below: of a record of marks, scratch space and walk path each clause
+// would name a field before and after, and the lengths of two of the three are all that is read.
 fn clean_links(
     set: &mut LentSetMut<'_>,
     scratch: &mut [u8],
@@ -94,6 +100,8 @@ fn clean(
 // Cleans the links of a set: each flagged link's text is kept, becomes the text from the link's directory, or the
 // link's own internal path. `marks`, `scratch` and `walk_path` are work space, which is then cleared; a refusal leaves
 // it, and all else, as it was.
+// Stays: it is public and is lent each table by itself (docs/DECISIONS.md, Forms 10), and the three parts of the work
+// space as C lends them, one by one.
 pub fn sanitize_symlinks(
     fs: FileStorage,
     rows: &mut [u64],

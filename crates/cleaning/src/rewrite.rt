@@ -10,11 +10,14 @@ use links::LinkVerdict;
 use tables::LentSetMut;
 
 // Writes the new text of file i, by its verdict.
+// Stays: set, scratch space and file are passed on to `texts`, here and below: a record of them would hold a `&mut` of
+// a record of `&mut`s, made for each link and taken apart there.
 fn write_link(set: &mut LentSetMut<'_>, scratch: &mut [u8], i: usize, verdict: LinkVerdict)
     ensures after { held set.new ≡ rewritten_at (length scratch.old) verdict (held set.old) i }
     ensures same { SameTables set.old set.new }
 {
-    // Stays: it matches an enum, and each of its three cases is one line.
+    // Stays: it matches an enum, and each of its three cases is one line; a closure for each verdict would be no
+    // plainer.
     match verdict {
         LinkVerdict::Keep => {}
         LinkVerdict::OwnPath => texts::write_own(set, i),

@@ -1,6 +1,5 @@
 // The room that a cleaning needs, taken off the text area's length text by text, since a sum could be too
-// large. Relies on `lookup` for a flagged link, on `links` for a mark's verdict, and on the laws of
-// proofs/Links.antt.
+// large. Relies on `links` for the flagged links and their verdicts, and on the laws of proofs/Links.antt.
 ghost use Rattle.std.specs.Prelude.{◌≡◌, ◌-◌, ltb, length};
 ghost use Rattle.tables.specs.Span.{clip};
 ghost use Rattle.tables.specs.Lending.{store_in};
@@ -8,7 +7,7 @@ ghost use Rattle.cleaning.specs.Cleaning.{if_changed};
 ghost use Rattle.cleaning.specs.private.Writing.{joined_bytes, new_length, needed_by};
 ghost use Rattle.cleaning.specs.private.Judged.{verdicts_on, kept_in, added_in};
 
-use links::LinkVerdict;
+use links::{LinkVerdict, Links, verdict_in};
 use tables::{Lent, LentSet, Row, Span};
 
 // A set whose links are judged, with a mark for each of them; a link past the last mark keeps its text.
@@ -31,21 +30,14 @@ fn left_after(used: usize, link: Span, verdict: LinkVerdict, left: usize) -> usi
 }
 
 // What is left of the text held after the old texts that change are removed.
-// Stays: the chain to the flagged links with their marks stands here and in `lacks_bytes`. A function can't give it:
-// its closures' types have no names, and an `impl Iterator` as a result gets no proof. An iterator of its own would be
-// longer, with its laws, than the two chains.
 fn kept_after(judged: JudgedSet<'_, '_>) -> usize
     ensures { result ≡ kept_in judged.entry }
 {
     let used = judged.set.fs.text_len;
-    let rows = judged.set.lent.rows;
-    (0..judged.set.fs.num_files)
-        .map(|i| tables::row_at(rows, i))
-        .filter(|row| lookup::is_flagged(row.flags))
-        .zip(judged.marks)
-        .fold(used, |left, (row, mark)| {
-            left_after(used, row.link, LinkVerdict::from(*mark), left)
-        })
+    Links::all(judged.set).fold(used, |left, (k, i)| {
+        let row = tables::row_at(judged.set.lent.rows, i);
+        left_after(used, row.link, verdict_in(judged.marks, k), left)
+    })
 }
 
 // The length of a leaf joined to a row's directory.
@@ -60,7 +52,8 @@ fn joined_length(lent: Lent<'_>, row: Row, leaf: Span) -> usize
 fn new_length(lent: Lent<'_>, row: Row, verdict: LinkVerdict) -> usize
     ensures { result ≡ new_length lent.entry.dirs.now lent.entry.text.now verdict row }
 {
-    // Stays: it matches an enum, and each of its three cases is one line.
+    // Stays: it matches an enum, and each of its three cases is one line; a closure for each verdict would be no
+    // plainer.
     match verdict {
         LinkVerdict::Keep => 0,
         LinkVerdict::OwnPath => joined_length(lent, row, row.name),
@@ -73,11 +66,11 @@ fn lacks_bytes(judged: JudgedSet<'_, '_>, room: usize) -> bool
     ensures { result ≡ ltb room (added_in judged.entry) }
 {
     let lent = judged.set.lent;
-    (0..judged.set.fs.num_files)
-        .map(|i| tables::row_at(lent.rows, i))
-        .filter(|row| lookup::is_flagged(row.flags))
-        .zip(judged.marks)
-        .map(|(row, mark)| new_length(lent, row, LinkVerdict::from(*mark)))
+    Links::all(judged.set)
+        .map(|(k, i)| {
+            let row = tables::row_at(lent.rows, i);
+            new_length(lent, row, verdict_in(judged.marks, k))
+        })
         .try_fold(room, usize::checked_sub)
         .is_none()
 }

@@ -2,6 +2,7 @@
 // `names` for the parts of a file's path.
 ghost use Rattle.std.specs.Prelude.{◌≡◌};
 ghost use Rattle.types.specs.Refusals.{outcome};
+ghost use Rattle.tables.specs.Rows.{row_at};
 ghost use Rattle.compatible.specs.Compatible.{named_set_of, is_relevant, same_named, same_file, same_from, compatible};
 ghost use Rattle.compatible.specs.Compatible.{path_of, link_of, held_in, files_compatible};
 ghost use Rattle.compatible.specs.private.Sets.{set_of};
@@ -9,33 +10,9 @@ ghost use Rattle.compatible.specs.private.Walk.{whole_of};
 
 use crate::walk::{Pieces, compose, join, same_pieces};
 use names::set_span;
-use rules::{holds_set, is_bad_length};
+use rules::{Tests, holds_set, is_bad_length};
 use tables::{FileStorage, LentSet, Row};
 use types::Refusal;
-
-// The path of a file, in pieces.
-fn path_pieces<'a>(set: LentSet<'a>, row: Row) -> Pieces<'a>
-    ensures { whole_of result ≡ path_of (set_of set.entry) row }
-{
-    let text = set.lent.text;
-    let lead = tables::text_at(text, set_span(set.fs, row));
-    let directory = set.lent.directory_of(row);
-    compose(lead, directory, tables::text_at(text, row.name))
-}
-
-// The path that the link of a file leads to, in pieces.
-fn link_pieces<'a>(set: LentSet<'a>, row: Row) -> Pieces<'a>
-    ensures { whole_of result ≡ link_of (set_of set.entry) row }
-{
-    if !tables::holds_link(row.flags) {
-        return join(b"", b"");
-    }
-    let text = set.lent.text;
-    join(
-        tables::text_at(text, set.fs.name),
-        tables::text_at(text, row.link),
-    )
-}
 
 // Whether the file of `row` is no pad and not empty.
 fn is_relevant(row: Row) -> bool
@@ -44,27 +21,74 @@ fn is_relevant(row: Row) -> bool
     !tables::is_pad(row.flags) && 0 < row.size
 }
 
-// Whether size, path and offset are the same, and so is the link where the first is flagged as one.
-// Stays: a derived `==` would compare the spans, and not the texts that they name.
-fn same_named(a: LentSet<'_>, row_a: Row, b: LentSet<'_>, row_b: Row) -> bool
-    ensures { result ≡ same_named (set_of a.entry) (set_of b.entry) row_a row_b }
-{
-    row_a.size == row_b.size
-        && same_pieces(path_pieces(a, row_a), path_pieces(b, row_b))
-        && row_a.offset == row_b.offset
-        && (!tables::is_symlink(row_a.flags)
-            || same_pieces(link_pieces(a, row_a), link_pieces(b, row_b)))
+// A file: its set, and its row there.
+#[derive(Clone, Copy)]
+struct FileIn<'a> {
+    set: LentSet<'a>,
+    row: Row,
 }
 
-// Whether both files are relevant or neither is, and where they are relevant they are the same.
-// Stays: two files that are not relevant are the same here whatever their rows say, and a derived `==` compares them.
-fn same_file(a: LentSet<'_>, row_a: Row, b: LentSet<'_>, row_b: Row) -> bool
-    ensures { result ≡ same_file (set_of a.entry) (set_of b.entry) row_a row_b }
-{
-    if is_relevant(row_a) {
-        is_relevant(row_b) && same_named(a, row_a, b, row_b)
-    } else {
-        !is_relevant(row_b)
+impl<'a> FileIn<'a> {
+    // File k of a set.
+    // Stays: it converts nothing; the file's row is read here once for all tests.
+    fn numbered(set: LentSet<'a>, k: usize) -> FileIn<'a>
+        ensures { result ≡ record { set = set.entry; row = row_at set.entry.lent.rows.now k } }
+    {
+        let row = tables::row_at(set.lent.rows, k);
+        FileIn { set, row }
+    }
+
+    // The file's path, in pieces.
+    fn path_pieces(self) -> Pieces<'a>
+        ensures { whole_of result ≡ path_of (set_of self.entry.set) self.entry.row }
+    {
+        let FileIn { set, row } = self;
+        let text = set.lent.text;
+        let lead = tables::text_at(text, set_span(set.fs, row));
+        let directory = set.lent.directory_of(row);
+        compose(lead, directory, tables::text_at(text, row.name))
+    }
+
+    // The path that the file's link leads to, in pieces.
+    fn link_pieces(self) -> Pieces<'a>
+        ensures { whole_of result ≡ link_of (set_of self.entry.set) self.entry.row }
+    {
+        let FileIn { set, row } = self;
+        if !tables::holds_link(row.flags) {
+            return join(b"", b"");
+        }
+        let text = set.lent.text;
+        join(
+            tables::text_at(text, set.fs.name),
+            tables::text_at(text, row.link),
+        )
+    }
+
+    // Whether size, path and offset are the same, and so is the link where this file is flagged as one.
+    // Stays: a derived `==` would compare the spans, and not the texts that they name.
+    fn is_same_named(self, other: FileIn<'_>) -> bool
+        ensures { result
+            ≡ same_named (set_of self.entry.set) (set_of other.entry.set) self.entry.row other.entry.row }
+    {
+        self.row.size == other.row.size
+            && same_pieces(self.path_pieces(), other.path_pieces())
+            && self.row.offset == other.row.offset
+            && (!tables::is_symlink(self.row.flags)
+                || same_pieces(self.link_pieces(), other.link_pieces()))
+    }
+
+    // Whether both files are relevant or neither is, and where they are relevant they are the same.
+    // Stays: two files that are not relevant are the same here whatever their rows say, and a derived `==` compares
+    // them.
+    fn is_same(self, other: FileIn<'_>) -> bool
+        ensures { result
+            ≡ same_file (set_of self.entry.set) (set_of other.entry.set) self.entry.row other.entry.row }
+    {
+        if is_relevant(self.row) {
+            is_relevant(other.row) && self.is_same_named(other)
+        } else {
+            !is_relevant(other.row)
+        }
     }
 }
 
@@ -73,11 +97,7 @@ fn same_file(a: LentSet<'_>, row_a: Row, b: LentSet<'_>, row_b: Row) -> bool
 fn same_files(a: LentSet<'_>, b: LentSet<'_>) -> bool
     ensures { result ≡ same_from a.entry.fs.num_files 0 (set_of a.entry) (set_of b.entry) }
 {
-    (0..a.fs.num_files).all(|k| {
-        let row_a = tables::row_at(a.lent.rows, k);
-        let row_b = tables::row_at(b.lent.rows, k);
-        same_file(a, row_a, b, row_b)
-    })
+    (0..a.fs.num_files).all(|k| FileIn::numbered(a, k).is_same(FileIn::numbered(b, k)))
 }
 
 // Whether counts, totals and piece lengths are the same, and each file is.
@@ -92,6 +112,7 @@ fn are_compatible(a: LentSet<'_>, b: LentSet<'_>) -> bool
 
 // Whether two sets have the same layout and names, pads and empty files aside; not symmetric, since a link
 // is compared only where the first set flags it as one.
+// Stays: it is public and is lent each table by itself (docs/DECISIONS.md, Forms 10).
 pub fn files_compatible(
     a: FileStorage,
     rows_a: &[u64],
@@ -108,11 +129,11 @@ pub fn files_compatible(
 {
     let set_a = LentSet::new(a, rows_a, dirs_a, text_a);
     let set_b = LentSet::new(b, rows_b, dirs_b, text_b);
-    if is_bad_length(a.piece_length) || is_bad_length(b.piece_length) {
-        return Err(Refusal::InvalidPieceLength);
+    Tests {
+        bad_length: is_bad_length(a.piece_length) || is_bad_length(b.piece_length),
+        no_room: !holds_set(set_a) || !holds_set(set_b),
+        ..Tests::default()
     }
-    if !holds_set(set_a) || !holds_set(set_b) {
-        return Err(Refusal::NoRoom);
-    }
+    .first_refusal()?;
     Ok(are_compatible(set_a, set_b))
 }

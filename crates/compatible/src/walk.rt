@@ -3,7 +3,7 @@
 ghost use Rattle.std.specs.Prelude.{◌≡◌};
 ghost use Rattle.lists.specs.Lists.{equal};
 ghost use Rattle.path.specs.Join.{appended};
-ghost use Rattle.compatible.specs.private.Walk.{whole_of, same_each};
+ghost use Rattle.compatible.specs.private.Walk.{in_a_row, whole_of, same_each};
 
 // A composed path in pieces: its parts, and what stands behind the first and the second, which is a separator or
 // nothing.
@@ -16,6 +16,22 @@ pub(crate) struct Pieces<'a> {
     pub second: &'a [u8],
     pub second_end: &'a [u8],
     pub last: &'a [u8],
+}
+
+impl<'a> Pieces<'a> {
+    // The pieces in a row.
+    fn in_a_row(self) -> [&'a [u8]; 5]
+        ensures { result ≡ in_a_row self.entry }
+    {
+        let Pieces {
+            first,
+            first_end,
+            second,
+            second_end,
+            last,
+        } = self;
+        [first, first_end, second, second_end, last]
+    }
 }
 
 // The pieces of the path that two parts compose: a branch that stands alone is dropped.
@@ -58,36 +74,21 @@ pub(crate) fn compose<'a>(first: &'a [u8], second: &'a [u8], last: &'a [u8]) -> 
 fn same_each(a: Pieces<'_>, b: Pieces<'_>) -> bool
     ensures { result ≡ same_each a.entry b.entry }
 {
-    lists::same(a.first, b.first)
-        && lists::same(a.first_end, b.first_end)
-        && lists::same(a.second, b.second)
-        && lists::same(a.second_end, b.second_end)
-        && lists::same(a.last, b.last)
+    a.in_a_row()
+        .into_iter()
+        .zip(b.in_a_row())
+        .all(|(p, q)| lists::same(p, q))
 }
 
 // Whether two composed paths are the same. Those of compatible sets mostly have the same pieces, so these are compared
 // first.
-// Stays: the iterators' `eq` compares, byte by byte; the pieces stand in no slice that `==` could take. The chain is
-// written for each: a method that gave it would have to name its type, a `Chain` of four levels.
+// Stays: the iterators' `eq` compares, byte by byte; the pieces stand in no slice that `==` could take.
 pub(crate) fn same_pieces(a: Pieces<'_>, b: Pieces<'_>) -> bool
     ensures { result ≡ equal (whole_of a.entry) (whole_of b.entry) }
 {
     if same_each(a, b) {
         return true;
     }
-    let path = a
-        .first
-        .iter()
-        .chain(a.first_end)
-        .chain(a.second)
-        .chain(a.second_end)
-        .chain(a.last);
-    path.eq(
-        b.first
-            .iter()
-            .chain(b.first_end)
-            .chain(b.second)
-            .chain(b.second_end)
-            .chain(b.last),
-    )
+    let path = a.in_a_row().into_iter().flatten();
+    path.eq(b.in_a_row().into_iter().flatten())
 }

@@ -47,10 +47,7 @@ pub(crate) fn storage_at(state: &State) -> FileStorage
         num_files: state[2] as usize,
         num_paths: state[3] as usize,
         num_symlinks: state[4] as usize,
-        name: Span {
-            at: state[6] as usize,
-            len: state[7] as usize,
-        },
+        name: Span::from([state[6], state[7]]),
         text_len: state[8] as usize,
         total_size: state[9],
         size_on_disk: state[10],

@@ -1,24 +1,14 @@
 -- The first file that has a root.
---     root_same       `==` of two roots says whether their bytes are the same
 --     root_first      the search over the files' numbers gives it
 --     root_low        an i32 holds its number, since a set has at most 65535 files
-use Rattle.std.proofs.Common.{◌≡◌, ℕ, zero, suc, ◌+◌, ◌%◌, ◌^◌, ◌≤◌, Bool, true, false, cond, ◌&&◌, List, [], ◌∷◌, Option, Some, None, option_map, eqb, ℤ, pos, negsuc, refl, ap, ◌∙◌, arith}
+use Rattle.std.proofs.Common.{◌≡◌, ℕ, zero, suc, ◌+◌, ◌%◌, ◌^◌, ◌≤◌, Bool, true, false, cond, List, Option, Some, None, option_map, eqb, ℤ, pos, negsuc, refl, ap, ◌∙◌, arith}
 use Rattle.std.specs.List.{find, range_with_len}
 use Rattle.std.specs.Cmp.Lexicographic.{pointwise}
 use Rattle.lists.specs.Lists.{equal}
+use Rattle.lists.proofs.Equality.{pointwise-equal}
 use Rattle.answers.specs.Answers.{root_of}
 use Rattle.rules.proofs.Deciding.{low-i32}
 use Rattle.files.specs.Files.{low31, root_from}
-
-root_same : (a b : List ℕ) → pointwise eqb a b ≡ equal a b
-root_same [] [] = refl
-root_same [] (y ∷ b) = refl
-root_same (x ∷ a) [] = refl
-root_same (x ∷ a) (y ∷ b) = by (eqb x y) (root_same a b)
-  where
-    by : (t : Bool) → pointwise eqb a b ≡ equal a b → (t && pointwise eqb a b) ≡ cond t (equal a b) false
-    by true e = e
-    by false e = refl
 
 -- a number that was found, −1 for none
 abbrev index_of : Option ℕ → ℤ
@@ -32,7 +22,7 @@ module _ (rows roots root : List ℕ) where
   root_listed : (n k : ℕ) → index_of (find has_root (range_with_len k n)) ≡ root_from n k rows roots root
   unfolding root_from
   root_listed zero k = refl
-  root_listed (suc n) k = rw (← root_same (root_of rows roots k) root) (by (has_root k) (root_listed n (k + 1)))
+  root_listed (suc n) k = rw (← pointwise-equal (root_of rows roots k) root) (by (has_root k) (root_listed n (k + 1)))
     where
       by : (b : Bool) → index_of (find has_root (range_with_len (k + 1) n)) ≡ root_from n (k + 1) rows roots root
           → index_of (cond b (Some k) (find has_root (range_with_len (k + 1) n))) ≡ cond b (pos k) (root_from n (k + 1) rows roots root)

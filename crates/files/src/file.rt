@@ -26,10 +26,10 @@ use crate::asked::AskedFile;
 use crate::number::file_or_past;
 use lists::{div, div_ceil, rem};
 use rules::{
-    DEFAULT_BLOCK_SIZE, Tests, are_held, ask_file, count_pieces, has_many, holds_roots, holds_rows,
-    is_bad_length, is_bad_range, is_no_file, is_no_tree,
+    DEFAULT_BLOCK_SIZE, Tests, are_held, count_pieces, has_many, holds_roots, holds_rows,
+    is_bad_length, is_bad_range, is_no_tree,
 };
-use tables::{FileStorage, SIZE_RANGE, Sha256Hash};
+use tables::{FileStorage, Sha256Hash};
 use types::{FileIndex, I32Range, PeerRequest, PieceIndex, PieceIndexRange, Refusal, clamped};
 
 // A request in unsigned numbers.
@@ -61,21 +61,7 @@ fn after_quotient(n: u64, d: u64) -> u64
 fn last_quotient(n: u64, d: u64) -> PieceIndex
     ensures { result.0 ≡ low31 (last_quotient n d) }
 {
-    after_quotient(n, d)
-        .checked_sub(1)
-        .map_or(PieceIndex::none(), PieceIndex::new)
-}
-
-// `n / d` rounded up, or 0 where d is 0.
-// Stays: tried, with `lists::div_ceil`, which divides by a shift where it can, `map_file` is too long for the loop of
-// `map_files` to take in, and a question takes 18 ns there for 6; the Rust's takes 5 or 6.
-fn div_up(n: u64, d: u64) -> u64
-    ensures { result ≡ ceiling n d }
-{
-    if d == 0 {
-        return 0;
-    }
-    n.div_ceil(d)
+    PieceIndex::last_of(after_quotient(n, d))
 }
 
 // The piece and the start of position `at` of the set's bytes, and how many of `size` bytes the set has from there on.
@@ -84,7 +70,7 @@ fn request_at(fs: FileStorage, at: u64, size: u64) -> UnsignedRequest
 {
     if fs.total_size <= at {
         return UnsignedRequest {
-            piece: div_up(fs.total_size, fs.piece_length),
+            piece: div_ceil(fs.total_size, fs.piece_length),
             start: 0,
             length: 0,
         };
@@ -201,7 +187,11 @@ fn first_node(
 {
     let k = index.get();
     let no_tree = is_no_tree(fs, rows, k) || is_no_node(rows, k, leaves);
-    ask_file(fs, index, false, no_tree, holds_rows(fs, rows))?;
+    Tests {
+        no_tree,
+        ..Tests::of_file(fs, index, holds_rows(fs, rows))
+    }
+    .first_refusal()?;
     merkle::merkle_first_node(leaves as usize)
 }
 
@@ -226,7 +216,11 @@ fn file_of_pieces<'a>(
     ensures answer { asked_says result ≡ file_pieces_answer fs index.0 (rows_are_held fs rows.now) (λ k. k) }
     ensures same { IfOk result (λ f. (f.fs ≡ fs) × (f.rows.now ≡ rows.now)) }
 {
-    ask_file(fs, index, has_many(fs), false, holds_rows(fs, rows))?;
+    Tests {
+        many: has_many(fs),
+        ..Tests::of_file(fs, index, holds_rows(fs, rows))
+    }
+    .first_refusal()?;
     let k = index.get();
     Ok(AskedFile { fs, rows, k })
 }
@@ -250,7 +244,12 @@ fn file_of_tree(
         (clamped_of index.0) }
 {
     let no_tree = is_no_tree(fs, rows, index.get());
-    ask_file(fs, index, many, no_tree, holds_rows(fs, rows))?;
+    Tests {
+        many,
+        no_tree,
+        ..Tests::of_file(fs, index, holds_rows(fs, rows))
+    }
+    .first_refusal()?;
     Ok(index.get())
 }
 
@@ -359,16 +358,6 @@ fn signed_request(r: UnsignedRequest) -> PeerRequest
     }
 }
 
-// The offset of row k, which the table has.
-// Stays: tried, `tables::offset_at` tests for the row again, so that `map_file` is too long for the loop of `map_files`
-// to take in, and a question takes 16 ns there for 5; the Rust's takes 6.
-fn offset_of(rows: &[u64], k: usize) -> u64
-    requires { k * 8 < length rows.now }
-    ensures { result ≡ (row_at rows.now k).offset }
-{
-    rows[k * 8] % SIZE_RANGE
-}
-
 // Whether the set passes its own tests, so that it answers questions about bytes of its files.
 fn passes_set(fs: FileStorage, rows: &[u64]) -> bool
     ensures { result ≡ (first_of (set_rules fs (length rows.now / 8)) == 0) }
@@ -384,24 +373,23 @@ fn passes_position(fs: FileStorage, k: usize, offset: i64, size: i32) -> bool
 }
 
 // The refusal of a question about bytes of a file that does not pass: 10 where no test before it holds. `in_place` says
-// whether the file, the offset and the size pass theirs. So `map_file` is small, and its compiler takes it into loops.
+// whether the file, the offset and the size pass theirs.
 fn refused_bytes(fs: FileStorage, index: FileIndex, in_place: bool) -> Refusal
     ensures { number_of result
         ≡ first_of
         (bad_piece_length fs ∷ no_file fs index.0 ∷ many_pieces fs ∷ when (not in_place) 14 ∷ short false ∷ []) }
 {
     let tests = Tests {
-        no_file: is_no_file(fs, index),
         many: has_many(fs),
         bad_range: !in_place,
-        ..Tests::of_set(fs, false)
+        ..Tests::of_file(fs, index, false)
     };
     tests.first_refusal().err().unwrap_or(Refusal::NoRoom)
 }
 
 // Where bytes of a file lie: the piece, the start in it, and how many of them the set has. It does not stop at the
 // file's end. All tests stand before the answer, so that no answer waits for the number of a refusal, and those on the
-// set stand apart, so that a compiler can make them once for a loop of questions.
+// set stand apart, so that a compiler can make them once for a loop of questions, into which it takes this function.
 #[inline(always)]
 pub fn map_file(
     fs: FileStorage,
@@ -418,7 +406,7 @@ pub fn map_file(
     if fit && in_place {
         return Ok(signed_request(request_at(
             fs,
-            offset_of(rows, k) + clamped(offset),
+            tables::offset_at(rows, k) + clamped(offset),
             clamped(i64::from(size)),
         )));
     }

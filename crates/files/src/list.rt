@@ -13,10 +13,11 @@ use tables::FileStorage;
 use types::{FileIndex, PeerRequest, Refusal};
 
 // An `i32` as a word, 0 where it is negative.
+// Stays: `types::clamped` gives 64 bits, and an answer's words have 32.
 fn word32(x: i32) -> u32
     ensures { result ≡ clamped_of x }
 {
-    u32::try_from(x).unwrap_or(0)
+    x.max(0) as u32
 }
 
 // The words of an answer.

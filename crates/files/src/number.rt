@@ -7,8 +7,8 @@ use types::FileIndex;
 
 // The 64 bits of a file's number: a negative one counts back from 2^64, past the files of every set that a table of
 // rows holds.
-// Stays: `FileIndex::within` gives the number or a refusal, which `map_file` would take apart before its other tests; it
-// is to stay so small that the loop of `map_files` takes it in, where a question takes 5 ns, and 16 where it does not.
+// Stays: `FileIndex::within` gives the number or a refusal, which `map_file` would take apart before its other tests;
+// there all tests stand before the answer, and the number of a refusal is told after them.
 pub(crate) fn file_or_past(index: FileIndex) -> usize
     ensures { result ≡ of_z w64 index.0 }
 {

@@ -4,8 +4,6 @@
 // relies on `crc32c` for the running hash, on `names` for the hash of what stands before, on `answers` for the
 // refusals, and on the laws of proofs/.
 ghost use Rattle.std.specs.Prelude.{◌≡◌, [], ◌∷◌, ◌+◌, ◌-◌, ◌≤◌, ◌<◌, leb, length, take};
-ghost use Rattle.std.proofs.lemmas.List.Edits.{sets};
-ghost use Rattle.lists.specs.Lists.{part_of};
 ghost use Rattle.names.specs.Paths.{led, hash_of};
 ghost use Rattle.hashes.specs.Hashes.{beginnings, inserted, ascending, listed_of, all_path_hashes};
 ghost use Rattle.hashes.specs.private.Gathering.{above, gathered, Begun, TableHolds, WindowHolds};
@@ -16,23 +14,20 @@ use names::hash_led;
 use tables::FileStorage;
 use types::Refusal;
 
-// Puts h at place p, and moves what stands from p up to n one place on; the last falls off where there is
-// no room.
-// Stays: the last of the first n goes to the place behind them, if the table has one, and a slice of the n lacks it.
-fn push(table: &mut [u32], p: usize, n: usize, h: u32)
-    requires { (p ≤ n) × (n ≤ length table.old) }
-    ensures { table.new ≡ sets table.old p (h ∷ part_of table.old p (n - p)) }
+// Puts h before a run, whose last falls off; a run of nothing stays so.
+fn push(run: &mut [u32], h: u32)
+    ensures { run.new ≡ take (length run.old) (h ∷ run.old) }
 {
-    let end = table.len().min(n + 1);
-    if p < end {
-        table.copy_within(p..end - 1, p + 1);
-        table[p] = h;
+    if let Some(last) = run.len().checked_sub(1) {
+        run.copy_within(..last, 1);
+        run[0] = h;
     }
 }
 
 // Puts h among the first n hashes unless it is there, and gives the number of hashes after it.
-// Stays: a record of table and count would hold a `&mut`: each of its methods had to promise beside this clause that the
-// field keeps its reference, and `gather`, which alone would make one, that reference's last value; `Begun` is shorter.
+// Stays: a record of table and count would hold a `&mut`: each of its methods would have to promise beside this clause
+// that the field keeps its reference, and `gather`, which alone would make one, that reference's last value; `Begun` is
+// shorter.
 fn insert(table: &mut [u32], n: usize, h: u32) -> usize
     requires { Begun n table.old }
     ensures { TableHolds table.old (inserted h (take n table.old)) table.new result }
@@ -40,8 +35,9 @@ fn insert(table: &mut [u32], n: usize, h: u32) -> usize
     match table[..n].binary_search(&h) {
         Ok(_) => n,
         Err(p) => {
-            push(table, p, n, h);
-            table.len().min(n + 1)
+            let end = table.len().min(n + 1);
+            push(&mut table[p..end], h);
+            end
         }
     }
 }

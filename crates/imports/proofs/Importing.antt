@@ -27,8 +27,9 @@ use Rattle.renames.specs.declared.rename.RenamedFiles.{RenamedFiles}
 use Rattle.renames.specs.Renames.{Renamed, RenamesChanged, renames_of, ordered_from, in_order, lacks_room, state_of, words_of, texts_of}
 use Rattle.renames.specs.Finding.{bytes_from}
 use Rattle.renames.specs.Renames.{in_order_in}
+use Rattle.imports.specs.declared.counted.Counted.{Counted}
 use Rattle.imports.specs.Imports.{namings, list_held, imported, has_negative, import_lent}
-use Rattle.imports.specs.private.Importing.{is_listed, renames_kept, renames_given, with_all, kept_state, is_full, import_number, import_asked}
+use Rattle.imports.specs.private.Importing.{is_listed, renames_kept, renames_given, with_all, kept_state, is_full, counted_with, import_number, import_asked}
 use Rattle.imports.specs.private.Merging.{Noted, placed_from, is_noted, given_at, merged_from}
 use Rattle.renames.proofs.Ordered.{order-mode, order-bytes}
 use Rattle.renames.proofs.Deciding.{passes}
@@ -82,6 +83,10 @@ module _ (fs : FileStorage) (rf : RenamedFiles) (e t : List ℕ) (zs : List ℤ)
   abbrev comes : List Renamed
   comes = renames_given files zs lengths names
 
+  -- as both are counted
+  abbrev counting : Counted
+  counting = counted_with fs rf e zs (state_of comes)
+
   abbrev list : Bool
   list = list_held zs lengths names && few_entries fs
 
@@ -102,9 +107,9 @@ module _ (fs : FileStorage) (rf : RenamedFiles) (e t : List ℕ) (zs : List ℤ)
     final-count : (length final ≡ length stays + length comes) × (length (texts_of final) ≡ length (texts_of stays) + length (texts_of comes))
     final-count = rw final-is (with-given files zs lengths names stays (fresh_kept files zs rs))
 
-    room-is : lacks_room final e t ≡ is_full (length e) (length t) (kept_state named rf e) (state_of comes)
+    room-is : lacks_room final e t ≡ is_full (length e) (length t) counting
     room-is =
-        rw (final-count.0, final-count.1) (ap (λ (s : RenamedFiles). is_full (length e) (length t) s (state_of comes)) (sym state-is))
+        rw (final-count.0, final-count.1) (ap (λ (s : RenamedFiles). is_full (length e) (length t) (record { stay = s; come = state_of comes })) (sym state-is))
 
   abbrev number : ℕ
   number =
@@ -116,7 +121,7 @@ module _ (fs : FileStorage) (rf : RenamedFiles) (e t : List ℕ) (zs : List ℤ)
   number_is =
       rw (
         negative-is zs lengths names,
-        same_test (in_order_in rf e (length t)) (lacks_room final e t) (is_full (length e) (length t) (kept_state named rf e) (state_of comes)) room-is,
+        same_test (in_order_in rf e (length t)) (lacks_room final e t) (is_full (length e) (length t) counting) room-is,
       )
 
   -- one refusal stops it, and a `?` leaves with it
@@ -125,15 +130,15 @@ module _ (fs : FileStorage) (rf : RenamedFiles) (e t : List ℕ) (zs : List ℤ)
       → ◌≡◌ {A = RenamesChanged} (record { says = outcome r; entries = e; text = t }) (import_lent fs rf e t zs lengths names)
   import-refused r x i h =
       let n = import_number fs rf e (length t) zs list (state_of comes) in
-      let d = denied n (kept_state named rf e) (eqb n 0) (number_of x) h in
+      let d = denied n counting (eqb n 0) (number_of x) h in
       rw (exit r x i, number_is, d.0, d.1)
 
   -- none does: what stays is known, and the names that come have room
-  module _ (st : RenamedFiles) (h : value st ≡ import_asked fs rf e (length t) zs list (state_of comes)) where
+  module _ (st : Counted) (h : value st ≡ import_asked fs rf e (length t) zs list (state_of comes)) where
     known : (eqb (import_number fs rf e (length t) zs list (state_of comes)) 0 ≡ true) × (in_order_in rf e (length t) ≡ true)
-        × (is_full (length e) (length t) (kept_state named rf e) (state_of comes) ≡ false) × (st ≡ kept_state named rf e)
+        × (is_full (length e) (length t) counting ≡ false) × (st ≡ counting)
     known =
-        five-passed (bad_length fs.piece_length) (any is_negative zs) list (in_order_in rf e (length t)) (is_full (length e) (length t) (kept_state named rf e) (state_of comes)) st (kept_state named rf e) h
+        five-passed (bad_length fs.piece_length) (any is_negative zs) list (in_order_in rf e (length t)) (is_full (length e) (length t) counting) st counting h
 
     pub import-in : (rf.num_renames * 3 ≤ length e) × (bytes_from rf.num_renames 0 e ≤ length t)
     import-in = let s = stay-in named rf e (length t) known.1 in (s.0, s.1)
@@ -148,18 +153,15 @@ module _ (fs : FileStorage) (rf : RenamedFiles) (e t : List ℕ) (zs : List ℤ)
     pub import-held : (list_held zs lengths names ≡ true) × (few_entries fs ≡ true)
     import-held =
         both_true (list_held zs lengths names) (few_entries fs)
-        (five-held (bad_length fs.piece_length) (any is_negative zs) list (in_order_in rf e (length t)) (is_full (length e) (length t) (kept_state named rf e) (state_of comes)) st (kept_state named rf e) h)
+        (five-held (bad_length fs.piece_length) (any is_negative zs) list (in_order_in rf e (length t)) (is_full (length e) (length t) counting) st counting h)
 
     -- there is a cell for each file
     pub import-files : min files 65536 ≡ files
     import-files = few-files fs import-held.1
 
-    module _ (l p : List ℕ) (noted : Noted files zs l) (places : p ≡ placed_from 0 zs lengths (replicate files 0)) (come : RenamedFiles) (came : come ≡ state_of (renames_given (length l) zs lengths names)) where
+    module _ (l p : List ℕ) (noted : Noted files zs l) (places : p ≡ placed_from 0 zs lengths (replicate files 0)) where
       size : length l ≡ files
       size = noted-length files zs l noted
-
-      q : come ≡ state_of comes
-      q = came ∙ ap (λ (n : ℕ). state_of (renames_given n zs lengths names)) size
 
       abbrev all : List Renamed
       all =
@@ -171,24 +173,25 @@ module _ (fs : FileStorage) (rf : RenamedFiles) (e t : List ℕ) (zs : List ℤ)
           ∙ ap (λ (f : ℕ → Bool). merged_from f (given_at l p lengths names) files 0 (renames_kept f rs)) (noted-named files zs l noted)
           ∙ merged-is files zs lengths names l p rs noted places (rises-read rf.num_renames 0 0 rf.text_len e t (in_order_lem known.1))
 
-      sums : (st.num_renames + come.num_renames ≡ length final) × (st.text_len + come.text_len ≡ length (texts_of final))
+      sums : (st.stay.num_renames + st.come.num_renames ≡ length final) × (st.stay.text_len + st.come.text_len ≡ length (texts_of final))
       sums =
           let c = final-count known.1 in
-          let s : st ≡ state_of stays = known.3 ∙ state-is known.1 in
-          rw (s, q) (sym c.0, sym c.1)
+          let s : st ≡ record { stay = state_of stays; come = state_of comes } =
+          known.3 ∙ ap (λ (r : RenamedFiles). record { stay = r; come = state_of comes }) (state-is known.1) in
+          rw s (sym c.0, sym c.1)
 
       pub import-ready : (rf.num_renames * 3 ≤ length e) × (bytes_from rf.num_renames 0 e ≤ length t)
           × ((j : ℕ) → 0 ≤ j → j < 0 + rf.num_renames → get_or e (j * 3 + 1) 0 ≤ 2)
-          × (st ≡ kept_state (is_noted l) rf e)
-          × ((st.num_renames + come.num_renames) * 3 ≤ length e)
-          × (st.text_len + come.text_len ≤ length t)
-          × (length all ≡ st.num_renames + come.num_renames)
-          × (length (texts_of all) ≡ st.text_len + come.text_len)
+          × (st.stay ≡ kept_state (is_noted l) rf e)
+          × ((st.stay.num_renames + st.come.num_renames) * 3 ≤ length e)
+          × (st.stay.text_len + st.come.text_len ≤ length t)
+          × (length all ≡ st.stay.num_renames + st.come.num_renames)
+          × (length (texts_of all) ≡ st.stay.text_len + st.come.text_len)
       import-ready = (
         import-in.0,
         import-in.1,
         λ j a b. order-mode rf.num_renames 0 0 rf.text_len e (in_order_lem known.1) j a b,
-        known.3 ∙ ap (λ (f : ℕ → Bool). kept_state f rf e) (sym (noted-named files zs l noted)),
+        ap (λ (c : Counted). c.stay) known.3 ∙ ap (λ (f : ℕ → Bool). kept_state f rf e) (sym (noted-named files zs l noted)),
         omega (arith, sums.0, final-room.0),
         omega (arith, sums.1, final-room.1),
         rw all-is (sym sums.0),
@@ -197,7 +200,7 @@ module _ (fs : FileStorage) (rf : RenamedFiles) (e t : List ℕ) (zs : List ℤ)
 
       pub import-changed : (e' t' : List ℕ) → e' ≡ sets e 0 (words_of all) → t' ≡ sets t 0 (texts_of all)
           → ◌≡◌ {A = RenamesChanged}
-          (record { says = value (record { num_renames = st.num_renames + come.num_renames; text_len = st.text_len + come.text_len }); entries = e'; text = t' })
+          (record { says = value (record { num_renames = st.stay.num_renames + st.come.num_renames; text_len = st.stay.text_len + st.come.text_len }); entries = e'; text = t' })
           (import_lent fs rf e t zs lengths names)
       import-changed e' t' b c =
           let x : e' ≡ sets e 0 (words_of final) = b ∙ ap (λ (r : List Renamed). sets e 0 (words_of r)) all-is in

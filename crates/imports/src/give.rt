@@ -1,4 +1,5 @@
-// How many names a list gives, and how many bytes they have. Relies on notes.rt.
+// How many names a list gives, and how many bytes they have. Relies on notes.rt and on the laws of
+// proofs/Counting.antt.
 ghost use Rattle.std.specs.Prelude.{◌≡◌, ◌≤◌, length};
 ghost use Rattle.renames.specs.Renames.{state_of};
 ghost use Rattle.imports.specs.private.Importing.{renames_given};

@@ -1,15 +1,16 @@
 // `import_filenames`: names for many files at once, decided first and written after, in time linear in the list, the
-// entries and the files. Two notes for each file take 1 MiB of the stack. Relies on `renames` for the order of
-// the tables, on keep.rt, give.rt and merge.rt for what is kept and what is given, and on the laws of
-// proofs/Importing.antt.
-ghost use Rattle.std.specs.Prelude.{◌≡◌, ◌&&◌, ◌/◌, ◌≤◌, length, min};
+// entries and the files. Two notes for each file take 1 MiB of the stack. Relies on `renames` for the order of the
+// tables, on `rules` for the refusals in order, on the files beside it for the notes, the counts and the writing, and on
+// the laws of proofs/Importing.antt, proofs/Noting.antt, proofs/Keeping.antt and proofs/Used.antt of `renames`.
+ghost use Rattle.std.specs.Prelude.{◌≡◌, ◌&&◌, length, min};
 ghost use Rattle.types.specs.Refusals.{outcome};
 ghost use Rattle.rules.specs.Questions.{few_entries};
 ghost use Rattle.renames.specs.Renames.{renames_changed_of, state_of};
 ghost use Rattle.imports.specs.Imports.{list_held, import_lent};
-ghost use Rattle.imports.specs.private.Importing.{renames_given, is_full, import_asked};
+ghost use Rattle.imports.specs.private.Importing.{renames_given, import_asked};
 ghost use Rattle.imports.specs.private.Merging.{Noted};
 
+use crate::counted::Counted;
 use crate::give::count_given;
 use crate::keep::count_kept;
 use crate::listed::{NameList, has_negative, is_list_held};
@@ -20,21 +21,13 @@ use rules::Tests;
 use tables::FileStorage;
 use types::Refusal;
 
-// Whether tables of `words` words and `room` bytes are too short for the renames that `stay` and `come` count.
-fn is_full(words: usize, room: usize, stay: RenamedFiles, come: RenamedFiles) -> bool
-    requires { (stay.num_renames ≤ words / 3) × (stay.text_len ≤ room) }
-    ensures { result ≡ is_full words room stay come }
-{
-    words / 3 - stay.num_renames < come.num_renames || room - stay.text_len < come.text_len
-}
-
-// The record of the renames that are kept, or why the list is refused.
+// The records of the renames that are kept and of the names that are given, or why the list is refused.
 fn decide(
     fs: FileStorage,
     held: LentRenames<'_>,
     list: NameList<'_>,
     notes: &[u64],
-) -> Result<RenamedFiles, Refusal>
+) -> Result<Counted, Refusal>
     requires { Noted (length notes.now) list.numbers.now notes.now × (length notes.now ≡ min fs.num_files 65536) }
     ensures { outcome result ≡ import_asked fs held.entry.renames held.entry.entries.now
         (length held.entry.text.now) list.entry.numbers.now
@@ -47,15 +40,17 @@ fn decide(
         ..Tests::of_set(fs, is_list_held(list))
     }
     .first_refusal()?;
+    // Stays: as in change.rt of `renames`.
     if !held.is_in_order() {
         return Err(Refusal::NoRoom);
     }
     let stay = count_kept(&held.entries[..held.renames.num_renames * 3], notes);
     let come = count_given(list, notes);
-    if is_full(held.entries.len(), held.text.len(), stay, come) {
+    let counted = Counted { stay, come };
+    if counted.is_full(held) {
         return Err(Refusal::NoRoom);
     }
-    Ok(stay)
+    Ok(counted)
 }
 
 // Records other paths for many files, or why not: file `numbers[i]` gets the name of `lengths[i]` bytes, the names
@@ -84,24 +79,16 @@ pub fn import_filenames(
         lengths,
         names,
     };
-    let held = LentRenames {
-        renames,
-        entries: rename_entries,
-        text: rename_text,
-    };
-    let stay = decide(fs, held, list, notes)?;
+    let held = LentRenames::new(renames, rename_entries, rename_text);
+    let counted = decide(fs, held, list, notes)?;
     let mut cells = [0u64; 65536];
     let places = &mut cells[..files];
     note_places(places, numbers, lengths);
-    let come = count_given(list, notes);
     let noted = NotedList {
         lent: list,
         notes,
         places,
     };
-    give(renames, stay, come, rename_entries, rename_text, noted);
-    Ok(RenamedFiles {
-        num_renames: stay.num_renames + come.num_renames,
-        text_len: stay.text_len + come.text_len,
-    })
+    give(renames, counted, rename_entries, rename_text, noted);
+    Ok(counted.total())
 }

@@ -1,5 +1,5 @@
 // The renames that are kept when a list of names is imported: counting them, and moving them together in both
-// tables. Relies on notes.rt and on the laws of proofs/Keeping.antt.
+// tables. Relies on notes.rt and on the laws of proofs/Keeping.antt and, of `renames`, proofs/Chunks.antt.
 ghost use Rattle.std.specs.Prelude.{◌≡◌, ◌/◌, ◌≤◌, ◌<◌, ◌^◌, length};
 ghost use Rattle.std.proofs.lemmas.List.Edits.{sets};
 ghost use Rattle.renames.specs.Renames.{renames_from, texts_of};
@@ -11,8 +11,8 @@ use crate::notes::is_noted;
 use renames::RenamedFiles;
 
 // The record of those of the renames in use that are kept.
-// Stays: that the lengths sum to less than 2^64 is asked here and in two functions of `renames`, each of which sums some
-// of them; a type of entries with that bound would be made in each caller from the test that the tables are in order.
+// Stays: that the lengths sum to less than 2^64 is asked here and in three functions of `renames`, which sum some of
+// them; a type of entries with that bound would be made in each caller from the test that the tables are in order.
 #[tactic(auto, using(crate::proofs::Keeping::counting))]
 pub(crate) fn count_kept(entries: &[u64], notes: &[u64]) -> RenamedFiles
     requires { bytes_from (length entries.now / 3) 0 entries.now < 2 ^ 64 }

@@ -1,5 +1,5 @@
-// Whether a lent list of names is whole, and whether one of its numbers is below 0. Relies on the laws of `lists` for
-// scans and sums.
+// Whether a lent list of names is whole, and whether one of its numbers is below 0. Relies on the law of `lists` for
+// sums taken off (proofs/Takings.antt).
 ghost use Rattle.std.specs.Prelude.{◌≡◌, leb};
 ghost use Rattle.lists.specs.Lists.{any, sum};
 ghost use Rattle.rules.specs.Bounds.{is_negative};

@@ -1,7 +1,9 @@
 // The names of a list and the renames that are kept, brought together: the kept ones stand at the end of the room that
 // all need, and the files are gone through in order, so that nothing unread is overwritten. Relies on keep.rt for
-// moving, on notes.rt for the names and on the laws of proofs/Merging.antt.
-ghost use Rattle.std.specs.Prelude.{◌≡◌, true, [], ◌∷◌, ℕ, ◌+◌, ◌-◌, ◌*◌, ◌/◌, ◌≤◌, ◌<◌, length, get_or};
+// moving and on the laws of proofs/Merging.antt, proofs/Raising.antt, proofs/Keeping.antt and, of `renames`,
+// proofs/Splices.antt and proofs/Used.antt.
+ghost use Rattle.std.specs.Prelude.{◌≡◌, true, false, [], ◌∷◌, ℕ, ◌+◌, ◌-◌, ◌*◌, ◌/◌, ◌≤◌, ◌<◌, length, get_or};
+ghost use Rattle.std.specs.Prelude.{MatchOption};
 ghost use Rattle.std.proofs.lemmas.List.Edits.{sets};
 ghost use Rattle.lists.specs.Lists.{part_of};
 ghost use Rattle.renames.specs.Renames.{renames_of, words_of, texts_of};
@@ -11,9 +13,9 @@ ghost use Rattle.imports.specs.private.Merging.{kept_in};
 ghost use Rattle.imports.specs.private.Listed.{named_in, given_in, merged_with};
 ghost use Rattle.imports.specs.private.Merging.{step_words, step_text, after_given, after_kept, step_place};
 
+use crate::counted::Counted;
 use crate::keep::{keep_entries, keep_texts};
 use crate::listed::NameList;
-use crate::notes::is_noted;
 use renames::{RenameMode, RenamedFiles, is_named};
 
 // The next free entry and the next free byte, and the next entry that is kept and where its text begins.
@@ -36,17 +38,16 @@ pub(crate) struct NotedList<'a> {
     pub places: &'a [u64],
 }
 
-// The name that is noted for a file.
-fn name_of<'a>(list: NotedList<'a>, file: usize) -> &'a [u8]
-    ensures { result.now ≡ (given_in list.entry file).name }
+// The name that is noted for a file, if there is one.
+fn name_of<'a>(list: NotedList<'a>, file: usize) -> Option<&'a [u8]>
+    ensures { MatchOption result
+        (named_in list.entry file ≡ false)
+        (λ name. (named_in list.entry file ≡ true) × (name.now ≡ (given_in list.entry file).name)) }
 {
-    let i = (lists::item_or(list.notes, file, 0) as usize).saturating_sub(1);
+    let i = (lists::item_or(list.notes, file, 0) as usize).checked_sub(1)?;
     let at = lists::item_or(list.places, file, 0) as usize;
-    lists::part(
-        list.lent.names,
-        at,
-        lists::item_or(list.lent.lengths, i, 0) as usize,
-    )
+    let len = lists::item_or(list.lent.lengths, i, 0) as usize;
+    Some(lists::part(list.lent.names, at, len))
 }
 
 // Writes a name that is given to a file, and gives the place after it.
@@ -138,8 +139,8 @@ fn put_file(
         p.from
         (get_or entries.old (p.next * 3 + 2) 0)) }
 {
-    if is_noted(list.notes, file as u64) {
-        return put_given(entries, text, p, file, name_of(list, file));
+    if let Some(name) = name_of(list, file) {
+        return put_given(entries, text, p, file, name);
     }
     if is_named(entries, entries.len() / 3, file as u64, p.next) {
         return put_kept(entries, text, p);
@@ -183,13 +184,11 @@ fn merge(entries: &mut [u64], text: &mut [u8], come: RenamedFiles, list: NotedLi
     }
 }
 
-// Puts the names that a list gives to the renames that are kept. `stay` counts those that are kept, `come` those that
-// the list gives; there is room for all of them.
+// Puts the names that a list gives to the renames that are kept; there is room for all that are counted.
 #[tactic(auto, using(renames::proofs::Used::in_use))]
 pub(crate) fn give(
     renames: RenamedFiles,
-    stay: RenamedFiles,
-    come: RenamedFiles,
+    counted: Counted,
     entries: &mut [u64],
     text: &mut [u8],
     list: NotedList<'_>,
@@ -197,13 +196,13 @@ pub(crate) fn give(
     requires { (renames.num_renames * 3 ≤ length entries.old)
         × (bytes_from renames.num_renames 0 entries.old ≤ length text.old)
         × ((j : ℕ) → 0 ≤ j → j < 0 + renames.num_renames → get_or entries.old (j * 3 + 1) 0 ≤ 2)
-        × (stay ≡ kept_state (named_in list) renames entries.old)
-        × ((stay.num_renames + come.num_renames) * 3 ≤ length entries.old)
-        × (stay.text_len + come.text_len ≤ length text.old)
+        × (counted.stay ≡ kept_state (named_in list) renames entries.old)
+        × ((counted.stay.num_renames + counted.come.num_renames) * 3 ≤ length entries.old)
+        × (counted.stay.text_len + counted.come.text_len ≤ length text.old)
         × (length (merged_with list (renames_kept (named_in list) (renames_of renames entries.old text.old)))
-        ≡ stay.num_renames + come.num_renames)
+        ≡ counted.stay.num_renames + counted.come.num_renames)
         × (length (texts_of (merged_with list (renames_kept (named_in list) (renames_of renames entries.old text.old))))
-        ≡ stay.text_len + come.text_len) }
+        ≡ counted.stay.text_len + counted.come.text_len) }
     ensures entries_after { entries.new
         ≡ sets entries.old 0
         (words_of
@@ -215,7 +214,8 @@ pub(crate) fn give(
         (merged_with list.entry
         (renames_kept (named_in list.entry) (renames_of renames entries.old text.old)))) }
 {
-    let total = stay.num_renames + come.num_renames;
+    let Counted { stay, come } = counted;
+    let total = counted.total().num_renames;
     keep_texts(text, &entries[..renames.num_renames * 3], list.notes);
     keep_entries(&mut entries[..renames.num_renames * 3], list.notes);
     text.copy_within(..stay.text_len, come.text_len);

@@ -7,8 +7,8 @@ ghost use Rattle.rules.specs.Bounds.{max_pieces};
 ghost use Rattle.rules.specs.Questions.{num_pieces, answered, bad_piece_length, many_pieces, short, few_entries};
 ghost use Rattle.rules.specs.Questions.{rows_are_held, piece_answer};
 ghost use Rattle.rules.specs.Results.{piece_says, file_says, piece_range_says, file_range_says};
-ghost use Rattle.layout.specs.Pieces.{less_one, piece_size2};
-ghost use Rattle.layout.specs.private.Deciding.{asked_says};
+ghost use Rattle.layout.specs.Pieces.{piece_size2};
+ghost use Rattle.layout.specs.private.Asked.{asked_says};
 ghost use Rattle.layout.specs.Given.{num_pieces_given, last_piece_given, piece_range_given, file_range_given};
 ghost use Rattle.layout.specs.Given.{piece_size_given, piece_size2_given};
 ghost use Rattle.layout.specs.Given.{blocks_in_piece2_given, blocks_per_piece_given};
@@ -19,26 +19,17 @@ use crate::search::{file_of, find_near_within, partition_point};
 use crate::window::Window;
 use lists::div_ceil;
 use rules::{
-    DEFAULT_BLOCK_SIZE, Tests, ask_piece, ask_pieces, ask_set, count_pieces, holds_rows,
-    is_bad_offset,
+    DEFAULT_BLOCK_SIZE, Tests, ask_pieces, ask_set, count_pieces, holds_rows, is_bad_offset,
 };
 use tables::FileStorage;
 use types::{FileIndex, FileIndexRange, PieceIndex, PieceIndexRange, Refusal, clamped};
 
-// The last of n pieces, −1 for 0.
-fn last_of(n: u64) -> PieceIndex
-    requires { n ≤ max_pieces }
-    ensures { result.0 ≡ less_one n }
-{
-    n.checked_sub(1).map_or(PieceIndex::none(), PieceIndex::new)
-}
-
 // The piece that a question is about, or its refusal; `held` says whether the rows that it reads are there.
 fn piece_in(fs: FileStorage, piece: PieceIndex, held: bool) -> Result<AskedPiece, Refusal>
     ensures answer { asked_says result ≡ piece_answer fs piece.0 held (λ p. p) }
-    ensures known { IfOk result (λ a. (a.fs ≡ fs) × (0 < fs.piece_length) × (fs.piece_length ≤ 2147483647)) }
+    ensures same { IfOk result (λ a. a.fs ≡ fs) }
 {
-    ask_piece(fs, piece, held)?;
+    Tests::of_piece(fs, piece, held).first_refusal()?;
     Ok(AskedPiece {
         fs,
         p: piece.get() as u32,
@@ -51,7 +42,7 @@ fn piece_in(fs: FileStorage, piece: PieceIndex, held: bool) -> Result<AskedPiece
 fn size2_of(asked: AskedPiece, rows: &[u64], window: Window) -> u64
     requires { asked.fs.num_files ≤ length rows.now / 8 }
     ensures value { result ≡ piece_size2 asked.fs rows.now window asked.p }
-    ensures low { 0 < asked.fs.piece_length → result ≤ asked.fs.piece_length }
+    ensures low { result ≤ 2147483647 }
 {
     let files = asked.fs.num_files;
     let start = asked.start();
@@ -100,7 +91,7 @@ pub fn num_pieces(fs: FileStorage) -> Result<i32, Refusal>
 pub fn last_piece(fs: FileStorage) -> Result<PieceIndex, Refusal>
     ensures { piece_says result ≡ last_piece_given fs }
 {
-    Ok(last_of(pieces_asked(fs)?))
+    Ok(PieceIndex::last_of(pieces_asked(fs)?))
 }
 
 // All pieces.

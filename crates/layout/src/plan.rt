@@ -17,7 +17,8 @@ pub struct Plan {
 }
 
 // The plan for a block of a piece, into a table with `room` places.
-// Stays: `room` counts places of the table of slices, and not rows; the others are those of `map_block`, passed on.
+// Stays: `room` counts places of the table of slices, and not rows; piece, offset and size are no record, as
+// `start_block` says.
 #[tactic(auto, using(crate::proofs::Starts::planning))]
 pub fn plan_block(
     fs: FileStorage,

@@ -1,7 +1,7 @@
 // The file at an offset, by halving over the rows' offsets: over all rows, or first over those of a window, of which
 // the first four are looked at one by one. Each search is lent the rows in use and no others, so that their count is
 // that of the slice. It relies on `tables` for the offsets and on the laws of proofs/Halving.antt, proofs/Levels.antt,
-// proofs/Near.antt and proofs/Front.antt.
+// proofs/Near.antt, proofs/Front.antt and proofs/Starting.antt.
 ghost use Rattle.std.specs.Prelude.{◌≡◌, ◌+◌, ◌-◌, ◌/◌, ◌%◌, ◌^◌, ◌<◌, ◌≤◌};
 ghost use Rattle.std.specs.Prelude.{length, if◌then◌else◌, cond, nat_le, slice_index, IfSome, unwrap_or};
 ghost use Rattle.layout.specs.Search.{partition_point, file_found, first_with, found_far, has_byte, found_within};
@@ -12,8 +12,8 @@ use crate::window::Window;
 use tables::{FileStorage, SIZE_RANGE};
 
 // `step` words on, where the offset there is at or before the target.
-// The offset is taken from its word here: `tables::offset_at`, which answers 0 past the end, tests for the row, and
-// that test would stand in each step.
+// Stays: the offset is taken from its word, at a place that counts words: `tables::offset_at` takes a row's number, which
+// would be made by a division, and tests for the row again, both in each step of the search.
 fn past(rows: &[u64], target: u64, at: usize, step: usize) -> usize
     requires { at + step < length rows.now }
     ensures { result ≡ (if nat_le (slice_index rows.now (at + step) % 2 ^ 48) target then at + step else at) }
@@ -97,8 +97,9 @@ pub(crate) fn find_near(rows: &[u64], target: u64) -> usize
     find(rows, target)
 }
 
-// Whether file k has the byte at the target: the difference begins anew below 0, and is then past every size. Offset
-// and size are taken from their words, as in `past`: the row is known to be there.
+// Whether file k has the byte at the target: the difference begins anew below 0, and is then past every size.
+// Stays: offset and size are taken from their words, as in `past`: `tables::offset_at` and `size_at` test for the row
+// again.
 fn has_byte(rows: &[u64], k: usize, target: u64) -> bool
     requires { k < length rows.now / 8 }
     ensures { result ≡ has_byte rows.now k target }
@@ -120,9 +121,10 @@ fn first_with(rows: &[u64], from: usize, to: usize, target: u64) -> Option<usize
 
 // The file found at the target by halving over a window's rows, if it has the byte there; else the one found among all.
 // The first search sees nothing before the rows that it is lent.
-// Stays: rows and target go side by side, here and above. Tried, a record of the two with these functions as methods:
-// `file_index_at_offset` with a table of first files takes 19.3 ns in a set of 1,000 files, and so 15.1; a record with
-// the window would be made for one call.
+// Stays: rows and target go side by side, here, above and below. Tried, a record of the two with these functions as
+// methods: `file_index_at_offset` with a table of first files takes 19.3 ns in a set of 1,000 files, and so 15.1; on 10
+// files it is behind the Rust's as it is (docs/BENCHMARKS.md). A record with the window would be made in `file_of`,
+// `find_near_within` and `partition_point`, each for its call of `find_within`, which passes it on to `find_far` alone.
 #[tactic(auto, using(crate::proofs::Front::found_among, crate::proofs::Halving::found_below))]
 fn find_far(rows: &[u64], window: Window, target: u64) -> usize
     requires { (window.low < window.high) × (window.high ≤ length rows.now / 8) }

@@ -12,6 +12,7 @@ use tables::FileStorage;
 use types::{PieceIndex, Refusal, clamped};
 
 // Where the bytes still to map begin: place `skip` of file `file` of `files`; `left` is how many they are.
+// Stays: `files` goes with the place and not with the rows: callers hold the whole table, also one longer than the set.
 #[derive(Clone, Copy)]
 pub struct Cursor {
     pub file: usize,
@@ -39,7 +40,8 @@ pub fn has_room(rows: &[u64], at: Cursor, room: usize) -> bool
 }
 
 // The start of a block of a piece.
-// Stays: the six are those of `map_block`, passed on.
+// Stays: no record of piece, offset and size: the three come from a call of document 01's, one rule tests that the piece
+// is there, another the offset and the size, and only this function reads all.
 #[tactic(auto, using(crate::proofs::Starts::starting, types::proofs::Boundary::negative_is))]
 pub fn start_block(
     fs: FileStorage,

@@ -33,8 +33,9 @@ fn first_at(firsts: &[u16], p: usize) -> usize
 }
 
 // Where the files end that can have a byte of piece p: behind the first file of the next piece, or with the last file.
-// Stays: here and below: four private functions of two crates are told that the piece length was tested, and each takes
-// the set, which holds it; a second record with a tested length would have to be made from the set for each of them.
+// Stays: here and below: five private functions of three crates are told that the piece length was tested: this one and
+// `window_at`, plan's `lacks_places` and `is_full`, and `pad_after` of additions. All but the last take the set, which
+// holds it; a second record with a tested length would have to be made from the set for each of them.
 fn high_of(fs: FileStorage, firsts: &[u16], p: usize) -> usize
     requires { (p < max_pieces) × (bad_length fs.piece_length ≡ false) }
     ensures { result ≡ high_of fs firsts.now p }
@@ -70,5 +71,5 @@ pub fn window_for(fs: FileStorage, firsts: &[u16], piece: PieceIndex, offset: i6
         return no_window();
     }
     let more = lists::div(clamped(offset), fs.piece_length);
-    window_at(fs, firsts, clamped(i64::from(piece.0)) + more)
+    window_at(fs, firsts, piece.get() as u64 + more)
 }

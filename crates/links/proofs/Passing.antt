@@ -3,7 +3,7 @@
 -- on the laws of `lookup` about rows.
 use Prim.Native.Nat.{ℕ, zero, suc, ◌+◌, ◌-◌, ◌<◌, ◌≤◌}
 use mathlib.Core.Path.{◌≡◌, refl, sym, ap, subst, ◌∙◌}
-use mathlib.Core.Bool.{true, false, cond}
+use mathlib.Core.Bool.{true, false}
 use mathlib.Core.List.{List, [], ◌∷◌}
 use mathlib.Core.Logic.{⊎_elim}
 use native.Mathlib.Omega.{arith}
@@ -19,7 +19,7 @@ use Rattle.lookup.specs.Lookup.{Entry, is_flagged, entries_of}
 use Rattle.lookup.specs.private.Rows.{entry_at, entries_from}
 use Rattle.lookup.proofs.Rows.{flagged-at, entries-cons, entries_none, entries-start}
 use Rattle.links.specs.declared.flagged.Links.{Links}
-use Rattle.links.specs.private.Walking.{NoneBetween, Passed, Passes}
+use Rattle.links.specs.Flagged.{NoneBetween, Passed, Passes, links_from, links_left}
 
 -- from place i to place j, past files that are no flagged links
 module _ (rows : List ℕ) (n : ℕ) (P : ℕ → Type 0) (step : (i : ℕ) → i < n → is_flagged (row_at rows i).flags ≡ false → P i → P (i + 1)) where
@@ -86,13 +86,6 @@ module _ {s : Store} {it : Links} {P : List Entry → ℕ → Type 0} (past : (f
       (le-or-lt it.i n)
 
 -- ---- as a list
-
-abbrev pub links_from : List ℕ → ℕ → ℕ → ℕ → List (ℕ × ℕ)
-links_from rows zero i k = []
-links_from rows (suc n) i k = cond (is_flagged (row_at rows i).flags) ((k, i) ∷ links_from rows n (i + 1) (k + 1)) (links_from rows n (i + 1) k)
-
-abbrev pub links_left : Links → List (ℕ × ℕ)
-links_left it = links_from it.rows.now (it.num_files - it.i) it.i it.k
 
 module _ (rows : List ℕ) (n i k : ℕ) where
   list-none : n ≤ i → links_from rows (n - i) i k ≡ []

@@ -18,7 +18,7 @@ use Rattle.lookup.specs.Lookup.{Entry, own_path, is_flagged}
 use Rattle.lookup.specs.Space.{directory_length, space}
 use Rattle.lookup.specs.private.Rows.{entry_at, entries_from}
 use Rattle.lookup.proofs.Rows.{flagged-at}
-use Rattle.links.proofs.Passing.{links_from}
+use Rattle.links.specs.Flagged.{links_from}
 use Rattle.links.specs.Clean.{Link, none, to, lead_at, without_link}
 use Rattle.links.specs.private.Walking.{any_at, but_later, leading, lead_mark, lead_text, open_link, open_of, untraversed}
 

@@ -1,16 +1,16 @@
 // The flagged links of a set one after another, each with the number of its mark. They rely on `lookup`.
 ghost use Rattle.std.specs.Prelude.{◌≡◌, ◌-◌, ◌≤◌};
 ghost use Rattle.std.specs.Iterator.{at_most};
-ghost use Rattle.links.specs.private.Walking.{Passes};
+ghost use Rattle.links.specs.Flagged.{Passes};
 
 use lookup::is_link;
 use tables::{FileStorage, LentSet};
 
 // The flagged links from file i on, of which the first has mark k.
 // Stays: `filter` and `zip` over the numbers of files would do, but no function can hand such a chain out, since Rattle
-// has no `impl Trait` as a result.
+// has no `impl Trait` as a result. `num_files` may pass the table's end, where no slice of so many rows can be lent.
 #[derive(Drop)]
-pub(crate) struct Links<'a> {
+pub struct Links<'a> {
     rows: &'a [u64],
     num_files: usize,
     i: usize,
@@ -19,7 +19,7 @@ pub(crate) struct Links<'a> {
 
 impl<'a> Links<'a> {
     // All of a set.
-    pub(crate) fn all(the_set: LentSet<'a>) -> Links<'a>
+    pub fn all(the_set: LentSet<'a>) -> Links<'a>
         ensures { result
             ≡ record { rows = the_set.entry.lent.rows; num_files = the_set.entry.fs.num_files; i = 0; k = 0 } }
     {

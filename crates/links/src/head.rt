@@ -66,7 +66,9 @@ impl Front<'_> {
         }
     }
 
-    // Whether it is the internal path of file i.
+    // Whether it is the internal path of file i. It is taken into the scan over the files that calls it, and with it the
+    // test of the file's name, by which most files are passed; what compares a whole path is a call of its own.
+    #[inline(always)]
     #[tactic(auto, using(rope::proofs::Fronting::front_is))]
     pub(crate) fn is_own(self, i: usize) -> bool
         ensures { result

@@ -1,6 +1,6 @@
 // Which links' texts a cleaning keeps, from `sanitize_symlinks` of file_storage.rs: a verdict for each flagged link,
-// with all that is lent untouched. Relies on `lookup` for what stands at a path and on `rope` for the path of a walk;
-// what a walk must remember stands in local arrays.
+// with nothing that is lent written but the marks. Relies on `lookup` for what stands at a path and on `rope` for the
+// path of a walk; what a walk must remember stands in local arrays.
 #![tactic(auto)]
 
 mod cut;
@@ -14,5 +14,6 @@ mod resolve;
 mod scan;
 mod second;
 
+pub use flagged::Links;
 pub use judge::{judge_links, links_to_judge};
 pub use mark::{LinkVerdict, verdict_in};

@@ -1,15 +1,18 @@
 // The marks of flagged links: what becomes of a link's text (its verdict, m / 8) and how a walk goes through the link
-// (its lead, m % 8), read and written one at a time. They rely on `lists` and the laws of proofs/Packed.antt.
+// (its lead, m % 8), read and written one at a time; all leads are reopened at once. They rely on `lists` and the laws
+// of proofs/Packed.antt.
 ghost use Rattle.std.specs.Prelude.{◌≡◌, map, ◌+◌, ◌*◌, ◌<◌, get_or, set};
 ghost use Rattle.links.specs.Judging.{verdict_read};
+ghost use Rattle.links.specs.private.Verdicts.{verdict_number};
 ghost use Rattle.links.specs.private.Walking.{lead, verdict, untraversed};
 
-// A link's text stays, becomes the link's own internal path, or becomes the text from the link's directory.
+// A link's text stays, becomes the link's own internal path, or becomes the text from the link's directory. Marks hold
+// the variant's number; any other number is read as `FromDirectory`.
 #[derive(Clone, Copy, PartialEq, Eq)]
 pub enum LinkVerdict {
-    Keep,
-    OwnPath,
-    FromDirectory,
+    Keep = 0,
+    OwnPath = 1,
+    FromDirectory = 2,
 }
 
 // The verdict that a number is read as.
@@ -18,24 +21,17 @@ impl From<u8> for LinkVerdict {
 
     fn from(number: u8) -> LinkVerdict {
         match number {
-            VERDICT_KEEP => LinkVerdict::Keep,
-            VERDICT_OWN_PATH => LinkVerdict::OwnPath,
+            0 => LinkVerdict::Keep,
+            1 => LinkVerdict::OwnPath,
             _ => LinkVerdict::FromDirectory,
         }
     }
 }
 
-// Verdicts as marks hold them; any other number is read as `FromDirectory`.
-// Stays: while links are judged, a mark's byte holds a lead beside the verdict, and there is a fourth verdict, that a
-// walk decides, which no caller sees and `LinkVerdict` has not. `judge_links` is lent one byte for each link: as a
-// record of two, the 65535 marks of a cleaning would take 64 KiB of stack more.
-pub(crate) const VERDICT_KEEP: u8 = 0;
-
-pub(crate) const VERDICT_OWN_PATH: u8 = 1;
-
-const VERDICT_FROM_DIRECTORY: u8 = 2;
-
-// The first pass's verdict where a walk decides.
+// The number that stands for a verdict in the first pass's marks where a walk decides.
+// Stays: while links are judged, a mark's byte holds a lead beside the verdict, and there is a fourth verdict, this
+// one, which no caller sees and `LinkVerdict` has not. `judge_links` is lent one byte for each link: as a record of
+// two, the 65535 marks of a cleaning would take 64 KiB of stack more.
 pub(crate) const VERDICT_WALK: u8 = 3;
 
 // Leads of links that a walk may go through: by the text as it was given, or by the text from the link's directory. 0
@@ -47,15 +43,16 @@ const LEADS_AS_GIVEN: u8 = 1;
 pub(crate) const LEADS_FROM_DIRECTORY: u8 = 2;
 
 // The marks that the first pass sets: a verdict, and a lead where a walk may go through the link.
-pub(crate) const KEEPS_TEXT: u8 = VERDICT_KEEP * 8;
+pub(crate) const KEEPS_TEXT: u8 = LinkVerdict::Keep as u8 * 8;
 
-pub(crate) const KEEPS_TEXT_AND_LEADS: u8 = VERDICT_KEEP * 8 + LEADS_AS_GIVEN;
+pub(crate) const KEEPS_TEXT_AND_LEADS: u8 = LinkVerdict::Keep as u8 * 8 + LEADS_AS_GIVEN;
 
-pub(crate) const OWN_PATH_TAKEN: u8 = VERDICT_OWN_PATH * 8;
+pub(crate) const OWN_PATH_TAKEN: u8 = LinkVerdict::OwnPath as u8 * 8;
 
-pub(crate) const FROM_DIRECTORY: u8 = VERDICT_FROM_DIRECTORY * 8;
+pub(crate) const FROM_DIRECTORY: u8 = LinkVerdict::FromDirectory as u8 * 8;
 
-pub(crate) const FROM_DIRECTORY_AND_LEADS: u8 = VERDICT_FROM_DIRECTORY * 8 + LEADS_FROM_DIRECTORY;
+pub(crate) const FROM_DIRECTORY_AND_LEADS: u8 = LinkVerdict::FromDirectory as u8 * 8
+    + LEADS_FROM_DIRECTORY;
 
 pub(crate) const WALK_DECIDES: u8 = VERDICT_WALK * 8 + LEADS_AS_GIVEN;
 
@@ -81,7 +78,7 @@ pub fn verdict_in(marks: &[u8], k: usize) -> LinkVerdict
 }
 
 // Sets the lead of mark k and keeps its verdict; past the end it does nothing.
-// Stays: a mark is one byte that holds a lead and a verdict (VERDICT_KEEP says why), so whoever writes leads has to say
+// Stays: a mark is one byte that holds a lead and a verdict (VERDICT_WALK says why), so whoever writes leads has to say
 // that the verdicts stay.
 pub(crate) fn put_lead(marks: &mut [u8], k: usize, m: u8)
     requires { m < 8 }
@@ -92,12 +89,13 @@ pub(crate) fn put_lead(marks: &mut [u8], k: usize, m: u8)
 }
 
 // Sets the verdict of mark k and keeps its lead; past the end it does nothing.
-// Stays: it copies and converts nothing: it sets the upper five bits of a byte and keeps the lower three, a lead.
-pub(crate) fn put_verdict(marks: &mut [u8], k: usize, v: u8)
-    requires { v < 32 }
-    ensures { marks.new ≡ set marks.old k (v * 8 + lead (get_or marks.old k 0)) }
+// Stays: it sets the upper five bits of a byte and keeps the lower three, a lead; a record of the two would be made of
+// the byte and turned into it again.
+pub(crate) fn put_verdict(marks: &mut [u8], k: usize, verdict: LinkVerdict)
+    ensures { marks.new ≡ set marks.old k (verdict_number verdict * 8 + lead (get_or marks.old k 0)) }
 {
-    lists::put(marks, k, v * 8 + lists::item_or(marks, k, 0) % 8);
+    let kept = lists::item_or(marks, k, 0) % 8;
+    lists::put(marks, k, verdict as u8 * 8 + kept);
 }
 
 // The lead m, untraversed.

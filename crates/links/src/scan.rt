@@ -14,8 +14,9 @@ use lookup::{Seen, seen_as};
 use tables::FileStorage;
 
 // Whether a directory of the set covers the front.
-// Stays: the set's record goes beside the front, here and below. Rope's `Path`, which has the tables, is handed on at each
-// byte and needs none of the record.
+// Stays: the set's record goes beside the front, here and below, and is no field of it: a `Front` is passed by value to
+// the test of each directory and file, and of the record only two counts are read: `num_paths` by one scan, `num_files` by
+// two.
 pub(crate) fn dir_in(fs: FileStorage, front: Front<'_>) -> bool
     ensures { result
         ≡ is_directory (directories_of (store_in fs front.entry.path.lent))
@@ -48,6 +49,8 @@ pub(crate) fn known_in(fs: FileStorage, front: Front<'_>) -> bool
 }
 
 // Whether the flagged link i leads on, by mark k, and stands at the front, traversed or not.
+// Stays: a link and its mark are the pair that `Links` gives, here and below and in second.rt; a record of the two would
+// be opened at once by each of these.
 fn is_link_at(front: Front<'_>, marks: &[u8], i: usize, k: usize) -> bool
     ensures { result
         ≡ cond (ltb 0 (get_or (map lead marks.now) k 0))
@@ -93,11 +96,5 @@ pub(crate) fn lead_mark(
     ensures result_bound { IfSome result (λ m. (0 < m) × (m ≤ 2)) }
 {
     let m = lead_at(marks, k);
-    if m == 0 || 2 < m || !front.is_own(i) {
-        return None;
-    }
-    if has_link(fs, front, marks, i + 1, k + 1) {
-        return None;
-    }
-    Some(m)
+    (0 < m && m <= 2 && front.is_own(i) && !has_link(fs, front, marks, i + 1, k + 1)).then_some(m)
 }

@@ -1,22 +1,23 @@
 // The second pass: each link whose text the first pass left to a walk is walked, and the walk decides. It relies on
-// flagged.rt, resolve.rt, mark.rt and the laws of proofs/Walks.antt, proofs/Marks.antt, proofs/Walked.antt and
-// proofs/Passing.antt.
+// flagged.rt, resolve.rt, mark.rt and the laws of proofs/Walks.antt, proofs/Marks.antt, proofs/Packed.antt,
+// proofs/Walked.antt and proofs/Passing.antt.
 ghost use Rattle.std.specs.Prelude.{◌≡◌, cond, map, ◌<◌, length, get_or, set};
-ghost use Rattle.links.specs.Judging.{verdict_keep, verdict_own_path, verdicts};
+ghost use Rattle.links.specs.declared.mark.LinkVerdict.TheVariants.{Keep, OwnPath};
+ghost use Rattle.links.specs.Judging.{verdicts};
 ghost use Rattle.links.specs.private.Walking.{verdict, first_marks_in, resolves_in, walked_mark_in, set_of};
 ghost use Rattle.links.specs.private.Walking.{Bounded, WalksFrom};
 
 use crate::flagged::Links;
 use crate::front::put_frame;
-use crate::mark::{VERDICT_KEEP, VERDICT_OWN_PATH, VERDICT_WALK, put_verdict, reopen, verdict_at};
+use crate::mark::{LinkVerdict, VERDICT_WALK, put_verdict, reopen, verdict_at};
 use crate::resolve::resolve;
 use rope::Lead;
 use tables::LentSet;
 
 // Whether the text of the flagged link i leads to a file or a directory of the set. It relies on the first pass's
 // leads, and leaves the marks as they were.
-// Stays: marks and frames are written, and the set is read; one record of all three would be lent for writing, and each
-// clause would have to say that the set's tables are as before.
+// Stays: marks and frames are written, and the set is read, here and below, and in resolve.rt; one record of all three
+// would be lent for writing, and each clause would have to say that the set's tables are as before.
 #[tactic(auto, using(crate::proofs::Marks::leads_back, crate::proofs::Packed::marks_from))]
 fn walk_link(the_set: LentSet<'_>, marks: &mut [u8], frames: &mut [u32], i: usize) -> bool
     requires { WalksFrom (set_of the_set) marks.old i (length frames.old) }
@@ -35,13 +36,13 @@ fn walk_link(the_set: LentSet<'_>, marks: &mut [u8], frames: &mut [u32], i: usiz
 
 // The verdict on a link that was walked: its text stays where the walk came to its end, else it becomes the link's own
 // path.
-fn verdict_by(resolved: bool) -> u8
-    ensures { result ≡ cond resolved verdict_keep verdict_own_path }
+fn verdict_by(resolved: bool) -> LinkVerdict
+    ensures { result ≡ cond resolved Keep OwnPath }
 {
     if resolved {
-        VERDICT_KEEP
+        LinkVerdict::Keep
     } else {
-        VERDICT_OWN_PATH
+        LinkVerdict::OwnPath
     }
 }
 
@@ -52,8 +53,7 @@ fn walk_one(the_set: LentSet<'_>, marks: &mut [u8], frames: &mut [u32], i: usize
 {
     if verdict_at(marks, k) == VERDICT_WALK {
         let resolved = walk_link(the_set, marks, frames, i);
-        let verdict = verdict_by(resolved);
-        put_verdict(marks, k, verdict);
+        put_verdict(marks, k, verdict_by(resolved));
     }
 }
 

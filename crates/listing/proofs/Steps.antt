@@ -1,15 +1,19 @@
 -- Laws of the run: what a line's numbers are bounded by, and what a line that is obeyed or refused does to the rest of the
 -- run. They rely on the laws of `sound` for additions.
 use Rattle.std.specs.Prelude.{Option, Some, None}
-use Prim.Native.Nat.{ℕ, ◌+◌, ◌-◌, ◌%◌, ◌≤◌, ◌<◌, ◌^◌}
+use Rattle.std.specs.Option.{unwrap_or}
+use Rattle.std.specs.Iterator.{AlwaysYields}
+use Rattle.std.proofs.Common.{Bor}
+use Rattle.std.proofs.lemmas.Iterator.{YieldsList}
+use Prim.Native.Nat.{ℕ, ◌+◌, ◌%◌, ◌≤◌, ◌<◌, ◌^◌}
 use mathlib.Core.Path.{◌≡◌, refl, sym, ap, subst, ◌∙◌}
 use mathlib.Core.Bool.{Bool, true, false, cond, ◌&&◌}
 use mathlib.Core.List.{List, [], ◌∷◌}
 use native.Mathlib.Omega.{arith}
 use native.Mathlib.Nat.{mod-eq_of_lt}
 use lib.Dec.{eqb, leb, ltb}
-use lib.ListN.{length, get_or, drop, replicate, length-take, length-drop, drop_of_length-le}
-use borrow.Author.Tests.{eqb-true, eqb-false, lt-ltb, le-ltb}
+use lib.ListN.{length, get_or, drop, replicate}
+use borrow.Author.Tests.{eqb-true, lt-ltb}
 use Rattle.lists.specs.Lists.{part_of, ceiling}
 use Rattle.lists.proofs.Parts.{part_length}
 use Rattle.types.specs.declared.refusal.Refusal.TheVariants.{TooManyPieces}
@@ -29,14 +33,13 @@ use Rattle.sound.specs.Sound.{Sound}
 use Rattle.sound.proofs.Added.Answer.{unindexed, adding}
 use Rattle.sound.proofs.Added.{view-added, sound-added}
 use Rattle.sound.proofs.Opened.{sound-opened, view-opened}
-use Rattle.listing_input.specs.Form.{FileEntry, lines, provided, only_if, number_in, piece_length_in, are_flags, entry_of, file_in}
-use Rattle.listing.specs.Run.{addition_of, counted, go_on, opened_as, read_as, run_from, run, places}
+use Rattle.listing_input.specs.Form.{FileEntry, provided, only_if, number_in, piece_length_in, are_flags, entry_of, file_in}
+use Rattle.listing.specs.Run.{addition_of, counted, go_on, opened_as, read_as, run_from, run_lines, run, places}
 use Rattle.listing_output.specs.Output.{Run, listed, stopped}
-use Rattle.listing_input.specs.Answers.{first_line}
 use Rattle.std.specs.Prelude.{Ok, Err}
 use Rattle.listing.specs.declared.run.Tables.{Tables}
 use Rattle.listing.specs.private.Steps.{opened_by, obeyed, counted_by, store_in, run_in, Placed}
-use Rattle.listing_input.proofs.Reading.{number_small, first-take, lines_next}
+use Rattle.listing_input.proofs.Reading.{number_small}
 
 -- a list of no elements
 pub nil_is : (l : List ℕ) → length l ≡ 0 → l ≡ []
@@ -168,61 +171,69 @@ module _ (s : Store) (p : Placed s.rows s.roots s.dirs s.text) (ok : Sound s) (p
   go-at None fs e = let z : ◌≡◌ {A = ℕ} 0 1 = cc in absurd (omega arith)
   go-at (Some f) fs e = go-added (addition_of f) (root_is f) fs e
 
--- a line is no longer than what is left of the input
-pub line_few : (input : List ℕ) (at : ℕ) → length (first_line (drop at input)) ≤ length input - at
-line_few input at =
-    let s = drop at input in
-    omega (arith, ap length (first-take s), length-take (length (first_line s)) s, length-drop at input)
-
--- the run at a place of the input: the lines before it are obeyed, their number is `line`, and what is left makes the whole
-pub record Going (input : List ℕ) (whole : Run) (at line : ℕ) (s : Store) : Type 0 where
-  pub after_line : line ≤ at
-  pub within : at ≤ length input + 1
+-- the run at a line: the lines before it are obeyed, their number is `line`, and those that are still to come make the whole
+pub record Going {I : Type 0} (steps : I → Option (Bor (List ℕ)) → I → Type 0) (whole : Run) (it : I) (line : ℕ) (s : Store) : Type 0 where
+  pub left : List (List ℕ)
+  pub yields : AlwaysYields steps (λ l. l.now) it left
+  pub after_line : line + length left ≤ 65537
   pub placed : Placed s.rows s.roots s.dirs s.text
   pub sound : Sound s
   pub unindexed : s.fs.indexed ≡ false
-  pub rest : run_from places line (view_of s) (lines (drop at input)) ≡ whole
+  pub rest : run_from places line (view_of s) left ≡ whole
 
-module _ (input : List ℕ) (whole : Run) (at line : ℕ) (s : Store) (g : Going input whole at line s) where
+-- what is to come, where a line comes or none does
+module _ {I : Type 0} (steps : I → Option (Bor (List ℕ)) → I → Type 0) (it next : I) where
+  none-left : (left : List (List ℕ)) → AlwaysYields steps (λ l. l.now) it left → steps it None next → left ≡ []
+  none-left [] y k = refl
+  none-left (l ∷ ls) y k = absurd (y.0 next k)
+
+  line-left : (x : Bor (List ℕ)) (left : List (List ℕ)) → AlwaysYields steps (λ l. l.now) it left → steps it (Some x) next
+      → (ls : List (List ℕ)) × (left ≡ x.now ∷ ls) × AlwaysYields steps (λ l. l.now) next ls
+  line-left x [] y k = absurd (y x next k)
+  line-left x (l ∷ ls) y k = let m = y.1 x next k in (ls, ap (λ (i : List ℕ). i ∷ ls) (sym m.0), m.1)
+
+module _ {I : Type 0} (steps : I → Option (Bor (List ℕ)) → I → Type 0) (whole : Run) (it : I) (line : ℕ) (s : Store)
+    (g : Going steps whole it line s) (next : I) (r : Option (Bor (List ℕ))) (step : steps it r next) where
   -- no line is left
-  pub run_ends : length input ≤ at → counted line (view_of s) ≡ whole
+  pub run_ends : r ≡ None → counted line (view_of s) ≡ whole
   unfolding run_from
-  run_ends h =
-      ap (λ (l : List ℕ). run_from places line (view_of s) (lines l)) (sym (drop_of_length-le input {i = at} h)) ∙ g.rest
+  run_ends e =
+      let n = none-left steps it next g.left g.yields (subst (λ (o : Option (Bor (List ℕ))). steps it o next) e step) in
+      ap (λ (ls : List (List ℕ)). run_from places line (view_of s) ls) (sym n) ∙ g.rest
 
-  module _ (h : at < length input) (n : ℕ) (e : n ≡ length (first_line (drop at input))) where
-    rest-next : run_from places line (view_of s) (part_of input at n ∷ lines (drop (at + n + 1) input)) ≡ whole
-    rest-next = ap (λ (l : List (List ℕ)). run_from places line (view_of s) l) (sym (lines_next input at n h e)) ∙ g.rest
+  module _ (x : Bor (List ℕ)) (e : r ≡ Some x) where
+    more : (ls : List (List ℕ)) × (g.left ≡ x.now ∷ ls) × AlwaysYields steps (λ l. l.now) next ls
+    more = line-left steps it next x g.left g.yields (subst (λ (o : Option (Bor (List ℕ))). steps it o next) e step)
 
-    module _ (read : List ℕ) (is : read ≡ part_of input at n) (t : Changed) (answers : t ≡ obeyed (file_in read) s) where
-      q : t ≡ obeyed (file_in (part_of input at n)) s
-      q = rw is at answers
+    rest-next : run_from places line (view_of s) (x.now ∷ more.0) ≡ whole
+    rest-next = ap (λ (ls : List (List ℕ)). run_from places line (view_of s) ls) (sym more.1) ∙ g.rest
 
+    pub lines-few : line + 1 ≤ 65537
+    lines-few = omega (arith, g.after_line, ap length more.1)
+
+    module _ (t : Changed) (answers : t ≡ obeyed (file_in x.now) s) where
       -- a line is refused
       pub run-stops : (k : ℕ) → t.says ≡ refused k → stopped k (line + 1) ≡ whole
-      run-stops k r =
-          let l = part_of input at n in
-          let ls = lines (drop (at + n + 1) input) in
-          stop-at s g.placed g.sound g.unindexed line l ls (file_in l) k (sym (ap (λ (x : Changed). x.says) q) ∙ r)
-          ∙ sym (next-is s g.placed g.sound g.unindexed line l ls)
+      run-stops k h =
+          stop-at s g.placed g.sound g.unindexed line x.now more.0 (file_in x.now) k (sym (ap (λ (c : Changed). c.says) answers) ∙ h)
+          ∙ sym (next-is s g.placed g.sound g.unindexed line x.now more.0)
           ∙ rest-next
 
       -- a line is obeyed
-      pub run-goes : (fs : FileStorage) → t.says ≡ value fs → Placed t.rows t.roots t.dirs t.text → Going input whole (at + n + 1) (line + 1) (new_store fs t)
-      run-goes fs r p =
-          let l = part_of input at n in
-          let ls = lines (drop (at + n + 1) input) in
-          let m = go-at s g.placed g.sound g.unindexed line l ls (file_in l) fs (sym (ap (λ (x : Changed). x.says) q) ∙ r) in
+      pub run-goes : (fs : FileStorage) → t.says ≡ value fs → Placed t.rows t.roots t.dirs t.text → Going steps whole next (line + 1) (new_store fs t)
+      run-goes fs h p =
+          let m = go-at s g.placed g.sound g.unindexed line x.now more.0 (file_in x.now) fs (sym (ap (λ (c : Changed). c.says) answers) ∙ h) in
           record {
-            after_line = omega (arith, g.after_line);
-            within = omega (arith, line_few input at);
+            left = more.0;
+            yields = more.2;
+            after_line = omega (arith, g.after_line, ap length more.1);
             placed = p;
-            sound = subst (λ (x : Changed). Sound (new_store fs x)) (sym q) m.0;
+            sound = subst (λ (c : Changed). Sound (new_store fs c)) (sym answers) m.0;
             unindexed = m.1;
             rest =
-                ap (λ (x : Changed). run_from places (line + 1) (view_of (new_store fs x)) ls) q
+                ap (λ (c : Changed). run_from places (line + 1) (view_of (new_store fs c)) more.0) answers
                 ∙ m.2
-                ∙ sym (next-is s g.placed g.sound g.unindexed line l ls)
+                ∙ sym (next-is s g.placed g.sound g.unindexed line x.now more.0)
                 ∙ rest-next;
           }
 
@@ -231,49 +242,56 @@ module _ (input : List ℕ) where
   pub run_long : 65536 < length input → stopped 17 0 ≡ run places input
   run_long h = rw (lt-ltb 65536 (length input) h)
 
-  pub run_none : length input ≤ 65536 → eqb (length input) 0 ≡ true → stopped 17 1 ≡ run places input
-  run_none h e = rw (le-ltb 65536 (length input) h, nil_is input (eqb-true _ _ e))
-
-  module _ (n : ℕ) (h : length input ≤ 65536) (k : eqb (length input) 0 ≡ false) (e : n ≡ length (first_line input)) where
-    run-first : read_as (piece_length_in (part_of input 0 n)) 1 (λ m. go_on (opened_as m) 1 (λ x. run_from places 1 x (lines (drop (n + 1) input)))) ≡ run places input
-    run-first =
-        let q : 0 + n + 1 ≡ n + 1 = omega arith in
-        let r : lines input ≡ part_of input 0 n ∷ lines (drop (n + 1) input) =
-        lines_next input 0 n (omega (arith, eqb-false _ _ k)) e ∙ ap (λ (i : ℕ). part_of input 0 n ∷ lines (drop i input)) q in
-        rw (le-ltb 65536 (length input) h, r)
-
-    pub first_stops : (read : List ℕ) → read ≡ part_of input 0 n → (j : ℕ) → opened_by (piece_length_in read) ≡ refused j → stopped j 1 ≡ run places input
-    first_stops read is j o = stop (piece_length_in (part_of input 0 n)) (rw is at o) ∙ run-first
+  module _ (l : List ℕ) (ls : List (List ℕ)) (run-first : run_lines places (l ∷ ls) ≡ run places input) where
+    pub first_stops : (j : ℕ) → opened_by (piece_length_in l) ≡ refused j → stopped j 1 ≡ run places input
+    first_stops j o = stop (piece_length_in l) o ∙ run-first
       where
-        stop : (x : Option ℕ) → opened_by x ≡ refused j → stopped j 1 ≡ read_as x 1 (λ m. go_on (opened_as m) 1 (λ y. run_from places 1 y (lines (drop (n + 1) input))))
+        stop : (x : Option ℕ) → opened_by x ≡ refused j → stopped j 1 ≡ read_as x 1 (λ m. go_on (opened_as m) 1 (λ y. run_from places 1 y ls))
         stop None q = let z : j ≡ 17 = cc in ap (λ (i : ℕ). stopped i 1) z
         stop (Some m) q = at (eqb m 0) q
           where
-            at : (b : Bool) → cond b (refused 1) (value (new_storage m false)) ≡ refused j → stopped j 1 ≡ go_on (cond b (refused 1) (value (new_model m))) 1 (λ y. run_from places 1 y (lines (drop (n + 1) input)))
+            at : (b : Bool) → cond b (refused 1) (value (new_storage m false)) ≡ refused j → stopped j 1 ≡ go_on (cond b (refused 1) (value (new_model m))) 1 (λ y. run_from places 1 y ls)
             at true r = let z : j ≡ 1 = cc in ap (λ (i : ℕ). stopped i 1) z
             at false r = let z : ◌≡◌ {A = ℕ} 0 1 = cc in absurd (omega arith)
 
-    first_goes : (fs : FileStorage) → opened_by (piece_length_in (part_of input 0 n)) ≡ value fs → (m : ℕ) × (fs ≡ new_storage m false) × (run_from places 1 (new_model m) (lines (drop (n + 1) input)) ≡ run places input)
-    first_goes fs o = let r = go (piece_length_in (part_of input 0 n)) o in (r.0, r.1, r.2 ∙ run-first)
+    first_goes : (fs : FileStorage) → opened_by (piece_length_in l) ≡ value fs → (m : ℕ) × (fs ≡ new_storage m false) × (run_from places 1 (new_model m) ls ≡ run places input)
+    first_goes fs o = let r = go (piece_length_in l) o in (r.0, r.1, r.2 ∙ run-first)
       where
-        go : (x : Option ℕ) → opened_by x ≡ value fs → (m : ℕ) × (fs ≡ new_storage m false) × (run_from places 1 (new_model m) (lines (drop (n + 1) input)) ≡ read_as x 1 (λ i. go_on (opened_as i) 1 (λ y. run_from places 1 y (lines (drop (n + 1) input)))))
+        go : (x : Option ℕ) → opened_by x ≡ value fs → (m : ℕ) × (fs ≡ new_storage m false) × (run_from places 1 (new_model m) ls ≡ read_as x 1 (λ i. go_on (opened_as i) 1 (λ y. run_from places 1 y ls)))
         go None q = let z : ◌≡◌ {A = ℕ} 0 1 = cc in absurd (omega arith)
         go (Some m) q = let r = at (eqb m 0) q in (m, r.0, r.1)
           where
-            at : (b : Bool) → cond b (refused 1) (value (new_storage m false)) ≡ value fs → (fs ≡ new_storage m false) × (run_from places 1 (new_model m) (lines (drop (n + 1) input)) ≡ go_on (cond b (refused 1) (value (new_model m))) 1 (λ y. run_from places 1 y (lines (drop (n + 1) input))))
+            at : (b : Bool) → cond b (refused 1) (value (new_storage m false)) ≡ value fs → (fs ≡ new_storage m false) × (run_from places 1 (new_model m) ls ≡ go_on (cond b (refused 1) (value (new_model m))) 1 (λ y. run_from places 1 y ls))
             at true r = let z : ◌≡◌ {A = ℕ} 0 1 = cc in absurd (omega arith)
             at false r = let z : fs ≡ new_storage m false = cc in (z, refl)
 
     -- the set that the first line opens, in tables that hold anything
-    pub first_opened : (read : List ℕ) → read ≡ part_of input 0 n → (t : Tables) (fs : FileStorage)
-        → opened_by (piece_length_in read) ≡ value fs → Sound (store_in fs t)
-        × (fs.indexed ≡ false)
-        × (run_from places 1 (view_of (store_in fs t)) (lines (drop (n + 1) input)) ≡ run places input)
-    first_opened read is t fs o =
-        let b = first_goes fs (rw is at o) in (
-          subst (λ (f : FileStorage). Sound (store_in f t)) (sym b.1) (sound-opened b.0 false t.rows.now t.roots.now [] t.dirs.now t.text.now),
+    pub first_opened : (t : Tables) (fs : FileStorage) → opened_by (piece_length_in l) ≡ value fs
+        → Sound (store_in fs t) × (fs.indexed ≡ false) × (run_from places 1 (view_of (store_in fs t)) ls ≡ run places input)
+    first_opened t fs o =
+        let b = first_goes fs o in (
+          subst (λ (f : FileStorage). Sound (store_in f t)) (sym b.1) (sound-opened b.0 false t.rows t.roots [] t.dirs t.text),
           ap (λ (f : FileStorage). f.indexed) b.1,
-          ap (λ (f : FileStorage). run_from places 1 (view_of (store_in f t)) (lines (drop (n + 1) input))) b.1
-              ∙ ap (λ (m : Model). run_from places 1 m (lines (drop (n + 1) input))) (view-opened b.0 false t.rows.now t.roots.now [] t.dirs.now t.text.now)
+          ap (λ (f : FileStorage). run_from places 1 (view_of (store_in f t)) ls) b.1
+              ∙ ap (λ (m : Model). run_from places 1 m ls) (view-opened b.0 false t.rows t.roots [] t.dirs t.text)
               ∙ b.2,
         )
+
+-- the first of the lines, and those that come after it
+pub record Begun {I : Type 0} (steps : I → Option (Bor (List ℕ)) → I → Type 0) (whole : Run) (it : I) (first : List ℕ) : Type 0 where
+  pub others : List (List ℕ)
+  pub yields : AlwaysYields steps (λ l. l.now) it others
+  pub few : length others ≤ 65536
+  pub run-is : run_lines places (first ∷ others) ≡ whole
+
+pub begun : {I : Type 0} (steps : I → Option (Bor (List ℕ)) → I → Type 0) (it next : I) (r : Option (Bor (List ℕ))) (other : Bor (List ℕ)) (ls : List (List ℕ)) (whole : Run)
+    → YieldsList steps (λ l. l.now) it ls → (0 < length ls) × (length ls ≤ 65537) × (run_lines places ls ≡ whole) → steps it r next → Begun steps whole next (unwrap_or r other).now
+begun steps it next None other ls whole y h k = let n = none-left steps it next ls y.runs k in absurd (omega (arith, h.0, ap length n))
+begun steps it next (Some x) other ls whole y h k =
+    let m = line-left steps it next x ls y.runs k in
+    record {
+      others = m.0;
+      yields = m.2;
+      few = omega (arith, h.1, ap length m.1);
+      run-is = ap (run_lines places) (sym m.1) ∙ h.2;
+    }

@@ -1,90 +1,21 @@
--- Laws of reading: what the library's searches find, how the lines of an input follow from its first line, how large a
--- number of 15 columns is, and that so many digits spell what they are worth.
-use Rattle.std.specs.Prelude.{Option, Some, None, option_and_then}
+-- Laws of reading: how large a number of 15 columns is, and that so many digits spell what they are worth.
+use Rattle.std.specs.Prelude.{Some, None, option_and_then}
 use Prim.Native.Nat.{ℕ, suc, ◌+◌, ◌-◌, ◌*◌, ◌^◌, ◌≤◌, ◌<◌}
-use mathlib.Core.Path.{◌≡◌, refl, ap, ◌∙◌}
+use mathlib.Core.Path.{◌≡◌, refl}
 use mathlib.Core.Bool.{Bool, true, false, cond, ◌&&◌, ◌||◌}
-use mathlib.Core.List.{List, [], ◌∷◌, ◌++◌, append-nil, append_assoc}
+use mathlib.Core.List.{List, [], ◌∷◌}
 use native.Mathlib.Omega.{arith}
 use native.Mathlib.Nat.{mul_assoc, pow-succ', pow-le-pow_right}
 use lib.Dec.{eqb, ltb, leb}
-use lib.ListN.{length, get_or, take, drop}
-use lib.Seq.{drop-cons, drop-drop}
+use lib.ListN.{length, get_or, drop}
 use borrow.Author.Tests.{leb-true, le-leb, lt-ltb}
 use Rattle.std.proofs.lemmas.Bool.Decides.{nat_tests}
-use Rattle.std.specs.List.{position_or_len}
-use Rattle.std.specs.Option.{unwrap_or}
 use Rattle.lists.specs.Lists.{part_of}
 use Rattle.lists.specs.Decimal.{value_from, with_digit, digits_from, number_of}
-use Rattle.lists.proofs.Searches.{found}
 use Rattle.path.specs.Join.{is_empty}
 use Rattle.tables.specs.Model.{present_if}
 use Rattle.rules.proofs.Rules.{both_true}
-use Rattle.listing_input.specs.Form.{lines_from, lines, unblanked, is_digit, are_digits, is_number, number_in, only_if, are_flags, file_in}
-use Rattle.listing_input.specs.Answers.{first_line}
-
--- what stands after the first line feed
-abbrev pub after_line : List ℕ → List ℕ
-after_line [] = []
-after_line (c ∷ t) = cond (eqb c 10) t (after_line t)
-
-line_step : (b : Bool) (c : ℕ) (f : List ℕ) → length (cond b [] (c ∷ f)) ≡ cond b 0 (1 + length f)
-line_step true c f = refl
-line_step false c f = omega arith
-
--- the length of the first line
-pub line_found : (l : List ℕ) (r : Option ℕ) → r ≡ cond (ltb (position_or_len (λ c. eqb c 10) l) (length l)) (Some (position_or_len (λ c. eqb c 10) l)) None → unwrap_or r (length l) ≡ length (first_line l)
-line_found l r e = (found (λ s. length (first_line s)) (λ c. eqb c 10) refl (λ c t. line_step (eqb c 10) c (first_line t)) l r e).0
-
--- the first line, and what stands after it
-take_step : (b : Bool) (c : ℕ) (t f : List ℕ) → take (length f) t ≡ f → take (length (cond b [] (c ∷ f))) (c ∷ t) ≡ cond b [] (c ∷ f)
-take_step true c t f e = refl
-take_step false c t f e = ap (λ (r : List ℕ). c ∷ r) e
-
-pub first-take : (s : List ℕ) → take (length (first_line s)) s ≡ first_line s
-first-take [] = refl
-first-take (c ∷ t) = take_step (eqb c 10) c t (first_line t) (first-take t)
-
-drop-step : (b : Bool) (c : ℕ) (t f r : List ℕ) → drop (length f + 1) t ≡ r → drop (length (cond b [] (c ∷ f)) + 1) (c ∷ t) ≡ cond b t r
-drop-step true c t f r e = refl
-drop-step false c t f r e = let q : suc (length f) + 1 ≡ suc (length f + 1) = omega arith in rw q e
-
-pub after-drop : (s : List ℕ) → drop (length (first_line s) + 1) s ≡ after_line s
-after-drop [] = refl
-after-drop (c ∷ t) = drop-step (eqb c 10) c t (first_line t) (after_line t) (after-drop t)
-
--- `line` stands before what is left of a first line, of which one of the two has a byte
-lines_step : (b : Bool) (line : List ℕ) (c : ℕ) (f r : List ℕ) (rest more : List (List ℕ)) → more ≡ ((line ++ (c ∷ [])) ++ f) ∷ rest
-    → cond b (line ∷ lines_from [] r) more ≡ (line ++ cond b [] (c ∷ f)) ∷ cond b (lines_from [] r) rest
-lines_step true line c f r rest more e = rw (append-nil line)
-lines_step false line c f r rest more e = e ∙ rw (append_assoc line (c ∷ []) f)
-
-lines_rest : (b : Bool) (t u : List ℕ) → lines_from [] (cond b t u) ≡ cond b (lines_from [] t) (lines_from [] u)
-lines_rest true t u = refl
-lines_rest false t u = refl
-
-filled_is : (line : List ℕ) (c : ℕ) (t : List ℕ) → is_empty ((line ++ (c ∷ [])) ++ t) ≡ false
-filled_is [] c t = refl
-filled_is (d ∷ line) c t = refl
-
-lines-ends : (line : List ℕ) → is_empty line ≡ false → cond (is_empty line) [] (line ∷ []) ≡ (line ++ []) ∷ []
-lines-ends line e = rw (e, append-nil line)
-
-lines-from : (line s : List ℕ) → is_empty (line ++ s) ≡ false → lines_from line s ≡ (line ++ first_line s) ∷ lines_from [] (after_line s)
-lines-from line [] h = lines-ends line (rw (append-nil line) at h)
-lines-from line (c ∷ t) h =
-    lines_step (eqb c 10) line c (first_line t) t (lines_from [] (after_line t)) (lines_from (line ++ (c ∷ [])) t)
-    (lines-from (line ++ (c ∷ [])) t (filled_is line c t))
-    ∙ rw (lines_rest (eqb c 10) t (after_line t))
-
--- where a byte stands at a place, the line that begins there is the next one
-pub lines_next : (input : List ℕ) (at n : ℕ) → at < length input → n ≡ length (first_line (drop at input)) → lines (drop at input) ≡ part_of input at n ∷ lines (drop (at + n + 1) input)
-lines_next input at n h e =
-    let s = drop at input in
-    let a : at + n + 1 ≡ at + (n + 1) = omega arith in
-    let p : take n s ≡ first_line s = rw e (first-take s) in
-    let q : drop (at + n + 1) input ≡ after_line s = rw (a, ← drop-drop (n + 1) at input, e) (after-drop s) in
-    lines-from [] s (rw (drop-cons input at 0 h)) ∙ rw (p, q)
+use Rattle.listing_input.specs.Form.{unblanked, is_digit, are_digits, is_number, number_in, only_if, are_flags, file_in}
 
 -- blanks at the start take nothing from the end
 unblank-step : (b : Bool) (c : ℕ) (t u : List ℕ) → length u ≤ length t → length (cond b u (c ∷ t)) ≤ suc (length t)

@@ -1,9 +1,9 @@
-// Reading the lines of an input: numbers in columns, the piece length and file lines. Relies on `lists` to read digits,
+// Reading a line of an input: numbers in columns, the piece length and file lines. Relies on `lists` to read digits,
 // and on the laws of proofs/Reading.antt.
-ghost use Rattle.std.specs.Prelude.{◌≡◌, ◌≤◌, length, drop};
+ghost use Rattle.std.specs.Prelude.{◌≡◌, ◌≤◌, length};
 ghost use Rattle.listing_input.specs.Form.{unblanked, number_in, only_if};
 ghost use Rattle.listing_input.specs.Form.{piece_length_in, are_flags, file_in};
-ghost use Rattle.listing_input.specs.Answers.{first_line, file_says};
+ghost use Rattle.listing_input.specs.Answers.{file_says};
 
 // What a file line says.
 #[derive(Clone, Copy)]
@@ -13,24 +13,14 @@ pub struct FileLine<'a> {
     pub path: &'a [u8],
 }
 
-// The length of the line that begins at position `at`: up to a line feed, or to the input's end.
-// Stays: `before_first` of `script` looks for a byte so too, but a listing relies on nothing of a script of calls, and
-// `lists` would need a definition and a contract for what is one line of std here.
-pub fn line_length(input: &[u8], at: usize) -> usize
-    ensures { result ≡ length (first_line (drop at input.now)) }
-{
-    let rest = &input[at.min(input.len())..];
-    rest.iter().position(|c| *c == b'\n').unwrap_or(rest.len())
-}
-
 // A column without the blanks at its start.
 fn unblank(column: &[u8]) -> &[u8]
     ensures value { result.now ≡ unblanked column.now }
     ensures within { length result.now ≤ length column.now }
 {
     let mut rest = column;
-    // Stays: std's `trim_ascii_start` takes more than blanks. `blanks` of `script` counts the blanks before a word, by
-    // a definition of its own; `unblanked` says what is left, as the loop does.
+    // Stays: std's `trim_ascii_start` takes more than blanks. By `position` and a cut, as `unblanked` of `script` has it,
+    // blanks would be counted and the count be cut off; the loop takes one blank after the other, as the definition does.
     while let [b' ', more @ ..] = rest {
         rest = more;
     }

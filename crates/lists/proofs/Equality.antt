@@ -1,12 +1,24 @@
 -- Laws of the tests on lists: `equal` says whether two lists are the same. They rely on the kit's laws of `eqb`.
 use mathlib.Core.Path.{◌≡◌, refl, sym, ap, ◌∙◌}
-use mathlib.Core.Bool.{Bool, true, false, cond, false≢true}
+use mathlib.Core.Bool.{Bool, true, false, cond, false≢true, ◌&&◌}
 use mathlib.Core.List.{List, [], ◌∷◌}
 use Prim.Native.Nat.{ℕ}
 use lib.Dec.{eqb}
 use lib.ListN.{length, get_or}
 use borrow.Author.Tests.{eqb-true, eq-eqb}
+use Rattle.std.specs.Cmp.Lexicographic.{pointwise}
 use Rattle.lists.specs.Lists.{equal}
+
+-- the library's test of two lists
+pub pointwise-equal : (a b : List ℕ) → pointwise eqb a b ≡ equal a b
+pointwise-equal [] [] = refl
+pointwise-equal [] (y ∷ b) = refl
+pointwise-equal (x ∷ a) [] = refl
+pointwise-equal (x ∷ a) (y ∷ b) = by (eqb x y) (pointwise-equal a b)
+  where
+    by : (t : Bool) → pointwise eqb a b ≡ equal a b → (t && pointwise eqb a b) ≡ cond t (equal a b) false
+    by true e = e
+    by false e = refl
 
 pub equal-refl : (a : List ℕ) → equal a a ≡ true
 equal-refl [] = refl

@@ -9,7 +9,8 @@ use borrow.Author.Tests.{eqb-true, eqb-false, eq-eqb, ltb-true, ltb-false}
 use lib.Dec.{eqb, ltb}
 use lib.Count.{ones_step, ones-le}
 use lib.Pow.{pow_pos, pow-lt, pow_mono}
-use Rattle.std.specs.Prelude.{count_ones}
+use Rattle.std.specs.Prelude.{Some, IfSome, count_ones}
+use Rattle.std.specs.Bool.{then_some}
 use Rattle.std.specs.Int.{trailing_zeros, is_power_of_two, w64}
 use Rattle.std.proofs.lemmas.Nat.{zero_from_ones}
 use Rattle.std.proofs.lemmas.Nat.Bits.{bit_at-trailing_zeros, bit_at-pow_other}
@@ -54,3 +55,14 @@ power_from d fits e =
     pick : (k : ℕ) → d ≡ 2 ^ k → (b : Bool) → ltb k 64 ≡ b → (trailing_zeros w64 d < 64) × (d ≡ 2 ^ trailing_zeros w64 d)
     pick k q true below = let zeros = exponent_is d k (ltb-true k 64 below) q in rw zeros (ltb-true k 64 below, q)
     pick k q false past = absurd (omega (arith, q, pow_mono {i = 64} {j = k} (ltb-false k 64 past)))
+
+-- what is handed out where that test holds
+pub some-power : (d : ℕ) → d < 2 ^ 64 → IfSome (then_some (is_power_of_two d) (trailing_zeros w64 d)) (λ bits. (bits < 64) × (d ≡ 2 ^ bits))
+some-power d fits = pick (is_power_of_two d) refl
+  where
+    pick : (b : Bool) → is_power_of_two d ≡ b → IfSome (then_some b (trailing_zeros w64 d)) (λ bits. (bits < 64) × (d ≡ 2 ^ bits))
+    pick true e = power_from d fits e
+    pick false e = search
+
+pub power-some : (d k : ℕ) → k < 64 → d ≡ 2 ^ k → then_some (is_power_of_two d) (trailing_zeros w64 d) ≡ Some k
+power-some d k h e = rw (power_is d k h e, exponent_is d k h e) refl

@@ -161,3 +161,6 @@ module _ {A : Type 0} where
 
 -- for copies to a part of a slice
 pub ruleset storing = (sets-past, sets-none, sets-front, sets-filled, sets-lent)
+
+-- for a copy to what stands behind a split
+pub ruleset behind = (sets-past, sets-drop)

@@ -22,14 +22,14 @@ pub fn put<T: Copy>(items: &mut [T], i: usize, value: T)
     }
 }
 
-// The n bytes from position `at` on, or as many of them as there are.
-// Stays: every place and count is allowed, also where the slice has no such bytes to be lent.
-pub fn part(bytes: &[u8], at: usize, n: usize) -> &[u8]
-    ensures { result.now ≡ part_of bytes.now at n }
+// The n items from position `at` on, or as many of them as there are.
+// Stays: every place and count is allowed, also where the slice has no such items to be lent.
+pub fn part<T>(items: &[T], at: usize, n: usize) -> &[T]
+    ensures { result.now ≡ part_of items.now at n }
 {
-    let from = at.min(bytes.len());
-    let to = from + n.min(bytes.len() - from);
-    &bytes[from..to]
+    let from = at.min(items.len());
+    let to = from + n.min(items.len() - from);
+    &items[from..to]
 }
 
 // Whether two slices hold the same bytes. It goes from the back: texts of one set often begin alike.
@@ -64,12 +64,12 @@ pub fn copy_in(target: &mut [u8], source: &[u8])
 
 // Copies `source` to `target` after its first `used` bytes, as much of it as there is room for: the
 // rest of the buffer is lent to the copy.
-// Stays: tried, `get_mut(used..)` says which bytes it lends, and nothing of `target` once they are written.
-#[tactic(auto, using(crate::proofs::Runs::storing))]
+// Stays: `used` is any number, also past the buffer's end, where there is no rest to be lent; std copies.
+#[tactic(auto, using(crate::proofs::Runs::behind))]
 pub fn copy_after(target: &mut [u8], used: usize, source: &[u8])
     ensures { target.new ≡ sets target.old used source.now }
 {
-    if used < target.len() {
-        copy_in(&mut target[used..], source);
+    if let Some((_front, rest)) = target.split_at_mut_checked(used) {
+        copy_in(rest, source);
     }
 }

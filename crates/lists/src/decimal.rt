@@ -54,14 +54,14 @@ pub fn put_decimal(target: &mut [u8], at: usize, n: u64) -> usize
 }
 
 // Writes `count` blanks from position `at` on, as many of them as there is room for.
-// Stays: tried, `get_mut(at..)` says which bytes it lends, and nothing of `target` once they are written.
+// Stays: `count` is the number of blanks, and no length of `target`; std's `fill` writes them.
 #[tactic(auto, using(crate::proofs::Runs::storing))]
 fn put_blanks(target: &mut [u8], at: usize, count: usize)
     ensures { target.new ≡ sets target.old at (replicate count 32) }
 {
-    let n = count.min(target.len().saturating_sub(at));
-    if 0 < n {
-        target[at..at + n].fill(b' ');
+    if let Some((_front, rest)) = target.split_at_mut_checked(at) {
+        let n = count.min(rest.len());
+        rest[..n].fill(b' ');
     }
 }
 

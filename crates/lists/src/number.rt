@@ -8,10 +8,7 @@ pub fn exponent(d: u64) -> Option<u32>
     ensures power { IfSome result (λ bits. (bits < 64) × (d ≡ 2 ^ bits)) }
     ensures only { (k : ℕ) → k < 64 → d ≡ 2 ^ k → result ≡ Some k }
 {
-    if d.is_power_of_two() {
-        return Some(d.trailing_zeros());
-    }
-    None
+    d.is_power_of_two().then_some(d.trailing_zeros())
 }
 
 // `n / d`, or 0 where d is 0.

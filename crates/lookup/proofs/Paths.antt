@@ -3,18 +3,18 @@
 use Prim.Native.Nat.{ℕ, suc, ◌+◌, ◌-◌, ◌<◌, ◌≤◌}
 use mathlib.Core.Path.{◌≡◌, refl, sym, ap, ◌∙◌}
 use mathlib.Core.Bool.{Bool, true, false, cond, true≢false, ◌&&◌, ◌||◌}
-use mathlib.Core.List.{List, [], ◌∷◌, ◌++◌, append-nil, append_assoc, reverse, reverse-append, reverse-reverse}
+use mathlib.Core.List.{List, [], ◌∷◌, ◌++◌, append-nil, append_assoc}
 use native.Mathlib.Omega.{arith}
-use lib.Dec.{eqb}
-use lib.ListN.{length, length-append, length-drop, length-reverse, get_or, take, drop, take-append-drop}
+use lib.Dec.{eqb, leb}
+use lib.ListN.{length, length-append, length-drop, get_or, take, drop, take-append-drop}
 use lib.Seq.{drop-append_seam}
-use borrow.Author.Tests.{le-leb, eq-eqb, ne_eqb, eqb-true}
-use Rattle.std.specs.Bool.{Decides}
-use Rattle.std.specs.List.{starts_with, zip}
+use borrow.Author.Tests.{le-leb, leb-false, eq-eqb, ne_eqb, eqb-true}
+use Rattle.std.specs.Cmp.Lexicographic.{pointwise}
+use Rattle.std.specs.List.{starts_with}
 use Rattle.lists.specs.Lists.{equal}
-use Rattle.lists.proofs.Equality.{equal-true, equal-same}
+use Rattle.lists.proofs.Equality.{equal-refl, equal-true, equal-length, equal-same, pointwise-equal}
 use Rattle.path.specs.Join.{is_alone, is_closed, appended}
-use Rattle.path.proofs.Joins.{some_bytes}
+use Rattle.path.proofs.Joins.{some_bytes, kept as kept_of, between, parts}
 use Rattle.lookup.specs.Lookup.{covers, ends_with}
 
 -- ---- a directory and a path
@@ -58,44 +58,64 @@ covers_starts (x ∷ d) (y ∷ p) = rw (flip x y, ← same-next (length d) (leng
 
 -- ---- a join
 
--- two lists in a row compared part by part, the second first
-pub equal-append : (d x p : List ℕ) → equal (d ++ x) p ≡ cond (equal x (drop (length d) p)) (equal d (take (length d) p)) false
-equal-append [] x p = same (equal x p)
-  where
-    same : (t : Bool) → t ≡ cond t true false
-    same true = refl
-    same false = refl
-equal-append (a ∷ d) x [] = none (equal x [])
-  where
-    none : (t : Bool) → false ≡ cond t false false
-    none true = refl
-    none false = refl
-equal-append (a ∷ d) x (b ∷ p) = go (eqb a b) (equal x (drop (length d) p)) (equal-append d x p)
-  where
-    go : (t u : Bool) → equal (d ++ x) p ≡ cond u (equal d (take (length d) p)) false
-        → cond t (equal (d ++ x) p) false ≡ cond u (cond t (equal d (take (length d) p)) false) false
-    go true u k = k
-    go false true k = refl
-    go false false k = refl
+-- lists that end alike are the same where what stands before their ends is
+equal-before : (x y n : List ℕ) → equal (x ++ n) (y ++ n) ≡ equal x y
+equal-before [] [] n = equal-refl n
+equal-before [] (b ∷ y) n = equal-length n (b ∷ (y ++ n)) (λ e. omega (arith, length-append y n))
+equal-before (a ∷ x) [] n = equal-length (a ∷ (x ++ n)) n (λ e. omega (arith, length-append x n))
+equal-before (a ∷ x) (b ∷ y) n = ap (λ (t : Bool). cond (eqb a b) t false) (equal-before x y n)
 
--- a join by its parts
-module _ (d name p : List ℕ) (h : is_alone d ≡ false) (k : length name ≡ 0 → ⊥) where
-  joins-parts : equal (appended d name) p ≡ cond (equal (cond (is_closed d) name (47 ∷ name)) (drop (length d) p)) (equal d (take (length d) p)) false
-  joins-parts = rw (h, some_bytes name k) (equal-append d (cond (is_closed d) name (47 ∷ name)) p)
+-- a list that lacks an end is none that has it
+module _ (x n p : List ℕ) where
+  abbrev end_of : List ℕ → List ℕ
+  end_of l = drop (length l - length n) l
 
-  pub joins-on : equal (cond (is_closed d) name (47 ∷ name)) (drop (length d) p) ≡ true → equal d (take (length d) p) ≡ equal (appended d name) p
-  joins-on e = sym (joins-parts ∙ rw e)
+  lacks-end : pointwise eqb (end_of p) n ≡ false → equal (x ++ n) p ≡ false
+  lacks-end h = at (equal (x ++ n) p) refl
+    where
+      seam : end_of (x ++ n) ≡ n
+      seam = ap (λ (k : ℕ). drop k (x ++ n)) (omega (arith, length-append x n)) ∙ drop-append_seam x n
 
-  pub joins-not : equal (cond (is_closed d) name (47 ∷ name)) (drop (length d) p) ≡ false → false ≡ equal (appended d name) p
-  joins-not e = sym (joins-parts ∙ rw e)
+      at : (t : Bool) → equal (x ++ n) p ≡ t → t ≡ false
+      at true e = absurd (true≢false (sym (equal-same (end_of p) n (sym (ap end_of (equal-true (x ++ n) p e)) ∙ seam)) ∙ sym (pointwise-equal (end_of p) n) ∙ h))
+      at false e = refl
+
+-- what stands before an end that is there
+has-end : (n p f : List ℕ) → pointwise eqb (drop (length p - length n) p) n ≡ true → f ≡ take (length p - length n) p → p ≡ f ++ n
+has-end n p f h e =
+    let end = drop (length p - length n) p in
+    sym (take-append-drop (length p - length n) p) ∙ cc (e, equal-true end n (sym (pointwise-equal end n) ∙ h))
+
+-- a join by its parts, the last of them first
+module _ (d name p : List ℕ) {kept separator : List ℕ} (h : kept ≡ kept_of d name) (g : separator ≡ between d name) where
+  joined-is : (kept ++ separator) ++ name ≡ appended d name
+  joined-is = append_assoc kept separator name ∙ cc (h, g) ∙ parts d name
+
+  pub joins-not : pointwise eqb (drop (length p - length name) p) name ≡ false → false ≡ equal (appended d name) p
+  joins-not e = sym (sym (ap (λ (l : List ℕ). equal l p) joined-is) ∙ lacks-end (kept ++ separator) name p e)
+
+  module _ (front : List ℕ) (e : pointwise eqb (drop (length p - length name) p) name ≡ true) (q : front ≡ take (length p - length name) p) where
+    before-name : equal (kept ++ separator) front ≡ equal (appended d name) p
+    before-name =
+        sym (equal-before (kept ++ separator) front name)
+        ∙ cc (joined-is, has-end name p front e q)
+
+    pub joins-apart : pointwise eqb (drop (length front - length separator) front) separator ≡ false → false ≡ equal (appended d name) p
+    joins-apart g = sym (lacks-end kept separator front g) ∙ before-name
+
+    pub joins-on : (branch : List ℕ) → pointwise eqb (drop (length front - length separator) front) separator ≡ true → branch ≡ take (length front - length separator) front
+        → equal kept branch ≡ equal (appended d name) p
+    joins-on branch g r = sym (equal-before kept branch separator) ∙ ap (equal (kept ++ separator)) (sym (has-end separator front branch g r)) ∙ before-name
 
 -- ---- a name at a path's end
 
--- pairs go as far as the first list
-zip-front : (xs ys zs : List ℕ) → length xs ≡ length ys → zip xs (ys ++ zs) ≡ zip xs ys
-zip-front [] ys zs e = refl
-zip-front (x ∷ xs) [] zs e = absurd (omega arith)
-zip-front (x ∷ xs) (y ∷ ys) zs e = ap (λ (l : List (ℕ × ℕ)). (x, y) ∷ l) (zip-front xs ys zs (omega arith))
+-- the library's test of a list's end decides
+pub ends_std : (n p : List ℕ) → pointwise eqb n (drop (length p - length n) p) ≡ ends_with n p
+ends_std n p = pointwise-equal n (drop (length p - length n) p) ∙ at (leb (length n) (length p)) refl
+  where
+    at : (b : Bool) → leb (length n) (length p) ≡ b → equal n (drop (length p - length n) p) ≡ cond b (equal n (drop (length p - length n) p)) false
+    at true e = refl
+    at false e = equal-length n (drop (length p - length n) p) (λ q. omega (arith, leb-false (length n) (length p) e, length-drop (length p - length n) p))
 
 -- the end of p decides, where it has the name's length
 module _ (n p : List ℕ) (h : length n ≤ length p) where
@@ -104,28 +124,6 @@ module _ (n p : List ℕ) (h : length n ≤ length p) where
 
   pub ends_same : n ≡ drop (length p - length n) p → true ≡ ends_with n p
   ends_same e = sym (equal-same n (drop (length p - length n) p) e) ∙ ends_by
-
-  -- compared from the back, as far as the name goes
-  abbrev pub end : List ℕ
-  end = drop (length p - length n) p
-
-  pub back-long : length (reverse n) ≡ length (reverse end)
-  back-long = length-reverse n ∙ omega (arith, length-drop (length p - length n) p, length-reverse end)
-
-  pub back-zip : zip (reverse n) (reverse p) ≡ zip (reverse n) (reverse end)
-  back-zip =
-      let front = take (length p - length n) p in
-      ap (λ (l : List ℕ). zip (reverse n) (reverse l)) (sym (take-append-drop (length p - length n) p))
-      ∙ ap (zip (reverse n)) (reverse-append front end)
-      ∙ zip-front (reverse n) (reverse end) (reverse front) back-long
-
-  pub ends-back : (r : Bool) → Decides r (reverse n ≡ reverse end) → r ≡ ends_with n p
-  ends-back true d = ends_same (sym (reverse-reverse n) ∙ ap reverse (d.0 refl) ∙ reverse-reverse end)
-  ends-back false d = at (equal n end) refl ∙ ends_by
-    where
-      at : (b : Bool) → equal n end ≡ b → false ≡ equal n end
-      at true e = absurd (true≢false (sym (d.1 (ap reverse (equal-true n end e)))))
-      at false e = sym e
 
 -- a list that ends in n
 ends-append : (x n : List ℕ) → ends_with n (x ++ n) ≡ true

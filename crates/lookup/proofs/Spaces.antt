@@ -1,15 +1,16 @@
 -- Laws of the work space: the count of links, the space of those still to come, and the test on what is there. They rely on the
 -- laws of proofs/Rows.antt.
-use Prim.Native.Nat.{ℕ, zero, suc, ◌+◌, ◌-◌, ◌*◌, ◌/◌, ◌<◌, ◌≤◌, min}
+use Prim.Native.Nat.{ℕ, zero, suc, ◌+◌, ◌*◌, ◌/◌, ◌<◌, ◌≤◌, min}
 use mathlib.Core.Path.{◌≡◌, refl, sym, ap, ◌∙◌}
-use mathlib.Core.Bool.{Bool, true, false, cond, ◌||◌}
-use mathlib.Core.List.{List, [], ◌∷◌}
+use mathlib.Core.Bool.{Bool, true, false, cond, not, ◌||◌, true≢false}
+use mathlib.Core.List.{List, [], ◌∷◌, map}
 use mathlib.Core.Logic.{◌⊎◌, inl, inr}
 use native.Mathlib.Omega.{arith}
-use lib.Dec.{eqb, ltb}
+use lib.Dec.{leb, ltb}
 use lib.ListN.{length}
-use borrow.Author.Tests.{lt-ltb, le-ltb, eq-eqb, ne_eqb}
-use Rattle.std.specs.List.{filter, fold, range_with_len}
+use borrow.Author.Tests.{lt-ltb, le-ltb, le-leb, lt-leb}
+use Rattle.std.specs.List.{filter, range_with_len}
+use Rattle.lists.specs.Lists.{sum}
 use Rattle.lists.proofs.Orders.{le-or-lt}
 use Rattle.tables.specs.Span.{text_at}
 use Rattle.tables.specs.Rows.{row_at, has}
@@ -64,15 +65,28 @@ need-row s i =
     ∙ ap (λ (n : ℕ). cond (entry_at s i).flagged (n + length (cond (has (row_at s.rows i).flags 16) (text_at s.text (row_at s.rows i).link) []) + 2) 0) (length_at s i)
     ∙ ap (λ (t : List ℕ). cond (entry_at s i).flagged (directory_length (entry_at s i).directory + length t + 2) 0) (text_at_lem s i)
 
+-- the sum of what the files need
 module _ (s : Store) where
-  -- what the files from i on leave of u
-  left-from : (n i u : ℕ) → fold (λ left k. left - row_space s.rows s.dirs s.text k) u (range_with_len i n) ≡ u - space (entries_from s n i)
+  need-from : (n i : ℕ) → sum (map (row_space s.rows s.dirs s.text) (range_with_len i n)) ≡ space (entries_from s n i)
   unfolding entries_from
-  left-from zero i u = omega arith
-  left-from (suc n) i u = left-from n (i + 1) (u - row_space s.rows s.dirs s.text i) ∙ omega (arith, need-row s i)
+  need-from zero i = refl
+  need-from (suc n) i = omega (arith, need-row s i, need-from n (i + 1))
 
-  pub space-folded : (u : ℕ) → fold (λ left k. left - row_space s.rows s.dirs s.text k) u (range_with_len 0 s.fs.num_files) ≡ u - space (entries_of s)
-  space-folded u = left-from s.fs.num_files 0 u ∙ ap (λ (l : List Entry). u - space l) (entries-all s)
+  abbrev pub needed : ℕ
+  needed = sum (map (row_space s.rows s.dirs s.text) (range_with_len 0 s.fs.num_files))
+
+  needs-summed : needed ≡ space (entries_of s)
+  needs-summed = need-from s.fs.num_files 0 ∙ ap space (entries-all s)
+
+  -- the answer is no where a room of u bytes gives them all
+  pub none-left : (u : ℕ) (r : Bool) → not r ≡ leb needed u → r ≡ ltb u (space (entries_of s))
+  none-left u r e = at r (le-or-lt needed u) e ∙ ap (ltb u) needs-summed
+    where
+      at : (r : Bool) → (needed ≤ u) ⊎ (u < needed) → not r ≡ leb needed u → r ≡ ltb u needed
+      at true (inl h) q = absurd (true≢false (sym (q ∙ le-leb needed u h)))
+      at true (inr h) q = sym (lt-ltb u needed h)
+      at false (inl h) q = sym (le-ltb u needed h)
+      at false (inr h) q = absurd (true≢false (q ∙ lt-leb needed u h))
 
 -- ---- the test
 
@@ -80,11 +94,11 @@ module _ (files : List Entry) (marks scratch path : ℕ) where
   pub lacks-marks : marks < link_count files → true ≡ lacks_space files marks scratch path
   lacks-marks h = rw (lt-ltb marks (link_count files) h)
 
-  pub lacks-room : link_count files ≤ marks → (r : ℕ) → r ≡ min scratch (path / 2) + 1 - space files → eqb r 0 ≡ lacks_space files marks scratch path
+  pub lacks-room : link_count files ≤ marks → (r : ℕ) → r ≡ min scratch (path / 2) → ltb r (space files) ≡ lacks_space files marks scratch path
   lacks-room h r e = rw (le-ltb marks (link_count files) h) (at (le-or-lt (space files) scratch) (le-or-lt (2 * space files) path))
     where
       at : (space files ≤ scratch) ⊎ (scratch < space files) → (2 * space files ≤ path) ⊎ (path < 2 * space files)
-          → eqb r 0 ≡ (ltb scratch (space files) || ltb path (2 * space files))
-      at (inl a) (inl b) = rw (le-ltb scratch (space files) a, le-ltb path (2 * space files) b) (ne_eqb r 0 (λ q. omega arith))
-      at (inl a) (inr b) = rw (le-ltb scratch (space files) a, lt-ltb path (2 * space files) b) (eq-eqb r 0 (omega arith))
-      at (inr a) b = rw (lt-ltb scratch (space files) a) (eq-eqb r 0 (omega arith))
+          → ltb r (space files) ≡ (ltb scratch (space files) || ltb path (2 * space files))
+      at (inl a) (inl b) = rw (le-ltb scratch (space files) a, le-ltb path (2 * space files) b) (le-ltb r (space files) (omega arith))
+      at (inl a) (inr b) = rw (le-ltb scratch (space files) a, lt-ltb path (2 * space files) b) (lt-ltb r (space files) (omega arith))
+      at (inr a) b = rw (lt-ltb scratch (space files) a) (lt-ltb r (space files) (omega arith))

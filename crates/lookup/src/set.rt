@@ -1,5 +1,5 @@
-// The set that the lent tables hold: what a row says of a link, of a file's directory and of its path, and scans
-// over all directories and files. They rely on parts.rt, on the total accessors of `tables` and on proofs/Rows.antt and
+// The set that the lent tables hold: what a row says of a link and of a file's path, and scans over all directories and
+// files. They rely on parts.rt, on the total accessors of `tables` and on proofs/Rows.antt and
 // proofs/Last.antt.
 ghost use Rattle.std.specs.Prelude.{◌≡◌, cond, []};
 ghost use Rattle.lists.specs.Lists.{equal};
@@ -9,7 +9,7 @@ ghost use Rattle.tables.specs.Model.{internal_path};
 ghost use Rattle.lookup.specs.Lookup.{covers, ends_with, is_directory, file_at, is_flagged};
 ghost use Rattle.lookup.specs.Lookup.{files_in, dirs_in, seen_as};
 
-use crate::parts::{ends_with, is_covered, joins_to};
+use crate::parts::{is_covered, joins_to};
 use tables::{FileStorage, Row};
 
 // What stands at a path: nothing, a file that is no flagged link, or a flagged link.
@@ -41,14 +41,18 @@ pub fn link_text(text: &[u8], row: Row) -> &[u8]
     tables::text_at(text, tables::link_span(row))
 }
 
-// Whether p ends with the name of file i.
+// Whether p ends with the name of file i. It is taken into `own_is`, and with that into the scans: by it they pass most
+// files.
+#[inline(always)]
+#[tactic(auto, using(crate::proofs::Paths::ends_std))]
 pub fn ends_with_name(rows: &[u64], text: &[u8], i: usize, p: &[u8]) -> bool
     ensures { result ≡ ends_with (text_at text.now (row_at rows.now i).name) p.now }
 {
-    ends_with(tables::text_at(text, tables::row_at(rows, i).name), p)
+    p.ends_with(tables::text_at(text, tables::row_at(rows, i).name))
 }
 
-// Whether the internal path of the file with that row is p.
+// Whether the internal path of the file with that row is p. It is a call of its own, since few files of a scan need it.
+#[inline(never)]
 fn row_joins_to(dirs: &[u64], text: &[u8], row: Row, p: &[u8]) -> bool
     ensures { result ≡ equal (internal_path dirs.now text.now row) p.now }
 {
@@ -62,6 +66,7 @@ fn row_joins_to(dirs: &[u64], text: &[u8], row: Row, p: &[u8]) -> bool
 // Whether the internal path of file i is p: its name first, so that a scan passes most files by that.
 // Stays: public functions are lent each table by itself, as most of them read only some (docs/DECISIONS.md), here and
 // below.
+#[inline(always)]
 pub fn own_is(rows: &[u64], dirs: &[u64], text: &[u8], i: usize, p: &[u8]) -> bool
     ensures { result ≡ equal (internal_path dirs.now text.now (row_at rows.now i)) p.now }
 {

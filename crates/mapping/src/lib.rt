@@ -11,6 +11,8 @@ use tables::FileStorage;
 use types::{FileIndex, FileSlice, PieceIndex, Refusal};
 
 // A slice as a record of signed numbers.
+// Stays: `From` must take every slice, and this one asks that its numbers are below 2^63, as `signed_request` of files
+// asks for numbers that an `i32` holds.
 fn record_of(slice: Slice) -> FileSlice
     requires { (slice.offset < 2 ^ 63) × (slice.size < 2 ^ 63) }
     ensures { result ≡ record_of slice }

@@ -1,33 +1,21 @@
-// What a question about a file's names decides first, and the parts that lead a file's name: the set's name
-// and the file's directory. Relies on `rules` for the refusals and on `tables` for the spans.
-ghost use Rattle.std.specs.Prelude.{◌≡◌, cond, ◌&&◌, ◌/◌, leb};
+// What a question about a file's names decides first, and where the set's name lies, if it leads the file's path.
+// Relies on `rules` for the refusals and on `tables` for the span.
+ghost use Rattle.std.specs.Prelude.{◌≡◌, cond};
 ghost use Rattle.types.specs.Refusals.{outcome};
-ghost use Rattle.rules.specs.Questions.{file_answer, rows_are_held};
-ghost use Rattle.names.specs.Paths.{set_leads};
+ghost use Rattle.rules.specs.Questions.{file_answer};
+ghost use Rattle.names.specs.Paths.{set_leads, names_held};
 
-use rules::holds_rows;
-use tables::{FileStorage, Row, Span};
+use tables::{FileStorage, LentSet, Row, Span};
 use types::{FileIndex, Refusal};
 
-// Whether `words` words of directories and `bytes` bytes of text hold the set's directories and texts.
-pub fn are_held(fs: FileStorage, words: usize, bytes: usize) -> bool
-    ensures { result ≡ (leb fs.num_paths (words / 2) && leb fs.text_len bytes) }
+// The number of the file that a question about its path is about, or why the question isn't answered.
+pub fn file_of(set: LentSet<'_>, index: FileIndex) -> Result<usize, Refusal>
+    ensures { outcome result
+        ≡ file_answer set.entry.fs index.0
+        (names_held set.entry.fs set.entry.lent.rows.now set.entry.lent.dirs.now set.entry.lent.text.now)
+        (λ k. k) }
 {
-    fs.num_paths <= words / 2 && fs.text_len <= bytes
-}
-
-// The number of the file that a question is about, or why the question isn't answered; `held` says whether
-// the other tables hold what the set counts.
-// Stays: a record of all tables would ask for those that it doesn't read (docs/DECISIONS.md).
-pub fn file_in(
-    fs: FileStorage,
-    rows: &[u64],
-    index: FileIndex,
-    held: bool,
-) -> Result<usize, Refusal>
-    ensures { outcome result ≡ file_answer fs index.0 (rows_are_held fs rows.now && held) (λ k. k) }
-{
-    rules::file_in(fs, index, holds_rows(fs, rows) && held)
+    rules::file_in(set.fs, index, rules::holds_set(set))
 }
 
 // Whether the set's name leads a file's path.

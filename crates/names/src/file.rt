@@ -12,8 +12,8 @@ ghost use Rattle.names.specs.Paths.{set_leads, led, hash_of, names_held, file_pa
 ghost use Rattle.names.specs.private.Sets.{path_of, hashed_of};
 
 use crate::compose::compose_path;
-use crate::decide::{file_in, is_led, set_span};
-use tables::{FileStorage, Lent, LentSet, Row};
+use crate::decide::{file_of, is_led, set_span};
+use tables::{FileStorage, LentSet, Row};
 use types::{FileIndex, Refusal};
 
 // The save path, or nothing for a file that was added by an absolute path.
@@ -93,9 +93,7 @@ fn row_in(set: LentSet<'_>, index: FileIndex) -> Result<Row, Refusal>
         (names_held set.entry.fs set.entry.lent.rows.now set.entry.lent.dirs.now set.entry.lent.text.now)
         (row_at set.entry.lent.rows.now) }
 {
-    let Lent { rows, dirs, text } = set.lent;
-    let held = rules::holds_dirs(set.fs, dirs) && rules::holds_text(set.fs, text);
-    Ok(tables::row_at(rows, file_in(set.fs, rows, index, held)?))
+    Ok(tables::row_at(set.lent.rows, file_of(set, index)?))
 }
 
 // Writes the whole path of a file, after `save_path`, to `buf`.

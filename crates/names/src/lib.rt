@@ -8,5 +8,5 @@ mod file;
 mod kept;
 
 pub use compose::compose_path;
-pub use decide::{are_held, file_in, set_span};
+pub use decide::{file_of, set_span};
 pub use file::{file_path, file_path_hash, hash_led};

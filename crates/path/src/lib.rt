@@ -10,6 +10,6 @@ pub use join::{
     append_path, combine_path, is_alone, join_path, join_prefix, joined_length, separator,
 };
 pub use split::{
-    filename, has_parent_path, is_closed, is_complete, lsplit_path_at_first, lsplit_path_at_rest,
-    lsplit_path_first, lsplit_path_rest, rsplit_path_branch, rsplit_path_leaf, trimmed_length,
+    filename, has_parent_path, is_closed, is_complete, lsplit_path, lsplit_path_at, rsplit_path,
+    trimmed_length,
 };

@@ -1,5 +1,5 @@
-// Splits of a path and tests on it. Each split gives a part of the caller's slice. Relies on the scans below and on the
-// laws of proofs/Splits.antt and proofs/Ends.antt.
+// Splits of a path and tests on it. Each split gives two parts of the caller's slice. Relies on the scans below and on
+// the laws of proofs/Splits.antt and proofs/Ends.antt.
 ghost use Rattle.std.specs.Prelude.{◌≡◌, cond, ◌++◌, ◌+◌, ◌-◌, ◌≤◌, length, take, drop};
 ghost use Rattle.lists.specs.Lists.{any};
 ghost use Rattle.path.specs.Join.{is_closed};
@@ -52,8 +52,9 @@ pub fn trimmed_length(path: &[u8]) -> usize
 }
 
 // Where the leaf begins: after the last separator, or at 0. Two bytes are looked at in a turn.
-// Stays: tried, `rposition` takes 10.4 ns for a path of 25 bytes with a name of 14, and this loop 8.0; an addition to a
-// set of 65,000 files is 1 ns ahead of the Rust's.
+// Stays: tried, `rposition` takes 10.4 ns for a path of 25 bytes with a name of 14, and this loop 8.0. Additions to a
+// v1 set of one directory take 1.0 to 1.15 of the Rust's time (docs/BENCHMARKS.md), so the slower form adds to what is
+// behind.
 #[tactic(auto, using(crate::proofs::Splits::leaf_before))]
 fn leaf_start(path: &[u8]) -> usize
     ensures { (result ≤ length path.now)
@@ -111,7 +112,7 @@ fn position_in(path: &[u8], pos: usize) -> usize
 }
 
 // What stands before the last separator and what stands after it, one at the end dropped.
-fn rsplit(path: &[u8]) -> (&[u8], &[u8])
+pub fn rsplit_path(path: &[u8]) -> (&[u8], &[u8])
     ensures branch { result.0.now ≡ rsplit_branch path.now }
     ensures leaf { result.1.now ≡ rsplit_leaf path.now }
 {
@@ -120,24 +121,8 @@ fn rsplit(path: &[u8]) -> (&[u8], &[u8])
     (&whole[..k.saturating_sub(1)], &whole[k..])
 }
 
-// What stands before the last separator, one at the end dropped.
-// Stays: a split is two public functions, since each caller in the library wants one part (docs/DECISIONS.md, Forms 2);
-// so below.
-pub fn rsplit_path_branch(path: &[u8]) -> &[u8]
-    ensures { result.now ≡ rsplit_branch path.now }
-{
-    rsplit(path).0
-}
-
-// What stands after the last separator, one at the end dropped.
-pub fn rsplit_path_leaf(path: &[u8]) -> &[u8]
-    ensures { result.now ≡ rsplit_leaf path.now }
-{
-    rsplit(path).1
-}
-
 // What stands before the first separator at or after `pos` and what stands after it, a leading one skipped.
-fn lsplit_at(path: &[u8], pos: usize) -> (&[u8], &[u8])
+pub fn lsplit_path_at(path: &[u8], pos: usize) -> (&[u8], &[u8])
     ensures first { result.0.now ≡ lsplit_at_first path.now pos }
     ensures rest { result.1.now ≡ lsplit_at_rest path.now pos }
 {
@@ -146,32 +131,12 @@ fn lsplit_at(path: &[u8], pos: usize) -> (&[u8], &[u8])
     (&whole[..k], whole.get(k + 1..).unwrap_or(b""))
 }
 
-// What stands before the first separator at or after `pos`, a leading one skipped.
-pub fn lsplit_path_at_first(path: &[u8], pos: usize) -> &[u8]
-    ensures { result.now ≡ lsplit_at_first path.now pos }
+// The first part of a path, a leading separator skipped, and what stands after it.
+pub fn lsplit_path(path: &[u8]) -> (&[u8], &[u8])
+    ensures first { result.0.now ≡ lsplit_first path.now }
+    ensures rest { result.1.now ≡ lsplit_rest path.now }
 {
-    lsplit_at(path, pos).0
-}
-
-// What stands after the first separator at or after `pos`, a leading one skipped.
-pub fn lsplit_path_at_rest(path: &[u8], pos: usize) -> &[u8]
-    ensures { result.now ≡ lsplit_at_rest path.now pos }
-{
-    lsplit_at(path, pos).1
-}
-
-// The first part of a path, a leading separator skipped.
-pub fn lsplit_path_first(path: &[u8]) -> &[u8]
-    ensures { result.now ≡ lsplit_first path.now }
-{
-    lsplit_path_at_first(path, 0)
-}
-
-// What stands after the first part of a path.
-pub fn lsplit_path_rest(path: &[u8]) -> &[u8]
-    ensures { result.now ≡ lsplit_rest path.now }
-{
-    lsplit_path_at_rest(path, 0)
+    lsplit_path_at(path, 0)
 }
 
 // Whether a path has a part above its leaf; `\` counts as a separator here.
@@ -186,5 +151,5 @@ pub fn has_parent_path(path: &[u8]) -> bool
 pub fn filename(path: &[u8]) -> &[u8]
     ensures { result.now ≡ rsplit_leaf path.now }
 {
-    rsplit_path_leaf(path)
+    rsplit_path(path).1
 }

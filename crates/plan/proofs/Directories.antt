@@ -1,6 +1,6 @@
 -- Laws of the search for a directory: the last index of a text among others, whether it is there, and both once one
 -- more is stored; and the same of the search over a table's rows from the back.
-use Rattle.std.proofs.Common.{◌≡◌, ℕ, zero, suc, ◌+◌, ◌-◌, ◌*◌, ◌/◌, ◌<◌, ◌≤◌, min, Bool, true, false, cond, not, ◌&&◌, ◌||◌, eqb, List, [], ◌∷◌, ◌++◌, map, length, get_or, take, Option, Some, None, unwrap_or, MatchOption, IsSomeAnd, Bor, Iter, sym, refl, ap, subst, ◌∙◌, true≢false, arith, length-append}
+use Rattle.std.proofs.Common.{◌≡◌, ℕ, zero, suc, ◌+◌, ◌-◌, ◌*◌, ◌/◌, ◌<◌, ◌≤◌, min, Bool, true, false, cond, not, ◌&&◌, ◌||◌, eqb, List, [], ◌∷◌, ◌++◌, map, length, get_or, take, Option, Some, None, unwrap_or, MatchOption, IsSomeAnd, Bor, Iter, sym, refl, ap, subst, ◌∙◌, true≢false, arith, length-append, length-take, get_or-take}
 use mathlib.Core.Bool.{false≢true}
 use borrow.Author.Tests.{eqb-true, eqb-false}
 use lib.ListN.{length-map, get_or-eq_default}
@@ -22,7 +22,7 @@ use Rattle.tables.specs.Model.{tabled, stored}
 use Rattle.tables.proofs.Tabled.{length-tabled, tabled-more, tabled-same}
 use Rattle.additions.specs.Addition.{is_among, pad_directory_name}
 use Rattle.plan.specs.Write.{directory_index_from, directory_index}
-use Rattle.plan.specs.private.Steps.{dir_texts, dir_plan_of, dirs_with, count_with, pad_dir_plan_of, known_at, added_at, plan_among}
+use Rattle.plan.specs.private.Steps.{dir_texts, dir_plan_of, dirs_with, count_with, known_at, added_at, plan_among}
 
 -- one more text, at the end
 index-more : (d : List ℕ) (xs : List (List ℕ)) (x : List ℕ) (found i : ℕ)
@@ -135,16 +135,29 @@ pub none-stored : (dirs text d : List ℕ) (n : ℕ) → n ≡ 0 → n ≡ direc
 unfolding tabled directory_index_from
 none-stored dirs text d n e = rw e
 
+-- the first m rows of a table, lent by themselves, have the same texts
+front-texts : (dirs text : List ℕ) (m : ℕ) → m ≤ length dirs / 2 → dir_texts (take (m * 2) dirs) text (length (take (m * 2) dirs) / 2) ≡ dir_texts dirs text m
+front-texts dirs text m h =
+    let l : length (take (m * 2) dirs) / 2 ≡ m = omega (arith, length-take (m * 2) dirs) in
+    ap (dir_texts (take (m * 2) dirs) text) l ∙ tabled-same m (row_text (take (m * 2) dirs) text) (row_text dirs text) same
+  where
+    same : (i : ℕ) → i < m → row_text (take (m * 2) dirs) text i ≡ row_text dirs text i
+    same i q =
+        let a : i * 2 < m * 2 = omega arith in
+        let b : i * 2 + 1 < m * 2 = omega arith in
+        rw (get_or-take (m * 2) dirs (i * 2) 0 a, get_or-take (m * 2) dirs (i * 2 + 1) 0 b)
+
 -- so the last of n rows has the text, or only the rows before it that the table holds may have it
 module _ (dirs text d : List ℕ) (n : ℕ) (h : 0 < n) where
   pub last-found : true ≡ equal d (row_text dirs text (n - 1)) → n - 1 ≡ directory_index d (dir_texts dirs text n)
   last-found e = search-found (row_text dirs text) d n n h (sym e) ∙ search_is (row_text dirs text) d n
 
   pub last-missed : (m : ℕ) → m ≡ min (n - 1) (length dirs / 2) → equal d (row_text dirs text (n - 1)) ≡ false
-      → directory_index_from n 0 d (dir_texts dirs text m) ≡ directory_index d (dir_texts dirs text n)
+      → directory_index_from n 0 d (dir_texts (take (m * 2) dirs) text (length (take (m * 2) dirs) / 2)) ≡ directory_index d (dir_texts dirs text n)
   last-missed m e q =
       let k : m + (n - m) ≡ n = omega arith in
-      search-past (row_text dirs text) d n m (n - m) (omega arith) others
+      ap (directory_index_from n 0 d) (front-texts dirs text m (omega arith))
+      ∙ search-past (row_text dirs text) d n m (n - m) (omega arith) others
       ∙ ap (λ (i : ℕ). directory_index_from n 0 d (dir_texts dirs text i)) k
       ∙ search_is (row_text dirs text) d n
     where
@@ -157,23 +170,22 @@ module _ (dirs text d : List ℕ) (n : ℕ) (h : 0 < n) where
               let c = eqb-false j (n - 1) p in
               ap (equal d) (past dirs text j (omega (arith, c)) ∙ sym (past dirs text (n - 1) (omega (arith, c)))) ∙ q
 
--- the texts of the first m rows of a table, as chunks of two words
+-- the texts of a table's rows, as chunks of two words
 row-behind : (text dirs : List ℕ) (a b i : ℕ) → row_text dirs text i ≡ row_text (a ∷ b ∷ dirs) text (suc i)
 row-behind text dirs a b i =
     let at : suc i * 2 ≡ suc (suc (i * 2)) = omega arith in
     let len : suc (suc (i * 2)) + 1 ≡ suc (suc (i * 2 + 1)) = omega arith in
     rw (at, len)
 
-row-texts : (text : List ℕ) (m k : ℕ) (dirs : List ℕ) → m ≤ k → k * 2 ≤ length dirs → map (λ ws. text_at text (row_of ws)) (take m (first_chunks 2 k dirs)) ≡ dir_texts dirs text m
+row-texts : (text : List ℕ) (k : ℕ) (dirs : List ℕ) → k * 2 ≤ length dirs → map (λ ws. text_at text (row_of ws)) (first_chunks 2 k dirs) ≡ dir_texts dirs text k
 unfolding tabled directory_index_from
-row-texts text zero k dirs h l = refl
-row-texts text (suc m) zero dirs h l = absurd (omega arith)
-row-texts text (suc m) (suc k) [] h l = absurd (omega arith)
-row-texts text (suc m) (suc k) (a ∷ []) h l = absurd (omega arith)
-row-texts text (suc m) (suc k) (a ∷ b ∷ dirs) h l =
+row-texts text zero dirs l = refl
+row-texts text (suc k) [] l = absurd (omega arith)
+row-texts text (suc k) (a ∷ []) l = absurd (omega arith)
+row-texts text (suc k) (a ∷ b ∷ dirs) l =
     ap (λ (ts : List (List ℕ)). text_at text (record { at = a; len = b }) ∷ ts)
-    (row-texts text m k dirs (omega arith) (omega arith)
-    ∙ tabled-same m (row_text dirs text) (λ i. row_text (a ∷ b ∷ dirs) text (suc i)) (λ i q. row-behind text dirs a b i))
+    (row-texts text k dirs (omega arith)
+    ∙ tabled-same k (row_text dirs text) (λ i. row_text (a ∷ b ∷ dirs) text (suc i)) (λ i q. row-behind text dirs a b i))
 
 -- the search over items from the back, where a call of f tells whether an item's text is d. Its invariant: the index
 -- among the items that are left is that among all, as those that are gone have another text
@@ -223,15 +235,15 @@ module _ {A F : Type 0} {g : Mut F (Bor A × Unit {0}) Bool} {f : F} (text-of : 
       let p = passed xs s t q y c in
       ended o r (length xs) t u q last p.0 (rw p.1 so) ∙ p.2
 
--- the same over the first m rows of a table
-pub found-row : {F : Type 0} {g : Mut F (Bor (List ℕ) × Unit {0}) Bool} {f : F} (dirs text d : List ℕ) (n m : ℕ) (rows : List (List ℕ)) (s u : Iter (List ℕ)) (r : Option ℕ)
+-- the same over the rows of a table
+pub found-row : {F : Type 0} {g : Mut F (Bor (List ℕ) × Unit {0}) Bool} {f : F} (dirs text d : List ℕ) (n : ℕ) (s u : Iter (List ℕ)) (r : Option ℕ)
     → ((x : Bor (List ℕ)) (b : Bool) (q : F) → Called g f (x, tt) b q → (q ≡ f) × (b ≡ equal d (text_at text (row_of x.now))))
-    → m ≤ length dirs / 2 → rows ≡ first_chunks 2 (length dirs / 2) dirs → iter_rest s ≡ take m rows → FindsPositionBack iter_steps_back g s f (length (iter_rest s)) r u
-    → unwrap_or r n ≡ directory_index_from n 0 d (dir_texts dirs text m)
-found-row dirs text d n m rows s u r asks h whole is ran =
+    → iter_rest s ≡ first_chunks 2 (length dirs / 2) dirs → FindsPositionBack iter_steps_back g s f (length (iter_rest s)) r u
+    → unwrap_or r n ≡ directory_index_from n 0 d (dir_texts dirs text (length dirs / 2))
+found-row dirs text d n s u r asks is ran =
     found-back (λ ws. text_at text (row_of ws)) d n asks s u r ran
-    ∙ ap (λ (ys : List (List ℕ)). directory_index_from n 0 d (map (λ ws. text_at text (row_of ws)) ys)) (is ∙ ap (take m) whole)
-    ∙ ap (directory_index_from n 0 d) (row-texts text m (length dirs / 2) dirs h (omega arith))
+    ∙ ap (λ (ys : List (List ℕ)). directory_index_from n 0 d (map (λ ws. text_at text (row_of ws)) ys)) is
+    ∙ ap (directory_index_from n 0 d) (row-texts text (length dirs / 2) dirs (omega arith))
 
 -- the plan of a directory that the search found, and of one that it did not
 module _ (d : List ℕ) (xs : List (List ℕ)) (n : ℕ) (l : length xs ≡ n) where
@@ -309,18 +321,15 @@ module _ (new : Bool) (d : List ℕ) (xs : List (List ℕ)) (n count : ℕ) (l :
   together : length ds ≡ count
   together = with-length new d xs n l ∙ sym c
 
-  pub pad-none : known_at 0 count ≡ pad_dir_plan_of false ds
-  pad-none = rw together
-
-  pub pad-own : (new && equal pad_directory_name d) ≡ true → known_at n count ≡ pad_dir_plan_of true ds
+  pub pad-own : (new && equal pad_directory_name d) ≡ true → known_at n count ≡ dir_plan_of (stored pad_directory_name false) ds
   pad-own e =
       old-is pad_directory_name ds count together n count (sym l ∙ own-index pad_directory_name d xs new e) (own-there pad_directory_name d xs new e) refl
 
-  pub pad-stored : (new && equal pad_directory_name d) ≡ false → plan_among pad_directory_name count xs ≡ pad_dir_plan_of true ds
+  pub pad-stored : (new && equal pad_directory_name d) ≡ false → plan_among pad_directory_name count xs ≡ dir_plan_of (stored pad_directory_name false) ds
   pad-stored e = at (is_among pad_directory_name xs) refl
     where
       at : (t : Bool) → is_among pad_directory_name xs ≡ t
-          → cond t (known_at (directory_index pad_directory_name xs) count) (added_at count 4) ≡ pad_dir_plan_of true ds
+          → cond t (known_at (directory_index pad_directory_name xs) count) (added_at count 4) ≡ dir_plan_of (stored pad_directory_name false) ds
       at true q =
           old-is pad_directory_name ds count together (directory_index pad_directory_name xs) count
           (old-index pad_directory_name d xs q new e) (old-there pad_directory_name d xs q new e) refl
@@ -333,4 +342,4 @@ counted dirs text n = length-tabled n (row_text dirs text)
 -- what the plan of a file's directory needs, and that of a pad's
 pub ruleset planning = (plan-stored, counted)
 
-pub ruleset padding = (pad-none, pad-own, pad-stored, counted)
+pub ruleset padding = (pad-own, pad-stored, counted)

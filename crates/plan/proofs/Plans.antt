@@ -2,18 +2,17 @@
 -- tables mean. They rely on the laws of rules and of directories.
 use Rattle.std.specs.Prelude.{is_some, option_map, unwrap_or}
 use Rattle.std.specs.Bool.{then_some}
-use Rattle.std.proofs.Common.{◌≡◌, ℕ, suc, ◌+◌, ◌≤◌, Bool, true, false, cond, not, ◌&&◌, ◌||◌, eqb, ltb, List, [], ◌∷◌, ◌++◌, length, sym, refl, ap, ◌∙◌, arith, length-append}
+use Rattle.std.specs.Option.{option_map_or}
+use Rattle.std.proofs.Common.{◌≡◌, ℕ, suc, ◌+◌, ◌≤◌, Bool, true, false, cond, not, ◌||◌, eqb, ltb, Option, List, [], ◌∷◌, ◌++◌, length, sym, refl, ap, ◌∙◌, arith, length-append}
 use mathlib.Core.Bool.{or_assoc}
 use borrow.Author.Tests.{not-false}
 use Rattle.lists.specs.Lists.{equal}
-use Rattle.lists.specs.Decimal.{decimal}
 use Rattle.path.specs.Split.{has_parent_path, rsplit_branch, rsplit_leaf, is_complete, lsplit_first, lsplit_rest}
 use Rattle.path.specs.Join.{is_empty}
 use Rattle.types.specs.Refusals.{number_of, Outcome, value, refused}
 use Rattle.types.specs.Signed.{zigzag}
 use Rattle.types.specs.declared.refusal.Refusal.{Refusal}
 use Rattle.types.proofs.Refusals.{numbered}
-use Rattle.tables.specs.declared.rows.Row.{Row}
 use Rattle.tables.specs.declared.storage.FileStorage.{FileStorage}
 use Rattle.tables.specs.declared.rows.Presence.{Presence}
 use Rattle.tables.specs.declared.rows.Presence.TheVariants.{Absent, Present}
@@ -43,9 +42,9 @@ use Rattle.plan.specs.declared.counts.FileFacts.{FileFacts}
 use Rattle.plan.specs.declared.plan.TextSpans.{TextSpans}
 use Rattle.plan.specs.declared.plan.TextLengths.{TextLengths}
 use Rattle.plan.specs.declared.plan.AddPlan.{AddPlan}
-use Rattle.plan.specs.Write.{directory_index, is_new, set_text, directory_new, name_text, link_new, pad_directory_new, pad_text, new_text_of, row_of_pad, is_outside, text_kept, text_after}
+use Rattle.plan.specs.Write.{set_text, directory_new, name_text, link_new, pad_directory_new, pad_text, new_text_of, is_outside, text_kept, text_after}
 use Rattle.plan.specs.Outcomes.{lacks_places, adding_number}
-use Rattle.plan.specs.private.Steps.{dir_plan_of, pad_dir_plan_of, pad_length, counts_of, short_of, places_lack, text_spans_of, dir_texts, facts_of, lengths_of, planned_beside, TextsOf}
+use Rattle.plan.specs.private.Steps.{dir_plan_of, pad_dir_plan_of, dirs_after, counts_of, short_of, places_lack, text_spans_of, dir_texts, facts_of, lengths_of, planned_beside, TextsOf}
 use Rattle.plan.specs.Plan.{plan_of, planned_for}
 use Rattle.plan.proofs.Directories.{length-new}
 
@@ -142,38 +141,20 @@ length_of_directory single ds = refl
 length_of_directory absolute ds = refl
 length_of_directory (stored d outside) ds = length-if-new (is_among d ds) d
 
-length_of_pads : (t u : Bool) (d : List ℕ) → unwrap_or (then_some (not t && not u) (length d)) 0 ≡ length (cond t [] (cond u [] d))
-length_of_pads true u d = refl
-length_of_pads false true d = refl
-length_of_pads false false d = refl
-
--- the row of a pad of that size; its path index counts only where there is a pad
-row-if-pad : (t : Bool) (r : Row)
-    → option_map (λ size. record { offset = r.offset; size = size; name = r.name; link = r.link; path_index = cond t 0 r.path_index; flags = r.flags; time = r.time })
-    (then_some (not t) r.size)
-    ≡ then_some (not t) r
-row-if-pad true r = refl
-row-if-pad false r = refl
+length_of_pads : (t : Bool) (d : List ℕ) → unwrap_or (then_some (not t) (length d)) 0 ≡ length (cond t [] d)
+length_of_pads true d = refl
+length_of_pads false d = refl
 
 -- what is made of a value that is there by a test
 map-then_some : {A B : Type 0} (f : A → B) (t : Bool) (x : A) → option_map f (then_some t x) ≡ then_some t (f x)
 map-then_some f true x = refl
 map-then_some f false x = refl
 
--- a pad's directory, how many digits name the pad, and how many files an addition is, by whether there is no pad
-pads-directory : (t : Bool) (pad : ℕ) (ds : List (List ℕ))
-    → pad_dir_plan_of (is_some (then_some (not t) pad)) ds
-    ≡ record {
-      index = cond t 0 (directory_index pad_directory_name ds);
-      new = then_some (not t && is_new pad_directory_name ds) (length pad_directory_name);
-      count = length (cond t ds (with_directory pad_directory_name ds));
-    }
-pads-directory true pad ds = refl
-pads-directory false pad ds = rw (length-new (is_among pad_directory_name ds) pad_directory_name)
-
-pads-length : (t : Bool) (pad : ℕ) → pad_length (then_some (not t) pad) ≡ length (cond t [] (decimal pad))
-pads-length true pad = refl
-pads-length false pad = refl
+-- how many directories there are with a pad's, and how many files an addition is, by whether there is no pad
+pads-directories : (t : Bool) (pad : ℕ) (ds : List (List ℕ))
+    → option_map_or (λ p. p.count) (pad_dir_plan_of (is_some (then_some (not t) pad)) ds) (length ds) ≡ length (cond t ds (with_directory pad_directory_name ds))
+pads-directories true pad ds = refl
+pads-directories false pad ds = refl
 
 pads-count : (t : Bool) (pad : ℕ) → ◌≡◌ {A = ℕ} (cond (is_some (then_some (not t) pad)) 2 1) (cond t 1 2)
 pads-count true pad = refl
@@ -189,7 +170,7 @@ module _ (fs : FileStorage) (name : List ℕ) (files : List File) (ds : List (Li
   abbrev first : DirPlan
   first = dir_plan_of (directory_added m a) ds
 
-  abbrev second : DirPlan
+  abbrev second : Option DirPlan
   second = pad_dir_plan_of (is_some sizes.pad) (with_directory_of (directory_added m a) ds)
 
   abbrev lengths : TextLengths
@@ -241,17 +222,22 @@ module _ (fs : FileStorage) (name : List ℕ) (files : List File) (ds : List (Li
   -- the plan by these numbers is the one by the public definitions
   pub planned-is : (rooms : Rooms)
       → planned_beside fs rooms ds (record { sizes = sizes; facts = facts; lengths = lengths; parts = parts }) (directory_added m a)
-      ≡ outcome_of (cond (short_of rooms counts.num_files second.count || ltb rooms.text spans.end) 10 0) (plan_of fs m a)
-  planned-is rooms =
-      rw (outside-is, pads-directory (eqb (pad_of m a) 0) (pad_of m a) (with_directory_of (directory_added m a) ds), pads-length (eqb (pad_of m a) 0) (pad_of m a), pads-count (eqb (pad_of m a) 0) (pad_of m a))
-      (rw (length_of_directory (directory_added m a) ds, length_of_pads (eqb (pad_of m a) 0) (is_among pad_directory_name (with_directory_of (directory_added m a) ds)) pad_directory_name, row-if-pad (eqb (pad_of m a) 0) (row_of_pad fs m a))
-      (simp map-then_some))
+      ≡ outcome_of (cond (short_of rooms counts.num_files (dirs_after (record { file = first; pad = second })) || ltb rooms.text spans.end) 10 0) (plan_of fs m a)
+  planned-is rooms = at (eqb (pad_of m a) 0) refl
+    where
+      at : (t : Bool) → eqb (pad_of m a) 0 ≡ t
+          → planned_beside fs rooms ds (record { sizes = sizes; facts = facts; lengths = lengths; parts = parts }) (directory_added m a)
+          ≡ outcome_of (cond (short_of rooms counts.num_files (dirs_after (record { file = first; pad = second })) || ltb rooms.text spans.end) 10 0) (plan_of fs m a)
+      at true q = rw (q, outside-is, length_of_directory (directory_added m a) ds) (simp map-then_some)
+      at false q =
+          let ps = with_directory_of (directory_added m a) ds in
+          rw (q, outside-is, length_of_directory (directory_added m a) ds, length-new (is_among pad_directory_name ps) pad_directory_name, length_of_pads (is_among pad_directory_name ps) pad_directory_name) (simp map-then_some)
 
   -- room is lacking where a count or the text's end passes it
   pub room-is : (rooms : Rooms)
-      → lacks rooms (added m a) (text_after fs m a) ≡ (short_of rooms counts.num_files second.count || ltb rooms.text spans.end)
+      → lacks rooms (added m a) (text_after fs m a) ≡ (short_of rooms counts.num_files (dirs_after (record { file = first; pad = second })) || ltb rooms.text spans.end)
   room-is rooms =
-      rw (pads-directory (eqb (pad_of m a) 0) (pad_of m a) (with_directory_of (directory_added m a) ds), pads-count (eqb (pad_of m a) 0) (pad_of m a))
+      rw (pads-directories (eqb (pad_of m a) 0) (pad_of m a) (with_directory_of (directory_added m a) ds), pads-count (eqb (pad_of m a) 0) (pad_of m a))
       (room rooms (files_of (added m a)) _ _ (ltb rooms.text (text_after fs m a))
       (length-pads files (file_added m a) (fs.total_size + size_added a) (pad_of m a) ∙ ap (λ (n : ℕ). n + cond (eqb (pad_of m a) 0) 1 2) e))
 

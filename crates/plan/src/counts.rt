@@ -67,19 +67,14 @@ pub(crate) fn counts_after(fs: FileStorage, sizes: Sizes, facts: FileFacts) -> C
     }
 }
 
-// Whether a set that keeps a table of first files, with that many places, would have more pieces: by a product where
-// that fits, which costs less than a quotient.
+// Whether a set that keeps a table of first files, with that many places, would have more pieces: by a product, which
+// costs less than a quotient; one past 64 bits is past every total.
+// Stays: here and below: that the piece length was tested is told by `requires`; layout's `high_of` says why.
 fn lacks_places(fs: FileStorage, places: usize, total: u64) -> bool
     requires { bad_length fs.piece_length ≡ false }
     ensures { result ≡ places_lack fs places total }
 {
-    if !fs.indexed {
-        return false;
-    }
-    if places < 0x1_0000_0000 {
-        return places as u64 * fs.piece_length < total;
-    }
-    (places as u64) < lists::div_ceil(total, fs.piece_length)
+    fs.indexed && (places as u64).saturating_mul(fs.piece_length) < total
 }
 
 // Whether the tables do not hold what the set counts, or the table of first files has too few places for it with a file

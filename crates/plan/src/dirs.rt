@@ -16,7 +16,7 @@ use additions::PathKind;
 use tables::{DIR_WIDTH, Span};
 
 // The path index of a directory, the length of its text where it is new, and how many directories there are with it.
-#[derive(Drop)]
+#[derive(Clone, Copy)]
 pub(crate) struct DirPlan {
     pub index: u64,
     pub new: Option<usize>,
@@ -50,8 +50,8 @@ impl DirPlan {
 
 // Whether a span's text is `dir`; where the area's end cannot cut a longer span to its length, the two lengths are
 // compared before the text is read.
-// Stays: tried, with `lists::same` of `tables::text_at` alone, an addition to a v1 set of 50 directories takes 221 ns, and
-// so 172.
+// Stays: tried, with `lists::same` of `tables::text_at` alone, an addition to a v1 set of 50 directories takes 221 ns,
+// and so 172.
 fn is_text(text: &[u8], s: Span, dir: &[u8]) -> bool
     ensures { result ≡ equal dir.now (text_at text.now s) }
 {
@@ -62,22 +62,17 @@ fn is_text(text: &[u8], s: Span, dir: &[u8]) -> bool
     lists::same(dir, tables::text_at(text, s))
 }
 
-// The index of the last of the first m directories whose text is `dir`. It is a call of its own: taken into an
-// addition, its loop finds few registers free.
+// The index of the last directory whose text is `dir`. It is a call of its own: taken into an addition, its loop finds
+// few registers free.
 #[inline(never)]
-fn find_among(dirs: &[u64], text: &[u8], m: usize, dir: &[u8]) -> Option<usize>
-    requires { m ≤ length dirs.now / dir_width }
-    ensures bound { IfSome result (λ k. k < m) }
-    ensures value { (n : ℕ) → unwrap_or result n ≡ directory_index_from n 0 dir.now (dir_texts dirs.now text.now m) }
+fn find_among(dirs: &[u64], text: &[u8], dir: &[u8]) -> Option<usize>
+    ensures bound { IfSome result (λ k. k < length dirs.now / dir_width) }
+    ensures value { (n : ℕ) → unwrap_or result n
+        ≡ directory_index_from n 0 dir.now (dir_texts dirs.now text.now (length dirs.now / dir_width)) }
 {
     let (rows, _) = dirs.as_chunks::<DIR_WIDTH>();
-    rows[..m].iter().rposition(|&[at, len]| {
-        let s = Span {
-            at: at as usize,
-            len: len as usize,
-        };
-        is_text(text, s, dir)
-    })
+    rows.iter()
+        .rposition(|&row| is_text(text, Span::from(row), dir))
 }
 
 // Whether a file's new directory is the pads' own.
@@ -88,8 +83,8 @@ fn is_pads(new: bool, dir: &[u8]) -> bool
 }
 
 // The directories that are stored: the texts of the first `count` rows, in the text area.
-// Stays: the contracts read rows past the table's end as empty texts, and `count` may pass it, where no slice of so many
-// rows could be lent.
+// Stays: the contracts read rows past the table's end as empty texts, and `count` may pass it, where no slice of so
+// many rows could be lent.
 #[derive(Clone, Copy)]
 pub(crate) struct Stored<'a> {
     pub dirs: &'a [u64],
@@ -114,12 +109,8 @@ impl Stored<'_> {
         if is_text(self.text, tables::dir_at(self.dirs, last), dir) {
             return Some(last);
         }
-        find_among(
-            self.dirs,
-            self.text,
-            last.min(self.dirs.len() / DIR_WIDTH),
-            dir,
-        )
+        let n = last.min(self.dirs.len() / DIR_WIDTH);
+        find_among(&self.dirs[..n * DIR_WIDTH], self.text, dir)
     }
 
     // A directory with that text, which is new where no row has it, where there are `count` directories before it.
@@ -152,18 +143,18 @@ impl Stored<'_> {
 
     // The directory of the pad, where one follows a file, whose own directory is new or not.
     #[tactic(auto, using(crate::proofs::Directories::padding))]
-    pub(crate) fn plan_pad(&self, follows: bool, new: bool, dir: &[u8]) -> DirPlan
+    pub(crate) fn plan_pad(&self, follows: bool, new: bool, dir: &[u8]) -> Option<DirPlan>
         ensures { result
             ≡ pad_dir_plan_of follows
             (dirs_with new dir.now (dir_texts self.now.dirs.now self.now.text.now self.now.count)) }
     {
-        let count = self.count + usize::from(new);
         if !follows {
-            return DirPlan::known(0, count);
+            return None;
         }
+        let count = self.count + usize::from(new);
         if is_pads(new, dir) {
-            return DirPlan::known(self.count as u64, count);
+            return Some(DirPlan::known(self.count as u64, count));
         }
-        self.plan_stored(b".pad", count)
+        Some(self.plan_stored(b".pad", count))
     }
 }

@@ -10,7 +10,7 @@ ghost use Rattle.additions.specs.Addition.{addition_of};
 ghost use Rattle.additions.specs.private.Texts.{directory_at};
 ghost use Rattle.plan.specs.Write.{old_name};
 ghost use Rattle.plan.specs.private.Steps.{Countable, dir_texts, facts_of, lengths_of};
-ghost use Rattle.plan.specs.private.Steps.{pad_length, text_spans_for};
+ghost use Rattle.plan.specs.private.Steps.{dirs_after, pad_new, pad_length, text_spans_for};
 ghost use Rattle.plan.specs.private.Steps.{spans_within, plan_from, planned_in, planned_beside};
 ghost use Rattle.plan.specs.Plan.{planned_for};
 
@@ -78,11 +78,27 @@ pub(crate) struct Decided {
     pub parts: PathParts,
 }
 
-// The directories of an addition: the file's, and the pad's.
+// The directories of an addition: the file's, and the pad's where one follows.
 #[derive(Drop)]
 pub(crate) struct DirPlans {
     pub file: DirPlan,
-    pub pad: DirPlan,
+    pub pad: Option<DirPlan>,
+}
+
+impl DirPlans {
+    // How many directories there are with both.
+    fn count(&self) -> usize
+        ensures { result ≡ dirs_after self.now }
+    {
+        self.pad.map_or(self.file.count, |d| d.count)
+    }
+
+    // The length of the text of the pad's directory, where that is new.
+    fn pad_new(&self) -> Option<usize>
+        ensures { result ≡ pad_new self.now }
+    {
+        self.pad?.new
+    }
 }
 
 // How many digits name a pad, where there is one.
@@ -103,6 +119,8 @@ fn next_span(s: Span, len: usize) -> Option<Span>
 }
 
 // Spans for the texts of an addition after the text that stays, where they fit in `room`.
+// Stays: the set's record goes beside what was decided, here and in the two that make the plan; a record of the two and
+// the directories would be made for one call and taken apart in it.
 fn text_spans(
     fs: FileStorage,
     room: usize,
@@ -119,7 +137,7 @@ fn text_spans(
     let directory = next_span(set, dirs.file.new.unwrap_or(0))?;
     let name = next_span(directory, lengths.name)?;
     let link = next_span(name, lengths.link)?;
-    let pad_directory = next_span(link, dirs.pad.new.unwrap_or(0))?;
+    let pad_directory = next_span(link, dirs.pad_new().unwrap_or(0))?;
     let pad_name = next_span(pad_directory, pad_length(addition.sizes.pad))?;
     let end = next_span(pad_name, 0)?.at;
     if room < end {
@@ -177,7 +195,7 @@ fn make_plan(
         after: FileStorage {
             v2: sizes.v2,
             num_files: counts.num_files,
-            num_paths: dirs.pad.count,
+            num_paths: dirs.count(),
             num_symlinks: counts.num_symlinks,
             name: name_after(fs, spans.set),
             text_len: spans.end,
@@ -194,7 +212,7 @@ fn make_plan(
             flags: row_flags(facts, additions::is_outside(parts.kind)),
             time: facts.time,
         },
-        pad_row: sizes.pad.map(|size| Row {
+        pad_row: sizes.pad.zip(dirs.pad).map(|(size, dir)| Row {
             offset: sizes.file_end,
             size,
             name: spans.pad_name,
@@ -202,7 +220,7 @@ fn make_plan(
                 at: spans.end,
                 len: 0,
             },
-            path_index: dirs.pad.index,
+            path_index: dir.index,
             flags: MADE_PAD_FLAGS,
             time: 0,
         }),
@@ -213,7 +231,7 @@ fn make_plan(
                 len,
             },
         }),
-        pad_dir: dirs.pad.new.map(|len| NewDir {
+        pad_dir: dirs.pad_new().map(|len| NewDir {
             slot: dirs.file.count,
             text: Span {
                 at: spans.pad_directory,
@@ -237,7 +255,7 @@ fn plan_numbers(
     ensures { outcome result ≡ planned_in fs rooms addition dirs }
 {
     let counts = counts_after(fs, addition.sizes, addition.facts);
-    if is_short(rooms, counts.num_files, dirs.pad.count) {
+    if is_short(rooms, counts.num_files, dirs.count()) {
         return Err(Refusal::NoRoom);
     }
     let spans = text_spans(fs, rooms.text, &addition, &dirs).ok_or(Refusal::NoRoom)?;
@@ -289,16 +307,17 @@ fn lengths_of(links: usize, given: Given) -> TextLengths
         (option_copied given.entry.name)
         given.entry.path.now given.entry.parts given.entry.link.now }
 {
-    let own = tables::text_at(given.path, given.parts.name);
     TextLengths {
-        set_name: tables::text_at(given.path, given.parts.set_name).len(),
-        name: additions::stored_name(given.name, own).len(),
-        link: additions::link_text(links, given.link).len(),
+        set_name: given.set_name().len(),
+        name: given.stored_name().len(),
+        link: given.link_text(links).len(),
     }
 }
 
 // The plan of an addition, or its refusal. Nothing is written.
-// Stays: the set's tables, and the texts that an addition brings, are lent one by one, as the C interface lends them.
+// Stays: each table is lent by itself (docs/DECISIONS.md, Forms 10), and the texts stand in the clause one by one, as
+// `addition_of` takes them. A `Given` made by the caller would bring parts, of which the clause would have to ask that they
+// are the path's.
 pub fn plan_add(
     fs: FileStorage,
     rows: &[u64],
@@ -317,29 +336,23 @@ pub fn plan_add(
         rows.now roots.now firsts.now dirs.now text.now)
         (addition_of file filename.now path.now symlink_path.now) }
 {
-    let given = additions::given_name(file.given, filename);
+    let given = Given {
+        name: additions::given_name(file.given, filename),
+        path,
+        link: symlink_path,
+        parts: additions::parts_of(fs, text, path),
+    };
     let facts = facts_of(fs, file, symlink_path);
-    let parts = additions::parts_of(fs, text, path);
-    let sizes = additions::decide_sizes(fs, file.size, given, facts.has_root, parts, symlink_path)?;
+    let sizes = additions::decide_sizes(fs, file.size, facts.has_root, given)?;
     let rooms = Rooms::of(rows, roots, dirs, text);
     if is_full(fs, rooms, firsts.len(), sizes) {
         return Err(Refusal::NoRoom);
     }
-    let lengths = lengths_of(
-        fs.num_symlinks,
-        Given {
-            name: given,
-            path,
-            link: symlink_path,
-            parts,
-        },
-    );
-    let dir = tables::text_at(path, parts.directory);
     let addition = Decided {
         sizes,
         facts,
-        lengths,
-        parts,
+        lengths: lengths_of(fs.num_symlinks, given),
+        parts: given.parts,
     };
-    plan_dirs(fs, rooms, dirs, text, addition, dir)
+    plan_dirs(fs, rooms, dirs, text, addition, given.directory())
 }

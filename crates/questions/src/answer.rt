@@ -2,13 +2,13 @@
 // questions.
 use crate::no_set::on_no_set;
 use crate::{Lent, file_paths, file_rows, layouts, renamed_files, whole_set};
-use renames::RenamedFiles;
+use renames::LentRenames;
 use std::io;
 use std::io::Stdout;
 use tables::FileStorage;
 
 // A set and its renames, as a question is lent them: their records, their parts of the tables, and how many places an
-// answer has; `entries` and `area` are the tables of the renames.
+// answer has.
 #[derive(Clone, Copy)]
 pub struct Asked<'a> {
     pub fs: FileStorage,
@@ -17,9 +17,7 @@ pub struct Asked<'a> {
     pub firsts: &'a [u16],
     pub dirs: &'a [u64],
     pub text: &'a [u8],
-    pub held: RenamedFiles,
-    pub entries: &'a [u64],
-    pub area: &'a [u8],
+    pub names: LentRenames<'a>,
     pub lent: Lent,
 }
 
@@ -31,16 +29,14 @@ pub(crate) struct Question<'a> {
     pub set: Asked<'a>,
 }
 
-// Answers a question on a set, or on none.
+// Answers a question on a set, or on none. A module gives nothing where a line has none of its forms, or has one of
+// them but a word out of form; no two forms have one name, so such a line is no call in the end.
 pub fn on_set(out: Stdout, line: &[u8], set: Asked<'_>) -> io::Result<()> {
     let question = Question { out, line, set };
-    if whole_set::answer(question)?
-        || file_rows::answer(question)?
-        || layouts::answer(question)?
-        || file_paths::answer(question)?
-        || renamed_files::answer(question)?
-    {
-        return Ok(());
-    }
-    on_no_set(out, line)
+    whole_set::answer(question)
+        .or_else(|| file_rows::answer(question))
+        .or_else(|| layouts::answer(question))
+        .or_else(|| file_paths::answer(question))
+        .or_else(|| renamed_files::answer(question))
+        .unwrap_or_else(|| on_no_set(out, line))
 }

@@ -9,161 +9,128 @@ use types::{FileIndex, PieceIndex};
 // The places of a column of slices, more than a set has files.
 const COLUMN: usize = 1024;
 
-// Answers a line that has one of this module's forms, and says whether it has.
-pub(crate) fn answer(question: Question<'_>) -> io::Result<bool> {
-    if on_number(question)? {
-        return Ok(true);
-    }
+// Answers a line that has one of this module's forms.
+pub(crate) fn answer(question: Question<'_>) -> Option<io::Result<()>> {
     let line = question.line;
     if script::has_form(line, b"file_index_at_offset O") {
-        at_offset(question)?;
+        at_offset(question)
     } else if script::has_form(line, b"file_index_for_root ROOT") {
-        for_root(question)?;
+        for_root(question)
     } else if script::has_form(line, b"map_file I OFFSET SIZE") {
-        map_file(question)?;
+        map_file(question)
     } else if script::has_form(line, b"map_block PIECE OFFSET SIZE") {
-        map_block(question)?;
+        map_block(question)
     } else {
-        return Ok(false);
+        on_number(question)
     }
-    Ok(true)
 }
 
 // Answers a question on a file or a piece by its number.
-fn on_number(question: Question<'_>) -> io::Result<bool> {
-    let Some(n) = script::to_i32(script::word(question.line, 1)) else {
-        return Ok(false);
-    };
-    Ok(
-        range_of(question, FileIndex(n))?
-            || tree_of(question, FileIndex(n))?
-            || piece_of(question, PieceIndex(n))?,
-    )
+fn on_number(question: Question<'_>) -> Option<io::Result<()>> {
+    let n = script::to_i32(script::word(question.line, 1))?;
+    range_of(question, FileIndex(n))
+        .or_else(|| tree_of(question, FileIndex(n)))
+        .or_else(|| piece_of(question, PieceIndex(n)))
 }
 
 // Answers a question on the pieces of a file.
-fn range_of(question: Question<'_>, index: FileIndex) -> io::Result<bool> {
+fn range_of(question: Question<'_>, index: FileIndex) -> Option<io::Result<()>> {
     let Question { out, line, set } = question;
     let fs = set.fs;
     let rows = set.rows;
-    if script::has_form(line, b"exclusive I") {
-        replies::answer(out, files::file_piece_range_exclusive(fs, rows, index))?;
+    let written = if script::has_form(line, b"exclusive I") {
+        replies::answer(out, files::file_piece_range_exclusive(fs, rows, index))
     } else if script::has_form(line, b"inclusive I") {
-        replies::answer(out, files::file_piece_range_inclusive(fs, rows, index))?;
+        replies::answer(out, files::file_piece_range_inclusive(fs, rows, index))
     } else if script::has_form(line, b"file_piece_range I") {
-        replies::answer(out, files::file_piece_range(fs, rows, index))?;
+        replies::answer(out, files::file_piece_range(fs, rows, index))
     } else if script::has_form(line, b"piece_index_at_file I") {
-        replies::answer(out, files::piece_index_at_file(fs, rows, index))?;
+        replies::answer(out, files::piece_index_at_file(fs, rows, index))
     } else if script::has_form(line, b"last_piece_index_at_file I") {
-        replies::answer(out, files::last_piece_index_at_file(fs, rows, index))?;
+        replies::answer(out, files::last_piece_index_at_file(fs, rows, index))
     } else {
-        return Ok(false);
-    }
-    Ok(true)
+        return None;
+    };
+    Some(written)
 }
 
 // Answers a question on the tree of a file.
-fn tree_of(question: Question<'_>, index: FileIndex) -> io::Result<bool> {
+fn tree_of(question: Question<'_>, index: FileIndex) -> Option<io::Result<()>> {
     let Question { out, line, set } = question;
     let fs = set.fs;
     let rows = set.rows;
-    if script::has_form(line, b"file_num_pieces I") {
-        replies::answer(out, files::file_num_pieces(fs, rows, index))?;
+    let written = if script::has_form(line, b"file_num_pieces I") {
+        replies::answer(out, files::file_num_pieces(fs, rows, index))
     } else if script::has_form(line, b"file_num_blocks I") {
-        replies::answer(out, files::file_num_blocks(fs, rows, index))?;
+        replies::answer(out, files::file_num_blocks(fs, rows, index))
     } else if script::has_form(line, b"file_first_piece_node I") {
-        replies::answer(out, files::file_first_piece_node(fs, rows, index))?;
+        replies::answer(out, files::file_first_piece_node(fs, rows, index))
     } else if script::has_form(line, b"file_first_block_node I") {
-        replies::answer(out, files::file_first_block_node(fs, rows, index))?;
+        replies::answer(out, files::file_first_block_node(fs, rows, index))
     } else {
-        return Ok(false);
-    }
-    Ok(true)
+        return None;
+    };
+    Some(written)
 }
 
 // Answers a question on a piece.
-fn piece_of(question: Question<'_>, piece: PieceIndex) -> io::Result<bool> {
+fn piece_of(question: Question<'_>, piece: PieceIndex) -> Option<io::Result<()>> {
     let Question { out, line, set } = question;
     let fs = set.fs;
     let rows = set.rows;
     let window = layout::window_for(fs, set.firsts, piece, 0);
-    if script::has_form(line, b"piece_size P") {
-        replies::answer(out, layout::piece_size(fs, piece))?;
+    let written = if script::has_form(line, b"piece_size P") {
+        replies::answer(out, layout::piece_size(fs, piece))
     } else if script::has_form(line, b"piece_size2 P") {
-        replies::answer(out, layout::piece_size2(fs, rows, window, piece))?;
+        replies::answer(out, layout::piece_size2(fs, rows, window, piece))
     } else if script::has_form(line, b"blocks_in_piece2 P") {
-        replies::answer(out, layout::blocks_in_piece2(fs, rows, window, piece))?;
+        replies::answer(out, layout::blocks_in_piece2(fs, rows, window, piece))
     } else if script::has_form(line, b"file_index_at_piece P") {
-        replies::answer(out, layout::file_index_at_piece(fs, rows, window, piece))?;
+        replies::answer(out, layout::file_index_at_piece(fs, rows, window, piece))
     } else if script::has_form(line, b"last_file_index_at_piece P") {
         replies::answer(
             out,
             layout::last_file_index_at_piece(fs, rows, window, piece),
-        )?;
+        )
     } else {
-        return Ok(false);
-    }
-    Ok(true)
+        return None;
+    };
+    Some(written)
 }
 
 // `file_index_at_offset O`.
-fn at_offset(question: Question<'_>) -> io::Result<()> {
+fn at_offset(question: Question<'_>) -> Option<io::Result<()>> {
     let Question { out, line, set } = question;
-    let Some(offset) = script::to_i64(script::word(line, 1)) else {
-        return replies::bad_call(out);
-    };
+    let offset = script::to_i64(script::word(line, 1))?;
     let window = layout::window_for(set.fs, set.firsts, PieceIndex(0), offset);
-    replies::answer(
-        out,
-        layout::file_index_at_offset(set.fs, set.rows, window, offset),
-    )
+    let index = layout::file_index_at_offset(set.fs, set.rows, window, offset);
+    Some(replies::answer(out, index))
 }
 
 // `file_index_for_root ROOT`.
-fn for_root(question: Question<'_>) -> io::Result<()> {
+fn for_root(question: Question<'_>) -> Option<io::Result<()>> {
     let Question { out, line, set } = question;
-    let Some(bytes) = script::to_root(script::word(line, 1)) else {
-        return replies::bad_call(out);
-    };
-    replies::answer(
-        out,
-        files::file_index_for_root(set.fs, set.rows, set.roots, Sha256Hash { bytes }),
-    )
-}
-
-// The three numbers of `map_file I OFFSET SIZE`.
-fn file_block_in(line: &[u8]) -> Option<(FileIndex, i64, i32)> {
-    let index = words::file(line)?;
-    let offset = script::to_i64(script::word(line, 2))?;
-    let size = script::to_i32(script::word(line, 3))?;
-    Some((index, offset, size))
+    let bytes = script::to_root(script::word(line, 1))?;
+    let index = files::file_index_for_root(set.fs, set.rows, set.roots, Sha256Hash { bytes });
+    Some(replies::answer(out, index))
 }
 
 // `map_file I OFFSET SIZE`.
-fn map_file(question: Question<'_>) -> io::Result<()> {
+fn map_file(question: Question<'_>) -> Option<io::Result<()>> {
     let Question { out, line, set } = question;
-    let Some((index, offset, size)) = file_block_in(line) else {
-        return replies::bad_call(out);
-    };
-    replies::answer(out, files::map_file(set.fs, set.rows, index, offset, size))
-}
-
-// The three numbers of `map_block PIECE OFFSET SIZE`.
-// Stays: `file_block_in` differs in the types of the first and the last number; a function for both would be told how
-// each is read, which is the whole body.
-fn block_in(line: &[u8]) -> Option<(PieceIndex, i64, i64)> {
-    let n = script::to_i32(script::word(line, 1))?;
+    let index = words::file(line)?;
     let offset = script::to_i64(script::word(line, 2))?;
-    let size = script::to_i64(script::word(line, 3))?;
-    Some((PieceIndex(n), offset, size))
+    let size = script::to_i32(script::word(line, 3))?;
+    let request = files::map_file(set.fs, set.rows, index, offset, size);
+    Some(replies::answer(out, request))
 }
 
 // `map_block PIECE OFFSET SIZE`.
-fn map_block(question: Question<'_>) -> io::Result<()> {
+fn map_block(question: Question<'_>) -> Option<io::Result<()>> {
     let Question { out, line, set } = question;
-    let Some((piece, offset, size)) = block_in(line) else {
-        return replies::bad_call(out);
-    };
+    let piece = PieceIndex(script::to_i32(script::word(line, 1))?);
+    let offset = script::to_i64(script::word(line, 2))?;
+    let size = script::to_i64(script::word(line, 3))?;
     // Stays: of the two that give a block's slices, this program tests `blocks::map_block_core`, which fills three
     // columns; `mapping::map_block` fills a table of records.
     let mut files = [0u64; COLUMN];
@@ -180,5 +147,5 @@ fn map_block(question: Question<'_>) -> io::Result<()> {
         first(&mut offsets, set.lent.slices),
         first(&mut sizes, set.lent.slices),
     );
-    replies::slices(out, res, &files, &offsets, &sizes)
+    Some(replies::slices(out, res, &files, &offsets, &sizes))
 }

@@ -15,6 +15,9 @@ mod words;
 
 pub use answer::{Asked, on_set};
 pub use no_set::on_no_set;
+use std::io;
+use std::io::Stdout;
+use types::Refusal;
 
 // How many places the tables have that a question's answer is lent: bytes for a composed text, slices, and hashes.
 #[derive(Clone, Copy)]
@@ -25,7 +28,21 @@ pub struct Lent {
 }
 
 // The most bytes that a composed text has.
+// Stays: there is no heap, so the buffer of a text has the most bytes that it can need.
 pub(crate) const ROOM: usize = 262144;
+
+// Answers with the text that `write` composes in a buffer of so many bytes, whose length it gives.
+pub(crate) fn compose<F: FnOnce(&mut [u8]) -> Result<usize, Refusal>>(
+    out: Stdout,
+    room: usize,
+    write: F,
+) -> io::Result<()>
+    requires { F.IsAlwaysCallable write }
+{
+    let mut joined = [0u8; ROOM];
+    let res = write(first(&mut joined, room));
+    replies::composed(out, res, &joined)
+}
 
 // The first n places of a table, or as many as there are.
 // Stays: it makes the slice that a library is lent; n comes from the script, and may pass the table's end.

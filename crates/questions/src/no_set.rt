@@ -1,13 +1,18 @@
 // Questions on no set: on paths, byte strings and the width of a tree. Relies on `path`, `crc32c` and `merkle`, on
 // `lists`, `script` and `replies`.
-use crate::ROOM;
 use crate::words::{BUFFER, string, two_strings};
+use crate::{ROOM, compose};
 use replies::ByteString;
 use std::io;
 use std::io::Stdout;
 
 // Answers a question on no set; a line that is none is no call.
 pub fn on_no_set(out: Stdout, line: &[u8]) -> io::Result<()> {
+    answer(out, line).unwrap_or_else(|| replies::bad_call(out))
+}
+
+// Answers a line that has one of this module's forms.
+fn answer(out: Stdout, line: &[u8]) -> Option<io::Result<()>> {
     if script::has_form(line, b"lsplit_at :P N") {
         lsplit_at(out, line)
     } else if script::has_form(line, b"append :A :B") {
@@ -22,15 +27,13 @@ pub fn on_no_set(out: Stdout, line: &[u8]) -> io::Result<()> {
 }
 
 // Answers a question on one string.
-fn on_string(out: Stdout, line: &[u8]) -> io::Result<()> {
+fn on_string(out: Stdout, line: &[u8]) -> Option<io::Result<()>> {
     let mut buffer = [0u8; BUFFER];
-    let Some(s) = string(line, 1, &mut buffer) else {
-        return replies::bad_call(out);
-    };
-    if script::has_form(line, b"rsplit :P") {
-        halves(out, path::rsplit_path_branch(s), path::rsplit_path_leaf(s))
+    let s = string(line, 1, &mut buffer)?;
+    let written = if script::has_form(line, b"rsplit :P") {
+        halves(out, path::rsplit_path(s))
     } else if script::has_form(line, b"lsplit :P") {
-        halves(out, path::lsplit_path_first(s), path::lsplit_path_rest(s))
+        halves(out, path::lsplit_path(s))
     } else if script::has_form(line, b"has_parent :P") {
         replies::value(out, path::has_parent_path(s))
     } else if script::has_form(line, b"is_complete :P") {
@@ -40,59 +43,43 @@ fn on_string(out: Stdout, line: &[u8]) -> io::Result<()> {
     } else if script::has_form(line, b"crc :B") {
         replies::value(out, crc32c::crc32c(s))
     } else {
-        replies::bad_call(out)
-    }
+        return None;
+    };
+    Some(written)
 }
 
 // Answers with the two parts of a path.
-fn halves(out: Stdout, a: &[u8], b: &[u8]) -> io::Result<()> {
+fn halves(out: Stdout, (a, b): (&[u8], &[u8])) -> io::Result<()> {
     replies::value(out, (ByteString(a), ByteString(b)))
 }
 
 // `lsplit_at :P N`.
-fn lsplit_at(out: Stdout, line: &[u8]) -> io::Result<()> {
+fn lsplit_at(out: Stdout, line: &[u8]) -> Option<io::Result<()>> {
     let mut buffer = [0u8; BUFFER];
-    let Some(s) = string(line, 1, &mut buffer) else {
-        return replies::bad_call(out);
-    };
-    let Some(place) = script::to_u64(script::word(line, 2)) else {
-        return replies::bad_call(out);
-    };
-    let at = place as usize;
-    halves(
-        out,
-        path::lsplit_path_at_first(s, at),
-        path::lsplit_path_at_rest(s, at),
-    )
+    let s = string(line, 1, &mut buffer)?;
+    let at = script::to_u64(script::word(line, 2))? as usize;
+    Some(halves(out, path::lsplit_path_at(s, at)))
 }
 
 // `append :A :B`: the branch stands at the start of the buffer.
-fn append(out: Stdout, line: &[u8]) -> io::Result<()> {
+fn append(out: Stdout, line: &[u8]) -> Option<io::Result<()>> {
     let mut buffer = [0u8; BUFFER];
-    let Some((branch, leaf)) = two_strings(line, &mut buffer) else {
-        return replies::bad_call(out);
-    };
-    let mut joined = [0u8; ROOM];
-    lists::copy_in(&mut joined, branch);
-    let res = path::append_path(&mut joined, branch.len(), leaf);
-    replies::composed(out, res, &joined)
+    let (branch, leaf) = two_strings(line, &mut buffer)?;
+    Some(compose(out, ROOM, |target| {
+        lists::copy_in(target, branch);
+        path::append_path(target, branch.len(), leaf)
+    }))
 }
 
 // `combine :A :B`.
-fn combine(out: Stdout, line: &[u8]) -> io::Result<()> {
+fn combine(out: Stdout, line: &[u8]) -> Option<io::Result<()>> {
     let mut buffer = [0u8; BUFFER];
-    let Some((a, b)) = two_strings(line, &mut buffer) else {
-        return replies::bad_call(out);
-    };
-    let mut joined = [0u8; ROOM];
-    let res = path::combine_path(a, b, &mut joined);
-    replies::composed(out, res, &joined)
+    let (a, b) = two_strings(line, &mut buffer)?;
+    Some(compose(out, ROOM, |target| path::combine_path(a, b, target)))
 }
 
 // `width N`.
-fn width(out: Stdout, line: &[u8]) -> io::Result<()> {
-    let Some(n) = script::to_u64(script::word(line, 1)) else {
-        return replies::bad_call(out);
-    };
-    replies::answer(out, merkle::merkle_num_leafs(n as usize))
+fn width(out: Stdout, line: &[u8]) -> Option<io::Result<()>> {
+    let n = script::to_u64(script::word(line, 1))?;
+    Some(replies::answer(out, merkle::merkle_num_leafs(n as usize)))
 }

@@ -1,84 +1,86 @@
-// Questions on a set through its renames, and the export of these. Relies on `renamed`, on `script` and on `replies`.
-use crate::answer::Question;
+// Questions on a set through its renames, and the export of these. Relies on `renamed`, on `tables` for the bytes of a
+// name, on `script` and on `replies`.
+use crate::answer::{Asked, Question};
+use crate::compose;
 use crate::words::{BUFFER, file, file_and_string};
-use crate::{ROOM, first};
 use renamed::FileName;
 use replies::ByteString;
 use std::io;
 
-// Answers a line that has one of these forms, and says whether it has.
-pub(crate) fn answer(question: Question<'_>) -> io::Result<bool> {
+// Answers a line that has one of this module's forms.
+pub(crate) fn answer(question: Question<'_>) -> Option<io::Result<()>> {
     let Question { out, line, set } = question;
     if script::has_form(line, b"renamed_name I") {
-        name(question)?;
+        name(question)
     } else if script::has_form(line, b"renamed_absolute I") {
-        absolute(question)?;
+        absolute(question)
     } else if script::has_form(line, b"renamed_path I :SAVE") {
-        path(question)?;
+        path(question)
     } else if script::has_form(line, b"export") {
-        replies::export(out, set.held, set.entries, set.area)?;
+        Some(replies::export(out, set.names))
     } else {
-        return Ok(false);
+        None
     }
-    Ok(true)
 }
 
 // `renamed_name I`.
-fn name(question: Question<'_>) -> io::Result<()> {
+fn name(question: Question<'_>) -> Option<io::Result<()>> {
     let Question { out, line, set } = question;
-    let Some(index) = file(line) else {
-        return replies::bad_call(out);
-    };
-    match renamed::file_name(
+    let index = file(line)?;
+    let names = set.names;
+    let name = renamed::file_name(
         set.fs,
         set.rows,
         set.text,
-        set.held,
-        set.entries,
-        set.area,
+        names.renames,
+        names.entries,
+        names.text,
         index,
-    ) {
-        Ok(FileName::InSet(place)) => {
-            replies::value(out, ByteString(tables::text_at(set.text, place)))
-        }
-        Ok(FileName::InRenames(place)) => {
-            replies::value(out, ByteString(tables::text_at(set.area, place)))
-        }
-        Err(refusal) => replies::refused(out, refusal),
+    );
+    Some(replies::answer(out, name.map(|found| ByteString(bytes_of(set, found)))))
+}
+
+// The bytes of a name.
+fn bytes_of<'a>(set: Asked<'a>, name: FileName) -> &'a [u8] {
+    match name {
+        FileName::InSet(place) => tables::text_at(set.text, place),
+        FileName::InRenames(place) => tables::text_at(set.names.text, place),
     }
 }
 
 // `renamed_absolute I`.
-fn absolute(question: Question<'_>) -> io::Result<()> {
+fn absolute(question: Question<'_>) -> Option<io::Result<()>> {
     let Question { out, line, set } = question;
-    let Some(index) = file(line) else {
-        return replies::bad_call(out);
-    };
-    replies::answer(
-        out,
-        renamed::file_absolute_path(set.fs, set.rows, set.held, set.entries, set.area, index),
-    )
+    let index = file(line)?;
+    let names = set.names;
+    let is_absolute = renamed::file_absolute_path(
+        set.fs,
+        set.rows,
+        names.renames,
+        names.entries,
+        names.text,
+        index,
+    );
+    Some(replies::answer(out, is_absolute))
 }
 
 // `renamed_path I :SAVE`.
-fn path(question: Question<'_>) -> io::Result<()> {
+fn path(question: Question<'_>) -> Option<io::Result<()>> {
     let Question { out, line, set } = question;
     let mut buffer = [0u8; BUFFER];
-    let Some((index, save)) = file_and_string(line, &mut buffer) else {
-        return replies::bad_call(out);
-    };
-    let mut joined = [0u8; ROOM];
-    let res = renamed::file_path(
-        set.fs,
-        set.rows,
-        set.dirs,
-        set.text,
-        set.held,
-        set.entries,
-        set.area,
-        index,
-        save,
-        first(&mut joined, set.lent.output),
-    );
-    replies::composed(out, res, &joined)
+    let (index, save) = file_and_string(line, &mut buffer)?;
+    Some(compose(out, set.lent.output, |target| {
+        renamed::file_path(
+            set.fs,
+            set.rows,
+            set.dirs,
+            set.text,
+            set.names.renames,
+            set.names.entries,
+            set.names.text,
+            index,
+            save,
+            target,
+        )
+    }))
 }

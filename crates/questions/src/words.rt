@@ -1,8 +1,9 @@
 // The words of a question after its name: a file's number, and byte strings, which are decoded into a buffer. Relies on
-// `script`.
+// `script` for both, on `lists` for parts of the buffer, and on `types` for the index of a file.
 use types::FileIndex;
 
 // The bytes of a buffer for what the words of a line stand for.
+// Stays: there is no heap, so the buffer has the most bytes that a line has.
 pub(crate) const BUFFER: usize = 65536;
 
 // The file whose number is the first word.

@@ -1,5 +1,5 @@
 // A file's whole path through its rename, composed into a lent buffer. Relies on `renames` for the rename, on
-// `names` and `path` for joins and on the laws of proofs/Paths.antt.
+// `names` and `path` for joins and on the laws of proofs/Paths.antt and proofs/Deciding.antt.
 ghost use Rattle.std.specs.Prelude.{◌&&◌, ◌≡◌};
 ghost use Rattle.types.specs.Refusals.{outcome};
 ghost use Rattle.path.specs.Join.{joined_says};
@@ -10,9 +10,8 @@ ghost use Rattle.renames.specs.Renames.{in_order};
 ghost use Rattle.renames.specs.Finding.{rename_found};
 ghost use Rattle.renamed.specs.Questions.{path_by, path_into};
 
-use names::are_held;
 use renames::{LentRenames, Rename, RenameMode, RenamedFiles};
-use tables::{FileStorage, Lent, LentSet};
+use tables::{FileStorage, LentSet};
 use types::{FileIndex, Refusal};
 
 // The rename of a file, if it has one, or why a question about the file's path isn't answered.
@@ -26,8 +25,7 @@ fn find_through(
         && in_order names.entry.renames names.entry.entries.now names.entry.text.now)
         (rename_found names.entry.renames names.entry.entries.now) }
 {
-    let held = are_held(set.fs, set.lent.dirs.len(), set.lent.text.len());
-    names::file_in(set.fs, set.lent.rows, index, held)?;
+    names::file_of(set, index)?;
     names.find(index)
 }
 
@@ -53,7 +51,7 @@ fn put_renamed(
 
 // Writes the whole path of a file through its rename, after `save_path`, to `buf`.
 // Stays: it is public and is lent each table by itself, as those in question.rt are, which read fewer
-// (docs/DECISIONS.md).
+// (docs/DECISIONS.md, Forms 10).
 pub fn file_path(
     fs: FileStorage,
     rows: &[u64],
@@ -71,17 +69,13 @@ pub fn file_path(
         rename_entries.now rename_text.now index.0 save_path.now
         buf.old }
 {
-    let lent = Lent { rows, dirs, text };
-    let names = LentRenames {
-        renames,
-        entries: rename_entries,
-        text: rename_text,
-    };
-    match find_through(LentSet { fs, lent }, names, index)? {
+    let set = LentSet::new(fs, rows, dirs, text);
+    let names = LentRenames::new(renames, rename_entries, rename_text);
+    match find_through(set, names, index)? {
         Some(rename) => {
-            let set = tables::text_at(text, fs.name);
+            let set_name = tables::text_at(text, fs.name);
             let name = tables::text_at(rename_text, rename.name);
-            put_renamed(rename.mode, save_path, set, name, buf)
+            put_renamed(rename.mode, save_path, set_name, name, buf)
         }
         None => names::file_path(fs, rows, dirs, text, index, save_path, buf),
     }

@@ -11,18 +11,19 @@ use tables::{FileStorage, Span};
 use types::{FileIndex, Refusal};
 
 // The span of the leaf of the name at `span`.
+#[tactic(auto, using(path::proofs::Ends::trimmed_front, lists::proofs::Parts::part_length))]
 fn leaf_of(rename_text: &[u8], span: Span) -> Span
     ensures { result ≡ leaf_span rename_text.now span }
 {
-    let name = tables::text_at(rename_text, span);
-    let leaf = path::filename(name).len();
+    let (_, leaf) = tables::split_leaf(tables::text_at(rename_text, span));
     Span {
-        at: span.at + path::trimmed_length(name).saturating_sub(leaf),
-        len: leaf,
+        at: span.at + leaf.at,
+        ..leaf
     }
 }
 
 // Where a file's name lies: the leaf of its rename, or its own.
+// Stays: it is public and is lent each table by itself (docs/DECISIONS.md, Forms 10), as the one below is.
 pub fn file_name(
     fs: FileStorage,
     rows: &[u64],
@@ -36,11 +37,7 @@ pub fn file_name(
         rename_text.now index.0 }
 {
     let own = answers::file_name(fs, rows, text, index)?;
-    let names = LentRenames {
-        renames,
-        entries: rename_entries,
-        text: rename_text,
-    };
+    let names = LentRenames::new(renames, rename_entries, rename_text);
     match names.find(index)? {
         Some(rename) => Ok(FileName::InRenames(leaf_of(rename_text, rename.name))),
         None => Ok(FileName::InSet(own)),
@@ -60,11 +57,7 @@ pub fn file_absolute_path(
         rename_text.now index.0 }
 {
     let own = answers::file_absolute_path(fs, rows, index)?;
-    let names = LentRenames {
-        renames,
-        entries: rename_entries,
-        text: rename_text,
-    };
+    let names = LentRenames::new(renames, rename_entries, rename_text);
     Ok(
         names
             .find(index)?

@@ -15,15 +15,18 @@ use crate::splice::splice;
 use tables::FileStorage;
 use types::{FileIndex, Refusal};
 
-// Whether tables of `words` words and `room` bytes are too short for a text of `len` bytes at slot p.
-fn is_short(renames: RenamedFiles, p: Slot, words: usize, room: usize, len: usize) -> bool
-    requires { (renames.num_renames ≤ words / 3)
-        × (renames.text_len ≤ room)
-        × (p.old ≤ renames.text_len)
+// Whether the tables are too short for a text of `len` bytes at slot p.
+fn is_short(names: LentRenames<'_>, p: Slot, len: usize) -> bool
+    requires { (names.renames.num_renames ≤ length names.entries.now / 3)
+        × (names.renames.text_len ≤ length names.text.now)
+        × (p.old ≤ names.renames.text_len)
         × (p.same ≤ 1) }
-    ensures { result ≡ is_short renames p words room len }
+    ensures { result
+        ≡ is_short names.entry.renames p (length names.entry.entries.now) (length names.entry.text.now) len }
 {
-    words / 3 < renames.num_renames + 1 - p.same || room - (renames.text_len - p.old) < len
+    let held = names.renames;
+    names.entries.len() / 3 < held.num_renames + 1 - p.same
+        || names.text.len() - (held.text_len - p.old) < len
 }
 
 // The slot of a rename whose text has `len` bytes, or why the rename is refused.
@@ -40,13 +43,13 @@ fn slot_in(
         index.0 len }
 {
     let file = rules::file_in(fs, index, true)?;
-    // Stays: each caller cuts the entries itself; a function that gives them would have to say in its clause that they
-    // are in order.
+    // Stays: each caller asks for the order and cuts the entries itself, here, in find.rt and in `imports`: of the four
+    // one has no text area and one cuts at another entry, and for the other two a method would have to be public.
     if !names.is_in_order() {
         return Err(Refusal::NoRoom);
     }
     let p = slot_of(&names.entries[..names.renames.num_renames * 3], file as u64);
-    if is_short(names.renames, p, names.entries.len(), names.text.len(), len) {
+    if is_short(names, p, len) {
         return Err(Refusal::NoRoom);
     }
     Ok(p)
@@ -106,6 +109,7 @@ pub(crate) fn put_rename(
 }
 
 // Records another path for a file, or why not.
+// Stays: it is public and is lent each table by itself (docs/DECISIONS.md, Forms 10).
 pub fn rename_file(
     fs: FileStorage,
     renames: RenamedFiles,
@@ -118,11 +122,7 @@ pub fn rename_file(
         ≡ rename_file_answer fs renames rename_entries.old rename_text.old index.0
         new_filename.now }
 {
-    let names = LentRenames {
-        renames,
-        entries: rename_entries,
-        text: rename_text,
-    };
+    let names = LentRenames::new(renames, rename_entries, rename_text);
     let p = slot_in(fs, names, index, new_filename.len())?;
     Ok(put_rename(
         renames,

@@ -35,7 +35,8 @@ fn are_in_order(entries: &[u64], len: usize) -> bool
 }
 
 // Whether the lent tables hold what the record counts, in order; `room` is the length of the text area.
-// Stays: no byte of the text area is read, so its length alone is asked for.
+// Stays: it is public, and promises its answer for every length of a text area; the method below serves those who hold
+// the area.
 #[tactic(auto, using(crate::proofs::Used::in_use))]
 pub fn is_in_order(renames: RenamedFiles, entries: &[u64], room: usize) -> bool
     ensures { result ≡ in_order_in renames entries.now room }

@@ -1,5 +1,5 @@
-// A rename read back from the lent tables: that of a file, or rename i. Relies on check.rt and slot.rt and on
-// the laws of proofs/Finding.antt and proofs/Used.antt.
+// A rename read back from the lent tables: that of a file, or rename i. Relies on check.rt and slot.rt and on the laws of
+// proofs/Finding.antt, proofs/Used.antt, proofs/Decisions.antt, proofs/Slots.antt and proofs/Chunks.antt.
 ghost use Rattle.std.specs.Prelude.{◌≡◌, ◌+◌, ◌*◌, ◌≤◌, ◌%◌, ◌^◌, pos, length, get_or};
 ghost use Rattle.types.specs.Refusals.{outcome};
 ghost use Rattle.rules.specs.Bounds.{clamped_of};
@@ -33,7 +33,8 @@ fn rename_at(entries: &[u64], i: usize, at: usize) -> Rename
 }
 
 // The rename of a file, if it has one; `room` is the length of the text area.
-// Stays: `room` is the length of the text area, of which nothing else is read.
+// Stays: it is public (docs/PROMISES.md names it), and promises its answer for every length of a text area; `find` below
+// serves those who hold the area.
 #[tactic(auto, using(crate::proofs::Decisions::orders, crate::proofs::Used::in_use))]
 pub fn find_rename(
     renames: RenamedFiles,
@@ -43,6 +44,7 @@ pub fn find_rename(
 ) -> Result<Option<Rename>, Refusal>
     ensures { outcome result ≡ find_given renames rename_entries.now room file }
 {
+    // Stays: as in change.rt.
     if !is_in_order(renames, rename_entries, room) {
         return Err(Refusal::NoRoom);
     }
@@ -66,6 +68,7 @@ impl LentRenames<'_> {
 }
 
 // Rename i, ascending by file.
+// Stays: it is public and is lent each table by itself (docs/DECISIONS.md, Forms 10).
 #[tactic(auto, using(crate::proofs::Decisions::orders, crate::proofs::Used::in_use, crate::proofs::Slots::bytes_first))]
 pub fn export_filename(
     renames: RenamedFiles,
@@ -78,11 +81,8 @@ pub fn export_filename(
     if renames.num_renames <= i {
         return Err(Refusal::NoSuchFile);
     }
-    let names = LentRenames {
-        renames,
-        entries: rename_entries,
-        text: rename_text,
-    };
+    let names = LentRenames::new(renames, rename_entries, rename_text);
+    // Stays: as in change.rt.
     if !names.is_in_order() {
         return Err(Refusal::NoRoom);
     }

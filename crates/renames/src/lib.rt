@@ -1,5 +1,5 @@
 // `RenamedFiles`, from file_storage.rs: other paths for a set's files, in lent tables of their own, the set
-// untouched. Relies on `tables` for rows and text areas and on `rules` for the refusals of a question.
+// untouched. Relies on `tables` for the set's record and spans and on `rules` for the refusals of a question.
 #![tactic(auto)]
 
 mod change;

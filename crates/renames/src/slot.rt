@@ -28,6 +28,8 @@ fn entries_below(entries: &[u64], file: u64) -> usize
 }
 
 // The bytes of text that entries have together.
+// Stays: that the lengths sum to less than 2^64 is asked here and in the two functions of slots below; a type of entries
+// with that bound would be made in each caller from the test that the tables are in order.
 pub(crate) fn bytes_of(entries: &[u64]) -> usize
     requires { bytes_from (length entries.now / 3) 0 entries.now < 2 ^ 64 }
     ensures { result ≡ bytes_from (length entries.now / 3) 0 entries.now }
@@ -36,8 +38,7 @@ pub(crate) fn bytes_of(entries: &[u64]) -> usize
 }
 
 // The number of entry i, 0 past the end.
-// Stays: it converts no number. It reads the word at 3 i, also that of a last entry that is cut off, which
-// `chunks_exact` passes over; the test keeps 3 i from overflow.
+// Stays: it reads a last entry that is cut off too, which `chunks_exact` passes over; the test keeps 3 i from overflow.
 fn number_at(entries: &[u64], i: usize) -> u64
     ensures { result ≡ get_or entries.now (i * 3) 0 }
 {
@@ -49,7 +50,8 @@ fn number_at(entries: &[u64], i: usize) -> u64
 }
 
 // Whether entry i is one of n, and has the number `file`.
-// Stays: it is public, and it promises its answer for every n, also for one that is larger than the table's count.
+// Stays: it is public, and no public function may promise less than it did: here an answer for every n, also for one
+// that is larger than the table's count.
 pub fn is_named(entries: &[u64], n: usize, file: u64, i: usize) -> bool
     ensures { result ≡ entry_is_named n file i entries.now }
 {

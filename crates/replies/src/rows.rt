@@ -1,9 +1,9 @@
-// Answers of many values: the slices of a block, first files, hashes, directories and renames, each put by a loop.
-// Relies on values.rt, on `rules` for the count of pieces, and on `answers` and `renames` for the values that a table
-// holds.
+// Answers of many values that are put together here: the slices of a block, first files, directories and renames.
+// Relies on reply.rt and values.rt, on `tables` for texts, on `rules` for the count of pieces, and on `answers` and
+// `renames` for the values that a table holds.
 use crate::reply::{Reply, refused};
-use crate::values::{ByteString, Shown};
-use renames::RenamedFiles;
+use crate::values::{ByteString, Shown, value};
+use renames::LentRenames;
 use std::io;
 use std::io::{Stdout, Write};
 use tables::FileStorage;
@@ -31,36 +31,21 @@ pub fn slices(
     reply.end()
 }
 
-// The values of a row.
-fn row<T: Shown + Copy>(out: Stdout, values: &[T]) -> io::Result<()> {
-    let mut reply = Reply::ok(out)?;
-    for value in values {
-        value.put(&mut reply)?;
-    }
-    reply.end()
-}
-
 // The file in which each piece begins, of a set that keeps a table of them; else that there is none.
 pub fn first_files(mut out: Stdout, fs: FileStorage, firsts: &[u16]) -> io::Result<()> {
     if !fs.indexed {
         return out.write_all(b"ok -\n");
     }
-    let n = rules::count_pieces(fs).min(firsts.len() as u64);
-    row(out, &firsts[..n as usize])
-}
-
-// The hashes at the start of a table.
-pub fn hashes(out: Stdout, res: Result<usize, Refusal>, table: &[u32]) -> io::Result<()> {
-    match res {
-        Ok(n) => row(out, &table[..n.min(table.len())]),
-        Err(refusal) => refused(out, refusal),
-    }
+    value(
+        out,
+        lists::part(firsts, 0, rules::count_pieces(fs) as usize),
+    )
 }
 
 // The texts of all directories of a set; a refusal, which no directory of a set gives, is left out.
 pub fn directories(out: Stdout, fs: FileStorage, dirs: &[u64], text: &[u8]) -> io::Result<()> {
     let n = match answers::num_paths(fs) {
-        Ok(n) => types::clamped(i64::from(n)) as usize,
+        Ok(n) => usize::try_from(n).unwrap_or(0),
         Err(refusal) => return refused(out, refusal),
     };
     let mut reply = Reply::ok(out)?;
@@ -73,13 +58,18 @@ pub fn directories(out: Stdout, fs: FileStorage, dirs: &[u64], text: &[u8]) -> i
 }
 
 // All renames of a set, as pairs of number and name; a refusal, which no rename of a set gives, is left out.
-pub fn export(out: Stdout, held: RenamedFiles, entries: &[u64], area: &[u8]) -> io::Result<()> {
+pub fn export(out: Stdout, names: LentRenames<'_>) -> io::Result<()> {
+    let LentRenames {
+        renames,
+        entries,
+        text,
+    } = names;
     let mut reply = Reply::ok(out)?;
-    for i in 0..held.num_renames {
-        if let Ok(rename) = renames::export_filename(held, entries, area, i) {
+    for i in 0..renames.num_renames {
+        if let Ok(rename) = renames::export_filename(renames, entries, text, i) {
             (
                 rename.file_index,
-                ByteString(tables::text_at(area, rename.name)),
+                ByteString(tables::text_at(text, rename.name)),
             )
                 .put(&mut reply)?;
         }

@@ -150,6 +150,16 @@ impl<A: Shown, B: Shown> Shown for (A, B) {
     }
 }
 
+// The values of a row, one after the other.
+impl<T: Shown + Copy> Shown for &[T] {
+    fn put(self, reply: &mut Reply) -> io::Result<()> {
+        for value in self {
+            value.put(reply)?;
+        }
+        Ok(())
+    }
+}
+
 // Answers with a value.
 pub fn value<T: Shown>(out: Stdout, value: T) -> io::Result<()> {
     let mut reply = Reply::ok(out)?;
@@ -166,6 +176,8 @@ pub fn answer<T: Shown>(out: Stdout, res: Result<T, Refusal>) -> io::Result<()> 
 }
 
 // A text that was composed at the start of a buffer, by its length.
+// Stays: there is no heap, so the library writes into a buffer that it is lent and answers with a length; here this
+// becomes the slice.
 pub fn composed(out: Stdout, res: Result<usize, Refusal>, buffer: &[u8]) -> io::Result<()> {
     answer(out, res.map(|n| ByteString(lists::part(buffer, 0, n))))
 }

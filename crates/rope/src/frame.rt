@@ -7,8 +7,9 @@ use crate::lead::{Lead, lead_byte, lead_length};
 use tables::Lent;
 
 // The words of a frame: its text's number with its separator, and both halves of its start.
-// Stays: a record whose start has eight bytes takes sixteen in place of twelve, so a walk's 65536 frames would take 1 MiB
-// of stack and not 768 KiB (docs/DECISIONS.md); a record of three words would still have a start in two halves.
+// Stays: made as a record of a file's number, two flags and both halves of the start, a frame of twelve bytes has a number
+// of 16 bits where a word has one of 29, which asks more of callers. With a number of 32 bits, or with its start as one,
+// it takes sixteen, so a walk's 65536 frames would take 1 MiB of stack and not 768 KiB (docs/DECISIONS.md).
 pub const FRAME_WIDTH: usize = 3;
 
 // The path that the first `depth` frames hold, with the texts of the lent tables.

@@ -1,4 +1,5 @@
-// The texts by which links lead, read where they stand. They rely on `lookup`, `tables` and `path`.
+// The texts by which links lead, read where they stand. They rely on `lookup`, `tables`, `path` and `lists`, and on the
+// laws of proofs/Leads.antt.
 ghost use Rattle.std.specs.Prelude.{◌≡◌, length, get_or};
 ghost use Rattle.path.specs.Join.{appended};
 ghost use Rattle.rope.specs.Rope.{text_of};

@@ -34,7 +34,9 @@ impl Path<'_> {
         e <= d.len() && is_end(d, e) && self.is_joined(b"", &d[..e], e)
     }
 
-    // Whether the internal path of file i is the first e bytes of the path.
+    // Whether the internal path of file i is the first e bytes of the path. It is a call of its own, since a scan asks it
+    // only where the front is longer than the buffer that links copies it to (`HEAD_SIZE`).
+    #[inline(never)]
     pub fn is_own(self, i: usize, e: usize) -> bool
         ensures { result
             ≡ is_front

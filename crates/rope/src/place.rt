@@ -7,7 +7,8 @@ use crate::frame::{Path, is_in, tail_in};
 
 // A place in a path: the number of frames that are left there, and of their bytes that are passed.
 // Stays: k counts frames, and 0 of them are left at the path's end; a reader stands there too, and before all frames,
-// where no frame's number says where it stands.
+// where no frame's number says where it stands. `seek` is public and gives a place for every byte's number, also past the
+// end: as an `Option` it would fail there, and no longer say how far past the end that is.
 #[derive(Clone, Copy)]
 pub struct Place {
     pub k: u32,

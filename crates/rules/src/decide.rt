@@ -13,7 +13,8 @@ use crate::test::{are_held, has_many, is_bad_length, is_no_file, is_no_piece};
 use tables::FileStorage;
 use types::{FileIndex, PieceIndex, Refusal};
 
-// The tests of a question, each named by what it finds; those that a question doesn't make are false.
+// The tests of a question, each named by what it finds; those that a question doesn't make are false. `no_file` also
+// tells that the set has no directory of a number.
 // Stays: each field is one test of document 01's, and none of them guards another.
 #[derive(Clone, Copy, Default)]
 pub struct Tests {
@@ -63,6 +64,25 @@ impl Tests {
         Tests {
             many: has_many(fs),
             no_piece: is_no_piece(fs, piece),
+            ..Tests::of_set(fs, held)
+        }
+    }
+
+    // Those of a question about a file.
+    pub fn of_file(fs: FileStorage, index: FileIndex, held: bool) -> Tests
+        ensures { result
+            ≡ record {
+              bad_length = bad_length fs.piece_length;
+              no_file = (no_file fs index.0).test;
+              many = false;
+              no_piece = false;
+              bad_range = false;
+              no_tree = false;
+              no_room = not (held && few_entries fs);
+            } }
+    {
+        Tests {
+            no_file: is_no_file(fs, index),
             ..Tests::of_set(fs, held)
         }
     }
@@ -135,48 +155,12 @@ pub fn ask_pieces(fs: FileStorage) -> Result<(), Refusal>
     .first_refusal()
 }
 
-// Decides a question about a piece.
-// Stays: it gives no number. In layout and in files one function each asks so and makes of the number, in the type that
-// it needs, a record of the question.
-pub fn ask_piece(fs: FileStorage, piece: PieceIndex, held: bool) -> Result<(), Refusal>
-    ensures { check_number result
-        ≡ first_of
-        (bad_piece_length fs ∷ many_pieces fs ∷ no_piece fs piece.0 ∷ short (held && few_entries fs) ∷ []) }
-{
-    Tests::of_piece(fs, piece, held).first_refusal()
-}
-
-// Decides a question about a file, which may be about its pieces or its tree.
-pub fn ask_file(
-    fs: FileStorage,
-    index: FileIndex,
-    many: bool,
-    no_tree: bool,
-    held: bool,
-) -> Result<(), Refusal>
-    ensures { check_number result
-        ≡ first_of
-        (bad_piece_length fs ∷
-        no_file fs index.0 ∷
-        when many 13 ∷
-        when no_tree 16 ∷
-        short (held && few_entries fs) ∷
-        []) }
-{
-    Tests {
-        no_file: is_no_file(fs, index),
-        many,
-        no_tree,
-        ..Tests::of_set(fs, held)
-    }
-    .first_refusal()
-}
-
 // The number of the file that a question is about, or its refusal; `held` says whether the lent tables are long enough.
-// Stays: `link_in` of `answers` makes one test more, between the two last ones here, so one can't call the other.
+// Stays: `link_in` of `answers` makes one test more, between the two last ones here; its line says why that is no field
+// of `Tests`.
 pub fn file_in(fs: FileStorage, index: FileIndex, held: bool) -> Result<usize, Refusal>
     ensures { outcome result ≡ file_answer fs index.0 held (λ k. k) }
 {
-    ask_file(fs, index, false, false, held)?;
+    Tests::of_file(fs, index, held).first_refusal()?;
     Ok(index.get())
 }

@@ -5,7 +5,7 @@
 mod decide;
 mod test;
 
-pub use decide::{Tests, ask_directory, ask_file, ask_piece, ask_pieces, ask_set, file_in};
+pub use decide::{Tests, ask_directory, ask_pieces, ask_set, file_in};
 pub use test::{
     DEFAULT_BLOCK_SIZE, MAX_ENTRIES, MAX_FILE_OFFSET, MAX_PIECES, are_held, count_pieces,
     has_few_entries, has_many, holds_dirs, holds_roots, holds_rows, holds_set, holds_text,

@@ -1,5 +1,5 @@
 // Document 01's rows for questions, each a test, and whether a lent table is long enough. It relies on `types` for file
-// and piece numbers, on `tables` for rows and on the laws of proofs/Deciding.antt.
+// and piece numbers, on `lists` for quotients, on `tables` for rows and on the laws of proofs/Deciding.antt.
 ghost use Rattle.std.specs.Prelude.{◌≡◌, not, ◌&&◌, ◌||◌, ◌<◌, ltb, leb};
 ghost use Rattle.tables.specs.Rows.{row_at};
 ghost use Rattle.rules.specs.Bounds.{bad_length, is_negative, is_below, clamped_of, limit, max_pieces};
@@ -103,8 +103,9 @@ pub fn count_pieces(fs: FileStorage) -> u64
 
 // Whether the set has more than k pieces: by a product where the length is in range, which costs less than
 // a quotient.
-// Stays: plan's `lacks_places` and layout's `high_of` multiply so too. Each requires that the length is in range, which
-// is tested here, and has a bound of its own on k: one function for the three would test both at each addition.
+// Stays: plan's `lacks_places` and layout's `high_of` multiply so too. Both require that the length is in range, which
+// is tested here, and only plan's takes each k: one function for the three would make that test at each addition, and
+// keep the product within 64 bits at each question.
 #[tactic(auto, using(crate::proofs::Deciding::over_good))]
 fn has_over(fs: FileStorage, k: u64) -> bool
     requires { k < 2147483648 }
@@ -141,7 +142,7 @@ pub(crate) fn is_no_piece(fs: FileStorage, piece: PieceIndex) -> bool
 pub fn is_bad_range(offset: i64, size: i64) -> bool
     ensures { result ≡ (bad_range offset size).test }
 {
-    offset.is_negative() || size.is_negative() || MAX_FILE_OFFSET < clamped(offset)
+    size.is_negative() || !(0..=MAX_FILE_OFFSET as i64).contains(&offset)
 }
 
 // Whether an offset is negative, past the limit or not below the total.

@@ -1,7 +1,7 @@
 -- Laws of the scans of a line: how far a scan goes, the words that are left, and their number.
 use Rattle.std.proofs.Common.{ℕ, suc, ◌+◌, ◌-◌, ◌<◌, Bool, true, false, not, cond, eqb, List, [], ◌∷◌, length, drop, ◌≡◌, refl, sym, ap, ◌∙◌, arith, ne_eqb}
 use Rattle.std.specs.List.{filter, slice_split, onto_first}
-use Rattle.std.proofs.lemmas.List.{take_rest}
+use Rattle.std.proofs.lemmas.List.{drop-drop}
 use Rattle.script.specs.Words.{count_before, blanks_of, word_end, from_word, words_from}
 
 count-by : (b : Bool) (n : ℕ) → cond b 0 (suc n) ≡ cond b 0 (1 + n)
@@ -22,8 +22,9 @@ blanks-more x xs = blank-by (eqb x 32) (blanks_of xs)
 pub word-turn : (n i k : ℕ) (l s : List ℕ) → i < n → k ≡ word_end l → s ≡ drop k l → from_word (n - (i + 1)) s ≡ from_word (n - i) l
 word-turn n i k l s h e p = let q : n - i ≡ suc (n - (i + 1)) = omega arith in rw (q, p, e)
 
--- for the loop over words
-pub ruleset turns = (word-turn, take_rest)
+-- the same, where the blanks before that word are passed first
+pub word_passed : (n i : ℕ) (l u s : List ℕ) → i < n → u ≡ drop (blanks_of l) l → s ≡ drop (count_before 32 u) u → from_word (n - (i + 1)) s ≡ from_word (n - i) l
+word_passed n i l u s h e p = word-turn n i (word_end l) l s h refl (p ∙ rw e (drop-drop (count_before 32 (drop (blanks_of l) l)) (blanks_of l) l))
 
 -- how many parts hold a byte
 abbrev pub held-parts : List (List ℕ) → ℕ

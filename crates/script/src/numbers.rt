@@ -25,7 +25,8 @@ fn minus(n: u64) -> Option<i64>
 }
 
 // The `i32` that a word is.
-// Stays: it is std's `TryFrom` of the `i64` that the word is.
+// Stays: it is std's `TryFrom` of the `i64` that the word is; one function for any `T: TryFrom<i64>` would need T's
+// width in its clause, which the bound doesn't tell.
 pub fn to_i32(word: &[u8]) -> Option<i32>
     ensures { result ≡ signed_of 31 word.now }
 {

@@ -1,5 +1,5 @@
-// Scans for a byte: how much stands before it. Relies on the laws of proofs/Scans.antt.
-ghost use Rattle.std.specs.Prelude.{◌≡◌, ◌≤◌, length};
+// Scans for a byte: how much stands before it, and what stands from there on. Relies on the laws of proofs/Scans.antt.
+ghost use Rattle.std.specs.Prelude.{◌≡◌, ◌≤◌, length, drop};
 ghost use Rattle.script.specs.Words.{count_before, blanks_of};
 
 // How many bytes stand before the first byte c, or in all where there is none.
@@ -10,12 +10,19 @@ pub fn before_first(bytes: &[u8], c: u8) -> usize
     bytes.iter().position(|b| *b == c).unwrap_or(bytes.len())
 }
 
-// How many blanks stand at the start.
-// Stays: it is one call of std's `position`, as `before_first` is; a function for both would take the test, and say in
-// its contract what is now the whole body of each.
-pub(crate) fn blanks(bytes: &[u8]) -> usize
-    ensures value { result ≡ blanks_of bytes.now }
-    ensures within { result ≤ length bytes.now }
+// The bytes without the blanks at their start.
+// Stays: it begins with one call of std's `position`, as `before_first` does; a function for both would take the test,
+// and say in its contract what is now the body of each.
+pub(crate) fn unblanked(bytes: &[u8]) -> &[u8]
+    ensures { result.now ≡ drop (blanks_of bytes.now) bytes.now }
 {
-    bytes.iter().position(|b| *b != b' ').unwrap_or(bytes.len())
+    let blanks = bytes.iter().position(|b| *b != b' ').unwrap_or(bytes.len());
+    &bytes[blanks..]
+}
+
+// What stands from the first blank on.
+pub(crate) fn past_word(bytes: &[u8]) -> &[u8]
+    ensures { result.now ≡ drop (count_before 32 bytes.now) bytes.now }
+{
+    &bytes[before_first(bytes, b' ')..]
 }

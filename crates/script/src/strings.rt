@@ -43,30 +43,26 @@ fn first_byte(text: &[u8]) -> Option<(u8, &[u8])>
     ensures value { MatchOption result (text_in text.now ≡ fault) (λ p. text_in text.now ≡ led p.0 (text_in p.1.now)) }
 {
     match text {
-        [b'%', high, low, rest @ ..] => {
-            let byte = hex_byte(hex_value(*high, b'A'), hex_value(*low, b'A'))?;
-            Some((byte, rest))
-        }
+        [b'%', high, low, rest @ ..] => Some((hex_byte(*high, *low, b'A')?, rest)),
         [c, rest @ ..] if is_plain(*c) => Some((*c, rest)),
         _ => None,
     }
 }
 
-// The byte of two hex digits, by their values.
-pub(crate) fn hex_byte(high: Option<u8>, low: Option<u8>) -> Option<u8>
-    requires { (IfSome high (λ h. h < 16)) × (IfSome low (λ l. l < 16)) }
-    ensures { result ≡ byte_of high low }
+// The byte of two hex digits whose letters begin with `ten`, `A` or `a`.
+pub(crate) fn hex_byte(high: u8, low: u8, ten: u8) -> Option<u8>
+    requires { ten < 128 }
+    ensures { result ≡ byte_of (hex_from ten high) (hex_from ten low) }
 {
-    Some(high? * 16 + low?)
+    Some(hex_value(high, ten)? * 16 + hex_value(low, ten)?)
 }
 
 // The value of a hex digit whose letters begin with `ten`, `A` or `a`.
 // Stays: std's `to_digit` takes letters of either case, and a string takes upper-case ones only, the 64 digits of
 // a root lower-case ones.
-pub(crate) fn hex_value(c: u8, ten: u8) -> Option<u8>
+fn hex_value(c: u8, ten: u8) -> Option<u8>
     requires { ten < 128 }
-    ensures value { result ≡ hex_from ten c }
-    ensures small { IfSome result (λ v. v < 16) }
+    ensures { result ≡ hex_from ten c }
 {
     if c.is_ascii_digit() {
         return Some(c - b'0');

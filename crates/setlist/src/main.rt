@@ -14,7 +14,8 @@ fn read_full(from: Stdin, buffer: &mut [u8]) -> io::Result<usize>
 {
     let mut input = from;
     let mut done = 0;
-    // Stays: no method of std fills a buffer and stops where the input ends.
+    // Stays: no method of std fills a buffer and stops where the input ends. `io::copy` of `take` would, by a buffer of
+    // its own that each byte goes through, and its clause doesn't bound the count.
     while done < buffer.len() {
         let n = input.read(&mut buffer[done..])?;
         if n == 0 {
@@ -35,6 +36,7 @@ fn write_listing(to: Stdout, input: &[u8], room: &mut [u8]) -> io::Result<()> {
 
 // Reads all of the input, up to one byte more than it may have, and writes its listing. No listing is longer than
 // `room`: the law `listing-few` of `listing`. A read or a write that fails ends the program with its error.
+// Stays: there is no heap (document 01), so that both are arrays of the most bytes that can come.
 fn main(rt: HostRuntime) -> io::Result<()> {
     let mut input = [0u8; 65537];
     let got = read_full(rt.stdin(), &mut input)?;

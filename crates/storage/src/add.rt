@@ -15,6 +15,7 @@ use types::Refusal;
 
 // Adds a file, whose texts are its given name, its path and its link text. In a v2 set a pad follows where the total is
 // no multiple of the piece length. `firsts` is the table of first files; a set that keeps none has it left as it is.
+// Stays: the call is document 01's, and each table is lent by itself (docs/DECISIONS.md, Forms 10).
 pub fn add_file(
     fs: FileStorage,
     rows: &mut [u64],

@@ -52,26 +52,16 @@ fn write_texts(text: &mut [u8], plan: AddPlan, given: Given)
         (name_from (option_copied given.entry.name) (text_at given.entry.path.now given.entry.parts.name))
         (link_text_of plan.before.num_symlinks given.entry.link.now) }
 {
-    let own = tables::text_at(given.path, given.parts.name);
-    let name = additions::stored_name(given.name, own);
-    let link = additions::link_text(plan.before.num_symlinks, given.link);
-    lists::copy_after(
-        text,
-        plan.start,
-        tables::text_at(given.path, given.parts.set_name),
-    );
-    write_dir_text(
-        text,
-        plan.dir,
-        tables::text_at(given.path, given.parts.directory),
-    );
-    lists::copy_after(text, plan.row.name.at, name);
+    lists::copy_after(text, plan.start, given.set_name());
+    write_dir_text(text, plan.dir, given.directory());
+    lists::copy_after(text, plan.row.name.at, given.stored_name());
+    let link = given.link_text(plan.before.num_symlinks);
     lists::copy_after(text, plan.row.link.at, link);
 }
 
 // Writes the pad of an addition, where there is one: its row, which is all of its record, its directory and its texts.
-// Stays: a writer promises what the tables that it writes hold; lent a record of all, it would have to say of each
-// other table that it stays.
+// Stays: here and above: each table has a clause of its own, and `write_dir` and `free_name` write one or two of them;
+// lent a `LentSetMut`, each writer would have to say of every other table that it stays.
 fn write_pad(rows: &mut [u64], dirs: &mut [u64], text: &mut [u8], plan: AddPlan)
     requires { plan.before.num_files ≤ max_entries }
     ensures rows_after { rows.new ≡ pad_row_written plan.before.num_files plan.pad_row rows.old }
@@ -87,8 +77,9 @@ fn write_pad(rows: &mut [u64], dirs: &mut [u64], text: &mut [u8], plan: AddPlan)
 }
 
 // Writes an addition by its plan: row, root, directory row and texts, and then the pad.
-// Stays: the tables are lent one by one, as `write_pad` says. That files are few comes from the contract of `plan_add`:
-// as a ghost field of `AddPlan` the two functions that make a plan would have to ask for it in place of the two here.
+// Stays: the tables are lent one by one, as `write_pad` says. That files are few comes from the contract of `plan_add`,
+// and three functions ask for it: `write_pad`, `write_all` and `write_firsts`. As a ghost field of `AddPlan` it would
+// have to hold of every plan, and the definition `plan_from` (plan, specs/private/Steps.antt) makes one for any set.
 // The root goes on as it is lent, beside its presence: `tables::put_entry` takes document 01's record of a file, which
 // has both.
 pub(crate) fn write_all(

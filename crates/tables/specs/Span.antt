@@ -1,9 +1,10 @@
 -- Texts side by side in the used part of a text area, which is a prefix without gaps. A span says where a text lies; a
 -- text is removed by sliding down what follows it. All is total: spans may lie anywhere, and empty ones are harmless.
--- It relies on `part_of` of `lists`.
-use Rattle.std.specs.Prelude.{ℕ, ◌+◌, ◌-◌, ◌≤◌, min, max, List, take, drop}
+-- It relies on `part_of` of `lists` and on the splits of `path`.
+use Rattle.std.specs.Prelude.{ℕ, ◌+◌, ◌-◌, ◌≤◌, min, max, List, length, take, drop}
 use Rattle.std.proofs.lemmas.List.Edits.{sets}
 use Rattle.lists.specs.Lists.{part_of}
+use Rattle.path.specs.Split.{is_separator, trimmed, rsplit_leaf}
 use Rattle.tables.specs.declared.span.Span.{Span}
 
 abbrev pub end_of : Span → ℕ
@@ -32,3 +33,8 @@ clip u s = record { at = min s.at u; len = min s.len (u - s.at) }
 -- as many before them as were removed, are left as they were
 abbrev pub slid : Span → ℕ → List ℕ → List ℕ
 slid c u text = sets text c.at (drop (end_of c) (take u text))
+
+-- the span of a path's leaf, which ends where the path does once a separator at its end is dropped
+abbrev pub leaf_span : List ℕ → Span
+leaf_span path =
+    record { at = length (trimmed is_separator path) - length (rsplit_leaf path); len = length (rsplit_leaf path) }

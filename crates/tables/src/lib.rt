@@ -1,6 +1,7 @@
 // The set's tables: file rows, roots, directory rows and the text area, lent by the caller as slices of
 // numbers, and the set's own record. Every function answers for tables of any content and
-// length. Relies on `lists` for total accessors; what tables mean is in specs/Model.antt.
+// length. Relies on `lists` for total accessors and on `path` for a path's leaf; what tables mean is in
+// specs/Model.antt.
 #![tactic(auto)]
 
 mod lent;
@@ -10,7 +11,7 @@ mod span;
 mod storage;
 
 pub use lent::{Lent, LentSet, LentSetMut};
-pub use lower::{lower_dirs, remove_row};
+pub use lower::{Removed, lower_dirs, remove_row};
 pub use rows::{
     DIR_WIDTH, FileEntry, LINK_HELD_BIT, MADE_BIT, NO_PATH, OUTSIDE_BIT, PAD_BIT, PATH_IS_ABSOLUTE,
     Presence, ROOT_BIT, ROOT_WIDTH, ROW_WIDTH, Row, SIZE_RANGE, SYMLINK_BIT, Sha256Hash, dir_at,
@@ -18,5 +19,5 @@ pub use rows::{
     is_pad, is_symlink, link_span, offset_at, put_dir, put_entry, put_root, put_row, root_at,
     row_at, size_at, time_at,
 };
-pub use span::{Span, clipped, low_span, lowered, remove_text, text_at};
+pub use span::{Span, clipped, low_span, lowered, remove_text, split_leaf, text_at};
 pub use storage::FileStorage;

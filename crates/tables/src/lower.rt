@@ -18,7 +18,8 @@ fn lower_dir(dirs: &mut [u64], i: usize, c: Span)
 // Lowers the spans of the first n directory rows, or of as many as there are, once the bytes of the
 // span `c` are removed.
 // Stays: its twin of rows in `texts` calls another function in the same loop; with a closure the contract would be
-// longer than both. A loop over `chunks_exact_mut` would leave only the table's length known.
+// longer than both. n may pass the table's end, where no slice of n rows can be lent, and a loop over
+// `chunks_exact_mut` would leave only the table's length known.
 pub fn lower_dirs(dirs: &mut [u64], n: usize, c: Span)
     ensures { dirs.new ≡ dirs_lowered dirs.old n c }
 {
@@ -47,11 +48,11 @@ fn offset_moved(f: usize, i: usize, offset: u64, total: u64) -> u64
 // What is removed with a row: the row, and the spans of its name and then of its link; the rows after it begin at the
 // total.
 #[derive(Clone, Copy)]
-struct Removed {
-    row: usize,
-    total: u64,
-    name: Span,
-    link: Span,
+pub struct Removed {
+    pub row: usize,
+    pub total: u64,
+    pub name: Span,
+    pub link: Span,
 }
 
 // Row `row` as row i, once another one is removed.
@@ -77,18 +78,11 @@ fn move_row(rows: &mut [u64], gone: Removed, i: usize)
     put_row(rows, i, moved(gone, i, row));
 }
 
-// Removes row f of n + 1 rows: the rows after it move down by one and begin at `total`, and every span is
-// lowered for the removed spans `c` and then `d`.
+// Removes a row of n + 1 rows: the rows after it move down by one, and every span is lowered for the removed spans.
 // Stays: row n is read too, and n may pass the table's end, where no slice of so many rows can be lent.
-pub fn remove_row(rows: &mut [u64], n: usize, f: usize, total: u64, c: Span, d: Span)
-    ensures { rows.new ≡ rows_without rows.old n f total c d }
+pub fn remove_row(rows: &mut [u64], n: usize, gone: Removed)
+    ensures { rows.new ≡ rows_without rows.old n gone.row gone.total gone.name gone.link }
 {
-    let gone = Removed {
-        row: f,
-        total,
-        name: c,
-        link: d,
-    };
     let m = n.min(rows.len() / ROW_WIDTH);
     for i in 0..m {
         move_row(rows, gone, i);

@@ -1,4 +1,5 @@
-// File rows, roots and directory rows, read and written whole. Relies on `lists` and the laws of proofs/Words.antt.
+// File rows, roots and directory rows: read and written whole, and single fields and flags of a row. Relies on `lists`,
+// span.rt and the laws of proofs/Words.antt.
 ghost use Rattle.std.specs.Prelude.{◌≡◌, ◌+◌, ◌*◌, ◌<◌, ◌^◌, get_or, replicate};
 ghost use Rattle.std.proofs.lemmas.List.Edits.{sets};
 ghost use Rattle.tables.specs.Rows.{row_width, row_at, packed, put_row, dir_at, put_dir, is_stored, directory_span};
@@ -129,14 +130,8 @@ pub fn row_at(rows: &[u64], i: usize) -> Row
     Row {
         offset: offset_at(rows, i),
         size: size_at(rows, i),
-        name: Span {
-            at: word_at(rows, i, 2) as usize,
-            len: word_at(rows, i, 3) as usize,
-        },
-        link: Span {
-            at: word_at(rows, i, 4) as usize,
-            len: word_at(rows, i, 5) as usize,
-        },
+        name: Span::from([word_at(rows, i, 2), word_at(rows, i, 3)]),
+        link: Span::from([word_at(rows, i, 4), word_at(rows, i, 5)]),
         path_index: word_at(rows, i, 6),
         flags: flags_at(rows, i),
         time: time_at(rows, i),
@@ -155,6 +150,7 @@ fn word_at(rows: &[u64], i: usize, k: usize) -> u64
 }
 
 // The offset of row i.
+// Stays: it and `size_at` differ in the word; one function of a word's number would have each caller name it.
 pub fn offset_at(rows: &[u64], i: usize) -> u64
     ensures { result ≡ (row_at rows.now i).offset }
 {
@@ -191,8 +187,9 @@ fn packed_word(size: u64, flags: u64) -> u64
 
 // Stores words side by side from position `at` on, as many of them as there is room for. Its callers test the length
 // before they multiply by their width; here the product would ask for a bound of both.
-// Stays: tried, `copy_from_slice` takes 15.0 ns for a row's eight words, and this loop, which is unrolled, 7.9; additions
-// to sets of one directory are ahead of the Rust's by less than that.
+// Stays: tried, `copy_from_slice` takes 15.0 ns for a row's eight words, and this loop, which is unrolled, 7.9.
+// Additions to a v1 set of one directory take 1.0 to 1.15 of the Rust's time (docs/BENCHMARKS.md), so the slower form
+// adds to what is behind.
 #[tactic(auto, using(crate::proofs::Words::storing))]
 fn put_words<const N: usize>(target: &mut [u64], at: usize, words: &[u64; N])
     requires { (N < 2 ^ 63) × (at + N < 2 ^ 64) }
@@ -226,16 +223,14 @@ pub fn put_row(rows: &mut [u64], i: usize, row: Row)
 }
 
 // Directory row i, zeros past the end; one test of the length serves both words of a whole row.
-// Stays: tried with `word_at` of both words: going over 50 directories, as `hashes` and `links` do, takes 144 ns by rustc,
-// and so 59.
+// Stays: tried, with a test of each word, as `word_at` has, going over 50 directories takes 144 ns by rustc, and so 59.
+// `hashes` and `links` go over them so; an addition to a directory reads the last row by this, and to a v1 set of one
+// directory it takes 1.0 to 1.15 of the Rust's time (docs/BENCHMARKS.md).
 pub fn dir_at(dirs: &[u64], i: usize) -> Span
     ensures { result ≡ dir_at dirs.now i }
 {
     if i < dirs.len() / DIR_WIDTH {
-        return Span {
-            at: dirs[i * DIR_WIDTH] as usize,
-            len: dirs[i * DIR_WIDTH + 1] as usize,
-        };
+        return Span::from([dirs[i * DIR_WIDTH], dirs[i * DIR_WIDTH + 1]]);
     }
     if dirs.len() <= i {
         return Span::empty();

@@ -1,7 +1,9 @@
-// Spans of the text area: what they read, where they lie once another is removed, and the removal.
-// Relies on `lists`; the laws of spans for the crates above are in proofs/Spans.antt.
-ghost use Rattle.std.specs.Prelude.{◌≡◌};
-ghost use Rattle.tables.specs.Span.{text_at, lower, low, clip, slid};
+// Spans of the text area: what they read, where they lie once another is removed, and the removal; and the span of a
+// path's leaf in the path. Relies on `lists` and `path`; the laws of spans for the crates above are in
+// proofs/Spans.antt.
+ghost use Rattle.std.specs.Prelude.{◌≡◌, get_or};
+ghost use Rattle.path.specs.Split.{rsplit_branch};
+ghost use Rattle.tables.specs.Span.{text_at, lower, low, clip, slid, leaf_span};
 
 // Where a text lies in the text area.
 #[derive(Clone, Copy)]
@@ -19,11 +21,34 @@ impl Span {
     }
 }
 
+// The span that two words of a table hold.
+impl From<[u64; 2]> for Span {
+    ghost from_gives = { λ words span. span ≡ record { at = get_or words 0 0; len = get_or words 1 0 } };
+
+    fn from(words: [u64; 2]) -> Span {
+        Span {
+            at: words[0] as usize,
+            len: words[1] as usize,
+        }
+    }
+}
+
 // The text of a span.
 pub fn text_at(text: &[u8], s: Span) -> &[u8]
     ensures { result.now ≡ text_at text.now s }
 {
     lists::part(text, s.at, s.len)
+}
+
+// A path's branch, and the span of its leaf in the path: the two are found by one scan.
+pub fn split_leaf(path: &[u8]) -> (&[u8], Span)
+    ensures branch { result.0.now ≡ rsplit_branch path.now }
+    ensures leaf { result.1 ≡ leaf_span path.now }
+{
+    let (branch, leaf) = path::rsplit_path(path);
+    let len = leaf.len();
+    let at = path::trimmed_length(path).saturating_sub(len);
+    (branch, Span { at, len })
 }
 
 // The position of the byte at `p` once the bytes of the span `c` are removed.

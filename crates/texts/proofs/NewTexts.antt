@@ -1,10 +1,9 @@
--- Laws of the parts of a link's new text: a join by its parts, and where they lie. They rely on the laws of lists and `path`.
-use Prim.Native.Nat.{ℕ, ◌+◌}
-use mathlib.Core.Path.{◌≡◌, refl, sym, ap, ◌∙◌}
+-- Laws of the parts of a link's new text: where they lie. They rely on the laws of `tables`.
+use Prim.Native.Nat.{ℕ}
+use mathlib.Core.Path.{◌≡◌, refl, sym}
 use mathlib.Core.Bool.{Bool, true, false, cond}
-use mathlib.Core.List.{List, [], ◌∷◌, ◌++◌, append-nil, append_assoc}
-use lib.ListN.{length, length-append}
-use Rattle.path.specs.Join.{is_alone, is_closed, is_empty, appended}
+use mathlib.Core.List.{List}
+use Rattle.path.specs.Join.{appended}
 use Rattle.tables.specs.declared.span.Span.{Span}
 use Rattle.tables.specs.declared.rows.Row.{Row}
 use Rattle.tables.specs.Span.{text_at}
@@ -13,27 +12,6 @@ use Rattle.tables.specs.Model.{present_if, Store}
 use Rattle.tables.proofs.Paths.{path-parts}
 use Rattle.lookup.specs.Lookup.{held_text}
 use Rattle.texts.specs.Texts.{own_text, text_beside}
-use Rattle.texts.specs.private.Parts.{prefix_of}
-
--- ---- joins
-
--- a join is what stands before the leaf, and the leaf
-pub join-parts : (d l : List ℕ) → appended d l ≡ prefix_of d l ++ l
-join-parts d l = at (is_alone d) (is_closed d) l
-  where
-    at : (alone closed : Bool) (l : List ℕ)
-        → cond alone l (cond (is_empty l) d (d ++ cond closed l (47 ∷ l)))
-        ≡ cond alone [] (d ++ cond (is_empty l) [] (cond closed [] (47 ∷ []))) ++ l
-    at true closed l = refl
-    at false closed [] = sym (append-nil (d ++ []) ∙ append-nil d)
-    at false true (x ∷ l) = sym (ap (λ (y : List ℕ). y ++ (x ∷ l)) (append-nil d))
-    at false false (x ∷ l) = sym (append_assoc d (47 ∷ []) (x ∷ l))
-
--- how long it is
-pub join-length : (d l : List ℕ) → length (appended d l) ≡ length (prefix_of d l) + length l
-join-length d l = ap length (join-parts d l) ∙ length-append (prefix_of d l) l
-
--- ---- places
 
 -- a link that holds no text has one of no bytes
 held_at : (h : Bool) (text : List ℕ) (c : Span) → held_text (present_if h (text_at text c)) ≡ text_at text (cond h c (record { at = 0; len = 0 }))

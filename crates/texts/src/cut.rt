@@ -18,7 +18,7 @@ fn lower_row(rows: &mut [u64], i: usize, c: Span)
 
 // Lowers the spans of the first n rows, or of as many as there are, as the removal of span `c` asks.
 // Stays: its twin of directories in `tables` calls another function in the same loop; with a closure the contract would
-// be longer than both. n may pass the table's end.
+// be longer than both. n may pass the table's end, where no slice of n rows can be lent.
 fn lower_rows(rows: &mut [u64], n: usize, c: Span)
     ensures { rows.new ≡ rows_lowered rows.old n c }
 {
@@ -29,6 +29,8 @@ fn lower_rows(rows: &mut [u64], n: usize, c: Span)
 }
 
 // Removes the bytes of span `c` from the text area.
+// Stays: `same`, here and in put.rt: a record that holds `&mut`s has to say of each call that they are the same
+// references. It is a fact of two values, before and after, so that no invariant or ghost field says it.
 pub(crate) fn cut_out(set: &mut LentSetMut<'_>, c: Span)
     ensures after { held set.new ≡ cut_out (held set.old) c }
     ensures same { SameTables set.old set.new }

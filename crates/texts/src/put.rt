@@ -1,68 +1,19 @@
-// A link's text is removed, or a new one is put after the used part of the text area: copied from its parts there, or
-// from the scratch space. Relies on cut.rt, parts.rt, the joins of `path` and the laws of proofs/Placed.antt.
-ghost use Rattle.std.specs.Prelude.{◌&&◌, ◌≡◌, [], ◌+◌, ◌-◌, ◌^◌, ◌<◌, ◌≤◌, leb, length};
-ghost use Rattle.std.proofs.lemmas.List.Edits.{sets};
+// A link's text is removed, or a new one is put after the used part of the text area: joined from its parts there, or
+// copied from the scratch space. Relies on cut.rt, parts.rt, the joins of `path`, `lookup` for a link's text and the
+// laws of proofs/Placed.antt and proofs/OneLink.antt.
+ghost use Rattle.std.specs.Prelude.{◌≡◌, [], ◌-◌, ◌≤◌, length};
 ghost use Rattle.path.specs.Join.{appended, fits, joined_if, joined_says};
 ghost use Rattle.tables.specs.Span.{end_of, text_at};
 ghost use Rattle.tables.specs.Rows.{row_at, put_row};
 ghost use Rattle.tables.specs.Lending.{store_in, held, SameTables};
-ghost use Rattle.texts.specs.Texts.{row_with, gone_at, relinked, is_within, with_own, with_beside};
+ghost use Rattle.texts.specs.Texts.{row_with, gone_at, relinked, with_own, with_beside};
 ghost use Rattle.texts.specs.Texts.{text_beside, staged_beside};
-ghost use Rattle.texts.specs.private.Parts.{prefix_of, room_beside};
+ghost use Rattle.texts.specs.private.Parts.{joined_behind, room_beside};
 
 use crate::cut::cut_out;
 use crate::parts::is_within;
 use tables::{LentSet, LentSetMut, Row, Span};
 use types::Refusal;
-
-// Copies the text of a span to `to`, which is after it, and gives its length.
-// Stays: the library's `copy_within` copies; what of the span lies behind the text area's end is left out first.
-fn copy_span(text: &mut [u8], s: Span, to: usize) -> usize
-    requires { (end_of s ≤ to) × (length (text_at text.old s) ≤ length text.old - to) }
-    ensures value { result ≡ length (text_at text.old s) }
-    ensures text_after { text.new ≡ sets text.old to (text_at text.old s) }
-{
-    let n = tables::text_at(text, s).len();
-    if 0 < n {
-        text.copy_within(s.at..s.at + n, to);
-    }
-    n
-}
-
-// Puts what a join has before its leaf to `to`, which is after the branch, and gives its length.
-// Stays: `path::join_prefix` gives the branch as a slice of the text, and the text is written here; so the branch is
-// copied by its span (`copy_span`), and only the separator is a slice.
-fn put_prefix(text: &mut [u8], branch: Span, leaf: Span, to: usize) -> usize
-    requires { (end_of branch ≤ to)
-        × (length (prefix_of (text_at text.old branch) (text_at text.old leaf)) ≤ length text.old - to) }
-    ensures value { result ≡ length (prefix_of (text_at text.old branch) (text_at text.old leaf)) }
-    ensures text_after { text.new
-        ≡ sets text.old to (prefix_of (text_at text.old branch) (text_at text.old leaf)) }
-{
-    let part = tables::text_at(text, branch);
-    if path::is_alone(part) {
-        return 0;
-    }
-    let between = path::separator(part, tables::text_at(text, leaf));
-    let k = copy_span(text, branch, to);
-    lists::copy_after(text, to + k, between);
-    k + between.len()
-}
-
-// Puts a branch and a leaf, joined, to `to`, which is after both, and gives the length.
-// Stays: it is the two copies in turn, within one slice, which the joins of `path` into a buffer of their own can't do.
-fn put_joined(text: &mut [u8], branch: Span, leaf: Span, to: usize) -> usize
-    requires { (end_of branch ≤ to)
-        × (end_of leaf ≤ to)
-        × (length (appended (text_at text.old branch) (text_at text.old leaf)) ≤ length text.old - to) }
-    ensures value { result ≡ length (appended (text_at text.old branch) (text_at text.old leaf)) }
-    ensures result_bound { to + result < 2 ^ 64 }
-    ensures text_after { text.new
-        ≡ sets text.old to (appended (text_at text.old branch) (text_at text.old leaf)) }
-{
-    let k = put_prefix(text, branch, leaf, to);
-    k + copy_span(text, leaf, to + k)
-}
 
 // Makes a span the link text of file i.
 // Stays: a row's words are read and written by `tables`; one field of the record changes.
@@ -92,19 +43,17 @@ fn relink(set: &mut LentSetMut<'_>, i: usize, new: &[u8])
     set.fs.text_len = link.at + link.len;
 }
 
-// Whether the parts of a link's own path lie in the used part, and the path fits after it.
-// Stays: the parts lie in the first `used` bytes and the room is what follows them; a slice of either lacks the other.
-fn own_fits(text: &[u8], used: usize, branch: Span, name: Span) -> bool
-    ensures { result ≡ (is_within used branch
-        && (is_within used name
-        && leb (length (appended (text_at text.now branch) (text_at text.now name)))
-        (length text.now - used))) }
+// Joins the texts of two spans of the first `used` bytes behind these bytes, where they fit, and gives the length.
+// Stays: it is a function of its own; tried, where `write_own` parts `set.text` itself, what the field holds after both
+// parts end had no name but the check's, and `returns-in_default-clause-after` stayed open.
+fn join_behind(text: &mut [u8], used: usize, branch: Span, leaf: Span) -> Result<usize, Refusal>
+    requires { (end_of branch ≤ used) × (end_of leaf ≤ used) }
+    ensures { joined_says result text.new
+        ≡ joined_behind text.old used (appended (text_at text.old branch) (text_at text.old leaf)) }
 {
-    let directory = tables::text_at(text, branch);
-    let leaf = tables::text_at(text, name);
-    is_within(used, branch)
-        && is_within(used, name)
-        && path::joined_length(directory, leaf) <= text.len().saturating_sub(used)
+    let (front, rest) = text.split_at_mut(used.min(text.len()));
+    let directory = tables::text_at(front, branch);
+    path::join_path(directory, tables::text_at(front, leaf), rest)
 }
 
 // Writes the own path of link i, whose text was removed, as its text, where it fits.
@@ -116,10 +65,12 @@ pub fn write_own(set: &mut LentSetMut<'_>, i: usize)
     let at = fs.text_len;
     let row = tables::row_at(lent.rows, i);
     let branch = tables::directory_span(lent.dirs, row);
-    if !own_fits(lent.text, at, branch, row.name) {
+    if !is_within(at, branch) || !is_within(at, row.name) {
         return;
     }
-    let len = put_joined(set.text, branch, row.name, at);
+    let Ok(len) = join_behind(set.text, at, branch, row.name) else {
+        return;
+    };
     put_link(set.rows, i, Span { at, len });
     set.fs.text_len = at + len;
 }
@@ -133,11 +84,7 @@ fn stage_beside(set: LentSet<'_>, i: usize, scratch: &mut [u8]) -> Result<usize,
     let LentSet { lent, .. } = set;
     let row = tables::row_at(lent.rows, i);
     let directory = lent.directory_of(row);
-    path::join_path(
-        directory,
-        tables::text_at(lent.text, tables::link_span(row)),
-        scratch,
-    )
+    path::join_path(directory, lookup::link_text(lent.text, row), scratch)
 }
 
 // The room for a new text of link i, once the old one is removed.
@@ -151,6 +98,8 @@ fn room_beside(set: LentSet<'_>, i: usize) -> usize
 
 // Replaces the text of link i by that from the link's directory, where it fits. The scratch space then begins with it,
 // where it fits there.
+// Stays: a record of the set and the scratch space would hold `&mut`s in a `&mut`: the clause for each would name its
+// field, and a further one say that the scratch space is the same reference.
 #[tactic(auto, using(crate::proofs::OneLink::staged_short))]
 pub fn write_beside(set: &mut LentSetMut<'_>, scratch: &mut [u8], i: usize)
     ensures text_after { held set.new ≡ with_beside (length scratch.old) (held set.old) i }

@@ -1,7 +1,8 @@
 // The search for the pad, and what its removal writes. Relies on the writers of `tables` and the laws of
 // proofs/Trims.antt.
-ghost use Rattle.std.specs.Prelude.{◌≡◌, List, ℕ, ◌/◌, ◌<◌, ◌≤◌, length};
+ghost use Rattle.std.specs.Prelude.{◌≡◌, List, ℕ, ◌-◌, ◌/◌, ◌<◌, ◌≤◌, length};
 ghost use Rattle.types.specs.Refusals.{outcome};
+ghost use Rattle.tables.specs.declared.rows.Row.{Row};
 ghost use Rattle.tables.specs.Model.{store_of};
 ghost use Rattle.rules.specs.Bounds.{max_entries};
 ghost use Rattle.trim.specs.Removal.{first_gone, second_gone, storage_without, store_trimmed, trim_stored};
@@ -9,7 +10,7 @@ ghost use Rattle.change.specs.Changes.{changed_of};
 ghost use Rattle.trim.specs.private.Search.{tail_pad_in};
 
 use change::Rooms;
-use tables::{FileStorage, ROOT_WIDTH, ROW_WIDTH, Row, Span};
+use tables::{FileStorage, ROOT_WIDTH, ROW_WIDTH, Removed, Row, Span};
 use types::Refusal;
 
 // The last of the rows that is not empty, where it is a pad.
@@ -21,35 +22,35 @@ fn find_tail_pad(rows: &[u64]) -> Option<usize>
         .filter(|i| tables::is_pad(tables::flags_at(rows, *i)))
 }
 
-// The bytes of a row's name within the used part of the text area.
-fn first_gone(fs: FileStorage, row: Row) -> Span
-    ensures { result ≡ first_gone fs row }
+// What goes with file f, which has this row: of its name, and then of its link text, the bytes within the used part of
+// the text area.
+fn gone_with(fs: FileStorage, f: usize, row: Row) -> Removed
+    ensures { result
+        ≡ record { row = f; total = fs.total_size - row.size; name = first_gone fs row; link = second_gone fs row } }
 {
-    tables::clipped(fs.text_len, row.name)
+    let name = tables::clipped(fs.text_len, row.name);
+    let left = fs.text_len.saturating_sub(name.len);
+    Removed {
+        row: f,
+        total: fs.total_size.saturating_sub(row.size),
+        name,
+        link: tables::clipped(left, tables::low_span(name, row.link)),
+    }
 }
 
-// The bytes of a row's link text within the used part, once those of its name are removed.
-fn second_gone(fs: FileStorage, row: Row) -> Span
-    ensures { result ≡ second_gone fs row }
-{
-    let c = first_gone(fs, row);
-    tables::clipped(
-        fs.text_len.saturating_sub(c.len),
-        tables::low_span(c, row.link),
-    )
-}
-
-// The set's record without a row's file, and with the spans `c` and then `d` removed.
-// Stays: `c` and `d` go together to this and to `remove_row` alone; the text and the directories are lowered by each for
-// itself, and a record of the two would be taken apart there.
-fn storage_without(fs: FileStorage, row: Row, c: Span, d: Span) -> FileStorage
-    ensures { result ≡ storage_without fs row c d }
+// The set's record once a file is removed.
+fn storage_without(fs: FileStorage, gone: Removed) -> FileStorage
+    ensures { (row : Row)
+        → gone.total ≡ fs.total_size - row.size → result ≡ storage_without fs row gone.name gone.link }
 {
     FileStorage {
         num_files: fs.num_files.saturating_sub(1),
-        name: tables::low_span(d, tables::low_span(c, fs.name)),
-        text_len: fs.text_len.saturating_sub(c.len).saturating_sub(d.len),
-        total_size: fs.total_size.saturating_sub(row.size),
+        name: tables::low_span(gone.link, tables::low_span(gone.name, fs.name)),
+        text_len: fs
+            .text_len
+            .saturating_sub(gone.name.len)
+            .saturating_sub(gone.link.len),
+        total_size: gone.total,
         trimmed: true,
         ..fs
     }
@@ -57,7 +58,8 @@ fn storage_without(fs: FileStorage, row: Row, c: Span, d: Span) -> FileStorage
 
 // Removes file f from the tables, and gives the set's record after it.
 // Stays: a record of the four tables would be made for the one call of this function, and taken apart in it: each of
-// the calls below takes one table.
+// the calls below takes one table. With `cut_out` of `texts` for each of the two spans all rows would be gone over two
+// times more: `remove_row` lowers both spans as it moves the rows.
 fn remove_file(
     fs: FileStorage,
     rows: &mut [u64],
@@ -72,11 +74,9 @@ fn remove_file(
         ≡ store_trimmed
         (store_of fs rows.old roots.old firsts dirs.old text.old) f }
 {
-    let row = tables::row_at(rows, f);
-    let c = first_gone(fs, row);
-    let d = second_gone(fs, row);
-    let left = storage_without(fs, row, c, d);
-    tables::remove_row(rows, left.num_files, f, left.total_size, c, d);
+    let gone = gone_with(fs, f, tables::row_at(rows, f));
+    let left = storage_without(fs, gone);
+    tables::remove_row(rows, left.num_files, gone);
     tables::remove_text(
         roots,
         fs.num_files * ROOT_WIDTH,
@@ -85,10 +85,10 @@ fn remove_file(
             len: ROOT_WIDTH,
         },
     );
-    tables::lower_dirs(dirs, fs.num_paths, c);
-    tables::lower_dirs(dirs, fs.num_paths, d);
-    tables::remove_text(text, fs.text_len, c);
-    tables::remove_text(text, fs.text_len.saturating_sub(c.len), d);
+    tables::lower_dirs(dirs, fs.num_paths, gone.name);
+    tables::lower_dirs(dirs, fs.num_paths, gone.link);
+    tables::remove_text(text, fs.text_len, gone.name);
+    tables::remove_text(text, fs.text_len.saturating_sub(gone.name.len), gone.link);
     left
 }
 

@@ -2,6 +2,7 @@
 // index_range.rs and file_storage.rs. It relies on nothing else.
 
 // The number of a piece.
+// Stays: document 01 asks for two tuple structs, this and the next.
 #[derive(Clone, Copy)]
 pub struct PieceIndex(pub i32);
 

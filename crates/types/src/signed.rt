@@ -1,5 +1,6 @@
-// Signed numbers at the boundary: unsigned inside, signed in the Rust's signatures. It relies on std only.
-ghost use Rattle.std.specs.Prelude.{◌≡◌, ◌%◌, ◌^◌, pos, negsuc};
+// Signed numbers at the boundary: unsigned inside, signed in the Rust's signatures; and the methods of piece and file
+// numbers. It relies on index.rt and refusal.rt.
+ghost use Rattle.std.specs.Prelude.{◌≡◌, ◌-◌, ◌%◌, ◌^◌, pos, negsuc, if◌then◌else◌, nat_eq};
 ghost use Rattle.types.specs.Refusals.{outcome};
 ghost use Rattle.types.specs.Signed.{clamped_of, below_or, zigzag, unzigzag};
 
@@ -7,7 +8,7 @@ use crate::index::{FileIndex, PieceIndex};
 use crate::refusal::Refusal;
 
 // A signed number as an unsigned one, 0 where it is negative.
-// Stays: without it callers in five crates would each write `u64::try_from(x).unwrap_or(0)`.
+// Stays: without it callers in four crates would each write `u64::try_from(x).unwrap_or(0)`.
 pub fn clamped(x: i64) -> u64
     ensures { result ≡ clamped_of x }
 {
@@ -56,8 +57,8 @@ pub fn unzigzag64(word: u64) -> i64
     -1 - half
 }
 
-// Stays: document 01 asks for two tuple structs. A trait with these three methods needs two more, from an `i32` and to
-// it, with an impl for each struct: more lines than the three twins.
+// Stays: document 01 asks for two tuple structs. A trait with `new`, `none` and `get`, which both have, needs two more
+// methods, from an `i32` and to it, with an impl for each struct: more lines than the three twins.
 impl PieceIndex {
     // Piece n, where n is below 2^31.
     pub fn new(n: u64) -> PieceIndex
@@ -73,6 +74,13 @@ impl PieceIndex {
         ensures { result.0 ≡ negsuc 0 }
     {
         PieceIndex(-1)
+    }
+
+    // The last of n pieces, where n is at most 2^31; −1 where there is none.
+    pub fn last_of(n: u64) -> PieceIndex
+        ensures { result.0 ≡ (if nat_eq n 0 then negsuc 0 else pos ((n - 1) % 2 ^ 31)) }
+    {
+        n.checked_sub(1).map_or(PieceIndex::none(), PieceIndex::new)
     }
 
     // The number as a `usize`, 0 where it is negative, as in the Rust's release build.

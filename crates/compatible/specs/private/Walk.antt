@@ -1,7 +1,12 @@
 -- A composed path in the pieces that a comparison reads in a row. It relies on the equality of `lists`.
-use Rattle.std.specs.Prelude.{ℕ, Bool, ◌&&◌, List, ◌++◌}
+use Rattle.std.specs.Prelude.{ℕ, Bool, ◌&&◌, List, [], ◌∷◌, ◌++◌}
+use Rattle.std.specs.Borrow.{Bor}
 use Rattle.lists.specs.Lists.{equal}
 use Rattle.compatible.specs.declared.walk.Pieces.{Pieces}
+
+-- the pieces
+abbrev pub in_a_row : Pieces → List (Bor (List ℕ))
+in_a_row p = p.first ∷ p.first_end ∷ p.second ∷ p.second_end ∷ p.last ∷ []
 
 -- the path
 abbrev pub whole_of : Pieces → List ℕ

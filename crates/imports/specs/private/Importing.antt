@@ -11,6 +11,7 @@ use Rattle.renames.specs.declared.rename.RenamedFiles.{RenamedFiles}
 use Rattle.renames.specs.Renames.{Renamed, with_rename}
 use Rattle.renames.specs.Renames.{in_order_in}
 use Rattle.imports.specs.Imports.{full_path}
+use Rattle.imports.specs.declared.counted.Counted.{Counted}
 
 -- ---- the list
 
@@ -79,11 +80,15 @@ kept_state named rf entries =
 
 -- ---- the decision; `held` says whether the list is whole and the set has no more files and directories than it may
 
--- `lacks_room` where the renames that `stay` counts are kept and those that `come` counts are given
-abbrev pub is_full : ℕ → ℕ → RenamedFiles → RenamedFiles → Bool
-is_full words room stay come =
-    ltb (words / 3) (stay.num_renames + come.num_renames)
-    || ltb room (stay.text_len + come.text_len)
+-- `lacks_room` where the renames that are counted are kept and given
+abbrev pub is_full : ℕ → ℕ → Counted → Bool
+is_full words room c =
+    ltb (words / 3) (c.stay.num_renames + c.come.num_renames)
+    || ltb room (c.stay.text_len + c.come.text_len)
+
+-- the records of those that are kept and of those that come
+abbrev pub counted_with : FileStorage → RenamedFiles → List ℕ → List ℤ → RenamedFiles → Counted
+counted_with fs rf entries zs come = record { stay = kept_state (is_listed fs.num_files zs) rf entries; come = come }
 
 abbrev pub import_number : FileStorage → RenamedFiles → List ℕ → ℕ → List ℤ → Bool → RenamedFiles → ℕ
 import_number fs rf entries room zs held come =
@@ -92,11 +97,10 @@ import_number fs rf entries room zs held come =
     when (any is_negative zs) 11 ∷
     short held ∷
     short (in_order_in rf entries room) ∷
-    when (is_full (length entries) room (kept_state (is_listed fs.num_files zs) rf entries) come) 10 ∷
+    when (is_full (length entries) room (counted_with fs rf entries zs come)) 10 ∷
     [])
 
--- the record of those that are kept, or the refusal
-abbrev pub import_asked :
-    FileStorage → RenamedFiles → List ℕ → ℕ → List ℤ → Bool → RenamedFiles → Outcome RenamedFiles
+-- both records, or the refusal
+abbrev pub import_asked : FileStorage → RenamedFiles → List ℕ → ℕ → List ℤ → Bool → RenamedFiles → Outcome Counted
 import_asked fs rf entries room zs held come =
-    outcome_of (import_number fs rf entries room zs held come) (kept_state (is_listed fs.num_files zs) rf entries)
+    outcome_of (import_number fs rf entries room zs held come) (counted_with fs rf entries zs come)

@@ -1,6 +1,6 @@
 -- Where the judgement of links stands, for the private parts of its code: marks in use, frames written, and what a walk
 -- needs. The meaning is that of Clean.antt; the marks are those of Judging.antt.
-use Rattle.std.specs.Prelude.{ℕ, zero, suc, ◌+◌, ◌*◌, ◌/◌, ◌%◌, ◌^◌, ◌<◌, ◌≤◌, Bool, true, false, cond, ◌≡◌, List, [], ◌∷◌, map, eqb, ltb, length, get_or, set, drop, Option, MatchOption}
+use Rattle.std.specs.Prelude.{ℕ, zero, suc, ◌+◌, ◌*◌, ◌/◌, ◌%◌, ◌^◌, ◌<◌, ◌≤◌, Bool, true, false, cond, ◌≡◌, List, [], ◌∷◌, map, eqb, ltb, length, get_or, set, drop, Option}
 use Rattle.std.specs.Option.{ForSome}
 use Rattle.std.specs.Borrow.{Bor}
 use Rattle.lists.specs.Lists.{equal}
@@ -9,14 +9,13 @@ use Rattle.tables.specs.declared.lent.LentSet.{LentSet}
 use Rattle.tables.specs.declared.storage.FileStorage.{FileStorage}
 use Rattle.tables.specs.Rows.{row_at}
 use Rattle.tables.specs.Model.{path_in, internal_path, Store}
-use Rattle.lookup.specs.Lookup.{Entry, own_path, is_directory, known, is_flagged, lent, entries_of, directories_of}
+use Rattle.lookup.specs.Lookup.{Entry, own_path, is_directory, known, lent, entries_of, directories_of}
 use Rattle.lookup.specs.private.Rows.{entry_at}
 use Rattle.lookup.specs.Space.{space}
 use Rattle.links.specs.Clean.{Link, links_of, goes, resolves, weight}
 use Rattle.rope.specs.declared.lead.Lead.{Lead}
 use Rattle.rope.specs.declared.frame.Path.{Path}
 use Rattle.rope.specs.Rope.{held_path, held, front, frame_width, half_word}
-use Rattle.links.specs.declared.flagged.Links.{Links}
 use Rattle.links.specs.Judging.{verdict_keep, verdict_own_path, verdict_walk, first_mark}
 
 -- ---- a set as private functions pass it
@@ -35,26 +34,6 @@ own_text l i = internal_path l.dirs.now l.text.now (row_at l.rows.now i)
 -- the first e bytes of a path
 abbrev pub front_of : Path → ℕ → List ℕ
 front_of p e = front p.lent.rows.now p.lent.dirs.now p.lent.text.now p.frames.now p.depth e
-
--- ---- the flagged links of a set, one after another
-
--- none of the files from the i-th to the j-th is one
-abbrev pub NoneBetween : List ℕ → ℕ → ℕ → Type 0
-NoneBetween rows i j = (n : ℕ) → i ≤ n → n < j → is_flagged (row_at rows n).flags ≡ false
-
--- the next one, x, by the numbers of its mark and its file, where t gives those behind it
-pub record Passed (s : Links) (x : ℕ × ℕ) (t : Links) : Type 0 where
-  pub mark : x.0 ≡ s.k
-  pub from : s.i ≤ x.1
-  pub file : x.1 < s.num_files
-  pub between : NoneBetween s.rows.now s.i x.1
-  pub flag : is_flagged (row_at s.rows.now x.1).flags ≡ true
-  pub next : (t.i ≡ x.1 + 1) × (t.k ≡ s.k + 1)
-  pub same : (t.rows.now ≡ s.rows.now) × (t.num_files ≡ s.num_files)
-
--- a call for the next one: it comes, or there is none
-abbrev pub Passes : Links → Option (ℕ × ℕ) → Links → Type 0
-Passes s r t = MatchOption r (NoneBetween s.rows.now s.i s.num_files) (λ x. Passed s x t)
 
 -- ---- marks
 

@@ -38,17 +38,17 @@ counted_by fs line =
 
 -- the set in the tables of a run, and what a change to them says; the set keeps no table of first files
 abbrev pub store_in : FileStorage → Tables → Store
-store_in fs t = store_of fs t.rows.now t.roots.now [] t.dirs.now t.text.now
+store_in fs t = store_of fs t.rows t.roots [] t.dirs t.text
 
 abbrev pub changed_in : Outcome FileStorage → Tables → Changed
 changed_in says t =
     record {
       says = says;
-      rows = t.rows.now;
-      roots = t.roots.now;
+      rows = t.rows;
+      roots = t.roots;
       firsts = [];
-      dirs = t.dirs.now;
-      text = t.text.now;
+      dirs = t.dirs;
+      text = t.text;
     }
 
 -- how a run ends, by its answer and what the tables then hold
@@ -64,4 +64,4 @@ pub record Placed (rows roots dirs text : List ℕ) : Type 0 where
   pub text-is : length text ≡ 65536
 
 abbrev pub PlacedIn : Tables → Type 0
-PlacedIn t = Placed t.rows.now t.roots.now t.dirs.now t.text.now
+PlacedIn t = Placed t.rows t.roots t.dirs t.text

@@ -2,6 +2,7 @@
 -- `planned_for` of Plan.antt.
 use Rattle.std.specs.Prelude.{◌≡◌, ℕ, ◌+◌, ◌<◌, ◌≤◌, Bool, true, false, cond, ◌&&◌, ◌||◌, List, [], ◌∷◌, ◌++◌, length, ◌==◌, nat_lt, Option, Some, None, is_some, option_map, unwrap_or}
 use Rattle.std.specs.Bool.{then_some}
+use Rattle.std.specs.Option.{option_map_or, option_and_then, option_zip}
 use Rattle.lists.specs.Lists.{ceiling}
 use Rattle.lists.specs.Decimal.{decimal}
 use Rattle.types.specs.Refusals.{Outcome}
@@ -66,10 +67,17 @@ dirs_with new d ds = cond new (ds ++ (d ∷ [])) ds
 abbrev pub count_with : Bool → ℕ → ℕ
 count_with new n = n + cond new 1 0
 
--- the same of the pad's directory, where a pad follows; where none does there is none
-abbrev pub pad_dir_plan_of : Bool → List (List ℕ) → DirPlan
-pad_dir_plan_of true ds = dir_plan_of (stored pad_directory_name false) ds
-pad_dir_plan_of false ds = known_at 0 (length ds)
+-- the same of the pad's directory, where a pad follows
+abbrev pub pad_dir_plan_of : Bool → List (List ℕ) → Option DirPlan
+pad_dir_plan_of follows ds = then_some follows (dir_plan_of (stored pad_directory_name false) ds)
+
+-- how many directories there are with the file's and the pad's, and the length of the text of the pad's, where that is
+-- new
+abbrev pub dirs_after : DirPlans → ℕ
+dirs_after d = option_map_or (λ p. p.count) d.pad d.file.count
+
+abbrev pub pad_new : DirPlans → Option ℕ
+pad_new d = option_and_then (λ p. p.new) d.pad
 
 -- ---- numbers
 
@@ -147,7 +155,7 @@ plan_from fs a counts d spans =
         piece_length = fs.piece_length;
         v2 = a.sizes.v2;
         num_files = counts.num_files;
-        num_paths = d.pad.count;
+        num_paths = dirs_after d;
         num_symlinks = counts.num_symlinks;
         name = cond (fs.num_files == 0) spans.set fs.name;
         text_len = spans.end;
@@ -167,22 +175,22 @@ plan_from fs a counts d spans =
       };
       pad_row =
           option_map
-          (λ size. record {
+          (λ p. record {
             offset = a.sizes.file_end;
-            size = size;
+            size = p.0;
             name = spans.pad_name;
             link = record { at = spans.end; len = 0 };
-            path_index = d.pad.index;
+            path_index = p.1.index;
             flags = made_pad_flags;
             time = 0;
           })
-          a.sizes.pad;
+          (option_zip a.sizes.pad d.pad);
       dir =
           option_map (λ len. record { slot = fs.num_paths; text = record { at = spans.directory; len = len } })
           d.file.new;
       pad_dir =
           option_map (λ len. record { slot = d.file.count; text = record { at = spans.pad_directory; len = len } })
-          d.pad.new;
+          (pad_new d);
       old = old_name fs;
       start = spans.set.at;
       parts = a.parts;
@@ -196,7 +204,7 @@ text_spans_for fs a d =
     (unwrap_or d.file.new 0)
     a.lengths.name
     a.lengths.link
-    (unwrap_or d.pad.new 0)
+    (unwrap_or (pad_new d) 0)
     (pad_length a.sizes.pad)
 
 -- the plan where there is room, else refusal 10
@@ -204,7 +212,7 @@ abbrev pub planned_in : FileStorage → Rooms → Decided → DirPlans → Outco
 planned_in fs rooms a d =
     outcome_of
     (cond
-    (short_of rooms (counts_of fs a.sizes a.facts).num_files d.pad.count
+    (short_of rooms (counts_of fs a.sizes a.facts).num_files (dirs_after d)
     || nat_lt rooms.text (text_spans_for fs a d).end)
     10
     0)

@@ -1,13 +1,19 @@
--- What the private parts of the writing of a text give: joins by their parts. The meaning is that of Texts.antt; it
--- relies on the joins of `path`.
-use Rattle.std.specs.Prelude.{ℕ, ◌-◌, cond, List, [], ◌++◌, length}
-use Rattle.path.specs.Join.{is_alone, separator}
+-- What the private parts of the writing of a text give. The meaning is that of Texts.antt; it relies on the joins of
+-- `path`.
+use Rattle.std.specs.Prelude.{ℕ, ◌-◌, Bool, true, false, List, leb, length}
+use Rattle.std.proofs.lemmas.List.Edits.{sets}
+use Rattle.types.specs.Refusals.{value, refused}
+use Rattle.path.specs.Join.{Joined}
 use Rattle.tables.specs.Model.{Store}
 use Rattle.texts.specs.Texts.{gone_at}
 
--- what a join has before its leaf
-abbrev pub prefix_of : List ℕ → List ℕ → List ℕ
-prefix_of branch leaf = cond (is_alone branch) [] (branch ++ separator branch leaf)
+-- what a join t behind the first u bytes of the text area says, and the area after it
+abbrev pub behind_if : Bool → List ℕ → ℕ → List ℕ → Joined
+behind_if true text u t = record { says = value (length t); buf = sets text u t }
+behind_if false text u t = record { says = refused 10; buf = text }
+
+abbrev pub joined_behind : List ℕ → ℕ → List ℕ → Joined
+joined_behind text u t = behind_if (leb (length t) (length text - u)) text u t
 
 -- the room for a new text of link i, once the old one is removed
 abbrev pub room_beside : Store → ℕ → ℕ

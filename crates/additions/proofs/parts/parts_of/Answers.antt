@@ -16,4 +16,4 @@ returns c =
       | then-fs-eq0 w ↦ rw (eq-eqb a.fs.num_files 0 w.if-fs-eq0.true, w.called-is) w.text_at-called.ensures
       | else-fs-eq0 w ↦ rw (ne_eqb a.fs.num_files 0 w.if-fs-eq0.false, w.called-is) w.text_at-called-else-fs-eq0.ensures
     ] in
-    parts_are a.fs.num_files (text_at a.text.now a.fs.name) a.path.now c.leaf_span-leaf.ensures c.name_span.ensures c.is_below-has_parent.ensures c.set_name_span-set_name.ensures called c.place_of-place.ensures
+    parts_are a.fs.num_files (text_at a.text.now a.fs.name) a.path.now c.split_leaf.ensures.leaf c.name_span.ensures c.is_below-has_parent.ensures c.set_name_span-set_name.ensures called c.place_of-place.ensures

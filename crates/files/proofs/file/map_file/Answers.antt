@@ -74,14 +74,14 @@ module _ {fs : FileStorage} {rows : List ℕ} {z offset size : ℤ} {k : ℕ} {s
 pub signed_request-requires : goal.signed_request-requires
 signed_request-requires c =
     let k = asked (goal.at.signed_request-requires c).After-passes_position-in_place in
-    let q = request-is k c.if-fit.true c.if-in_place.true c.offset_of.ensures c.clamped.ensures (search rules) c.from.ensures c.clamped-then-in_place.ensures c.request_at.ensures in
+    let q = request-is k c.if-fit.true c.if-in_place.true c.offset_at.ensures c.clamped.ensures (search rules) c.from.ensures c.clamped-then-in_place.ensures c.request_at.ensures in
     let p = due k c.if-fit.true c.if-in_place.true in
     (omega (arith, ap (λ (r : Request). r.piece) q, p.piece), omega (arith, ap (λ (r : Request). r.start) q, p.start), omega (arith, ap (λ (r : Request). r.length) q, p.length, index-low c.args.size k.size-fits))
 
 pub returns-then-in_place : goal.returns-then-in_place
 returns-then-in_place c =
     let k = asked (goal.at.returns-then-in_place c).After-passes_position-in_place in
-    let q = request-is k c.if-fit.true c.if-in_place.true c.offset_of.ensures c.clamped.ensures (search rules) c.from.ensures c.clamped-then-in_place.ensures c.request_at.ensures in
+    let q = request-is k c.if-fit.true c.if-in_place.true c.offset_at.ensures c.clamped.ensures (search rules) c.from.ensures c.clamped-then-in_place.ensures c.request_at.ensures in
     let h = c.signed_request.ensures in
     rw (whole k c.if-fit.true c.if-in_place.true)
     (ap value

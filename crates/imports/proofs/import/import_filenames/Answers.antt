@@ -3,32 +3,27 @@ use mathlib.Core.Path.{ap, ◌∙◌}
 use Rattle.std.proofs.Common.{rules}
 use Rattle.imports.specs.private.Merging.{noted_from, placed_from}
 use Rattle.imports.proofs.Noting.{lent_notes, lent_zeros}
-use Rattle.imports.proofs.Importing.{import-held, import-files, import-ready, import-changed, import-refused}
+use Rattle.imports.proofs.Importing.{import-files, import-ready, import-changed, import-refused}
 use Rattle.imports.proofs.import.import_filenames.Goals as goal
 
 pub decide-requires : goal.decide-requires
 decide-requires c = lent_notes _ c.args.numbers.now _ (search rules) c.min-files.ensures
 
-pub count_given-come-requires : goal.count_given-come-requires
-count_given-come-requires c =
-    let h = import-held c.args.fs c.args.renames c.args.rename_entries.now c.args.rename_text.now c.args.numbers.now c.args.lengths.now c.args.names.now c.in_ok-stay.stay c.in_ok-stay.ensures in
-    ((lent_notes _ c.args.numbers.now c.note_last.new.notes c.note_last.ensures c.min-files.ensures).0, search rules)
-
 pub give-requires : goal.give-requires
 give-requires c =
-    let f = import-files c.args.fs c.args.renames c.args.rename_entries.now c.args.rename_text.now c.args.numbers.now c.args.lengths.now c.args.names.now c.in_ok-stay.stay c.in_ok-stay.ensures in
+    let f = import-files c.args.fs c.args.renames c.args.rename_entries.now c.args.rename_text.now c.args.numbers.now c.args.lengths.now c.args.names.now c.in_ok-counted.counted (rw c.new-held.ensures at c.in_ok-counted.ensures) in
     let z = lent_zeros c.min-files.ensures f in
     import-ready c.args.fs c.args.renames c.args.rename_entries.now c.args.rename_text.now c.args.numbers.now c.args.lengths.now c.args.names.now
-    c.in_ok-stay.stay c.in_ok-stay.ensures _ _ (c.note_last.ensures ∙ ap (noted_from 0 c.args.numbers.now) z) (c.note_places.ensures ∙ ap (placed_from 0 c.args.numbers.now c.args.lengths.now) z) _ c.count_given-come.ensures
+    c.in_ok-counted.counted (rw c.new-held.ensures at c.in_ok-counted.ensures) _ _ (c.note_last.ensures ∙ ap (noted_from 0 c.args.numbers.now) z) (c.note_places.ensures ∙ ap (placed_from 0 c.args.numbers.now c.args.lengths.now) z)
 
 pub returns : goal.returns
 returns c =
-    let f = import-files c.args.fs c.args.renames c.args.rename_entries.now c.args.rename_text.now c.args.numbers.now c.args.lengths.now c.args.names.now c.in_ok-stay.stay c.in_ok-stay.ensures in
+    let f = import-files c.args.fs c.args.renames c.args.rename_entries.now c.args.rename_text.now c.args.numbers.now c.args.lengths.now c.args.names.now c.in_ok-counted.counted (rw c.new-held.ensures at c.in_ok-counted.ensures) in
     let z = lent_zeros c.min-files.ensures f in
-    import-changed c.args.fs c.args.renames c.args.rename_entries.now c.args.rename_text.now c.args.numbers.now c.args.lengths.now c.args.names.now
-    c.in_ok-stay.stay c.in_ok-stay.ensures _ _ (c.note_last.ensures ∙ ap (noted_from 0 c.args.numbers.now) z) (c.note_places.ensures ∙ ap (placed_from 0 c.args.numbers.now c.args.lengths.now) z) _ c.count_given-come.ensures _ _ c.give.ensures.entries_after c.give.ensures.text_after
+    rw c.total.ensures (import-changed c.args.fs c.args.renames c.args.rename_entries.now c.args.rename_text.now c.args.numbers.now c.args.lengths.now c.args.names.now
+    c.in_ok-counted.counted (rw c.new-held.ensures at c.in_ok-counted.ensures) _ _ (c.note_last.ensures ∙ ap (noted_from 0 c.args.numbers.now) z) (c.note_places.ensures ∙ ap (placed_from 0 c.args.numbers.now c.args.lengths.now) z) _ _ c.give.ensures.entries_after c.give.ensures.text_after)
 
-pub returns-in_err-stay : goal.returns-in_err-stay
-returns-in_err-stay c =
+pub returns-in_err-counted : goal.returns-in_err-counted
+returns-in_err-counted c =
     import-refused c.args.fs c.args.renames c.args.rename_entries.now c.args.rename_text.now c.args.numbers.now c.args.lengths.now c.args.names.now
-    _ _ c.from_residual.ensures.1 c.in_err-stay.ensures
+    _ _ c.from_residual.ensures.1 (rw c.new-held.ensures at c.in_err-counted.ensures)

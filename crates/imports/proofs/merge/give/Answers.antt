@@ -21,16 +21,16 @@ kept-texts c =
     (renames_in_use c.args.renames.num_renames c.args.entries.now c.requires.0 c.args.text.now)
 
 pub merge-requires : goal.merge-requires
-merge-requires c =
-    merge-ready (named_in c.args.list) (given_in c.args.list) (length c.args.list.notes.now) c.args.renames c.args.stay c.args.come c.args.entries.now c.args.text.now
+merge-requires c = rw c.total-total.ensures (
+    merge-ready (named_in c.args.list) (given_in c.args.list) (length c.args.list.notes.now) c.args.renames c.args.counted.stay c.args.counted.come c.args.entries.now c.args.text.now
     c.requires.0 c.requires.1 c.requires.2 c.requires.3 c.requires.4 c.requires.5 _ _ (moved-front (named_in c.args.list) c.args.renames.num_renames c.args.entries.now _ c.requires.0 c.keep_entries.ensures)
     (kept-texts (goal.at.merge-requires c).After-keep_texts)
-    _ _ c.copy_within-2.ensures.after c.copy_within.ensures.after c.requires.6 c.requires.7
+    _ _ c.copy_within-2.ensures.after c.copy_within.ensures.after c.requires.6 c.requires.7)
 
 pub returns : goal.returns
 returns c =
-    let whole = merge-done (named_in c.args.list) (given_in c.args.list) (length c.args.list.notes.now) c.args.renames c.args.stay c.args.come c.args.entries.now c.args.text.now
+    let whole = merge-done (named_in c.args.list) (given_in c.args.list) (length c.args.list.notes.now) c.args.renames c.args.counted.stay c.args.counted.come c.args.entries.now c.args.text.now
     c.requires.0 c.requires.1 c.requires.2 c.requires.3 c.requires.4 c.requires.5 _ _ (moved-front (named_in c.args.list) c.args.renames.num_renames c.args.entries.now _ c.requires.0 c.keep_entries.ensures)
     (kept-texts (goal.at.returns c).After-keep_texts)
-    _ _ c.copy_within-2.ensures.after c.copy_within.ensures.after c.requires.6 c.requires.7 _ _ c.merge.ensures.entries_after c.merge.ensures.text_after in
-    record { entries_after = whole.0; text_after = whole.1 }
+    _ _ c.copy_within-2.ensures.after c.copy_within.ensures.after c.requires.6 c.requires.7 _ _ (rw c.total-total.ensures at c.merge.ensures.entries_after) (rw c.total-total.ensures at c.merge.ensures.text_after) in
+    record { entries_after = rw c.total-total.ensures whole.0; text_after = whole.1 }

@@ -5,7 +5,8 @@ use mathlib.Core.List.{map}
 use Rattle.std.proofs.Common.{rules}
 use Rattle.std.proofs.lemmas.Iterator.Search.{any_from_yields_List}
 use Rattle.links.specs.private.Walking.{lead, store_in, front_of}
-use Rattle.links.proofs.Passing.{links_left, links_given}
+use Rattle.links.specs.Flagged.{links_left}
+use Rattle.links.proofs.Passing.{links_given}
 use Rattle.links.proofs.Scans.{leads_at, any-links}
 use Rattle.links.proofs.scan.has_link.Goals as goal
 

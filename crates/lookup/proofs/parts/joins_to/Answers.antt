@@ -1,29 +1,21 @@
--- `lookup::parts::joins_to` meets its contract.
-use mathlib.Core.Path.{◌≡◌, sym, ap, ◌∙◌}
-use mathlib.Core.Bool.{cond, false}
-use mathlib.Core.List.{◌∷◌}
-use lib.ListN.{length, drop}
-use Rattle.std.proofs.Common.{rules, tests}
-use Rattle.lists.specs.Lists.{equal}
-use Rattle.path.specs.Join.{is_alone, is_closed}
-use Rattle.path.proofs.Ends.{part-rest}
-use Rattle.lookup.proofs.Paths.{joins-on, joins-not}
+-- `lookup::parts::joins_to` meets its contract: a join is what it keeps of the directory, a separator or none, and the name.
+use Rattle.std.proofs.Common.{◌∙◌}
+use Rattle.lookup.proofs.Paths.{joins-not, joins-apart, joins-on}
 use Rattle.lookup.proofs.parts.joins_to.Goals as goal
 
-pub returns-then-is_tail : goal.returns-then-is_tail
-returns-then-is_tail c =
-    let alone-not : is_alone c.args.d.now ≡ false = sym c.is_alone.ensures ∙ c.if-is_alone.false in
-    let tail-is : c.is_tail.result ≡ equal (cond (is_closed c.args.d.now) c.args.name.now (47 ∷ c.args.name.now)) (drop (length c.args.d.now) c.args.p.now) = let a = c.args in
-    c.is_tail.ensures ∙ rw (c.is_closed.ensures, c.part.ensures, part-rest a.p.now (length a.d.now)) in
-    let a = c.args in
-    c.same-then-is_tail.ensures ∙ ap (equal a.d.now) c.part-then-is_tail.ensures
-    ∙ joins-on a.d.now a.name.now a.p.now alone-not (λ e. search (rules, tests)) (sym tail-is ∙ c.if-is_tail.true)
+pub returns-in_default : goal.returns-in_default
+returns-in_default c =
+    joins-not c.args.d.now c.args.name.now c.args.p.now c.join_prefix.ensures.branch c.join_prefix.ensures.separator c.in_default.ensures.cases
 
-pub returns-else-is_tail : goal.returns-else-is_tail
-returns-else-is_tail c =
-    let alone-not : is_alone c.args.d.now ≡ false = sym c.is_alone.ensures ∙ c.if-is_alone.false in
-    let tail-is : c.is_tail.result ≡ equal (cond (is_closed c.args.d.now) c.args.name.now (47 ∷ c.args.name.now)) (drop (length c.args.d.now) c.args.p.now) = let a = c.args in
-    c.is_tail.ensures ∙ rw (c.is_closed.ensures, c.part.ensures, part-rest a.p.now (length a.d.now)) in
-    let a = c.args in
-    c.if-is_tail.false
-    ∙ joins-not a.d.now a.name.now a.p.now alone-not (λ e. search (rules, tests)) (sym tail-is ∙ c.if-is_tail.false)
+pub returns-in_default-strip_suffix : goal.returns-in_default-strip_suffix
+returns-in_default-strip_suffix c =
+    let front = c.in-Some in
+    joins-apart c.args.d.now c.args.name.now c.args.p.now c.join_prefix.ensures.branch c.join_prefix.ensures.separator
+    front.front.now front.ensures.cases.0 front.ensures.cases.1 c.in_default-strip_suffix.ensures.cases
+
+pub returns : goal.returns
+returns c =
+    let front = c.in-Some in
+    let branch = c.in-Some-strip_suffix in
+    c.same.ensures ∙ joins-on c.args.d.now c.args.name.now c.args.p.now c.join_prefix.ensures.branch c.join_prefix.ensures.separator
+    front.front.now front.ensures.cases.0 front.ensures.cases.1 branch.branch.now branch.ensures.cases.0 branch.ensures.cases.1

@@ -1,12 +1,11 @@
 -- `lookup::space::lacks_space` meets its contract: links are counted by the rows alone.
-use Prim.Native.Nat.{ℕ, ◌+◌, ◌-◌, ◌/◌, min}
+use Prim.Native.Nat.{ℕ}
 use mathlib.Core.Path.{◌≡◌, refl, ◌∙◌}
 use mathlib.Core.List.{List, []}
 use native.Mathlib.Omega.{arith}
 use borrow.Author.Tests.{lt-ltb}
-use Rattle.std.proofs.Common.{rules}
 use Rattle.tables.specs.declared.storage.FileStorage.{FileStorage}
-use Rattle.lookup.specs.Space.{space, link_count}
+use Rattle.lookup.specs.Space.{link_count}
 use Rattle.lookup.specs.Lookup.{lent, files_in}
 use Rattle.lookup.proofs.Spaces.{count-rows, lacks-marks, lacks-room}
 use Rattle.lookup.proofs.space.lacks_space.Goals as goal
@@ -25,7 +24,4 @@ pub returns-else-marks-count_links : goal.returns-else-marks-count_links
 returns-else-marks-count_links c =
     let a = c.args in
     let k = counted a.fs a.rows.now a.dirs.now a.text.now c.count_links.result c.count_links.ensures in
-    let files = files_in a.fs a.rows.now a.dirs.now a.text.now in
-    let room : c.space_left.result ≡ min a.scratch (a.walk_path / 2) + 1 - space files = c.space_left.ensures ∙ rw (c.new-set.ensures, c.min-room.ensures) in
-    let law = lacks-room files a.marks a.scratch a.walk_path (omega (arith, k, c.if-marks-count_links.false)) c.space_left.result room in
-    search (rules, law)
+    c.lacks_bytes.ensures ∙ rw c.new-set.ensures (lacks-room (files_in a.fs a.rows.now a.dirs.now a.text.now) a.marks a.scratch a.walk_path (omega (arith, k, c.if-marks-count_links.false)) c.min-room.result c.min-room.ensures)

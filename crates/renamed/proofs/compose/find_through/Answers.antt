@@ -1,9 +1,6 @@
 -- `renamed::compose::find_through` meets its contract.
-use Prim.Native.Nat.{ℕ}
-use mathlib.Core.Path.{ap, ◌∙◌}
-use mathlib.Core.Bool.{Bool, ◌&&◌}
+use Rattle.std.proofs.Common.{◌∙◌}
 use Rattle.types.proofs.Refusals.{exit}
-use Rattle.rules.specs.Questions.{file_answer, rows_are_held}
 use Rattle.names.specs.Paths.{names_held}
 use Rattle.renames.specs.Renames.{in_order}
 use Rattle.renames.specs.Finding.{rename_found}
@@ -12,15 +9,13 @@ use Rattle.renamed.proofs.compose.find_through.Goals as goal
 
 pub returns : goal.returns
 returns c =
-    let h = ap (λ (b : Bool). file_answer c.args.set.fs c.args.index.0 (rows_are_held c.args.set.fs c.args.set.lent.rows.now && b) (λ (k : ℕ). k)) c.are_held-held.ensures in
     asked-then c.args.set.fs c.args.index.0 (names_held c.args.set.fs c.args.set.lent.rows.now c.args.set.lent.dirs.now c.args.set.lent.text.now)
     (in_order c.args.names.renames c.args.names.entries.now c.args.names.text.now) (rename_found c.args.names.renames c.args.names.entries.now)
-    _ (c.in_ok-file_in.ensures ∙ h) _ c.find.ensures
+    _ c.in_ok-file_of.ensures _ c.find.ensures
 
-pub returns-in_err-file_in : goal.returns-in_err-file_in
-returns-in_err-file_in c =
-    let h = ap (λ (b : Bool). file_answer c.args.set.fs c.args.index.0 (rows_are_held c.args.set.fs c.args.set.lent.rows.now && b) (λ (k : ℕ). k)) c.are_held-held.ensures in
+pub returns-in_err-file_of : goal.returns-in_err-file_of
+returns-in_err-file_of c =
     exit c.from_residual.result _ c.from_residual.ensures.1 ∙ asked-refused c.args.set.fs c.args.index.0
     (names_held c.args.set.fs c.args.set.lent.rows.now c.args.set.lent.dirs.now c.args.set.lent.text.now)
     (in_order c.args.names.renames c.args.names.entries.now c.args.names.text.now) (λ k. k) (rename_found c.args.names.renames c.args.names.entries.now)
-    _ (c.in_err-file_in.ensures ∙ h)
+    _ c.in_err-file_of.ensures

@@ -16,17 +16,17 @@ same-rename i i' m m' name p q = rw (p, q)
 pub returns-in_err-p : goal.returns-in_err-p
 returns-in_err-p c =
     slot-refused c.args.fs c.args.renames c.args.rename_entries.now c.args.rename_text.now c.args.index.0 c.args.new_filename.now
-    _ _ c.from_residual.ensures.1 c.in_err-p.ensures
+    _ _ c.from_residual.ensures.1 (rw c.new-names.ensures at c.in_err-p.ensures)
 
 pub put_rename-requires : goal.put_rename-requires
 put_rename-requires c =
-    rw c.get.ensures (slot-known c.args.fs c.args.renames c.args.rename_entries.now c.args.rename_text.now c.args.index.0 c.args.new_filename.now _ c.in_ok-p.ensures)
+    rw c.get.ensures (slot-known c.args.fs c.args.renames c.args.rename_entries.now c.args.rename_text.now c.args.index.0 c.args.new_filename.now _ (rw c.new-names.ensures at c.in_ok-p.ensures))
 
 pub returns : goal.returns
 returns c =
     let rs = renames_of c.args.renames c.args.rename_entries.now c.args.rename_text.now in
     let k = same-rename _ _ _ _ c.args.new_filename.now c.get.ensures c.mode_for.ensures in
-    slot-changed c.args.fs c.args.renames c.args.rename_entries.now c.args.rename_text.now c.args.index.0 c.args.new_filename.now _ c.in_ok-p.ensures _ _ _
+    slot-changed c.args.fs c.args.renames c.args.rename_entries.now c.args.rename_text.now c.args.index.0 c.args.new_filename.now _ (rw c.new-names.ensures at c.in_ok-p.ensures) _ _ _
     (c.put_rename.ensures.value ∙ ap (λ (r : Renamed). state_of (with_rename r rs)) k)
     (c.put_rename.ensures.entries_after ∙ ap (λ (r : Renamed). sets c.args.rename_entries.now 0 (words_of (with_rename r rs))) k)
     (c.put_rename.ensures.text_after ∙ ap (λ (r : Renamed). sets c.args.rename_text.now 0 (texts_of (with_rename r rs))) k)

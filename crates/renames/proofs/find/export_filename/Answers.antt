@@ -13,7 +13,7 @@ use Rattle.renames.proofs.find.export_filename.Goals as goal
 
 pub returns : goal.returns
 returns c =
-    let ordered : in_order c.args.renames c.args.rename_entries.now c.args.rename_text.now ≡ true = sym c.is_in_order.ensures ∙ c.if-not-is_in_order.false in
+    let ordered : in_order c.args.renames c.args.rename_entries.now c.args.rename_text.now ≡ true = sym (rw c.new-names.ensures at c.is_in_order.ensures) ∙ c.if-not-is_in_order.false in
     let o = order-in c.args.renames c.args.rename_entries.now (length c.args.rename_text.now) ordered in
     let at = c.bytes_of-at.ensures ∙ bytes_in_use c.args.i c.args.rename_entries.now (omega (arith, o.0, c.if-renames-i.false)) in
     let w = c.rename_at.ensures in

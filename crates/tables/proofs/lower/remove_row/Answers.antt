@@ -15,9 +15,9 @@ pub loop-i-preserved : goal.loop-i-preserved
 loop-i-preserved c =
     let a = c.args in
     let l = c.loop-i in
-    let g = new a.rows.now a.f a.total a.c a.d in
-    let move : Row → Row = row_moved a.f a.total a.c a.d l.i in
-    let same = row-above l.rows a.rows.now l.i l.invariant.1.2 (skip a.f l.i) (omega arith) in
+    let g = new a.rows.now a.gone.row a.gone.total a.gone.name a.gone.link in
+    let move : Row → Row = row_moved a.gone.row a.gone.total a.gone.name a.gone.link l.i in
+    let same = row-above l.rows a.rows.now l.i l.invariant.1.2 (skip a.gone.row l.i) (omega arith) in
     let put = c.move_row.ensures ∙ ap (λ (r : Row). put_row l.rows l.i (move r)) same in
     (l.invariant.0, writing-turn 8 g c.min-m.result a.rows.now l.rows l.i refl l.invariant.1 (omega arith) put)
 
@@ -25,6 +25,6 @@ pub returns : goal.returns
 returns c =
     let a = c.args in
     let l = c.loop-i in
-    let g = new a.rows.now a.f a.total a.c a.d in
+    let g = new a.rows.now a.gone.row a.gone.total a.gone.name a.gone.link in
     writing-end 8 g c.min-m.result a.rows.now l.rows l.i l.invariant.1 (omega arith)
     ∙ ap (λ (m : ℕ). sets a.rows.now 0 (filled g 0 m)) l.invariant.0

@@ -7,7 +7,7 @@ use Rattle.std.specs.Prelude.{MatchOption}
 use Rattle.std.proofs.lemmas.Iterator.{first_from_Range}
 use Rattle.tables.specs.Rows.{row_at}
 use Rattle.lookup.specs.Lookup.{is_flagged}
-use Rattle.links.specs.private.Walking.{NoneBetween}
+use Rattle.links.specs.Flagged.{NoneBetween}
 use Rattle.links.proofs.flagged.LinksIterator.next.Goals as goal
 use Rattle.links.proofs.flagged.LinksIterator.next.Goals.{After-find}
 

@@ -15,5 +15,5 @@ returns-then-is_text-clause-value c =
 pub returns-clause-value : goal.returns-clause-value
 returns-clause-value c =
     c.find_among.ensures.value c.args.self.now.count
-    ∙ last-missed c.args.self.now.dirs.now c.args.self.now.text.now c.args.dir.now c.args.self.now.count (omega arith) c.min.result c.min.ensures
+    ∙ last-missed c.args.self.now.dirs.now c.args.self.now.text.now c.args.dir.now c.args.self.now.count (omega arith) c.min-n.result c.min-n.ensures
     (sym (sym c.if-is_text.false ∙ c.is_text.ensures ∙ rw c.dir_at.ensures))
