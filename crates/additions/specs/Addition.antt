@@ -5,13 +5,15 @@
 -- where b is larger. `pos n` is the integer n; `clamped_of` is an integer, 0 where it is negative. A text is its bytes.
 -- Of a path (path, specs/Split.antt): `rsplit_branch` and `rsplit_leaf` are what stands before and after its last
 -- separator, once one at its end is dropped; `lsplit_first` and `lsplit_rest` what stands before and after the first,
--- once one at its start is dropped; `has_parent_path`, that it has more than one part; `is_complete`, that it is absolute.
--- `when t n` is refusal n where t holds; `first_of` is the number of the first refusal of a list whose test holds, 0
--- where none does; `outcome_of k a` is refusal k, or a where k is 0.
-use Rattle.std.specs.Prelude.{ℕ, ◌+◌, ◌-◌, ◌*◌, ◌/◌, ◌%◌, Bool, true, false, cond, not, ◌&&◌, ◌||◌, List, [], ◌∷◌, ◌++◌, map, eqb, ltb, leb, ℤ, pos, length, Option, Some, None}
+-- once one at its start is dropped; `has_parent_path`, that it has more than one part; `is_complete`, that it is
+-- absolute. `when t n` is refusal n where t holds; `first_of` is the number of the first refusal of a list whose test
+-- holds, 0 where none does; `outcome_of k a` is refusal k, or a where k is 0.
+use Rattle.std.specs.Prelude.{ℕ, ◌+◌, ◌-◌, ◌*◌, ◌/◌, ◌%◌, Bool, true, false, cond, not, ◌&&◌, ◌||◌, List, [], ◌∷◌, ◌++◌}
+use Rattle.std.specs.Prelude.{map, eqb, ltb, leb, ℤ, pos, length, Option, Some, None}
 use Rattle.lists.specs.Lists.{equal, any, sum}
 use Rattle.lists.specs.Decimal.{decimal}
-use Rattle.path.specs.Split.{is_separator, rsplit_branch, rsplit_leaf, is_complete, lsplit_first, lsplit_rest, has_parent_path}
+use Rattle.path.specs.Split.{is_separator, rsplit_branch, rsplit_leaf, is_complete, lsplit_first, lsplit_rest}
+use Rattle.path.specs.Split.{has_parent_path}
 use Rattle.path.specs.Join.{is_empty}
 use Rattle.tables.specs.declared.rows.Presence.{Presence}
 use Rattle.tables.specs.declared.rows.Presence.TheVariants.{Absent, Present}
@@ -123,7 +125,8 @@ abbrev pub v2_after : Bool → ℕ → ℕ → ℕ → ℕ → List ℕ → Bool
 v2_after v2 total links files size link root = version_by v2 (decides size link) (is_left_open total links files) root
 
 abbrev pub disagrees : Bool → ℕ → ℕ → ℕ → ℕ → List ℕ → Bool → Bool
-disagrees v2 total links files size link root = disagrees_in v2 (decides size link) (is_left_open total links files) root
+disagrees v2 total links files size link root =
+    disagrees_in v2 (decides size link) (is_left_open total links files) root
 
 -- 'when the total is no multiple of the piece length, a pad follows': what is missing to the next multiple
 abbrev pub pad_to : ℕ → ℕ → ℕ
@@ -334,4 +337,5 @@ adding_rules m a no_room = rules_on (tested_of m a) ++ (when no_room 10 ∷ [])
 
 -- an addition to a set whose tables have these rooms: the set after it, or the refusal
 abbrev pub added_to : Rooms → Model → Addition → Outcome Model
-added_to rooms m a = outcome_of (first_of (adding_rules m a (lacks rooms (added m a) (text_of (added m a))))) (added m a)
+added_to rooms m a =
+    outcome_of (first_of (adding_rules m a (lacks rooms (added m a) (text_of (added m a))))) (added m a)

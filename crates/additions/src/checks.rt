@@ -11,7 +11,7 @@ ghost use Rattle.additions.specs.private.Checks.{limited_length, bad_beside};
 ghost use Rattle.additions.specs.private.Checks.{names_of, pad_if, sizes_for, number_rules};
 
 use crate::info::Given;
-use crate::parts::{PathParts, is_absolute};
+use crate::parts::{PathKind, PathParts};
 use rules::MAX_FILE_OFFSET;
 use tables::FileStorage;
 use types::Refusal;
@@ -71,7 +71,7 @@ fn check_names(files: usize, given: Option<&[u8]>, parts: PathParts) -> Result<(
     if NAME_LIMIT <= limited_length(given, parts.leaf.len) {
         return Err(Refusal::FilenameTooLong);
     }
-    if is_bad_name(given, is_absolute(parts.kind)) {
+    if is_bad_name(given, parts.kind == PathKind::Absolute) {
         return Err(Refusal::InvalidName);
     }
     if !parts.has_parent && 0 < files {

@@ -9,4 +9,4 @@ mod parts;
 
 pub use checks::{Sizes, decide_sizes};
 pub use info::{FileInfo, Given, given_name, keeps_link};
-pub use parts::{PathKind, PathParts, is_outside, parts_of};
+pub use parts::{PathKind, PathParts, parts_of};

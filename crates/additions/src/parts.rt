@@ -4,13 +4,13 @@ ghost use Rattle.path.specs.Split.{rsplit_branch, rsplit_leaf, lsplit_first, is_
 ghost use Rattle.tables.specs.Span.{text_at};
 ghost use Rattle.additions.specs.declared.parts.PathKind.TheVariants.{Inside};
 ghost use Rattle.additions.specs.Parts.{whole_span, first_span, set_name_span, directory_span, parts_of};
-ghost use Rattle.additions.specs.private.Texts.{outside_kind, absolute_kind, place_for};
+ghost use Rattle.additions.specs.private.Texts.{place_for};
 
 use tables::{FileStorage, Span};
 
 // Where a file lies: at a single name, at an absolute path, in a directory under the set's name, or in
 // one outside it.
-#[derive(Clone, Copy)]
+#[derive(Clone, Copy, PartialEq, Eq)]
 pub enum PathKind {
     Single,
     Absolute,
@@ -26,9 +26,9 @@ pub(crate) struct Place {
 }
 
 // The parts of a path, as spans in it.
-// Stays: a path without a parent has each of these spans too, so `has_parent` guards no field. Nor does `kind`: the
-// plan and the writer read the directory's text of every kind, which has no bytes where there is no directory; with the
-// span in two variants of the kind, each of them would match for it first.
+// Stays: a path without a parent has each of these spans too, so `has_parent` guards no field. Nor does `kind`:
+// `Given::directory` reads the directory's text of every kind, which has no bytes where there is no directory. With the
+// span in two variants of the kind it would match for it, and the plan's `==` with `Outside` would be a match too.
 #[derive(Clone, Copy)]
 pub struct PathParts {
     // Its last part.
@@ -36,8 +36,9 @@ pub struct PathParts {
     // The name that it gives its file: the leaf, or all of an absolute path.
     pub name: Span,
     // The name that it gives a set without files; no bytes where the set has files.
-    // Stays: the plan takes the length of this text and the writer its bytes, without a test whether there are any; an
-    // `Option<Span>` would be tested by both.
+    // Stays: of this text the plan takes the length and the writer the bytes, both from `Given::set_name`, and none are
+    // as good as no text. An `Option<Span>` would spare `parts_of` its test of the files; but `Given::set_name`, and
+    // each clause that names the text, would put a span of no bytes back for `None`.
     pub set_name: Span,
     // The text of its directory; no bytes where it has none.
     pub directory: Span,
@@ -163,19 +164,4 @@ pub fn parts_of(fs: FileStorage, text: &[u8], path: &[u8]) -> PathParts
         kind: place.kind,
         has_parent,
     }
-}
-
-// Whether a file's directory stands outside the set's name.
-pub fn is_outside(kind: PathKind) -> bool
-    ensures { result ≡ outside_kind kind }
-{
-    matches!(kind, PathKind::Outside)
-}
-
-// Whether a path is absolute.
-// Stays: it and `is_outside` each name a kind; a derived `==` would be as long at each caller.
-pub(crate) fn is_absolute(kind: PathKind) -> bool
-    ensures { result ≡ absolute_kind kind }
-{
-    matches!(kind, PathKind::Absolute)
 }

@@ -69,12 +69,14 @@ root_given fs rows roots z = file_answer fs z (rows_are_held fs rows && roots_he
 -- ---- texts of file z: where they stand in the text area, or composed into a lent buffer
 
 abbrev pub file_name_given : FileStorage → List ℕ → List ℕ → ℤ → Outcome Span
-file_name_given fs rows text z = file_answer fs z (rows_are_held fs rows && text_held fs text) (λ k. (row_at rows k).name)
+file_name_given fs rows text z =
+    file_answer fs z (rows_are_held fs rows && text_held fs text) (λ k. (row_at rows k).name)
 
 -- '`internal_symlink` of a file without link text' gives 15
 abbrev pub internal_symlink_given : FileStorage → List ℕ → List ℕ → ℤ → Outcome Span
 internal_symlink_given fs rows text z =
-    link_answer fs z (row_there rows) (λ k. has (row_at rows k).flags link_held_bit) (rows_are_held fs rows && text_held fs text)
+    link_answer fs z (row_there rows) (λ k. has (row_at rows k).flags link_held_bit)
+    (rows_are_held fs rows && text_held fs text)
     (λ k. (row_at rows k).link)
 
 abbrev pub symlink_given : FileStorage → List ℕ → List ℕ → ℤ → List ℕ → Joined

@@ -5,7 +5,8 @@
 --
 -- Names from elsewhere: `cond t a b` is a where t is true, else b; `eqb` and `ltb` test = and <; `a - b` is 0 where b
 -- is larger. The integer n is `pos n`, and −(n + 1) is `negsuc n`.
-use Rattle.std.specs.Prelude.{ℕ, ◌+◌, ◌-◌, ◌%◌, ◌≡◌, Bool, true, false, cond, not, ◌&&◌, ◌||◌, List, [], ◌∷◌, ◌++◌, map, eqb, ltb, ℤ, pos, negsuc, length, Option, Some, None}
+use Rattle.std.specs.Prelude.{ℕ, ◌+◌, ◌-◌, ◌%◌, ◌≡◌, Bool, true, false, cond, not, ◌&&◌, ◌||◌, List, [], ◌∷◌, ◌++◌, map}
+use Rattle.std.specs.Prelude.{eqb, ltb, ℤ, pos, negsuc, length, Option, Some, None}
 use Rattle.lists.specs.Lists.{sum}
 use Rattle.additions.specs.Addition.{Addition}
 use Rattle.imports.specs.Imports.{Naming}

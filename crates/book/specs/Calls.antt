@@ -1,8 +1,9 @@
 -- Which calls, with which outcomes, lead from a newly opened set to which tables: 'Each call gets the set and renames
 -- as the last one left them'. The premises are the port's promises: a step's is what the called function ensures, on
 -- the set's record and tables (`Store` of `tables`) and on those of the renames (`RenamedFiles` of `renames`).
--- `opened`, `add_stored`, `trim_stored`, `clean_stored`, `rename_file_answer` and `import_filenames_answer` are the definitions that the
--- contracts of `storage`, `trim`, `cleaning` and `renames` cite, so a refused call is a step like any other.
+-- `opened`, `add_stored`, `trim_stored`, `clean_stored`, `rename_file_answer` and `import_filenames_answer` are the
+-- definitions that the contracts of `storage`, `trim`, `cleaning` and `renames` cite, so a refused call is a step like
+-- any other.
 --
 -- Names from elsewhere: `value a` is an answer, `refused k` a refusal by number k; `pos n` is the integer n; `take n`
 -- is the first n elements; `cond t a b` is a where t is true, else b. The tables are those of `Store` (tables,

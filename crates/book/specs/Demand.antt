@@ -1,7 +1,7 @@
 -- Demand 3: what is asked of the set that a list of calls led to, and what must hold of the answers. The premises are
--- the port's promises: `ValidCall.call` is what `map_block` ensures (`block_mapped` of `mapping`), and `Right.back` asks
--- of whatever `map_file` ensures (`file_mapped` of `files`). What must hold is said by Slices.antt and by the records of
--- the answers: `FileSlice` and `Outcome` of `types`, `SignedRequest` of `rules`.
+-- the port's promises: `ValidCall.call` is what `map_block` ensures (`block_mapped` of `mapping`), and `Right.back`
+-- asks of whatever `map_file` ensures (`file_mapped` of `files`). What must hold is said by Slices.antt and by the
+-- records of the answers: `FileSlice` and `Outcome` of `types`, `SignedRequest` of `rules`.
 --
 -- Names from elsewhere: `pos n` is the integer n, and `natural` reads it back (Book.antt). `take n` and `drop n` are
 -- the first n elements and the rest; `part_of xs at n` is the n elements from position `at` on; `value a` is an answer,

@@ -3,11 +3,12 @@
 -- relies on the records of the calls' arguments, on the rules in order of `rules` and on the splits of `path`.
 --
 -- Names from elsewhere: `when t k` is the row of the table that refuses by k where t holds; `first_of` is the number of
--- the first row that holds, 0 where none does. Of a path, `rsplit_leaf` is its `filename`, `has_parent_path` that it has a
--- parent, and `is_complete` that it starts with a separator, as an absolute one does (path, specs/Split.antt). `any`
--- tests that some element passes.
+-- the first row that holds, 0 where none does. Of a path, `rsplit_leaf` is its `filename`, `has_parent_path` that it
+-- has a parent, and `is_complete` that it starts with a separator, as an absolute one does (path, specs/Split.antt).
+-- `any` tests that some element passes.
 use Rattle.types.specs.Refusals.{outcome}
-use Rattle.std.specs.Prelude.{ℕ, zero, suc, ◌+◌, ◌≡◌, ◌⊎◌, Bool, true, false, not, ◌&&◌, ◌||◌, List, [], ◌∷◌, ltb, leb, ℤ, pos, negsuc, length, Option, Some, None}
+use Rattle.std.specs.Prelude.{ℕ, zero, suc, ◌+◌, ◌≡◌, ◌⊎◌, Bool, true, false, not, ◌&&◌, ◌||◌, List, [], ◌∷◌, ltb, leb}
+use Rattle.std.specs.Prelude.{ℤ, pos, negsuc, length, Option, Some, None}
 use Rattle.lists.specs.Lists.{any}
 use Rattle.path.specs.Split.{rsplit_leaf, is_complete, has_parent_path}
 use Rattle.rules.specs.Rules.{Rule, when, first_of}

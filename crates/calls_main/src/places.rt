@@ -51,8 +51,9 @@ impl Tables {
 }
 
 // How many places of each table a set is lent: `entries` and `area` are those of its renames.
-// Stays: a set is handed on by value and its tables are not, so the counts are the set's. A record of the seven parts
-// would be written twice, for tables that are read and for tables that are changed, and most calls lend two to five.
+// Stays: a set is handed on by value and its tables are not, so the counts are the set's. The parts that are read are
+// cut in one place, `Sets::asked`. Those that are changed are cut where a call lends them, two to five of the seven:
+// from a record of all seven each would still be named there, and the record's making would come on top.
 #[derive(Clone, Copy)]
 pub(crate) struct Counts {
     pub rows: usize,

@@ -1,11 +1,11 @@
 // The four sets of a script, and the one that calls speak of. They are handed on by value; the tables are not among
 // them, and a set's counts say how much of its own it is lent. Relies on places.rt, on `tables`, `renames` and
-// `questions` for the records, and on `script`.
+// `questions` for the records, and on `script` and `lists`.
 ghost use Rattle.std.specs.Prelude.{◌<◌};
 
 use crate::places::{Counts, Tables};
-use questions::Lent;
-use renames::RenamedFiles;
+use questions::{Asked, Lent};
+use renames::{LentRenames, RenamedFiles};
 use tables::FileStorage;
 use types::Refusal;
 
@@ -117,8 +117,29 @@ impl Sets {
     }
 
     // The set at a place.
-    pub(crate) fn set_at(self, place: Place) -> Option<Set> {
+    fn set_at(self, place: Place) -> Option<Set> {
         self.sets[place.number]
+    }
+
+    // The set at a place and its parts of the tables, as a question is lent them.
+    pub(crate) fn asked(self, place: Place, tables: &[Tables; 4]) -> Option<Asked<'_>> {
+        let set = self.set_at(place)?;
+        let own = &tables[place.number];
+        let counts = set.counts;
+        Some(Asked {
+            fs: set.fs,
+            rows: lists::part(&own.rows, 0, counts.rows),
+            roots: lists::part(&own.roots, 0, counts.roots),
+            firsts: lists::part(&own.firsts, 0, counts.firsts),
+            dirs: lists::part(&own.dirs, 0, counts.dirs),
+            text: lists::part(&own.text, 0, counts.text),
+            names: LentRenames::new(
+                set.held,
+                lists::part(&own.entries, 0, counts.entries),
+                lists::part(&own.area, 0, counts.area),
+            ),
+            lent: set.lent,
+        })
     }
 
     // The sets with another one in place of the one that is spoken of.

@@ -1,6 +1,7 @@
 -- A set built by additions, and questions to it, some after a cleaning: each answer is what the contract of the
 -- function with the question's name promises. It relies on the definitions that those contracts cite.
-use Rattle.std.specs.Prelude.{ℕ, Bool, true, false, ◌&&◌, List, [], ◌∷◌, map, eqb, ℤ, pos, negsuc, get_or, replicate, take}
+use Rattle.std.specs.Prelude.{ℕ, Bool, true, false, ◌&&◌, List, [], ◌∷◌, map, eqb, ℤ, pos, negsuc, get_or, replicate}
+use Rattle.std.specs.Prelude.{take}
 use Rattle.types.specs.Refusals.{Outcome, value, refused}
 use Rattle.types.specs.declared.index.FileSlice.{FileSlice}
 use Rattle.tables.specs.declared.storage.FileStorage.{FileStorage}

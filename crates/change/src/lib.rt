@@ -1,5 +1,5 @@
-// What every change of a set shares: its answer, a set's record or a refusal, and how much the lent tables hold. Relies
-// on `types`, `tables` and `rules`.
+// What every change of a set shares: how much the lent tables hold, and in specs/ its answer, a set's record or a
+// refusal, with what every table then holds. Relies on `tables` and `rules`.
 #![tactic(auto)]
 
 mod rooms;

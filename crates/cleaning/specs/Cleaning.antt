@@ -113,4 +113,5 @@ clean_stored s marks scratch walk_path =
     cond (eqb (cleaning_number s (length marks) (length scratch) (length walk_path)) 0)
     (cleaned_to (value (cleaned_store (length scratch) s).fs) (cleaned_store (length scratch) s) (cleared marks)
     (cleared scratch) (cleared walk_path))
-    (cleaned_to (refused (cleaning_number s (length marks) (length scratch) (length walk_path))) s marks scratch walk_path)
+    (cleaned_to (refused (cleaning_number s (length marks) (length scratch) (length walk_path)))
+    s marks scratch walk_path)

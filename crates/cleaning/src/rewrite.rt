@@ -3,11 +3,29 @@
 // a mark's verdict and on the laws of proofs/Passes.antt.
 ghost use Rattle.std.specs.Prelude.{◌≡◌, length};
 ghost use Rattle.tables.specs.Lending.{held, SameTables};
+ghost use Rattle.lookup.specs.Lookup.{lent};
+ghost use Rattle.texts.specs.Texts.{with_own};
 ghost use Rattle.cleaning.specs.Cleaning.{emptied_at, emptied, rewritten_at, rewritten};
 ghost use Rattle.cleaning.specs.private.Writing.{all_verdicts, passed, step_at};
 
 use links::LinkVerdict;
-use tables::LentSetMut;
+use tables::{FileStorage, LentSetMut};
+
+// Writes the own path of link i as its text, with all tables lent for writing.
+// Stays: a call in `write_link` of `texts::write_own`, which reads the directories, would read one field of the set
+// while others are lent for writing; the borrow checker has no rule for that.
+fn write_own(
+    fs: FileStorage,
+    rows: &mut [u64],
+    dirs: &mut [u64],
+    text: &mut [u8],
+    i: usize,
+) -> FileStorage
+    ensures { lent result rows.new dirs.new text.new
+        ≡ with_own (lent fs rows.old dirs.old text.old) i }
+{
+    texts::write_own(fs, rows, dirs, text, i)
+}
 
 // Writes the new text of file i, by its verdict.
 // Stays: set, scratch space and file are passed on to `texts`, here and below: a record of them would hold a `&mut` of
@@ -20,7 +38,10 @@ fn write_link(set: &mut LentSetMut<'_>, scratch: &mut [u8], i: usize, verdict: L
     // plainer.
     match verdict {
         LinkVerdict::Keep => {}
-        LinkVerdict::OwnPath => texts::write_own(set, i),
+        LinkVerdict::OwnPath => {
+            let fs = set.fs;
+            set.fs = write_own(fs, set.rows, set.dirs, set.text, i);
+        }
         LinkVerdict::FromDirectory => texts::write_beside(set, scratch, i),
     }
 }

@@ -1,5 +1,5 @@
-// The room that a cleaning needs, taken off the text area's length text by text, since a sum could be too
-// large. Relies on `links` for the flagged links and their verdicts, and on the laws of proofs/Links.antt.
+// The room that a cleaning needs, taken off the text area's length text by text, since a sum could be too large. Relies
+// on `links` for the flagged links and their verdicts, and on the laws of proofs/Links.antt and proofs/Rooms.antt.
 ghost use Rattle.std.specs.Prelude.{◌≡◌, ◌-◌, ltb, length};
 ghost use Rattle.tables.specs.Span.{clip};
 ghost use Rattle.tables.specs.Lending.{store_in};

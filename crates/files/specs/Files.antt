@@ -1,6 +1,7 @@
 -- Document 01, 'Layout answers': values of answers about files' pieces, blocks and trees. It relies on the requests of
 -- Request.antt, on the rows of `tables`, on the roots of `answers` and on the number of pieces (`rules`).
-use Rattle.std.specs.Prelude.{ℕ, zero, suc, ◌+◌, ◌-◌, ◌*◌, ◌/◌, ◌%◌, ◌^◌, cond, ◌||◌, List, ℤ, pos, negsuc, ◌==◌, nat_lt}
+use Rattle.std.specs.Prelude.{ℕ, zero, suc, ◌+◌, ◌-◌, ◌*◌, ◌/◌, ◌%◌, ◌^◌, cond, ◌||◌, List, ℤ, pos, negsuc, ◌==◌}
+use Rattle.std.specs.Prelude.{nat_lt}
 use Rattle.lists.specs.Lists.{ceiling, equal}
 use Rattle.tables.specs.declared.storage.FileStorage.{FileStorage}
 use Rattle.tables.specs.Rows.{row_at}

@@ -9,7 +9,8 @@ use Rattle.merkle.specs.Width.{width_of, has_tree}
 use Rattle.rules.specs.Rules.{Rule, when}
 use Rattle.rules.specs.Bounds.{clamped_of}
 use Rattle.rules.specs.Results.{Range, SignedRequest}
-use Rattle.rules.specs.Questions.{row_there, rows_are_held, roots_held, bad_piece_length, no_file, many_pieces, bad_range, no_tree}
+use Rattle.rules.specs.Questions.{row_there, rows_are_held, roots_held, bad_piece_length, no_file, many_pieces}
+use Rattle.rules.specs.Questions.{bad_range, no_tree}
 use Rattle.rules.specs.Questions.{short, few_entries, answered, held_answer, file_pieces_answer}
 use Rattle.files.specs.Request.{map_file, as_signed}
 use Rattle.files.specs.Files.{low31, first_piece, last_piece, pieces_of, blocks_of}
@@ -18,7 +19,8 @@ use Rattle.files.specs.Files.{exclusive_range, inclusive_range, file_for_root}
 -- ---- the pieces of file z
 
 abbrev pub piece_at_file_given : FileStorage → List ℕ → ℤ → Outcome ℤ
-piece_at_file_given fs rows z = file_pieces_answer fs z (rows_are_held fs rows) (λ k. pos (first_piece fs rows k % 2 ^ 31))
+piece_at_file_given fs rows z =
+    file_pieces_answer fs z (rows_are_held fs rows) (λ k. pos (first_piece fs rows k % 2 ^ 31))
 
 -- 'of an empty file at 0 is 0, or −1 at piece length 1'
 abbrev pub last_piece_at_file_given : FileStorage → List ℕ → ℤ → Outcome ℤ

@@ -18,7 +18,8 @@ answer_words (refused k) = k ∷ 0 ∷ 0 ∷ 0 ∷ []
 -- the words of the answer to question i
 abbrev pub answer_at : FileStorage → List ℕ → List ℤ → List ℤ → List ℤ → ℕ → List ℕ
 answer_at fs rows files offsets sizes i =
-    answer_words (file_mapped fs rows (slice_index_or files i (pos 0)) (slice_index_or offsets i (pos 0)) (slice_index_or sizes i (pos 0)))
+    answer_words (file_mapped fs rows (slice_index_or files i (pos 0))
+    (slice_index_or offsets i (pos 0)) (slice_index_or sizes i (pos 0)))
 
 -- what `map_files` answers, and what the table of answers then holds
 pub record AnswersListed : Type 0 where

@@ -13,7 +13,7 @@ use tables::FileStorage;
 use types::{FileIndex, PeerRequest, Refusal};
 
 // An `i32` as a word, 0 where it is negative.
-// Stays: `types::clamped` gives 64 bits, and an answer's words have 32.
+// Stays: `types::clamped` gives 64 bits, and an answer's words have 32; `u32::try_from(x).unwrap_or(0)` is no shorter.
 fn word32(x: i32) -> u32
     ensures { result ≡ clamped_of x }
 {

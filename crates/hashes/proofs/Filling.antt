@@ -5,28 +5,24 @@
 --     filled-over, filled-all                    the hashes end, or the table
 --     beginnings_fit                             the beginnings of all directories by their numbers, and whether there is room for them
 --     repeats-enough                             a place for each beginning is a place for each hash
-use Prim.Native.Nat.{ℕ, zero, suc, ◌/◌, ◌+◌, ◌-◌, ◌≤◌, ◌<◌, min}
+use Prim.Native.Nat.{ℕ, suc, ◌+◌, ◌-◌, ◌≤◌, ◌<◌, min}
 use mathlib.Core.Path.{◌≡◌, refl, sym, ap, ◌∙◌}
 use mathlib.Core.Bool.{Bool, true, false, cond}
 use mathlib.Core.List.{List, [], ◌∷◌, ◌++◌, map}
-use native.Mathlib.Nat.{sub-zero, zero-add, add-zero}
+use native.Mathlib.Nat.{sub-zero, zero-add}
 use native.Mathlib.Omega.{arith}
 use lib.Dec.{eqb, ltb, leb}
 use lib.ListN.{length, get_or, set, take, drop, length-append, length-map, length-take, length-drop, length-set, take-append-drop}
 use lib.Seq.{sets, length-take-le, take_all, take-add, get_or-take, set-append_left}
 use borrow.Author.Tests.{le-leb, leb-true}
-use Rattle.std.specs.List.{range_with_len}
 use Rattle.lists.specs.Lists.{part_of, sum}
 use Rattle.lists.proofs.Parts.{part-length-within}
 use Rattle.lists.proofs.Runs.{sets-append, sets-cut, sets-drop, get_or-sets}
 use Rattle.crc32c.specs.Crc.{crc_from, lower}
-use Rattle.tables.specs.Span.{text_at}
-use Rattle.tables.specs.Rows.{dir_at}
-use Rattle.tables.specs.Model.{tabled}
 use Rattle.hashes.specs.Hashes.{beginnings, joined_lists, inserted, ascending}
 use Rattle.hashes.specs.declared.hashes.Listed.{Listed}
 use Rattle.hashes.specs.private.Gathering.{above, TableHolds, WindowHolds, hashes_after}
-use Rattle.hashes.specs.private.Due.{listed_dirs, due, due_beginnings}
+use Rattle.hashes.specs.private.Due.{placed, listed_dirs, due, due_beginnings}
 use Rattle.hashes.proofs.Inserting.{above-next}
 
 -- a run of stores within the first of two lists
@@ -105,18 +101,14 @@ module _ (hs old : List ℕ) where
       }
 
 -- the beginnings of all directories, by their numbers
-beginnings-sum : (n k : ℕ) (h : ℕ → ℕ) (g : ℕ → List ℕ) → ((i : ℕ) → h (k + i) ≡ length (beginnings (g i))) → sum (map h (range_with_len k n)) ≡ length (joined_lists (map beginnings (tabled n g)))
-unfolding tabled
-beginnings-sum zero k h g e = refl
-beginnings-sum (suc n) k h g e =
-    let more = beginnings-sum n (k + 1) h (λ i. g (suc i)) (λ i. let z : k + 1 + i ≡ k + suc i = omega arith in rw z (e (suc i))) in
-    let one : h k ≡ length (beginnings (g 0)) = rw add-zero at (e 0) in
-    rw (length-append (beginnings (g 0)) (joined_lists (map beginnings (tabled n (λ i. g (suc i)))))) (omega (arith, more, one))
+beginnings-sum : (text : List ℕ) (rows : List (List ℕ)) → sum (map (λ ws. length (beginnings (placed text ws))) rows) ≡ length (joined_lists (map beginnings (map (placed text) rows)))
+beginnings-sum text [] = refl
+beginnings-sum text (ws ∷ rows) =
+    let d = placed text ws in
+    rw (length-append (beginnings d) (joined_lists (map beginnings (map (placed text) rows)))) (ap (λ (n : ℕ). length (beginnings d) + n) (beginnings-sum text rows))
 
-pub beginnings_fit : (s : Listed) (room : ℕ) (h : ℕ → ℕ) → ((i : ℕ) → h i ≡ length (beginnings (text_at s.text.now (dir_at s.dirs.now i))))
-    → leb (sum (map h (range_with_len 0 (length s.dirs.now / 2)))) room ≡ leb (length (due_beginnings s)) room
-beginnings_fit s room h e =
-    ap (λ (n : ℕ). leb n room) (beginnings-sum (length s.dirs.now / 2) 0 h (λ i. text_at s.text.now (dir_at s.dirs.now i)) (λ i. rw zero-add (e i)))
+pub beginnings_fit : (s : Listed) (room : ℕ) → leb (sum (map (λ ws. length (beginnings (placed s.text.now ws))) s.dirs.now)) room ≡ leb (length (due_beginnings s)) room
+beginnings_fit s room = ap (λ (n : ℕ). leb n room) (beginnings-sum s.text.now s.dirs.now)
 
 -- each once are at most all
 inserted-longer : (h : ℕ) (xs : List ℕ) → length (inserted h xs) ≤ suc (length xs)

@@ -1,33 +1,38 @@
 -- Laws of a directory's beginnings and of their hashes. A running hash goes on from one separator to the next, and starts anew
 -- with each directory. They rely on the laws of `crc32c` about parts.
 --     beginning_number                              one beginning more than separators
---     hashes-start, hashes-here, hashes-later, hashes-end    the hashes of a directory's beginnings from a place on, place by place
---     hash-next                                     the hash of more bytes from that of fewer
---     dirs-turn, dirs-end                           the directories, one after the other
---     dirs-cut                                      those that a longer table begins with
+--     parts-start                                   the hashes of a directory's beginnings, part by part
+--     none-left, part-left                          the parts that an iterator still gives
+--     rows-turn, rows-end                           the directories, one after the other
+--     rows-within                                   the first rows of a table
 --     all-within                                    the hashes of what stands behind the set's name
-use Prim.Native.Nat.{ℕ, ◌+◌, ◌-◌, ◌*◌, ◌/◌, ◌≤◌, ◌<◌}
-use mathlib.Core.Path.{◌≡◌, refl, sym, ap, ◌∙◌}
+use Prim.Native.Nat.{ℕ, ◌+◌, ◌/◌, ◌≤◌, ◌<◌}
+use mathlib.Core.Path.{◌≡◌, refl, sym, ap, subst, ◌∙◌}
 use mathlib.Core.Bool.{Bool, true, false, cond}
 use mathlib.Core.List.{List, [], ◌∷◌, ◌++◌, map}
 use native.Mathlib.Numerals.{add-one}
 use native.Mathlib.Omega.{arith}
-use lib.ListN.{length, get_or, take, drop, drop_of_length-le}
-use borrow.Author.Tests.{eq-eqb, ne_eqb}
-use lib.Seq.{drop-cons, take-suc, take-add, get_or-take, length-take-le}
-use Rattle.std.specs.List.{filter}
+use lib.ListN.{length, get_or, take, drop, drop_of_length-le, length-map}
+use borrow.Author.Tests.{eqb-true}
+use lib.Seq.{drop-cons}
+use Rattle.std.proofs.Common.{Bor, Option, Some, None}
+use Rattle.std.proofs.lemmas.List.{get_or-map}
+use Rattle.std.proofs.lemmas.List.Splits.{length-slice_split}
+use Rattle.std.specs.Iterator.{AlwaysYields}
+use Rattle.std.specs.List.{filter, slice_split, onto_first}
+use Rattle.std.specs.Simd.{first_chunks}
 use Rattle.path.specs.Split.{is_separator}
 use Rattle.crc32c.specs.Crc.{crc_from, lower}
-use Rattle.crc32c.proofs.Parts.{crc-lower}
+use Rattle.crc32c.proofs.Parts.{crc-lower, crc-none}
 use Rattle.tables.specs.declared.storage.FileStorage.{FileStorage}
-use Rattle.tables.specs.declared.span.Span.{Span}
 use Rattle.tables.specs.Span.{text_at}
 use Rattle.tables.specs.Rows.{dir_at}
 use Rattle.tables.specs.Model.{tabled}
-use Rattle.tables.proofs.Tabled.{length-tabled, get_or-tabled, tabled-same}
+use Rattle.tables.proofs.Chunks.{first-texts}
 use Rattle.names.specs.Paths.{led, hash_of}
 use Rattle.hashes.specs.Hashes.{beginnings_from, beginnings, joined_lists, directory_hashes, hashes_of}
 use Rattle.hashes.specs.private.Gathering.{hashes_after, hashes_within}
+use Rattle.hashes.specs.private.Due.{placed}
 
 pub empty-list : (d : List ℕ) → length d ≡ 0 → d ≡ []
 empty-list [] h = refl
@@ -43,75 +48,77 @@ beginning_number seen (c ∷ t) = at (is_separator c) (beginning_number (seen ++
     at true e = omega arith
     at false e = e
 
--- the beginnings that end at place e of a directory or behind it: one ends there where a separator stands or the directory ends
-abbrev pub beginnings_at : List ℕ → ℕ → List (List ℕ)
-beginnings_at d e = beginnings_from (take e d) (drop e d)
-
-module _ (d : List ℕ) (e : ℕ) (h : e < length d) where
-  begin-turn : beginnings_at d e ≡ cond (is_separator (get_or d e 0)) (take e d ∷ beginnings_at d (e + 1)) (beginnings_at d (e + 1))
-  begin-turn = rw (drop-cons d e 0 h, add-one e, take-suc d e 0 h)
-
-  pub begin-here : get_or d e 0 ≡ 47 → beginnings_at d e ≡ take e d ∷ beginnings_at d (e + 1)
-  begin-here q = rw (eq-eqb (get_or d e 0) 47 q) at begin-turn
-
-  pub begin-later : (get_or d e 0 ≡ 47 → ⊥) → beginnings_at d e ≡ beginnings_at d (e + 1)
-  begin-later q = rw (ne_eqb (get_or d e 0) 47 q) at begin-turn
-
-begin-start : (d : List ℕ) → 0 < length d → beginnings_at d 0 ≡ beginnings d
-begin-start [] h = absurd (omega arith)
-begin-start (c ∷ t) h = refl
-
-begin-end : (d : List ℕ) (e : ℕ) → length d ≤ e → beginnings_at d e ≡ take e d ∷ []
-begin-end d e h = rw (drop_of_length-le d {i = e} h)
-
--- the hash of the first k bytes from that of the first j
-pub hash-next : (state : ℕ) (d : List ℕ) (j k : ℕ) → j ≤ k → crc_from (crc_from state (map lower (take j d))) (map lower (take (k - j) (drop j d))) ≡ crc_from state (map lower (take k d))
-hash-next state d j k h =
-    let e : k ≡ j + (k - j) = omega arith in
-    let p : take k d ≡ take j d ++ take (k - j) (drop j d) = ap (λ (n : ℕ). take n d) e ∙ take-add j (k - j) d in
-    crc-lower state (take j d) (take (k - j) (drop j d)) ∙ ap (λ (l : List ℕ). crc_from state (map lower l)) (sym p)
-
--- their hashes
+-- the hash of bytes behind those whose hash is `state`
 abbrev pub hash_by : ℕ → List ℕ → ℕ
 hash_by state b = crc_from state (map lower b)
 
-abbrev pub hashes_at : ℕ → List ℕ → ℕ → List ℕ
-hashes_at state d e = map (hash_by state) (beginnings_at d e)
+-- the hashes at the ends of a directory's parts, where x is the hash of what stands before the first: a separator stands behind each part but the last
+abbrev pub hashes_on : ℕ → List (List ℕ) → List ℕ
+hashes_on x [] = []
+hashes_on x (p ∷ ps) = hash_by x p ∷ hashes_on (hash_by (hash_by x p) (47 ∷ [])) ps
 
-module _ (state : ℕ) (d : List ℕ) where
-  pub hashes-start : 0 < length d → hashes_at state d 0 ≡ hashes_after state d
-  hashes-start h = ap (map (hash_by state)) (begin-start d h)
+abbrev pub parts : List ℕ → List (List ℕ)
+parts d = slice_split is_separator d
 
-  pub hashes-here : (e : ℕ) → e < length d → get_or d e 0 ≡ 47 → hashes_at state d e ≡ (hash_by state (take e d) ∷ []) ++ hashes_at state d (e + 1)
-  hashes-here e h q = ap (map (hash_by state)) (begin-here d e h q)
+-- a byte that goes onto the first part
+onto-hashes : (x c : ℕ) (ps : List (List ℕ)) → 0 < length ps → hashes_on (hash_by x (c ∷ [])) ps ≡ hashes_on x (onto_first c ps)
+onto-hashes x c [] h = absurd (omega arith)
+onto-hashes x c (p ∷ ps) h = ap (λ (y : ℕ). y ∷ hashes_on (hash_by y (47 ∷ [])) ps) (crc-lower x (c ∷ []) p)
 
-  pub hashes-later : (e : ℕ) → e < length d → (get_or d e 0 ≡ 47 → ⊥) → hashes_at state d e ≡ hashes_at state d (e + 1)
-  hashes-later e h q = ap (map (hash_by state)) (begin-later d e h q)
+module _ (state : ℕ) where
+  hashes-parted : (seen d : List ℕ) → map (hash_by state) (beginnings_from seen d) ≡ hashes_on (hash_by state seen) (parts d)
+  hashes-parted seen [] = ap (λ (y : ℕ). y ∷ []) (sym (crc-none (hash_by state seen)))
+  hashes-parted seen (c ∷ t) =
+      at (is_separator c) refl (hashes-parted (seen ++ (c ∷ [])) t ∙ ap (λ (y : ℕ). hashes_on y (parts t)) (sym (crc-lower state seen (c ∷ []))))
+    where
+      at : (b : Bool) → is_separator c ≡ b → map (hash_by state) (beginnings_from (seen ++ (c ∷ [])) t) ≡ hashes_on (hash_by (hash_by state seen) (c ∷ [])) (parts t)
+          → map (hash_by state) (cond b (seen ∷ beginnings_from (seen ++ (c ∷ [])) t) (beginnings_from (seen ++ (c ∷ [])) t)) ≡ hashes_on (hash_by state seen) (cond b ([] ∷ parts t) (onto_first c (parts t)))
+      at true q e =
+          let x = hash_by state seen in
+          ap (λ (hs : List ℕ). x ∷ hs) (e ∙ ap (λ (k : ℕ). hashes_on (hash_by x (k ∷ [])) (parts t)) (eqb-true c 47 q))
+          ∙ ap (λ (y : ℕ). y ∷ hashes_on (hash_by y (47 ∷ [])) (parts t)) (sym (crc-none x))
+      at false q e = e ∙ onto-hashes (hash_by state seen) c (parts t) (omega (arith, length-slice_split is_separator t))
 
-  pub hashes-end : (e : ℕ) → length d ≤ e → hashes_at state d e ≡ (hash_by state (take e d) ∷ []) ++ []
-  hashes-end e h = ap (map (hash_by state)) (begin-end d e h)
+  pub parts-start : (d : List ℕ) → 0 < length d → hashes_on state (parts d) ≡ hashes_after state d
+  parts-start [] h = absurd (omega arith)
+  parts-start (c ∷ t) h = sym (hashes-parted [] (c ∷ t) ∙ ap (λ (y : ℕ). hashes_on y (parts (c ∷ t))) (crc-none state))
 
--- one directory, and those behind it; none left
-module _ {A : Type 0} (f : List ℕ → List A) (n : ℕ) (g : ℕ → List ℕ) where
-  pub dirs-turn : (i : ℕ) (hs : List A) → i < n → hs ≡ f (g i) → joined_lists (map f (drop i (tabled n g))) ≡ hs ++ joined_lists (map f (drop (i + 1) (tabled n g)))
-  dirs-turn i hs h e =
-      let k : i < length (tabled n g) = omega (arith, length-tabled n g) in
-      rw (add-one i, drop-cons (tabled n g) i [] k, get_or-tabled n g i [] h, e)
+-- what is left of the parts, where an iterator gives none or one
+module _ {I : Type 0} (steps : I → Option (Bor (List ℕ)) → I → Type 0) (it next : I) (r : Option (Bor (List ℕ))) (step : steps it r next) where
+  pub none-left : (x : ℕ) (left : List (List ℕ)) → AlwaysYields steps (λ p. p.now) it left → r ≡ None → hashes_on x left ≡ []
+  none-left x [] y e = refl
+  none-left x (p ∷ ps) y e = absurd (y.0 next (subst (λ (o : Option (Bor (List ℕ))). steps it o next) e step))
 
-  pub dirs-end : (i : ℕ) → n ≤ i → joined_lists (map f (drop i (tabled n g))) ≡ []
-  dirs-end i h = let k : length (tabled n g) ≤ i = omega (arith, length-tabled n g) in rw (drop_of_length-le (tabled n g) {i = i} k)
+  -- y is the hash at the part's end, and z that behind the separator
+  pub part-left : (part : Bor (List ℕ)) (x y z : ℕ) (left : List (List ℕ)) → AlwaysYields steps (λ p. p.now) it left → r ≡ Some part → y ≡ hash_by x part.now → z ≡ hash_by y (47 ∷ [])
+      → (ps : List (List ℕ)) × AlwaysYields steps (λ p. p.now) next ps × (hashes_on x left ≡ (y ∷ []) ++ hashes_on z ps)
+  part-left part x y z [] w e k m = absurd (w part next (subst (λ (o : Option (Bor (List ℕ))). steps it o next) e step))
+  part-left part x y z (p ∷ ps) w e k m =
+      let g = w.1 part next (subst (λ (o : Option (Bor (List ℕ))). steps it o next) e step) in
+      (ps, g.1, rw (m, k, g.0))
 
--- those that a longer table begins with
-dir-cut : (dirs : List ℕ) (n i : ℕ) → i < n → dir_at (take (n * 2) dirs) i ≡ dir_at dirs i
-dir-cut dirs n i h = rw (get_or-take (n * 2) dirs (i * 2) 0 (omega arith), get_or-take (n * 2) dirs (i * 2 + 1) 0 (omega arith))
+-- the directories of a table's rows, one after the other; none left
+module _ {A : Type 0} (f : List ℕ → List A) (text : List ℕ) (rows : List (List ℕ)) where
+  abbrev ds : List (List ℕ)
+  ds = map (placed text) rows
 
-pub dirs-cut : (state : ℕ) (dirs text : List ℕ) (n : ℕ) → n ≤ length dirs / 2
-    → hashes_within state (take (n * 2) dirs) text (length (take (n * 2) dirs) / 2) ≡ hashes_within state dirs text n
-dirs-cut state dirs text n h =
-    let e : length (take (n * 2) dirs) ≡ n * 2 = length-take-le (n * 2) dirs (omega arith) in
-    let k : length (take (n * 2) dirs) / 2 ≡ n = omega (arith, e) in
-    rw k (ap (λ (ds : List (List ℕ)). joined_lists (map (hashes_after state) ds))
-    (tabled-same n (λ i. text_at text (dir_at (take (n * 2) dirs) i)) (λ i. text_at text (dir_at dirs i)) (λ i q. ap (λ (s : Span). text_at text s) (dir-cut dirs n i q))))
+  pub rows-turn : (i : ℕ) (d t : List ℕ) → i < length rows → t ≡ placed text (get_or rows i d) → joined_lists (drop i (map f ds)) ≡ f t ++ joined_lists (drop (i + 1) (map f ds))
+  rows-turn i d t h e =
+      let l = length-map rows (placed text) in
+      let k : i < length (map f ds) = omega (arith, l, length-map ds f) in
+      let g : get_or (map f ds) i [] ≡ f t = get_or-map f ds i [] [] (omega arith) ∙ ap f (get_or-map (placed text) rows i d [] h ∙ sym e) in
+      rw (add-one i, drop-cons (map f ds) i [] k, g)
+
+  pub rows-end : (i : ℕ) → length rows ≤ i → joined_lists (drop i (map f ds)) ≡ []
+  rows-end i h =
+      let k : length (map f ds) ≤ i = omega (arith, length-map rows (placed text), length-map ds f) in
+      rw (drop_of_length-le (map f ds) {i = i} k)
+
+-- the first rows of a table
+pub rows-within : (state : ℕ) (dirs text : List ℕ) (n : ℕ) → n ≤ length dirs / 2
+    → joined_lists (map (hashes_after state) (map (placed text) (take n (first_chunks 2 (length dirs / 2) dirs)))) ≡ hashes_within state dirs text n
+rows-within state dirs text n h =
+    ap (λ (ds : List (List ℕ)). joined_lists (map (hashes_after state) ds)) (first-texts text n (length dirs / 2) dirs h (omega arith))
 
 -- the hashes of what stands behind the set's name and a separator
 map_same : (f g : List ℕ → ℕ) → ((b : List ℕ) → f b ≡ g b) → (bs : List (List ℕ)) → map f bs ≡ map g bs

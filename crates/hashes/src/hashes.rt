@@ -11,7 +11,7 @@ ghost use Rattle.hashes.specs.private.Gathering.{hashes_after, hashes_put};
 ghost use Rattle.hashes.specs.private.Due.{due, due_beginnings};
 
 use names::hash_led;
-use tables::FileStorage;
+use tables::{DIR_WIDTH, FileStorage, Span};
 use types::Refusal;
 
 // Puts h before a run, whose last falls off; a run of nothing stays so.
@@ -67,15 +67,11 @@ fn keep_dir(table: &mut [u32], n: usize, bound: u64, state: u32, d: &[u8]) -> us
     if d.is_empty() {
         return n;
     }
-    let (mut x, mut m, mut from) = (state, n, 0);
-    // Stays: a part is hashed with the separator before it; std's `split` leaves that out, and `split_inclusive` puts
-    // it at the end of the part before.
-    for end in 0..=d.len() {
-        if end == d.len() || d[end] == b'/' {
-            x = crc32c::crc32c_append_lowercase(x, &d[from..end]);
-            m = keep(table, m, bound, x);
-            from = end;
-        }
+    let (mut x, mut m) = (state, n);
+    for part in d.split(|c| *c == b'/') {
+        x = crc32c::crc32c_append_lowercase(x, part);
+        m = keep(table, m, bound, x);
+        x = crc32c::crc32c_append_lowercase(x, b"/");
     }
     m
 }
@@ -90,11 +86,11 @@ fn beginning_count(d: &[u8]) -> usize
     d.iter().filter(|c| **c == b'/').count() + 1
 }
 
-// The directories whose hashes are listed: the hash of what stands before each, their words, and the text area.
+// The directories whose hashes are listed: the hash of what stands before each, their rows, and the text area.
 #[derive(Clone, Copy)]
 struct Listed<'a> {
     state: u32,
-    dirs: &'a [u64],
+    dirs: &'a [[u64; DIR_WIDTH]],
     text: &'a [u8],
 }
 
@@ -105,9 +101,8 @@ impl Listed<'_> {
         ensures { TableHolds table.old (ascending (above bound (due self.entry))) table.new result }
     {
         let mut held = 0;
-        for i in 0..self.dirs.len() / 2 {
-            let place = tables::dir_at(self.dirs, i);
-            let d = tables::text_at(self.text, place);
+        for &row in self.dirs {
+            let d = tables::text_at(self.text, Span::from(row));
             held = keep_dir(table, held, bound, self.state, d);
         }
         held
@@ -166,8 +161,9 @@ impl Listed<'_> {
     fn repeats_fit(self, room: usize) -> bool
         ensures { result ≡ leb (length (due_beginnings self.entry)) room }
     {
-        (0..self.dirs.len() / 2)
-            .map(|i| beginning_count(tables::text_at(self.text, tables::dir_at(self.dirs, i))))
+        self.dirs
+            .iter()
+            .map(|&row| beginning_count(tables::text_at(self.text, Span::from(row))))
             .try_fold(room, usize::checked_sub)
             .is_some()
     }
@@ -189,7 +185,8 @@ fn lead(name: &[u8]) -> u32
 }
 
 // Puts the hashes of the first `count` directories, after `state`, into `out`, or refuses where a table is too short.
-// Stays: the set counts its directories, and the table that is lent with it may be longer or too short.
+// Stays: `out` is a lent table of hashes, and `count` the set's number of directories, of which `dirs` may hold fewer,
+// which is refused, or more.
 fn put_hashes(
     state: u32,
     dirs: &[u64],
@@ -199,15 +196,9 @@ fn put_hashes(
 ) -> Result<usize, Refusal>
     ensures { listed_of result out.new ≡ hashes_put state dirs.now text.now count out.old }
 {
-    if dirs.len() / 2 < count {
-        return Err(Refusal::NoRoom);
-    }
-    let words = &dirs[..count * 2];
-    let listed = Listed {
-        state,
-        dirs: words,
-        text,
-    };
+    let (rows, _) = dirs.as_chunks::<DIR_WIDTH>();
+    let dirs = rows.get(..count).ok_or(Refusal::NoRoom)?;
+    let listed = Listed { state, dirs, text };
     if listed.all_fit(out.len()) {
         return Ok(listed.fill(out));
     }

@@ -1,7 +1,7 @@
 // `import_filenames`: names for many files at once, decided first and written after, in time linear in the list, the
 // entries and the files. Two notes for each file take 1 MiB of the stack. Relies on `renames` for the order of the
-// tables, on `rules` for the refusals in order, on the files beside it for the notes, the counts and the writing, and on
-// the laws of proofs/Importing.antt, proofs/Noting.antt, proofs/Keeping.antt and proofs/Used.antt of `renames`.
+// tables, on `rules` for the refusals in order, on the files beside it for the notes, the counts and the writing, and
+// on the laws of proofs/Importing.antt, proofs/Noting.antt, proofs/Keeping.antt and proofs/Used.antt of `renames`.
 ghost use Rattle.std.specs.Prelude.{◌≡◌, ◌&&◌, length, min};
 ghost use Rattle.types.specs.Refusals.{outcome};
 ghost use Rattle.rules.specs.Questions.{few_entries};
@@ -40,7 +40,8 @@ fn decide(
         ..Tests::of_set(fs, is_list_held(list))
     }
     .first_refusal()?;
-    // Stays: as in change.rt of `renames`.
+    // Stays: a method of `renames` that gives the entries in use, or 10, would save three lines here; it would be
+    // public, and its contract and must-fail edit are longer than what it saves in all (change.rt of `renames`).
     if !held.is_in_order() {
         return Err(Refusal::NoRoom);
     }

@@ -14,11 +14,13 @@ use Rattle.layout.specs.Pieces.{less_one, piece_size, piece_size2, blocks_in, fi
 -- ---- the set
 
 abbrev pub num_pieces_given : FileStorage → Outcome ℤ
-num_pieces_given fs = answered (bad_piece_length fs ∷ many_pieces fs ∷ short (few_entries fs) ∷ []) (pos (num_pieces fs))
+num_pieces_given fs =
+    answered (bad_piece_length fs ∷ many_pieces fs ∷ short (few_entries fs) ∷ []) (pos (num_pieces fs))
 
 -- −1 where the set has no piece
 abbrev pub last_piece_given : FileStorage → Outcome ℤ
-last_piece_given fs = answered (bad_piece_length fs ∷ many_pieces fs ∷ short (few_entries fs) ∷ []) (less_one (num_pieces fs))
+last_piece_given fs =
+    answered (bad_piece_length fs ∷ many_pieces fs ∷ short (few_entries fs) ∷ []) (less_one (num_pieces fs))
 
 abbrev pub piece_range_given : FileStorage → Outcome Range
 piece_range_given fs =
@@ -30,7 +32,8 @@ file_range_given fs =
     answered (bad_piece_length fs ∷ short (few_entries fs) ∷ []) (record { begin = pos 0; end = pos fs.num_files })
 
 abbrev pub blocks_per_piece_given : FileStorage → Outcome ℤ
-blocks_per_piece_given fs = answered (bad_piece_length fs ∷ short (few_entries fs) ∷ []) (pos (blocks_in fs.piece_length))
+blocks_per_piece_given fs =
+    answered (bad_piece_length fs ∷ short (few_entries fs) ∷ []) (pos (blocks_in fs.piece_length))
 
 -- ---- piece z
 
@@ -52,7 +55,8 @@ abbrev pub file_at_piece_given : FileStorage → List ℕ → Window → ℤ →
 file_at_piece_given fs rows w z = piece_answer fs z (rows_are_held fs rows) (λ p. pos (file_at_piece fs rows w p))
 
 abbrev pub last_file_at_piece_given : FileStorage → List ℕ → Window → ℤ → Outcome ℤ
-last_file_at_piece_given fs rows w z = piece_answer fs z (rows_are_held fs rows) (λ p. pos (last_file_at_piece fs rows w p))
+last_file_at_piece_given fs rows w z =
+    piece_answer fs z (rows_are_held fs rows) (λ p. pos (last_file_at_piece fs rows w p))
 
 -- ---- an offset
 

@@ -1,5 +1,5 @@
--- What `map_block` is to do, before it writes: how many slices it writes and where the first begins, or its refusal. The
--- slices and the refusals are those of Mapping.antt.
+-- What `map_block` is to do, before it writes: how many slices it writes and where the first begins, or its refusal.
+-- The slices and the refusals are those of Mapping.antt.
 use Rattle.std.specs.Prelude.{ℕ, List, [], ◌∷◌, length, ℤ, nat_le}
 use Rattle.types.specs.Refusals.{Outcome}
 use Rattle.tables.specs.declared.storage.FileStorage.{FileStorage}

@@ -1,6 +1,7 @@
 -- The file at an offset: the last file whose offset is at or before the target, where the rows' offsets ascend, as they
 -- do in every set that the calls lead to. On other rows it is where the steps of Steps.antt lead.
-use Rattle.std.specs.Prelude.{ℕ, zero, suc, ◌+◌, ◌-◌, ◌*◌, min, Bool, true, false, cond, ◌&&◌, List, drop, ◌==◌, nat_le, nat_lt}
+use Rattle.std.specs.Prelude.{ℕ, zero, suc, ◌+◌, ◌-◌, ◌*◌, min, Bool, true, false, cond, ◌&&◌, List, drop, ◌==◌, nat_le}
+use Rattle.std.specs.Prelude.{nat_lt}
 use Rattle.tables.specs.Rows.{row_at, row_width}
 use Rattle.layout.specs.declared.window.Window.{Window}
 use Rattle.layout.specs.Steps.{halved}

@@ -35,7 +35,8 @@ high_of fs firsts p = cond (nat_lt (p + 1) (num_pieces fs)) (slice_index firsts 
 -- the window of piece p; none where the table has no place for it, or no question can name it
 abbrev pub window_at : FileStorage → List ℕ → ℕ → Window
 window_at fs firsts p =
-    cond (nat_lt p (min (length firsts) max_pieces)) (record { low = slice_index firsts p; high = high_of fs firsts p }) no_window
+    cond (nat_lt p (min (length firsts) max_pieces))
+    (record { low = slice_index firsts p; high = high_of fs firsts p }) no_window
 
 -- the window of the byte at an offset from the start of piece z: that of the piece which has the byte. 'A set opened
 -- without such a table searches as before'

@@ -65,21 +65,6 @@ fn pieces_asked(fs: FileStorage) -> Result<u64, Refusal>
     Ok(count_pieces(fs))
 }
 
-// The size of a piece, cut where the next file begins, or the refusal of a question about it.
-fn size2_asked(
-    fs: FileStorage,
-    rows: &[u64],
-    window: Window,
-    piece: PieceIndex,
-) -> Result<u64, Refusal>
-    ensures answer { outcome result
-        ≡ piece_answer fs piece.0 (rows_are_held fs rows.now) (λ p. piece_size2 fs rows.now window p) }
-    ensures known { IfOk result (λ n. n ≤ 2147483647) }
-{
-    let asked = piece_in(fs, piece, holds_rows(fs, rows))?;
-    Ok(size2_of(asked, rows, window))
-}
-
 // How many pieces the set has.
 pub fn num_pieces(fs: FileStorage) -> Result<i32, Refusal>
     ensures { outcome result ≡ num_pieces_given fs }
@@ -132,7 +117,8 @@ pub fn piece_size2(
 ) -> Result<i32, Refusal>
     ensures { outcome result ≡ piece_size2_given fs rows.now window piece.0 }
 {
-    Ok(types::signed32(size2_asked(fs, rows, window, piece)?))
+    let asked = piece_in(fs, piece, holds_rows(fs, rows))?;
+    Ok(types::signed32(size2_of(asked, rows, window)))
 }
 
 // How many blocks a piece has that is cut where the next file begins.
@@ -145,7 +131,8 @@ pub fn blocks_in_piece2(
 ) -> Result<i32, Refusal>
     ensures { outcome result ≡ blocks_in_piece2_given fs rows.now window piece.0 }
 {
-    let size = size2_asked(fs, rows, window, piece)?;
+    let asked = piece_in(fs, piece, holds_rows(fs, rows))?;
+    let size = size2_of(asked, rows, window);
     Ok(types::signed32(div_ceil(size, DEFAULT_BLOCK_SIZE)))
 }
 

@@ -40,8 +40,8 @@ pub fn has_room(rows: &[u64], at: Cursor, room: usize) -> bool
 }
 
 // The start of a block of a piece.
-// Stays: no record of piece, offset and size: the three come from a call of document 01's, one rule tests that the piece
-// is there, another the offset and the size, and only this function reads all.
+// Stays: no record of piece, offset and size: the three come from a call of document 01's, one rule tests that the
+// piece is there, another the offset and the size, and only this function reads all.
 #[tactic(auto, using(crate::proofs::Starts::starting, types::proofs::Boundary::negative_is))]
 pub fn start_block(
     fs: FileStorage,

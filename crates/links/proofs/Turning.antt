@@ -1,7 +1,7 @@
 -- What the walk of `resolve` keeps, turn by turn: its path is in frames, the texts of open links still fit, and there is a frame for
 -- each. Before that, a link's text by its lead. These laws rely on those of proofs/Events.antt,
 -- proofs/Room.antt and on those of `lookup` about rows.
-use Prim.Native.Nat.{ℕ, zero, suc, ◌+◌, ◌-◌, ◌*◌, ◌^◌, ◌<◌, ◌≤◌}
+use Prim.Native.Nat.{ℕ, zero, suc, ◌+◌, ◌-◌, ◌^◌, ◌<◌, ◌≤◌}
 use mathlib.Core.Path.{◌≡◌, refl, sym, ap, ◌∙◌}
 use mathlib.Core.Bool.{Bool, true, false}
 use mathlib.Core.List.{List, [], map}
@@ -15,7 +15,7 @@ use Rattle.lookup.specs.Lookup.{covers, is_directory, known, entries_of, directo
 use Rattle.lookup.specs.private.Rows.{entry_at, directories_from}
 use Rattle.lookup.proofs.Rows.{text_at_lem, branch_at, beside_at}
 use Rattle.links.specs.Clean.{part_end, weight, left}
-use Rattle.rope.specs.Rope.{led_text, frame_width}
+use Rattle.rope.specs.Rope.{led_text}
 use Rattle.links.specs.private.Walking.{lead, verdict, untraversed, lead_text, open_of, path_of, Walkable}
 use Rattle.links.proofs.Walk.{part-within}
 use Rattle.links.proofs.Scans.{Scan}
@@ -34,12 +34,10 @@ text-led s i (suc (suc (suc m))) h = absurd (omega arith)
 -- ---- the walk's state
 
 -- what the walk keeps; `answer` is that of the whole walk
-pub record Walking (s : Store) (marks₀ frames₀ : List ℕ) (answer : Bool) (marks frames : List ℕ) (depth e : ℕ) : Type 0 where
+pub record Walking (s : Store) (marks₀ : List ℕ) (answer : Bool) (marks frames : List ℕ) (depth e : ℕ) : Type 0 where
   pub marks-long : length marks ≡ length marks₀
-  pub frames-long : length frames ≡ length frames₀
   pub inside : e ≤ length (path_of s frames depth)
   pub fits : length (path_of s frames depth) + weight (open_of (entries_of s) (map lead marks)) < 2 ^ 64
-  pub room : (depth + length (open_of (entries_of s) (map lead marks))) * frame_width ≤ length frames
   pub shallow : depth + length (open_of (entries_of s) (map lead marks)) ≤ 65536
   pub marks-fresh : map untraversed (map lead marks) ≡ map untraversed (map lead marks₀)
   pub verdicts-kept : map verdict marks ≡ map verdict marks₀
@@ -49,14 +47,12 @@ pub record Walking (s : Store) (marks₀ frames₀ : List ℕ) (answer : Bool) (
 abbrev pub answer_of : Store → List ℕ → List ℕ → Bool
 answer_of s marks frames = goes_on s (map lead marks) (path_of s frames 1) (part_end (path_of s frames 1) 0)
 
-pub walking_start : (s : Store) (marks frames : List ℕ) (e : ℕ) → Walkable s (map lead marks) frames → e ≡ part_end (path_of s frames 1) 0 → Walking s marks frames (answer_of s marks frames) marks frames 1 e
+pub walking_start : (s : Store) (marks frames : List ℕ) (e : ℕ) → Walkable s (map lead marks) frames → e ≡ part_end (path_of s frames 1) 0 → Walking s marks (answer_of s marks frames) marks frames 1 e
 walking_start s marks frames e w h =
     record {
       marks-long = refl;
-      frames-long = refl;
       inside = omega (arith, h, part-within (path_of s frames 1) 0);
       fits = w.fits;
-      room = w.room;
       shallow = omega (arith, open-few s (map lead marks), w.few);
       marks-fresh = refl;
       verdicts-kept = refl;
@@ -70,9 +66,8 @@ pub record Traversed (s : Store) (marks frames : List ℕ) (depth e : ℕ) (mark
   pub leads-are : map lead marks' ≡ set (map lead marks) k (m + 2)
   pub verdicts-kept : map verdict marks' ≡ map verdict marks
   pub marks-long : length marks' ≡ length marks
-  pub frames-long : length frames' ≡ length frames
 
-module _ {s : Store} {marks₀ frames₀ : List ℕ} {answer : Bool} {marks frames : List ℕ} {depth e : ℕ} (w : Walking s marks₀ frames₀ answer marks frames depth e) where
+module _ {s : Store} {marks₀ : List ℕ} {answer : Bool} {marks frames : List ℕ} {depth e : ℕ} (w : Walking s marks₀ answer marks frames depth e) where
   abbrev p : List ℕ
   p = path_of s frames depth
 
@@ -81,14 +76,12 @@ module _ {s : Store} {marks₀ frames₀ : List ℕ} {answer : Bool} {marks fram
   walking-end h = ap (known (entries_of s) (directories_of s)) (take_all e p h) ∙ sym (walked_end s (map lead marks) p e h) ∙ w.goes
 
   -- through a directory
-  pub walking-dir : (next : ℕ) → e < length p → dir_here s (map lead marks) p e ≡ true → next ≡ part_end p (e + 1) → e < next → Walking s marks₀ frames₀ answer marks frames depth next
+  pub walking-dir : (next : ℕ) → e < length p → dir_here s (map lead marks) p e ≡ true → next ≡ part_end p (e + 1) → e < next → Walking s marks₀ answer marks frames depth next
   walking-dir next h d m q =
       record {
         marks-long = w.marks-long;
-        frames-long = w.frames-long;
         inside = omega (arith, m, part-within p (e + 1));
         fits = w.fits;
-        room = w.room;
         shallow = w.shallow;
         marks-fresh = w.marks-fresh;
         verdicts-kept = w.verdicts-kept;
@@ -101,11 +94,8 @@ module _ {s : Store} {marks₀ frames₀ : List ℕ} {answer : Bool} {marks fram
     fewer = open-fewer s (map lead marks) p e i k m x z
 
     -- there is a frame for it
-    pub frame-free : depth * frame_width + 2 < length frames
-    frame-free = omega (arith, fewer, w.room)
-
-    pub frame-low : depth < 2 ^ 16
-    frame-low = omega (arith, fewer, w.shallow)
+    pub frame-free : depth < 65536
+    frame-free = omega (arith, fewer, w.shallow)
 
     pub end_low : e + 1 < 2 ^ 64
     end_low = omega (arith, w.fits, x.before-end)
@@ -125,14 +115,12 @@ module _ {s : Store} {marks₀ frames₀ : List ℕ} {answer : Bool} {marks fram
       path-low = omega (arith, still-fits, w.fits)
 
       module _ (e' : ℕ) (y : e' ≡ part_end (path_of s frames' depth') 0) where
-        pub walking-link : Walking s marks₀ frames₀ answer marks' frames' depth' e'
+        pub walking-link : Walking s marks₀ answer marks' frames' depth' e'
         walking-link =
             record {
               marks-long = g.marks-long ∙ w.marks-long;
-              frames-long = g.frames-long ∙ w.frames-long;
               inside = omega (arith, y, part-within (path_of s frames' depth') 0);
               fits = omega (arith, still-fits, w.fits);
-              room = omega (arith, fewer-open, g.one_more, g.frames-long, w.room);
               shallow = omega (arith, fewer-open, g.one_more, w.shallow);
               marks-fresh = ap (map untraversed) g.leads-are ∙ link-marks s (map lead marks) p e i k m x z ∙ w.marks-fresh;
               verdicts-kept = g.verdicts-kept ∙ w.verdicts-kept;
@@ -145,26 +133,26 @@ module _ {s : Store} {marks₀ frames₀ : List ℕ} {answer : Bool} {marks fram
 -- ---- the walk's end
 
 -- what holds where the walk is left, at its end or before it
-pub record Over (s : Store) (marks₀ frames₀ : List ℕ) (answer : Bool) (marks frames : List ℕ) (depth e : ℕ) : Type 0 where
-  pub walking : Walking s marks₀ frames₀ answer marks frames depth e
+pub record Over (s : Store) (marks₀ : List ℕ) (answer : Bool) (marks frames : List ℕ) (depth e : ℕ) : Type 0 where
+  pub walking : Walking s marks₀ answer marks frames depth e
   pub stopped : e < length (path_of s frames depth) → false ≡ answer
 
-module _ {s : Store} {marks₀ frames₀ : List ℕ} {answer : Bool} {marks frames : List ℕ} {depth e : ℕ} (w : Walking s marks₀ frames₀ answer marks frames depth e) {marks' frames' : List ℕ} {depth' e' : ℕ} (i : marks' ≡ marks) (j : frames' ≡ frames) (k : depth' ≡ depth) (l : e' ≡ e) where
-  over-is : (e < length (path_of s frames depth) → false ≡ answer) → Over s marks₀ frames₀ answer marks' frames' depth' e'
+module _ {s : Store} {marks₀ : List ℕ} {answer : Bool} {marks frames : List ℕ} {depth e : ℕ} (w : Walking s marks₀ answer marks frames depth e) {marks' frames' : List ℕ} {depth' e' : ℕ} (i : marks' ≡ marks) (j : frames' ≡ frames) (k : depth' ≡ depth) (l : e' ≡ e) where
+  over-is : (e < length (path_of s frames depth) → false ≡ answer) → Over s marks₀ answer marks' frames' depth' e'
   over-is h = rw (i, j, k, l) (record { walking = w; stopped = h })
 
   -- at the path's end
-  pub left_end : length (path_of s frames depth) ≤ e → Over s marks₀ frames₀ answer marks' frames' depth' e'
+  pub left_end : length (path_of s frames depth) ≤ e → Over s marks₀ answer marks' frames' depth' e'
   left_end q = over-is (λ h. absurd (omega arith))
 
   -- at directory d, behind which there is nothing
-  pub left_dir : (d next : ℕ) → is_directory (directories_from s (s.fs.num_paths - d) d) (take e (path_of s frames depth)) ≡ dir_here s (map lead marks) (path_of s frames depth) e → d < s.fs.num_paths → covers (directory_text s d) (take e (path_of s frames depth)) ≡ true → next ≡ part_end (path_of s frames depth) (e + 1) → next ≤ e → Over s marks₀ frames₀ answer marks' frames' depth' e'
+  pub left_dir : (d next : ℕ) → is_directory (directories_from s (s.fs.num_paths - d) d) (take e (path_of s frames depth)) ≡ dir_here s (map lead marks) (path_of s frames depth) e → d < s.fs.num_paths → covers (directory_text s d) (take e (path_of s frames depth)) ≡ true → next ≡ part_end (path_of s frames depth) (e + 1) → next ≤ e → Over s marks₀ answer marks' frames' depth' e'
   left_dir d next x q c m n =
       let p = path_of s frames depth in
       over-is (λ h. sym (dir-stop s (map lead marks) p e h next (is-dir s (map lead marks) p e d x q c) m n) ∙ w.goes)
 
   -- at no directory and at no link
-  pub left_link : (d n : ℕ) → is_directory (directories_from s (s.fs.num_paths - d) d) (take e (path_of s frames depth)) ≡ dir_here s (map lead marks) (path_of s frames depth) e → s.fs.num_paths ≤ d → Scan (entries_of s) [] (map lead marks) (take e (path_of s frames depth)) n → Over s marks₀ frames₀ answer marks' frames' depth' e'
+  pub left_link : (d n : ℕ) → is_directory (directories_from s (s.fs.num_paths - d) d) (take e (path_of s frames depth)) ≡ dir_here s (map lead marks) (path_of s frames depth) e → s.fs.num_paths ≤ d → Scan (entries_of s) [] (map lead marks) (take e (path_of s frames depth)) n → Over s marks₀ answer marks' frames' depth' e'
   left_link d n x q c =
       let p = path_of s frames depth in
       over-is (λ h. sym (link-none s (map lead marks) p e h n (no-dir s (map lead marks) p e d x q) c) ∙ w.goes)

@@ -16,7 +16,7 @@ use Rattle.links.specs.Clean.{links_of, weight}
 use Rattle.rope.specs.Rope.{frame_width}
 use Rattle.links.specs.private.Walking.{lead, open_of, path_of, with_frame, word_of, Walkable, WalksFrom}
 use Rattle.links.proofs.Scans.{space-at}
-use Rattle.links.proofs.Room.{links-fit, open-few}
+use Rattle.links.proofs.Room.{links-fit}
 use Rattle.links.proofs.Marks.{marks-say}
 use Rattle.links.proofs.Fronts.{flat-alone}
 
@@ -49,5 +49,5 @@ module _ (s : Store) (marks : List ℕ) (i n : ℕ) (w : WalksFrom s marks i n) 
         record {
           few = w.bounded.few;
           fits = omega (arith, ap length first_path, t, l, o, w.bounded.small);
-          room = omega (arith, open-few s (map lead marks), w.bounded.few, y, w.bounded.room, m);
+          room = omega (arith, y, w.bounded.room, m);
         }

@@ -5,10 +5,12 @@
 -- Names from elsewhere: `cond t a b` is a where t is true, else b; `eqb`, `ltb` and `leb` test =, < and ≤; `a - b` is 0
 -- where b is larger. `take n` and `drop n` are the first n elements and the rest.
 -- Of a file (lookup, specs/Lookup.antt): `flagged`, that it is a link with flag 8 and a text; `own_path`, its internal
--- path; `file_at`, what stands at a path: `Nothing`, a `RegularFile` or a `FlaggedLink`; `known`, that a file or a directory does. Of
--- paths (path, specs/Join.antt): `appended` and `combined` are the Rust's `append_path` and `combine_path`;
--- `lsplit_at_first p n` is p up to its first separator from position n on; `is_complete`, that a path is absolute.
-use Rattle.std.specs.Prelude.{ℕ, zero, suc, ◌+◌, ◌-◌, Bool, true, false, cond, List, [], ◌∷◌, map, ltb, length, take, drop, Option, Some}
+-- path; `file_at`, what stands at a path: `Nothing`, a `RegularFile` or a `FlaggedLink`; `known`, that a file or a
+-- directory does. Of paths (path, specs/Join.antt): `appended` and `combined` are the Rust's `append_path` and
+-- `combine_path`; `lsplit_at_first p n` is p up to its first separator from position n on; `is_complete`, that a path
+-- is absolute.
+use Rattle.std.specs.Prelude.{ℕ, zero, suc, ◌+◌, ◌-◌, Bool, true, false, cond, List, [], ◌∷◌, map, ltb, length, take}
+use Rattle.std.specs.Prelude.{drop, Option, Some}
 use Rattle.lists.specs.Lists.{equal}
 use Rattle.path.specs.Split.{is_complete, lsplit_at_first}
 use Rattle.path.specs.Join.{appended, combined}

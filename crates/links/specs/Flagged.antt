@@ -1,6 +1,7 @@
--- The flagged links of a set one after another, each with the number of its mark: what a call for the next one says, and
--- the links that are left. It relies on the flags of a link in `lookup`.
-use Rattle.std.specs.Prelude.{ℕ, zero, suc, ◌+◌, ◌-◌, ◌<◌, ◌≤◌, ◌≡◌, true, false, cond, List, [], ◌∷◌, Option, MatchOption}
+-- The flagged links of a set one after another, each with the number of its mark: what a call for the next one says,
+-- and the links that are left. It relies on the flags of a link in `lookup`.
+use Rattle.std.specs.Prelude.{ℕ, zero, suc, ◌+◌, ◌-◌, ◌<◌, ◌≤◌, ◌≡◌, true, false, cond, List, [], ◌∷◌, Option}
+use Rattle.std.specs.Prelude.{MatchOption}
 use Rattle.tables.specs.Rows.{row_at}
 use Rattle.lookup.specs.Lookup.{is_flagged}
 use Rattle.links.specs.declared.flagged.Links.{Links}

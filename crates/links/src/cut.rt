@@ -7,6 +7,8 @@ ghost use Rattle.rope.specs.Rope.{held};
 use rope::Path;
 
 // How many separators a path begins with that a split skips: 1 or 0.
+// Stays: path's `position_in` and `first_separator` do this on a slice. A path in frames stands nowhere as one, here
+// and below.
 fn skipped_in(path: Path<'_>) -> usize
     ensures { result ≡ cond (is_complete (held path.entry)) 1 0 }
 {

@@ -1,6 +1,6 @@
-// The first pass: a mark for each flagged link. It relies on flagged.rt, on `lookup` for what stands at a path, on
-// scan.rt for what stands at the text from a link's directory, and on the laws of proofs/Marking.antt and
-// proofs/Passing.antt.
+// The first pass: a mark for each flagged link. It relies on flagged.rt and mark.rt, on `lookup` for what stands at a
+// path, on front.rt, head.rt and scan.rt for what stands at the text from a link's directory, and on the laws of
+// proofs/Marking.antt and proofs/Passing.antt.
 ghost use Rattle.std.specs.Prelude.{◌≡◌, ◌≤◌};
 ghost use Rattle.std.proofs.lemmas.List.Edits.{sets};
 ghost use Rattle.lookup.specs.Lookup.{is_directory, file_at, entries_of, directories_of};
@@ -18,22 +18,24 @@ use crate::mark::{
 use crate::scan::{dir_in, file_in};
 use lookup::{Seen, file_at, is_directory, link_text};
 use rope::{FRAME_WIDTH, Lead, Path, lead_length};
-use tables::{FileStorage, LentSet};
+use tables::LentSet;
 
 // The mark of a link whose text from its directory is the front.
 // Stays: a mark is one byte that holds a verdict and a lead (mark.rt). An enum of the marks that the first pass sets
 // would be turned into that byte at once, since a walk changes leads, and a mark is then none of these.
-fn settled_mark(fs: FileStorage, front: Front<'_>) -> u8
+fn settled_mark(front: Front<'_>) -> u8
     ensures { result
         ≡ settled_mark
-        (is_directory (directories_of (store_in fs front.entry.path.lent)) (front_of front.entry.path front.entry.e))
-        (file_at (entries_of (store_in fs front.entry.path.lent)) (front_of front.entry.path front.entry.e))
+        (is_directory (directories_of (store_in front.entry.fs front.entry.path.lent))
+        (front_of front.entry.path front.entry.e))
+        (file_at (entries_of (store_in front.entry.fs front.entry.path.lent))
+        (front_of front.entry.path front.entry.e))
         walk_decides }
 {
-    if dir_in(fs, front) {
+    if dir_in(front) {
         return FROM_DIRECTORY_AND_LEADS;
     }
-    match file_in(fs, front) {
+    match file_in(front) {
         Seen::FlaggedLink => FROM_DIRECTORY_AND_LEADS,
         Seen::RegularFile => FROM_DIRECTORY,
         Seen::Nothing => WALK_DECIDES,
@@ -58,8 +60,8 @@ fn relative_mark(the_set: LentSet<'_>, i: u16) -> u8
         let path = Path::new(the_set.lent, &frames, 1);
         let e = lead_length(the_set.lent, lead);
         let mut buf = [0u8; HEAD_SIZE];
-        let front = Front::new(path, e, &mut buf);
-        return settled_mark(the_set.fs, front);
+        let front = Front::new(the_set.fs, path, e, &mut buf);
+        return settled_mark(front);
     }
     WALK_DECIDES
 }

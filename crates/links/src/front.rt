@@ -30,23 +30,6 @@ pub(crate) fn put_frame(frames: &mut [u32], k: u32, lead: Lead, separated: bool)
     put_start(frames, k, 0);
 }
 
-// Drops the first `count` bytes of the path: how many frames are left.
-// Stays: `count` counts bytes of the path, and no words of the frames. They are one array of the walk, of which `depth`
-// are in use and rise and fall; a slice cut to the depth could not grow.
-fn drop_front(lent: Lent<'_>, frames: &mut [u32], depth: u32, count: usize) -> u32
-    requires { depth * frame_width ≤ length frames.old }
-    ensures result_after { flat (texts_of lent.entry) frames.new result
-        ≡ drop count (flat (texts_of lent.entry) frames.old depth) }
-    ensures upper_bound { result ≤ depth }
-{
-    let p = Path::new(lent, frames, depth).seek(count);
-    if 0 < p.k {
-        let from = start_in(frames, p.k - 1);
-        put_start(frames, p.k - 1, from + p.at);
-    }
-    p.k
-}
-
 // Whether a lead's text is empty or `.`.
 // Stays: `path::is_alone` and `path::is_closed` ask for a slice. A lead's text is two texts joined and a path's is that
 // of many frames, so neither stands anywhere as one, here and below.
@@ -75,31 +58,60 @@ fn is_path_alone(path: Path<'_>) -> bool
     !path.has_byte(0) || !path.has_byte(1) && path.byte(0) == b'.'
 }
 
-// Goes through a link: its text stands for the first e bytes of the path and the separator after them. How many
-// frames the path then has.
-pub(crate) fn go_through(
-    lent: Lent<'_>,
-    frames: &mut [u32],
-    depth: u32,
-    e: usize,
-    lead: Lead,
-) -> u32
-    requires { (depth * frame_width + 2 < length frames.old)
-        × (depth + 1 < 2 ^ 32)
-        × (e + 1 < 2 ^ 64)
-        × (lead.file < 2 ^ 29) }
-    ensures result_after { flat (texts_of lent.entry) frames.new result
-        ≡ combined (text_of lent.entry lead) (drop (e + 1) (flat (texts_of lent.entry) frames.old depth)) }
-    ensures upper_bound { result ≤ depth + 1 }
-{
-    let k = drop_front(lent, frames, depth, e + 1);
-    if is_lead_alone(lent, lead) {
-        return k;
+// The frames that a walk writes: there is room for 65536, and the first `depth` of them hold its path.
+// Stays: the depth rises and falls, and a slice cut to it could not grow. The tables go beside the frames, as an
+// argument of each method. Tried with them as a field, a call keeps nothing of a record that is lent for writing, so
+// each method would have to promise that the tables are as before, and the walk's loop to keep that.
+#[derive(Drop)]
+pub(crate) struct Frames<'a> {
+    pub words: &'a mut [u32],
+    pub depth: u32,
+    ghost room: { (depth ≤ 65536) × (65536 * frame_width ≤ length words.now) },
+}
+
+impl Frames<'_> {
+    // The path that they hold, with the texts of these tables.
+    pub(crate) fn path<'b>(&'b self, lent: Lent<'b>) -> Path<'b>
+        ensures lent { result.lent ≡ lent.entry }
+        ensures frames { result.frames.now ≡ self.now.words.now }
+        ensures depth { result.depth ≡ self.now.depth }
+    {
+        Path::new(lent, self.words, self.depth)
     }
-    if is_path_alone(Path::new(lent, frames, k)) {
-        put_frame(frames, 0, lead, false);
-        return 1;
+
+    // Drops the first `count` bytes of the path.
+    fn drop_front(&mut self, lent: Lent<'_>, count: usize)
+        ensures path_after { flat (texts_of lent.entry) self.new.words.now self.new.depth
+            ≡ drop count (flat (texts_of lent.entry) self.old.words.now self.old.depth) }
+        ensures upper_bound { self.new.depth ≤ self.old.depth }
+    {
+        let path = self.path(lent);
+        let p = path.seek(count);
+        if 0 < p.k {
+            let from = start_in(path.frames, p.k - 1);
+            put_start(self.words, p.k - 1, from + p.at);
+        }
+        self.depth = p.k;
     }
-    put_frame(frames, k, lead, needs_separator(lent, lead));
-    k + 1
+
+    // Goes through a link: its text stands for the first e bytes of the path and the separator after them.
+    pub(crate) fn go_through(&mut self, lent: Lent<'_>, e: usize, lead: Lead)
+        requires { (self.old.depth < 65536) × (e + 1 < 2 ^ 64) × (lead.file < 2 ^ 29) }
+        ensures path_after { flat (texts_of lent.entry) self.new.words.now self.new.depth
+            ≡ combined (text_of lent.entry lead)
+            (drop (e + 1) (flat (texts_of lent.entry) self.old.words.now self.old.depth)) }
+        ensures upper_bound { self.new.depth ≤ self.old.depth + 1 }
+    {
+        self.drop_front(lent, e + 1);
+        if is_lead_alone(lent, lead) {
+            return;
+        }
+        if is_path_alone(self.path(lent)) {
+            put_frame(self.words, 0, lead, false);
+            self.depth = 1;
+            return;
+        }
+        put_frame(self.words, self.depth, lead, needs_separator(lent, lead));
+        self.depth += 1;
+    }
 }

@@ -9,13 +9,16 @@ ghost use Rattle.rope.specs.Rope.{held};
 ghost use Rattle.links.specs.private.Walking.{Fronted, front_of, own_text};
 
 use rope::Path;
+use tables::FileStorage;
 
 // The bytes of the longest front that is copied to a buffer.
 pub(crate) const HEAD_SIZE: usize = 4096;
 
-// The first e bytes of a path, and these bytes in a buffer where they fit.
+// The first e bytes of a path, and these bytes in a buffer where they fit, with the record of the set in which they are
+// sought.
 #[derive(Clone, Copy)]
 pub(crate) struct Front<'a> {
+    pub fs: FileStorage,
     pub path: Path<'a>,
     pub e: usize,
     pub head: Option<&'a [u8]>,
@@ -34,8 +37,9 @@ fn put_head(path: Path<'_>, head: &mut [u8])
 
 impl<'a> Front<'a> {
     // The first e bytes of a path; they are written to the buffer where they fit.
-    pub(crate) fn new(path: Path<'a>, e: usize, buf: &'a mut [u8]) -> Front<'a>
+    pub(crate) fn new(fs: FileStorage, path: Path<'a>, e: usize, buf: &'a mut [u8]) -> Front<'a>
         requires { e ≤ length (held path) }
+        ensures set { result.fs ≡ fs }
         ensures path { result.path ≡ path.entry }
         ensures end { result.e ≡ e }
     {
@@ -45,7 +49,7 @@ impl<'a> Front<'a> {
         } else {
             None
         };
-        Front { path, e, head }
+        Front { fs, path, e, head }
     }
 }
 
@@ -66,8 +70,8 @@ impl Front<'_> {
         }
     }
 
-    // Whether it is the internal path of file i. It is taken into the scan over the files that calls it, and with it the
-    // test of the file's name, by which most files are passed; what compares a whole path is a call of its own.
+    // Whether it is the internal path of file i. It is taken into the scan over the files that calls it, and with it
+    // the test of the file's name, by which most files are passed; what compares a whole path is a call of its own.
     #[inline(always)]
     #[tactic(auto, using(rope::proofs::Fronting::front_is))]
     pub(crate) fn is_own(self, i: usize) -> bool

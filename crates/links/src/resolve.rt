@@ -1,5 +1,5 @@
-// The walk of a path through directories and links. It relies on flagged.rt, scan.rt, front.rt, cut.rt, head.rt and the
-// laws of proofs/Events.antt, proofs/Turning.antt and proofs/Passing.antt.
+// The walk of a path through directories and links. It relies on flagged.rt, scan.rt, front.rt, cut.rt, head.rt,
+// mark.rt and the laws of proofs/Events.antt, proofs/Turning.antt, proofs/Scans.antt and proofs/Passing.antt.
 ghost use Rattle.std.specs.Prelude.{◌≡◌, map};
 ghost use Rattle.lookup.specs.Lookup.{entries_of, directories_of};
 ghost use Rattle.links.specs.Clean.{part_end};
@@ -7,11 +7,11 @@ ghost use Rattle.links.specs.private.Walking.{lead, verdict, untraversed, set_of
 
 use crate::cut::cut_in;
 use crate::flagged::Links;
-use crate::front::go_through;
+use crate::front::Frames;
 use crate::head::{Front, HEAD_SIZE};
 use crate::mark::{LEADS_FROM_DIRECTORY, put_lead};
 use crate::scan::{known_in, lead_mark};
-use rope::{Lead, Path};
+use rope::Lead;
 use tables::LentSet;
 
 // Walks the path that the first frame holds: whether it comes to a file or a directory of the set. Links that it goes
@@ -27,12 +27,15 @@ pub(crate) fn resolve(the_set: LentSet<'_>, marks: &mut [u8], frames: &mut [u32]
 {
     let mut buf = [0u8; HEAD_SIZE];
     let lent = the_set.lent;
-    let mut depth = 1;
-    let mut e = cut_in(Path::new(lent, frames, depth), 0);
+    let mut stack = Frames {
+        words: frames,
+        depth: 1,
+    };
+    let mut e = cut_in(stack.path(lent), 0);
     // Stays: document 01 asks for this labelled exit from the nested scan.
-    'walk: while Path::new(lent, frames, depth).has_byte(e) {
-        let path = Path::new(lent, frames, depth);
-        let front = Front::new(path, e, &mut buf);
+    'walk: while stack.path(lent).has_byte(e) {
+        let path = stack.path(lent);
+        let front = Front::new(the_set.fs, path, e, &mut buf);
         for d in 0..the_set.fs.num_paths {
             if front.is_covered(d) {
                 let next = cut_in(path, e + 1);
@@ -44,24 +47,24 @@ pub(crate) fn resolve(the_set: LentSet<'_>, marks: &mut [u8], frames: &mut [u32]
             }
         }
         for (k, i) in Links::all(the_set) {
-            if let Some(m) = lead_mark(the_set.fs, front, marks, i, k) {
+            if let Some(m) = lead_mark(front, marks, i, k) {
                 // Link i leads on: its text stands for the front and the separator after it, and it is used.
                 put_lead(marks, k, m + 2);
                 let lead = Lead {
                     file: i as u32,
                     from_directory: m == LEADS_FROM_DIRECTORY,
                 };
-                depth = go_through(lent, frames, depth, e, lead);
-                e = cut_in(Path::new(lent, frames, depth), 0);
+                stack.go_through(lent, e, lead);
+                e = cut_in(stack.path(lent), 0);
                 continue 'walk;
             }
         }
         break;
     }
-    let path = Path::new(lent, frames, depth);
+    let path = stack.path(lent);
     if path.has_byte(e) {
         return false;
     }
-    let front = Front::new(path, e, &mut buf);
-    known_in(the_set.fs, front)
+    let front = Front::new(the_set.fs, path, e, &mut buf);
+    known_in(front)
 }

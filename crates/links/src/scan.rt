@@ -11,46 +11,41 @@ use crate::flagged::Links;
 use crate::head::Front;
 use crate::mark::lead_at;
 use lookup::{Seen, seen_as};
-use tables::FileStorage;
 
 // Whether a directory of the set covers the front.
-// Stays: the set's record goes beside the front, here and below, and is no field of it: a `Front` is passed by value to
-// the test of each directory and file, and of the record only two counts are read: `num_paths` by one scan, `num_files` by
-// two.
-pub(crate) fn dir_in(fs: FileStorage, front: Front<'_>) -> bool
+// Stays: lookup's `is_directory` and `file_at` are these scans for a path in a slice, and a front may stand nowhere as
+// one; passed the test, one function for both would be no shorter than the chain, here and below.
+pub(crate) fn dir_in(front: Front<'_>) -> bool
     ensures { result
-        ≡ is_directory (directories_of (store_in fs front.entry.path.lent))
+        ≡ is_directory (directories_of (store_in front.entry.fs front.entry.path.lent))
         (front_of front.entry.path front.entry.e) }
 {
-    (0..fs.num_paths).any(|d| front.is_covered(d))
+    (0..front.fs.num_paths).any(|d| front.is_covered(d))
 }
 
 // What stands at the front. Of files with one internal path the last counts, so it goes from the last to the first.
-pub(crate) fn file_in(fs: FileStorage, front: Front<'_>) -> Seen
+pub(crate) fn file_in(front: Front<'_>) -> Seen
     ensures { result
-        ≡ file_at (entries_of (store_in fs front.entry.path.lent))
+        ≡ file_at (entries_of (store_in front.entry.fs front.entry.path.lent))
         (front_of front.entry.path front.entry.e) }
 {
-    let found = (0..fs.num_files).rev().find(|i| front.is_own(*i));
+    let found = (0..front.fs.num_files).rev().find(|i| front.is_own(*i));
     seen_as(front.path.lent.rows, found)
 }
 
 // Whether a file or a directory of the set stands at the front.
-pub(crate) fn known_in(fs: FileStorage, front: Front<'_>) -> bool
+pub(crate) fn known_in(front: Front<'_>) -> bool
     ensures { result
-        ≡ known (entries_of (store_in fs front.entry.path.lent))
-        (directories_of (store_in fs front.entry.path.lent))
+        ≡ known (entries_of (store_in front.entry.fs front.entry.path.lent))
+        (directories_of (store_in front.entry.fs front.entry.path.lent))
         (front_of front.entry.path front.entry.e) }
 {
-    match file_in(fs, front) {
-        Seen::RegularFile | Seen::FlaggedLink => true,
-        Seen::Nothing => dir_in(fs, front),
-    }
+    file_in(front) != Seen::Nothing || dir_in(front)
 }
 
 // Whether the flagged link i leads on, by mark k, and stands at the front, traversed or not.
-// Stays: a link and its mark are the pair that `Links` gives, here and below and in second.rt; a record of the two would
-// be opened at once by each of these.
+// Stays: a link and its mark are the pair that `Links` gives, here and below and in second.rt; a record of the two
+// would be opened at once by each of these.
 fn is_link_at(front: Front<'_>, marks: &[u8], i: usize, k: usize) -> bool
     ensures { result
         ≡ cond (ltb 0 (get_or (map lead marks.now) k 0))
@@ -63,38 +58,32 @@ fn is_link_at(front: Front<'_>, marks: &[u8], i: usize, k: usize) -> bool
 // Whether a link from file i0 and mark k0 on leads on at the front, traversed or not.
 // Stays: a file and a mark are where a walk over the flagged links begins, here and below; a record of the two would be
 // made for `Links::starting_at` and taken apart there.
-fn has_link(fs: FileStorage, front: Front<'_>, marks: &[u8], i0: usize, k0: usize) -> bool
+fn has_link(front: Front<'_>, marks: &[u8], i0: usize, k0: usize) -> bool
     requires { k0 ≤ i0 }
     ensures { result
-        ≡ any_at (entries_from (store_in fs front.entry.path.lent) (fs.num_files - i0) i0)
+        ≡ any_at (entries_from (store_in front.entry.fs front.entry.path.lent) (front.entry.fs.num_files - i0) i0)
         (drop k0 (map lead marks.now))
         (front_of front.entry.path front.entry.e) }
 {
-    let mut links = Links::starting_at(fs, front.path.lent.rows, i0, k0);
+    let mut links = Links::starting_at(front.fs, front.path.lent.rows, i0, k0);
     links.any(|(k, i)| is_link_at(front, marks, i, k))
 }
 
 // The lead of the flagged link i with mark k, if a walk may go through that link at the front and none later is there.
-pub(crate) fn lead_mark(
-    fs: FileStorage,
-    front: Front<'_>,
-    marks: &[u8],
-    i: usize,
-    k: usize,
-) -> Option<u8>
-    requires { (i < fs.num_files)
+pub(crate) fn lead_mark(front: Front<'_>, marks: &[u8], i: usize, k: usize) -> Option<u8>
+    requires { (i < front.fs.num_files)
         × (k ≤ i)
-        × ((entry_at (store_in fs front.path.lent) i).flagged ≡ true) }
+        × ((entry_at (store_in front.fs front.path.lent) i).flagged ≡ true) }
     ensures value { unwrap_or result 0
-        ≡ lead_mark (entry_at (store_in fs front.entry.path.lent) i)
+        ≡ lead_mark (entry_at (store_in front.entry.fs front.entry.path.lent) i)
         (get_or (map lead marks.now) k 0)
         (front_of front.entry.path front.entry.e)
         (any_at
-        (entries_from (store_in fs front.entry.path.lent) (fs.num_files - (i + 1)) (i + 1))
+        (entries_from (store_in front.entry.fs front.entry.path.lent) (front.entry.fs.num_files - (i + 1)) (i + 1))
         (drop (k + 1) (map lead marks.now))
         (front_of front.entry.path front.entry.e)) }
     ensures result_bound { IfSome result (λ m. (0 < m) × (m ≤ 2)) }
 {
     let m = lead_at(marks, k);
-    (0 < m && m <= 2 && front.is_own(i) && !has_link(fs, front, marks, i + 1, k + 1)).then_some(m)
+    (0 < m && m <= 2 && front.is_own(i) && !has_link(front, marks, i + 1, k + 1)).then_some(m)
 }

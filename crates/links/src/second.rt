@@ -1,5 +1,5 @@
 // The second pass: each link whose text the first pass left to a walk is walked, and the walk decides. It relies on
-// flagged.rt, resolve.rt, mark.rt and the laws of proofs/Walks.antt, proofs/Marks.antt, proofs/Packed.antt,
+// flagged.rt, front.rt, resolve.rt, mark.rt and the laws of proofs/Walks.antt, proofs/Marks.antt, proofs/Packed.antt,
 // proofs/Walked.antt and proofs/Passing.antt.
 ghost use Rattle.std.specs.Prelude.{◌≡◌, cond, map, ◌<◌, length, get_or, set};
 ghost use Rattle.links.specs.declared.mark.LinkVerdict.TheVariants.{Keep, OwnPath};

@@ -1,7 +1,8 @@
 -- Document 01, 'The listing': what `setlist` prints for an input. Its lines are read as `listing_input` says and obeyed
 -- on the model, by opening as `storage` and adding as `additions` say; the set that results, or the refusal and its
 -- line, is printed as `listing_output` says.
-use Rattle.std.specs.Prelude.{ℕ, ◌+◌, ◌%◌, cond, List, [], ◌∷◌, eqb, ltb, leb, pos, length, replicate, Option, Some, None}
+use Rattle.std.specs.Prelude.{ℕ, ◌+◌, ◌%◌, cond, List, [], ◌∷◌, eqb, ltb, leb, pos, length, replicate, Option, Some}
+use Rattle.std.specs.Prelude.{None}
 use Rattle.types.specs.Refusals.{Outcome, value, refused}
 use Rattle.tables.specs.Model.{present_if, Model}
 use Rattle.additions.specs.Addition.{Addition, added_to}

@@ -1,5 +1,5 @@
-// The run: lines are obeyed one by one, and the first refusal of any kind ends it. Relies on `listing_input` for the form
-// of a line and `listing_output` for the text, on `tables` for the widths of rows, on `storage` for opening and
+// The run: lines are obeyed one by one, and the first refusal of any kind ends it. Relies on `listing_input` for the
+// form of a line and `listing_output` for the text, on `tables` for the widths of rows, on `storage` for opening and
 // additions, on `rules` for too many pieces, and on the laws of proofs/Lines.antt and proofs/Steps.antt.
 ghost use Rattle.std.specs.Prelude.{◌≡◌};
 ghost use Rattle.types.specs.Refusals.{outcome};

@@ -10,12 +10,12 @@ use lib.Dec.{eqb, ltb, leb}
 use lib.ListN.{length, get_or, drop}
 use borrow.Author.Tests.{leb-true, le-leb, lt-ltb}
 use Rattle.std.proofs.lemmas.Bool.Decides.{nat_tests}
-use Rattle.lists.specs.Lists.{part_of}
+use Rattle.lists.specs.Lists.{part_of, unblanked}
 use Rattle.lists.specs.Decimal.{value_from, with_digit, digits_from, number_of}
 use Rattle.path.specs.Join.{is_empty}
 use Rattle.tables.specs.Model.{present_if}
 use Rattle.rules.proofs.Rules.{both_true}
-use Rattle.listing_input.specs.Form.{unblanked, is_digit, are_digits, is_number, number_in, only_if, are_flags, file_in}
+use Rattle.listing_input.specs.Form.{is_digit, are_digits, is_number, number_in, only_if, are_flags, file_in}
 
 -- blanks at the start take nothing from the end
 unblank-step : (b : Bool) (c : ℕ) (t u : List ℕ) → length u ≤ length t → length (cond b u (c ∷ t)) ≤ suc (length t)

@@ -1,7 +1,8 @@
 -- Document 01, 'The listing': the form of its lines. 10 is a line feed, 32 a blank, 48 to 57 are the digits. It relies
 -- on the parts and digits of `lists`, and on `tables`.
-use Rattle.std.specs.Prelude.{ℕ, Bool, true, false, cond, ◌&&◌, ◌||◌, List, [], ◌∷◌, ◌++◌, eqb, ltb, leb, length, get_or, drop, Option, Some, None}
-use Rattle.lists.specs.Lists.{part_of}
+use Rattle.std.specs.Prelude.{ℕ, Bool, true, false, cond, ◌&&◌, ◌||◌, List, [], ◌∷◌, ◌++◌, eqb, ltb, leb, length}
+use Rattle.std.specs.Prelude.{get_or, drop, Option, Some, None}
+use Rattle.lists.specs.Lists.{part_of, unblanked}
 use Rattle.lists.specs.Decimal.{value_from}
 use Rattle.path.specs.Join.{is_empty}
 use Rattle.tables.specs.Model.{present_if}
@@ -14,11 +15,6 @@ lines_from line (c ∷ t) = cond (eqb c 10) (line ∷ lines_from [] t) (lines_fr
 
 abbrev pub lines : List ℕ → List (List ℕ)
 lines input = lines_from [] input
-
--- a column without the blanks at its start
-abbrev pub unblanked : List ℕ → List ℕ
-unblanked [] = []
-unblanked (c ∷ t) = cond (eqb c 32) (unblanked t) (c ∷ t)
 
 abbrev pub is_digit : ℕ → Bool
 is_digit c = leb 48 c && leb c 57

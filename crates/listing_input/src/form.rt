@@ -1,7 +1,7 @@
-// Reading a line of an input: numbers in columns, the piece length and file lines. Relies on `lists` to read digits,
-// and on the laws of proofs/Reading.antt.
+// Reading a line of an input: numbers in columns, the piece length and file lines. Relies on `lists` to drop
+// blanks and to read digits, and on the laws of proofs/Reading.antt.
 ghost use Rattle.std.specs.Prelude.{◌≡◌, ◌≤◌, length};
-ghost use Rattle.listing_input.specs.Form.{unblanked, number_in, only_if};
+ghost use Rattle.listing_input.specs.Form.{number_in, only_if};
 ghost use Rattle.listing_input.specs.Form.{piece_length_in, are_flags, file_in};
 ghost use Rattle.listing_input.specs.Answers.{file_says};
 
@@ -13,28 +13,14 @@ pub struct FileLine<'a> {
     pub path: &'a [u8],
 }
 
-// A column without the blanks at its start.
-fn unblank(column: &[u8]) -> &[u8]
-    ensures value { result.now ≡ unblanked column.now }
-    ensures within { length result.now ≤ length column.now }
-{
-    let mut rest = column;
-    // Stays: std's `trim_ascii_start` takes more than blanks. By `position` and a cut, as `unblanked` of `script` has it,
-    // blanks would be counted and the count be cut off; the loop takes one blank after the other, as the definition does.
-    while let [b' ', more @ ..] = rest {
-        rest = more;
-    }
-    rest
-}
-
 // The number in a column, right-justified.
-// Stays: `lists` reads the digits; what is done here is to drop the blanks before them.
+// Stays: it is two calls of `lists`, one for the blanks and one for the digits.
 #[tactic(auto, using(crate::proofs::Reading::spelt))]
 fn number_in(column: &[u8]) -> Option<u64>
     requires { length column.now ≤ 15 }
     ensures { result ≡ number_in column.now }
 {
-    lists::parse_decimal(unblank(column))
+    lists::parse_decimal(lists::unblanked(column))
 }
 
 // The piece length in the first line.

@@ -6,10 +6,10 @@ use Prim.Native.Nat.{ℕ, zero, suc, ◌+◌, ◌-◌, ◌≤◌, ◌<◌, min}
 use native.Mathlib.Nat.{add-zero, zero-add, suc-add, add-suc}
 use native.Mathlib.Omega.{arith}
 use lib.ListN.{length, get_or, set, take, drop, replicate, length-set, length-take, length-drop, length-replicate, take-append-drop, drop_of_length-le}
-use lib.Seq.{sets, sets-eq, length-sets, set_out, set_comm, set-set, take_all, drop-drop, length-take-le, get_or-set_same, get_or-set_other, take-set-le, drop-set-lt}
+use lib.Seq.{paste, sets, sets-eq, length-sets, set_out, set_comm, set-set, take_all, drop-drop, length-take-le, get_or-set_same, get_or-set_other, take-set-le, drop-set-lt}
 use Rattle.std.proofs.lemmas.List.{take-replicate}
 use Rattle.lists.specs.Lists.{part_of}
-use Rattle.lists.proofs.Parts.{drop-take, part-whole, part-append-first, part-append-second}
+use Rattle.lists.proofs.Parts.{take-take-min, drop-take, part-whole, part-append-first, part-append-second}
 
 module _ {A : Type 0} where
   -- a run that starts past the end does nothing
@@ -78,6 +78,21 @@ module _ {A : Type 0} where
   -- the same at the list's start
   pub sets-front : (t l : List A) (n : ℕ) → n ≡ min (length l) (length t) → take 0 l ++ (take n t ++ drop n (drop 0 l)) ≡ sets l 0 t
   sets-front t l n h = sets-part t l 0 n (omega arith) (omega arith)
+
+  -- items moved within a list: as many as stand there and as there is room for, or none
+  pub moved : (l : List A) (u from to n : ℕ) → to ≤ length l → n ≡ min (min u (length l) - from) (length l - to)
+      → paste l to (drop from l) n ≡ sets l to (drop from (take u l))
+  moved l u from to n h e =
+      let t = drop from (take u l) in
+      let k : length t ≡ min u (length l) - from = omega (arith, length-drop from (take u l), length-take u l) in
+      let m : min n (u - from) ≡ n = omega arith in
+      let q : take n t ≡ take n (drop from l) = rw drop-take (rw m at (take-take-min n (u - from) (drop from l))) in
+      append_assoc (take to l) (take n (drop from l)) (drop (to + n) l) ∙ rw (q, drop-drop n to l) at (sets-part t l to n h (omega arith))
+
+  pub unmoved : (l : List A) (u from to : ℕ) → min (min u (length l) - from) (length l - to) ≡ 0
+      → sets l to (drop from (take u l)) ≡ l
+  unmoved l u from to e =
+      sets-none (drop from (take u l)) l to (omega (arith, length-drop from (take u l), length-take u l))
 
   pub sets-filled : (l : List A) (at m n k : ℕ) (a : A) → at ≤ length l → n ≡ min m (length l - at) → k ≡ n
       → take at l ++ (replicate k a ++ drop n (drop at l)) ≡ sets l at (replicate m a)
@@ -164,3 +179,6 @@ pub ruleset storing = (sets-past, sets-none, sets-front, sets-filled, sets-lent)
 
 -- for a copy to what stands behind a split
 pub ruleset behind = (sets-past, sets-drop)
+
+-- for items moved within a slice
+pub ruleset moving = (moved, unmoved)

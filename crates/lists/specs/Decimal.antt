@@ -1,5 +1,6 @@
 -- Numbers in base ten, in ASCII: 48 is the digit 0, 32 is a blank. It relies on the kit only.
-use Rattle.std.specs.Prelude.{ℕ, zero, suc, ◌+◌, ◌-◌, ◌*◌, ◌/◌, ◌%◌, ◌^◌, Bool, cond, ◌&&◌, List, [], ◌∷◌, ◌++◌, eqb, ltb, leb, length, get_or, drop, replicate, Option, None, Some, option_and_then}
+use Rattle.std.specs.Prelude.{ℕ, zero, suc, ◌+◌, ◌-◌, ◌*◌, ◌/◌, ◌%◌, ◌^◌, Bool, cond, ◌&&◌, List, [], ◌∷◌, ◌++◌, eqb}
+use Rattle.std.specs.Prelude.{ltb, leb, length, get_or, drop, replicate, Option, None, Some, option_and_then}
 
 -- the digits of n, the most significant first; its last k + 1 where it has more
 unfoldable pub digits_within : ℕ → ℕ → List ℕ

@@ -1,11 +1,17 @@
 -- Lists as slices hold them: parts, zeros, equality, sums, and quotients rounded up. Reading past the end is the kit's
 -- `get_or`, storing one value is its `set`, and storing a run of values its `sets`; what falls past the end is dropped.
 -- It relies on the kit only.
-use Rattle.std.specs.Prelude.{ℕ, ◌+◌, ◌-◌, ◌/◌, Bool, true, false, cond, List, [], ◌∷◌, eqb, length, take, drop, replicate}
+use Rattle.std.specs.Prelude.{ℕ, ◌+◌, ◌-◌, ◌/◌, Bool, true, false, cond, List, [], ◌∷◌, eqb, length, take, drop}
+use Rattle.std.specs.Prelude.{replicate}
 
 -- the n elements from position `at` on, or as many of them as there are
 abbrev pub part_of : {A : Type 0} → List A → ℕ → ℕ → List A
 part_of xs at n = take n (drop at xs)
+
+-- the bytes without the blanks at their start; 32 is a blank
+abbrev pub unblanked : List ℕ → List ℕ
+unblanked [] = []
+unblanked (c ∷ t) = cond (eqb c 32) (unblanked t) (c ∷ t)
 
 -- a list of the same length, all zeros
 abbrev pub cleared : List ℕ → List ℕ

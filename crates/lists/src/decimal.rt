@@ -23,8 +23,9 @@ fn glyph(digit: u64) -> u8
 }
 
 // Writes the last `count` digits of n from position `at` on, the last of them first.
-// Stays: std writes a number to a heap's `String` or to a formatter. An array of the 20 digits that a number may have would
-// be filled by this loop too, since one over `iter_mut().rev()` leaves only the array's length known, and then be copied.
+// Stays: std writes a number to a heap's `String` or to a formatter. An array of the 20 digits that a number may have
+// would be filled by this loop too, since one over `iter_mut().rev()` leaves only the array's length known, and then be
+// copied.
 #[tactic(auto, using(crate::proofs::Decimals::writing))]
 fn put_digits(target: &mut [u8], at: usize, count: usize, n: u64)
     requires { (at < length target.old) × (count ≤ length (decimal n)) }

@@ -8,6 +8,6 @@ mod access;
 mod decimal;
 mod number;
 
-pub use access::{copy_after, copy_in, item_or, part, put, same};
+pub use access::{copy_after, copy_in, item_or, move_part, part, put, same, unblanked};
 pub use decimal::{digit_count, parse_decimal, put_column, put_decimal};
 pub use number::{div, div_ceil, exponent, rem};

@@ -1,5 +1,6 @@
-// Quotients and remainders of `u64` that answer for every pair of numbers, and the exponent of a power of two. A power of
-// two divides by a shift, as most piece lengths do. It relies on the laws of proofs/Quotients.antt and proofs/Powers.antt.
+// Quotients and remainders of `u64` that answer for every pair of numbers, and the exponent of a power of two. A power
+// of two divides by a shift, as most piece lengths do. It relies on the laws of proofs/Quotients.antt and
+// proofs/Powers.antt.
 ghost use Rattle.std.specs.Prelude.{◌≡◌, ◌/◌, ◌%◌, ◌^◌, ◌<◌, ℕ, Some, IfSome};
 ghost use Rattle.lists.specs.Lists.{ceiling};
 

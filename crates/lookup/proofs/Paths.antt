@@ -3,14 +3,15 @@
 use Prim.Native.Nat.{ℕ, suc, ◌+◌, ◌-◌, ◌<◌, ◌≤◌}
 use mathlib.Core.Path.{◌≡◌, refl, sym, ap, ◌∙◌}
 use mathlib.Core.Bool.{Bool, true, false, cond, true≢false, ◌&&◌, ◌||◌}
-use mathlib.Core.List.{List, [], ◌∷◌, ◌++◌, append-nil, append_assoc}
+use mathlib.Core.List.{List, [], ◌∷◌, ◌++◌, append-nil, append_assoc, reverse, reverse-append, reverse-reverse}
 use native.Mathlib.Omega.{arith}
-use lib.Dec.{eqb, leb}
-use lib.ListN.{length, length-append, length-drop, get_or, take, drop, take-append-drop}
+use lib.Dec.{eqb}
+use lib.ListN.{length, length-append, length-drop, length-reverse, get_or, take, drop, take-append-drop}
 use lib.Seq.{drop-append_seam}
-use borrow.Author.Tests.{le-leb, leb-false, eq-eqb, ne_eqb, eqb-true}
+use borrow.Author.Tests.{le-leb, eq-eqb, ne_eqb, eqb-true}
+use Rattle.std.specs.Bool.{Decides}
 use Rattle.std.specs.Cmp.Lexicographic.{pointwise}
-use Rattle.std.specs.List.{starts_with}
+use Rattle.std.specs.List.{starts_with, zip}
 use Rattle.lists.specs.Lists.{equal}
 use Rattle.lists.proofs.Equality.{equal-refl, equal-true, equal-length, equal-same, pointwise-equal}
 use Rattle.path.specs.Join.{is_alone, is_closed, appended}
@@ -109,13 +110,11 @@ module _ (d name p : List ℕ) {kept separator : List ℕ} (h : kept ≡ kept_of
 
 -- ---- a name at a path's end
 
--- the library's test of a list's end decides
-pub ends_std : (n p : List ℕ) → pointwise eqb n (drop (length p - length n) p) ≡ ends_with n p
-ends_std n p = pointwise-equal n (drop (length p - length n) p) ∙ at (leb (length n) (length p)) refl
-  where
-    at : (b : Bool) → leb (length n) (length p) ≡ b → equal n (drop (length p - length n) p) ≡ cond b (equal n (drop (length p - length n) p)) false
-    at true e = refl
-    at false e = equal-length n (drop (length p - length n) p) (λ q. omega (arith, leb-false (length n) (length p) e, length-drop (length p - length n) p))
+-- pairs go as far as the first list
+zip-front : (xs ys zs : List ℕ) → length xs ≡ length ys → zip xs (ys ++ zs) ≡ zip xs ys
+zip-front [] ys zs e = refl
+zip-front (x ∷ xs) [] zs e = absurd (omega arith)
+zip-front (x ∷ xs) (y ∷ ys) zs e = ap (λ (l : List (ℕ × ℕ)). (x, y) ∷ l) (zip-front xs ys zs (omega arith))
 
 -- the end of p decides, where it has the name's length
 module _ (n p : List ℕ) (h : length n ≤ length p) where
@@ -124,6 +123,28 @@ module _ (n p : List ℕ) (h : length n ≤ length p) where
 
   pub ends_same : n ≡ drop (length p - length n) p → true ≡ ends_with n p
   ends_same e = sym (equal-same n (drop (length p - length n) p) e) ∙ ends_by
+
+  -- compared from the back, as far as the name goes
+  abbrev pub end : List ℕ
+  end = drop (length p - length n) p
+
+  pub back-long : length (reverse n) ≡ length (reverse end)
+  back-long = length-reverse n ∙ omega (arith, length-drop (length p - length n) p, length-reverse end)
+
+  pub back-zip : zip (reverse n) (reverse p) ≡ zip (reverse n) (reverse end)
+  back-zip =
+      let front = take (length p - length n) p in
+      ap (λ (l : List ℕ). zip (reverse n) (reverse l)) (sym (take-append-drop (length p - length n) p))
+      ∙ ap (zip (reverse n)) (reverse-append front end)
+      ∙ zip-front (reverse n) (reverse end) (reverse front) back-long
+
+  pub ends-back : (r : Bool) → Decides r (reverse n ≡ reverse end) → r ≡ ends_with n p
+  ends-back true d = ends_same (sym (reverse-reverse n) ∙ ap reverse (d.0 refl) ∙ reverse-reverse end)
+  ends-back false d = at (equal n end) refl ∙ ends_by
+    where
+      at : (b : Bool) → equal n end ≡ b → false ≡ equal n end
+      at true e = absurd (true≢false (sym (d.1 (ap reverse (equal-true n end e)))))
+      at false e = sym e
 
 -- a list that ends in n
 ends-append : (x n : List ℕ) → ends_with n (x ++ n) ≡ true

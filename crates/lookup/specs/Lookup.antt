@@ -1,6 +1,7 @@
 -- Document 01, 'Links': what stands at a path in a set: a directory, a file, or a flagged link. It relies on the model
 -- of a set in `tables` and on the separator of `path`.
-use Rattle.std.specs.Prelude.{ℕ, ◌-◌, Bool, true, false, cond, List, [], ◌∷◌, eqb, leb, length, drop, Option, Some, None}
+use Rattle.std.specs.Prelude.{ℕ, ◌-◌, Bool, true, false, cond, List, [], ◌∷◌, eqb, leb, length, drop, Option, Some}
+use Rattle.std.specs.Prelude.{None}
 use Rattle.lists.specs.Lists.{equal}
 use Rattle.path.specs.Split.{is_separator}
 use Rattle.tables.specs.declared.storage.FileStorage.{FileStorage}

@@ -9,7 +9,7 @@ ghost use Rattle.tables.specs.Model.{internal_path};
 ghost use Rattle.lookup.specs.Lookup.{covers, ends_with, is_directory, file_at, is_flagged};
 ghost use Rattle.lookup.specs.Lookup.{files_in, dirs_in, seen_as};
 
-use crate::parts::{is_covered, joins_to};
+use crate::parts::{ends_with, is_covered, joins_to};
 use tables::{FileStorage, Row};
 
 // What stands at a path: nothing, a file that is no flagged link, or a flagged link.
@@ -44,11 +44,10 @@ pub fn link_text(text: &[u8], row: Row) -> &[u8]
 // Whether p ends with the name of file i. It is taken into `own_is`, and with that into the scans: by it they pass most
 // files.
 #[inline(always)]
-#[tactic(auto, using(crate::proofs::Paths::ends_std))]
 pub fn ends_with_name(rows: &[u64], text: &[u8], i: usize, p: &[u8]) -> bool
     ensures { result ≡ ends_with (text_at text.now (row_at rows.now i).name) p.now }
 {
-    p.ends_with(tables::text_at(text, tables::row_at(rows, i).name))
+    ends_with(tables::text_at(text, tables::row_at(rows, i).name), p)
 }
 
 // Whether the internal path of the file with that row is p. It is a call of its own, since few files of a scan need it.

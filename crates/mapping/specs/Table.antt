@@ -3,8 +3,8 @@
 --
 -- Names from elsewhere: `cond t a b` is a where t is true, else b; `eqb`, `ltb` and `leb` test =, < and ≤; `a - b` is 0
 -- where b is larger. `pos n` is the integer n. `block_of` are the slices of a block and `block_rules` its refusals
--- (layout, specs/Mapping.antt); `first_of` is the number of the first refusal that holds, 0 where none does; `sets out 0
--- xs` is the table `out` with xs in its first places.
+-- (layout, specs/Mapping.antt); `first_of` is the number of the first refusal that holds, 0 where none does; `sets out
+-- 0 xs` is the table `out` with xs in its first places.
 use Rattle.std.specs.Prelude.{ℕ, ◌%◌, ◌^◌, cond, List, [], ◌∷◌, map, eqb, leb, ℤ, pos, length}
 use Rattle.std.proofs.lemmas.List.Edits.{sets}
 use Rattle.types.specs.Refusals.{Outcome, value, refused}

@@ -3,10 +3,11 @@
 -- (`Outcome` of `types`, `Range` and `SignedRequest` of `rules`) and on `sum` and `ceiling` of `lists`.
 --
 -- Names from elsewhere: `cond t a b` is a where t is true, else b; `eqb` and `ltb` test = and <; `a - b` is 0 where b
--- is larger. `sum` adds a list up, `take k` is the first k elements, `get_or xs k 0` is element k; `ceiling a b` is a / b
--- rounded up. The integer n is `pos n`, and −(n + 1) is `negsuc n`; `value a` is an answer, `refused k` a refusal by
+-- is larger. `sum` adds a list up, `take k` is the first k elements, `get_or xs k 0` is element k; `ceiling a b` is a /
+-- b rounded up. The integer n is `pos n`, and −(n + 1) is `negsuc n`; `value a` is an answer, `refused k` a refusal by
 -- number k.
-use Rattle.std.specs.Prelude.{ℕ, ◌+◌, ◌-◌, ◌*◌, ◌/◌, ◌%◌, ◌≤◌, ◌<◌, min, ◌≡◌, Bool, cond, not, ◌&&◌, ◌||◌, List, eqb, ltb, ℤ, pos, negsuc, length, get_or, take}
+use Rattle.std.specs.Prelude.{ℕ, ◌+◌, ◌-◌, ◌*◌, ◌/◌, ◌%◌, ◌≤◌, ◌<◌, min, ◌≡◌, Bool, cond, not, ◌&&◌, ◌||◌, List, eqb}
+use Rattle.std.specs.Prelude.{ltb, ℤ, pos, negsuc, length, get_or, take}
 use Rattle.lists.specs.Lists.{sum, ceiling}
 use Rattle.types.specs.Refusals.{Outcome, value, refused}
 use Rattle.rules.specs.Results.{Range, SignedRequest}

@@ -1,8 +1,9 @@
 // Joins of paths in a lent buffer: what stands before the leaf is decided first, and the rest of the buffer behind the
-// branch is lent to the writer of the leaf. Relies on split.rt for a branch that ends in a separator, and on the laws of
-// proofs/Joins.antt.
+// branch is lent to the writer of the leaf. Relies on split.rt for a branch that ends in a separator, and on the laws
+// of proofs/Joins.antt.
 ghost use Rattle.std.specs.Prelude.{◌≡◌, cond, [], ◌++◌, length};
-ghost use Rattle.path.specs.Join.{joined_says, is_alone, separator, appended, joined_if, fits, append_into, combine_into};
+ghost use Rattle.path.specs.Join.{joined_says, is_alone, separator, appended, joined_if, fits, append_into};
+ghost use Rattle.path.specs.Join.{combine_into};
 
 use crate::split::is_closed;
 use types::Refusal;
@@ -15,8 +16,8 @@ pub fn is_alone(path: &[u8]) -> bool
     matches!(path, [] | [b'.'])
 }
 
-// What stands between a branch that a join keeps and a leaf: a separator, unless the leaf is empty or the branch ends in
-// one.
+// What stands between a branch that a join keeps and a leaf: a separator, unless the leaf is empty or the branch ends
+// in one.
 pub fn separator<'a>(branch: &[u8], leaf: &[u8]) -> &'a [u8]
     ensures { result.now ≡ separator branch.now leaf.now }
 {
@@ -51,7 +52,8 @@ pub fn joined_length(branch: &[u8], leaf: &[u8]) -> usize
 }
 
 // Writes a separator, or nothing, and a leaf to the start of `rest`, and gives the length of both.
-// Stays: std's `copy_from_slice` copies both; the buffer is lent, and a refusal leaves it untouched, as no `write!` does.
+// Stays: std's `copy_from_slice` copies both; the buffer is lent, and a refusal leaves it untouched, as no `write!`
+// does.
 fn put_leaf(rest: &mut [u8], separator: &[u8], leaf: &[u8]) -> Result<usize, Refusal>
     ensures { joined_says result rest.new
         ≡ joined_if (fits (separator.now ++ leaf.now) rest.old) (separator.now ++ leaf.now) rest.old }
@@ -79,8 +81,8 @@ pub fn append_path(buf: &mut [u8], used: usize, leaf: &[u8]) -> Result<usize, Re
     Ok(at + put_leaf(&mut buf[at..], separator, leaf)?)
 }
 
-// Writes the path of `left` and `right` to the start of `buf`, and gives its length: `join_path` where a `right` that is
-// `.` leaves a kept `left` alone.
+// Writes the path of `left` and `right` to the start of `buf`, and gives its length: `join_path` where a `right` that
+// is `.` leaves a kept `left` alone.
 pub fn combine_path(left: &[u8], right: &[u8], buf: &mut [u8]) -> Result<usize, Refusal>
     ensures { joined_says result buf.new ≡ combine_into left.now right.now buf.old }
 {

@@ -52,9 +52,8 @@ pub fn trimmed_length(path: &[u8]) -> usize
 }
 
 // Where the leaf begins: after the last separator, or at 0. Two bytes are looked at in a turn.
-// Stays: tried, `rposition` takes 10.4 ns for a path of 25 bytes with a name of 14, and this loop 8.0. Additions to a
-// v1 set of one directory take 1.0 to 1.15 of the Rust's time (docs/BENCHMARKS.md), so the slower form adds to what is
-// behind.
+// Stays: tried, `rposition` takes 10.4 ns for a path of 25 bytes with a name of 14, and this loop 8.0. Each addition
+// does so, and is to take no longer than it does (docs/BENCHMARKS.md, the bar).
 #[tactic(auto, using(crate::proofs::Splits::leaf_before))]
 fn leaf_start(path: &[u8]) -> usize
     ensures { (result ≤ length path.now)

@@ -1,6 +1,6 @@
 -- Laws of the search for a directory: the last index of a text among others, whether it is there, and both once one
 -- more is stored; and the same of the search over a table's rows from the back.
-use Rattle.std.proofs.Common.{◌≡◌, ℕ, zero, suc, ◌+◌, ◌-◌, ◌*◌, ◌/◌, ◌<◌, ◌≤◌, min, Bool, true, false, cond, not, ◌&&◌, ◌||◌, eqb, List, [], ◌∷◌, ◌++◌, map, length, get_or, take, Option, Some, None, unwrap_or, MatchOption, IsSomeAnd, Bor, Iter, sym, refl, ap, subst, ◌∙◌, true≢false, arith, length-append, length-take, get_or-take}
+use Rattle.std.proofs.Common.{◌≡◌, ℕ, zero, suc, ◌+◌, ◌-◌, ◌*◌, ◌/◌, ◌<◌, ◌≤◌, min, Bool, true, false, cond, not, ◌&&◌, ◌||◌, eqb, List, [], ◌∷◌, ◌++◌, map, length, take, Option, Some, None, unwrap_or, MatchOption, IsSomeAnd, Bor, Iter, sym, refl, ap, subst, ◌∙◌, true≢false, arith, length-append, length-take, get_or-take}
 use mathlib.Core.Bool.{false≢true}
 use borrow.Author.Tests.{eqb-true, eqb-false}
 use lib.ListN.{length-map, get_or-eq_default}
@@ -19,6 +19,7 @@ use Rattle.tables.specs.declared.span.Span.{Span}
 use Rattle.tables.specs.Span.{text_at}
 use Rattle.tables.specs.Rows.{dir_at}
 use Rattle.tables.specs.Model.{tabled, stored}
+use Rattle.tables.proofs.Chunks.{row_of, row-texts}
 use Rattle.tables.proofs.Tabled.{length-tabled, tabled-more, tabled-same}
 use Rattle.additions.specs.Addition.{is_among, pad_directory_name}
 use Rattle.plan.specs.Write.{directory_index_from, directory_index}
@@ -119,10 +120,6 @@ search-past g d n m (suc k) h f =
 pub length-differs : (d text : List ℕ) (s : Span) → s.at < length text - length d → (s.len ≡ length d → ⊥) → false ≡ equal d (text_at text s)
 length-differs d text s h q = sym (equal-length d (text_at text s) (λ e. q (omega (arith, part_length text s.at s.len))))
 
--- the span of a directory row of these words
-abbrev pub row_of : List ℕ → Span
-row_of ws = record { at = get_or ws 0 0; len = get_or ws 1 0 }
-
 -- the text of a directory row; past the table's end it is empty
 abbrev pub row_text : List ℕ → List ℕ → ℕ → List ℕ
 row_text dirs text i = text_at text (dir_at dirs i)
@@ -169,23 +166,6 @@ module _ (dirs text d : List ℕ) (n : ℕ) (h : 0 < n) where
           at false p =
               let c = eqb-false j (n - 1) p in
               ap (equal d) (past dirs text j (omega (arith, c)) ∙ sym (past dirs text (n - 1) (omega (arith, c)))) ∙ q
-
--- the texts of a table's rows, as chunks of two words
-row-behind : (text dirs : List ℕ) (a b i : ℕ) → row_text dirs text i ≡ row_text (a ∷ b ∷ dirs) text (suc i)
-row-behind text dirs a b i =
-    let at : suc i * 2 ≡ suc (suc (i * 2)) = omega arith in
-    let len : suc (suc (i * 2)) + 1 ≡ suc (suc (i * 2 + 1)) = omega arith in
-    rw (at, len)
-
-row-texts : (text : List ℕ) (k : ℕ) (dirs : List ℕ) → k * 2 ≤ length dirs → map (λ ws. text_at text (row_of ws)) (first_chunks 2 k dirs) ≡ dir_texts dirs text k
-unfolding tabled directory_index_from
-row-texts text zero dirs l = refl
-row-texts text (suc k) [] l = absurd (omega arith)
-row-texts text (suc k) (a ∷ []) l = absurd (omega arith)
-row-texts text (suc k) (a ∷ b ∷ dirs) l =
-    ap (λ (ts : List (List ℕ)). text_at text (record { at = a; len = b }) ∷ ts)
-    (row-texts text k dirs (omega arith)
-    ∙ tabled-same k (row_text dirs text) (λ i. row_text (a ∷ b ∷ dirs) text (suc i)) (λ i q. row-behind text dirs a b i))
 
 -- the search over items from the back, where a call of f tells whether an item's text is d. Its invariant: the index
 -- among the items that are left is that among all, as those that are gone have another text

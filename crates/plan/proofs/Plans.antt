@@ -152,7 +152,7 @@ map-then_some f false x = refl
 
 -- how many directories there are with a pad's, and how many files an addition is, by whether there is no pad
 pads-directories : (t : Bool) (pad : ℕ) (ds : List (List ℕ))
-    → option_map_or (λ p. p.count) (pad_dir_plan_of (is_some (then_some (not t) pad)) ds) (length ds) ≡ length (cond t ds (with_directory pad_directory_name ds))
+    → option_map_or (λ p. p.count) (pad_dir_plan_of (then_some (not t) pad) ds) (length ds) ≡ length (cond t ds (with_directory pad_directory_name ds))
 pads-directories true pad ds = refl
 pads-directories false pad ds = refl
 
@@ -171,7 +171,7 @@ module _ (fs : FileStorage) (name : List ℕ) (files : List File) (ds : List (Li
   first = dir_plan_of (directory_added m a) ds
 
   abbrev second : Option DirPlan
-  second = pad_dir_plan_of (is_some sizes.pad) (with_directory_of (directory_added m a) ds)
+  second = pad_dir_plan_of sizes.pad (with_directory_of (directory_added m a) ds)
 
   abbrev lengths : TextLengths
   lengths = record { set_name = length (set_text m a); name = length (name_text m a); link = length (link_new m a) }
@@ -221,12 +221,12 @@ module _ (fs : FileStorage) (name : List ℕ) (files : List File) (ds : List (Li
 
   -- the plan by these numbers is the one by the public definitions
   pub planned-is : (rooms : Rooms)
-      → planned_beside fs rooms ds (record { sizes = sizes; facts = facts; lengths = lengths; parts = parts }) (directory_added m a)
+      → planned_beside rooms ds (record { fs = fs; sizes = sizes; facts = facts; lengths = lengths; parts = parts }) (directory_added m a)
       ≡ outcome_of (cond (short_of rooms counts.num_files (dirs_after (record { file = first; pad = second })) || ltb rooms.text spans.end) 10 0) (plan_of fs m a)
   planned-is rooms = at (eqb (pad_of m a) 0) refl
     where
       at : (t : Bool) → eqb (pad_of m a) 0 ≡ t
-          → planned_beside fs rooms ds (record { sizes = sizes; facts = facts; lengths = lengths; parts = parts }) (directory_added m a)
+          → planned_beside rooms ds (record { fs = fs; sizes = sizes; facts = facts; lengths = lengths; parts = parts }) (directory_added m a)
           ≡ outcome_of (cond (short_of rooms counts.num_files (dirs_after (record { file = first; pad = second })) || ltb rooms.text spans.end) 10 0) (plan_of fs m a)
       at true q = rw (q, outside-is, length_of_directory (directory_added m a) ds) (simp map-then_some)
       at false q =
@@ -317,7 +317,7 @@ module _ (s : Store) (a : Addition) where
 
       -- what the code decides, by sizes, facts, the directory, the lengths of the texts and the parts of the path
       abbrev decided : Sizes → FileFacts → Directory → TextLengths → PathParts → Outcome AddPlan
-      decided z f d l p = planned_beside s.fs (rooms_of s) dirs (record { sizes = z; facts = f; lengths = l; parts = p }) d
+      decided z f d l p = planned_beside (rooms_of s) dirs (record { fs = s.fs; sizes = z; facts = f; lengths = l; parts = p }) d
 
       abbrev sizes_seen : Sizes
       sizes_seen = sizes s.fs (text_at s.text s.fs.name) (tabled s.fs.num_files (file_of s)) dirs count a
@@ -389,8 +389,8 @@ module _ {s : Store} {file : FileInfo} {filename path link : List ℕ} {p : Path
     plan-full t = add-full s call settled.0 (sym (full_is s call z settled.1) ∙ t)
 
     pub plan-whole : test ≡ false
-        → planned_beside s.fs (rooms_of s) (dir_texts s.dirs s.text s.fs.num_paths)
-        (record { sizes = z; facts = facts_of s.fs file link; lengths = lengths_of s.fs.num_symlinks call.given path p link; parts = p })
+        → planned_beside (rooms_of s) (dir_texts s.dirs s.text s.fs.num_paths)
+        (record { fs = s.fs; sizes = z; facts = facts_of s.fs file link; lengths = lengths_of s.fs.num_symlinks call.given path p link; parts = p })
         (directory_at p.kind (text_at path p.directory))
         ≡ planned_for s call
     plan-whole t =

@@ -1,6 +1,7 @@
 -- What an addition writes: the tables after it, word by word, for tables of any content. The decisions are
 -- those of Addition.antt on what the tables mean (`view_of`); here stands where each text and row goes.
-use Rattle.std.specs.Prelude.{ℕ, ◌+◌, ◌-◌, ◌%◌, ◌^◌, Bool, false, cond, not, ◌&&◌, List, [], ◌∷◌, ◌++◌, length, take, replicate, ◌==◌, Option, Some, None}
+use Rattle.std.specs.Prelude.{ℕ, ◌+◌, ◌-◌, ◌%◌, ◌^◌, Bool, false, cond, not, ◌&&◌, List, [], ◌∷◌, ◌++◌, length, take}
+use Rattle.std.specs.Prelude.{replicate, ◌==◌, Option, Some, None}
 use Rattle.std.proofs.lemmas.List.Edits.{sets}
 use Rattle.lists.specs.Lists.{equal}
 use Rattle.lists.specs.Decimal.{decimal}
@@ -98,7 +99,8 @@ text_kept fs = fs.text_len - (old_name fs).len
 
 -- the new texts in the order in which they are appended; one that there is not has no bytes
 abbrev pub new_texts : Model → Addition → List (List ℕ)
-new_texts m a = set_text m a ∷ directory_new m a ∷ name_text m a ∷ link_new m a ∷ pad_directory_new m a ∷ pad_text m a ∷ []
+new_texts m a =
+    set_text m a ∷ directory_new m a ∷ name_text m a ∷ link_new m a ∷ pad_directory_new m a ∷ pad_text m a ∷ []
 
 -- where the first n of them end; they begin where the text that stays ends
 abbrev pub texts_end : ℕ → FileStorage → Model → Addition → ℕ

@@ -3,7 +3,7 @@
 ghost use Rattle.std.specs.Prelude.{◌≡◌, false, not, ◌||◌};
 ghost use Rattle.rules.specs.Bounds.{bad_length};
 ghost use Rattle.change.specs.Rooms.{holds_in};
-ghost use Rattle.plan.specs.private.Steps.{Countable, bit_of, row_flags, counts_of, short_of};
+ghost use Rattle.plan.specs.private.Steps.{Countable, bit_of, row_flags, counts_of};
 ghost use Rattle.plan.specs.private.Steps.{places_lack};
 
 use additions::Sizes;
@@ -84,11 +84,4 @@ pub(crate) fn is_full(fs: FileStorage, rooms: Rooms, places: usize, sizes: Sizes
     ensures { result ≡ (not (holds_in fs rooms) || places_lack fs places sizes.total_size) }
 {
     !change::holds(fs, rooms) || lacks_places(fs, places, sizes.total_size)
-}
-
-// Whether the file rows or directory rows are too few for these counts.
-pub(crate) fn is_short(rooms: Rooms, files: usize, dirs: usize) -> bool
-    ensures { result ≡ short_of rooms files dirs }
-{
-    !rooms.fit(files, dirs)
 }

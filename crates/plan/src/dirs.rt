@@ -102,10 +102,7 @@ impl Stored<'_> {
         ensures value { unwrap_or result self.now.count
             ≡ directory_index dir.now (dir_texts self.now.dirs.now self.now.text.now self.now.count) }
     {
-        if self.count == 0 {
-            return None;
-        }
-        let last = self.count - 1;
+        let last = self.count.checked_sub(1)?;
         if is_text(self.text, tables::dir_at(self.dirs, last), dir) {
             return Some(last);
         }
@@ -142,15 +139,15 @@ impl Stored<'_> {
     }
 
     // The directory of the pad, where one follows a file, whose own directory is new or not.
+    // Stays: it asks of the pad's size only whether there is one. Tried, a `DirPlan` from here, and in `plan_dirs` a
+    // closure that calls for it by `addition.sizes.pad.map`: that this gives `pad_dir_plan_of` stayed open there.
     #[tactic(auto, using(crate::proofs::Directories::padding))]
-    pub(crate) fn plan_pad(&self, follows: bool, new: bool, dir: &[u8]) -> Option<DirPlan>
+    pub(crate) fn plan_pad(&self, pad: Option<u64>, new: bool, dir: &[u8]) -> Option<DirPlan>
         ensures { result
-            ≡ pad_dir_plan_of follows
+            ≡ pad_dir_plan_of pad
             (dirs_with new dir.now (dir_texts self.now.dirs.now self.now.text.now self.now.count)) }
     {
-        if !follows {
-            return None;
-        }
+        pad?;
         let count = self.count + usize::from(new);
         if is_pads(new, dir) {
             return Some(DirPlan::known(self.count as u64, count));

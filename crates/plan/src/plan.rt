@@ -14,9 +14,9 @@ ghost use Rattle.plan.specs.private.Steps.{dirs_after, pad_new, pad_length, text
 ghost use Rattle.plan.specs.private.Steps.{spans_within, plan_from, planned_in, planned_beside};
 ghost use Rattle.plan.specs.Plan.{planned_for};
 
-use crate::counts::{Counts, FileFacts, counts_after, is_full, is_short, row_flags};
+use crate::counts::{Counts, FileFacts, counts_after, is_full, row_flags};
 use crate::dirs::{DirPlan, Stored};
-use additions::{FileInfo, Given, PathParts, Sizes};
+use additions::{FileInfo, Given, PathKind, PathParts, Sizes};
 use change::Rooms;
 use tables::{FileStorage, MADE_BIT, PAD_BIT, Row, Span};
 use types::Refusal;
@@ -69,9 +69,10 @@ pub(crate) struct TextLengths {
 }
 
 // What is decided of an addition before its directories are looked for: its sizes, what its row says, the lengths of
-// its texts, and the parts of its path.
+// its texts, and the parts of its path, beside the record of the set that is added to.
 #[derive(Drop)]
 pub(crate) struct Decided {
+    pub fs: FileStorage,
     pub sizes: Sizes,
     pub facts: FileFacts,
     pub lengths: TextLengths,
@@ -119,16 +120,10 @@ fn next_span(s: Span, len: usize) -> Option<Span>
 }
 
 // Spans for the texts of an addition after the text that stays, where they fit in `room`.
-// Stays: the set's record goes beside what was decided, here and in the two that make the plan; a record of the two and
-// the directories would be made for one call and taken apart in it.
-fn text_spans(
-    fs: FileStorage,
-    room: usize,
-    addition: &Decided,
-    dirs: &DirPlans,
-) -> Option<TextSpans>
-    ensures { result ≡ spans_within room (text_spans_for fs addition.now dirs.now) }
+fn text_spans(room: usize, addition: &Decided, dirs: &DirPlans) -> Option<TextSpans>
+    ensures { result ≡ spans_within room (text_spans_for addition.now dirs.now) }
 {
+    let fs = addition.fs;
     let lengths = &addition.lengths;
     let set = Span {
         at: fs.text_len.saturating_sub(old_name(fs).len),
@@ -175,16 +170,11 @@ fn name_after(fs: FileStorage, set: Span) -> Span
 }
 
 // The plan, from what was decided.
-fn make_plan(
-    fs: FileStorage,
-    addition: Decided,
-    counts: Counts,
-    dirs: DirPlans,
-    spans: TextSpans,
-) -> AddPlan
-    ensures { result ≡ plan_from fs addition counts dirs spans }
+fn make_plan(addition: Decided, counts: Counts, dirs: DirPlans, spans: TextSpans) -> AddPlan
+    ensures { result ≡ plan_from addition counts dirs spans }
 {
     let Decided {
+        fs,
         sizes,
         facts,
         parts,
@@ -209,7 +199,7 @@ fn make_plan(
             name: spans.name,
             link: spans.link,
             path_index: dirs.file.index,
-            flags: row_flags(facts, additions::is_outside(parts.kind)),
+            flags: row_flags(facts, parts.kind == PathKind::Outside),
             time: facts.time,
         },
         pad_row: sizes.pad.zip(dirs.pad).map(|(size, dir)| Row {
@@ -245,47 +235,41 @@ fn make_plan(
 }
 
 // The plan where there is room.
-fn plan_numbers(
-    fs: FileStorage,
-    rooms: Rooms,
-    addition: Decided,
-    dirs: DirPlans,
-) -> Result<AddPlan, Refusal>
-    requires { Countable fs addition.facts.keeps_link }
-    ensures { outcome result ≡ planned_in fs rooms addition dirs }
+fn plan_numbers(rooms: Rooms, addition: Decided, dirs: DirPlans) -> Result<AddPlan, Refusal>
+    requires { Countable addition.fs addition.facts.keeps_link }
+    ensures { outcome result ≡ planned_in rooms addition dirs }
 {
-    let counts = counts_after(fs, addition.sizes, addition.facts);
-    if is_short(rooms, counts.num_files, dirs.count()) {
+    let counts = counts_after(addition.fs, addition.sizes, addition.facts);
+    if !rooms.fit(counts.num_files, dirs.count()) {
         return Err(Refusal::NoRoom);
     }
-    let spans = text_spans(fs, rooms.text, &addition, &dirs).ok_or(Refusal::NoRoom)?;
-    Ok(make_plan(fs, addition, counts, dirs, spans))
+    let spans = text_spans(rooms.text, &addition, &dirs).ok_or(Refusal::NoRoom)?;
+    Ok(make_plan(addition, counts, dirs, spans))
 }
 
 // The plan of an addition to a set that its tables hold: `dir` is the text of its directory, for which the stored
 // directories are searched.
 fn plan_dirs(
-    fs: FileStorage,
     rooms: Rooms,
     dirs: &[u64],
     text: &[u8],
     addition: Decided,
     dir: &[u8],
 ) -> Result<AddPlan, Refusal>
-    requires rooms_value { holds_in fs rooms ≡ true }
-    requires num_symlinks_bound { addition.facts.keeps_link ≡ true → fs.num_symlinks < max_links }
+    requires rooms_value { holds_in addition.fs rooms ≡ true }
+    requires num_symlinks_bound { addition.facts.keeps_link ≡ true → addition.fs.num_symlinks < max_links }
     ensures { outcome result
-        ≡ planned_beside fs rooms (dir_texts dirs.now text.now fs.num_paths) addition
+        ≡ planned_beside rooms (dir_texts dirs.now text.now addition.fs.num_paths) addition
         (directory_at addition.parts.kind dir.now) }
 {
     let stored = Stored {
         dirs,
         text,
-        count: fs.num_paths,
+        count: addition.fs.num_paths,
     };
     let file = stored.plan(addition.parts.kind, dir);
-    let pad = stored.plan_pad(addition.sizes.pad.is_some(), file.new.is_some(), dir);
-    plan_numbers(fs, rooms, addition, DirPlans { file, pad })
+    let pad = stored.plan_pad(addition.sizes.pad, file.new.is_some(), dir);
+    plan_numbers(rooms, addition, DirPlans { file, pad })
 }
 
 // What an addition brings to a set.
@@ -316,8 +300,8 @@ fn lengths_of(links: usize, given: Given) -> TextLengths
 
 // The plan of an addition, or its refusal. Nothing is written.
 // Stays: each table is lent by itself (docs/DECISIONS.md, Forms 10), and the texts stand in the clause one by one, as
-// `addition_of` takes them. A `Given` made by the caller would bring parts, of which the clause would have to ask that they
-// are the path's.
+// `addition_of` takes them. A `Given` made by the caller would bring parts, of which the clause would have to ask that
+// they are the path's.
 pub fn plan_add(
     fs: FileStorage,
     rows: &[u64],
@@ -349,10 +333,11 @@ pub fn plan_add(
         return Err(Refusal::NoRoom);
     }
     let addition = Decided {
+        fs,
         sizes,
         facts,
         lengths: lengths_of(fs.num_symlinks, given),
         parts: given.parts,
     };
-    plan_dirs(fs, rooms, dirs, text, addition, given.directory())
+    plan_dirs(rooms, dirs, text, addition, given.directory())
 }

@@ -42,7 +42,8 @@ pub data NameSpan : Type 0 where
 abbrev pub leaf_span : List ℕ → Span → Span
 leaf_span rename_text s =
     record {
-      at = s.at + (length (trimmed is_separator (text_at rename_text s)) - length (rsplit_leaf (text_at rename_text s)));
+      at =
+          s.at + (length (trimmed is_separator (text_at rename_text s)) - length (rsplit_leaf (text_at rename_text s)));
       len = length (rsplit_leaf (text_at rename_text s));
     }
 
@@ -66,7 +67,8 @@ abbrev pub path_into : FileStorage → List ℕ → List ℕ → List ℕ → Re
     → Joined
 path_into fs rows dirs text rf entries rename_text z save buf =
     composed_file fs z (names_held fs rows dirs text && in_order rf entries rename_text)
-    (λ k. renamed_path (rename_for k (renames_of rf entries rename_text)) (file_path fs dirs text save (row_at rows k)) save
+    (λ k. renamed_path (rename_for k (renames_of rf entries rename_text))
+    (file_path fs dirs text save (row_at rows k)) save
     (text_at text fs.name))
     buf
 

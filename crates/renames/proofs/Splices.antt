@@ -5,21 +5,17 @@ use mathlib.Core.Path.{◌≡◌, refl, sym, ap, ◌∙◌}
 use mathlib.Core.List.{List, ◌++◌}
 use native.Mathlib.Omega.{arith}
 use borrow.Rule.Slice.PartMut.{put_mid}
-use lib.ListN.{length, take, drop, length-take, length-drop, take-append-drop}
+use lib.ListN.{length, take, drop, take-append-drop}
 use lib.Seq.{paste, sets, sets-eq, length-take-le}
 use Rattle.std.proofs.lemmas.List.{take_all}
 use Rattle.std.proofs.lemmas.Slice.{put_mid-paste}
-use Rattle.lists.proofs.Parts.{drop-take}
-use Rattle.lists.proofs.Runs.{sets-append, sets-comm}
+use Rattle.lists.proofs.Runs.{moved, sets-append, sets-comm}
 use Rattle.renames.specs.private.Slots.{spliced}
 
 module _ {A : Type 0} (l : List A) where
   -- the items from i up to j, copied to `dest`
   pub copied : (i j dest : ℕ) → i ≤ j → j ≤ length l → dest + (j - i) ≤ length l → paste l dest (drop i l) (j - i) ≡ sets l dest (drop i (take j l))
-  copied i j dest a b c =
-      let n : length (take (j - i) (drop i l)) ≡ j - i = omega (arith, length-drop i l, length-take (j - i) (drop i l)) in
-      let p = drop-take i j l in
-      rw p (sym (sets-eq (take (j - i) (drop i l)) l dest (omega arith) ∙ ap (λ (k : ℕ). take dest l ++ take (j - i) (drop i l) ++ drop (dest + k) l) n))
+  copied i j dest a b c = moved l j i dest (j - i) (omega arith) (omega arith)
 
   -- the items of another table, written from `at` on
   pub written : (new : List A) (at k : ℕ) → k ≡ length new → at + k ≤ length l → put_mid at k l new ≡ sets l at new
@@ -30,8 +26,8 @@ module _ {A : Type 0} (l : List A) where
       ∙ sym (sets-eq new l at (omega arith) ∙ ap (λ (n : ℕ). take at l ++ new ++ drop (at + n) l) p)
 
   -- the moved items, then the new ones in front of them
-  pub splice-is : (new : List A) (u at old : ℕ) → sets (sets l (at + length new) (drop (at + old) (take u l))) at new ≡ spliced l u at old new
-  splice-is new u at old =
+  pub splice_is : (new : List A) (u at old : ℕ) → sets (sets l (at + length new) (drop (at + old) (take u l))) at new ≡ spliced l u at old new
+  splice_is new u at old =
       let t = drop (at + old) (take u l) in
       sets-comm new t l at (at + length new) (omega arith) ∙ sym (sets-append new t l at)
 

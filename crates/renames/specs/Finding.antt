@@ -1,6 +1,7 @@
 -- A rename read back: of a file, in the list of renames and in the entries, and rename i. It relies on the renames of
 -- Renames.antt and on the entries' three words as it reads them.
-use Rattle.std.specs.Prelude.{ℕ, zero, suc, ◌+◌, ◌*◌, Bool, cond, not, ◌&&◌, List, [], ◌∷◌, eqb, ltb, leb, pos, get_or, Option, Some, None}
+use Rattle.std.specs.Prelude.{ℕ, zero, suc, ◌+◌, ◌*◌, Bool, cond, not, ◌&&◌, List, [], ◌∷◌, eqb, ltb, leb, pos, get_or}
+use Rattle.std.specs.Prelude.{Option, Some, None}
 use Rattle.types.specs.Refusals.{Outcome}
 use Rattle.rules.specs.Rules.{when, first_of, outcome_of}
 use Rattle.rules.specs.Questions.{short}
@@ -47,7 +48,8 @@ rename_found rf entries k =
 
 -- `find_rename`: refusal 10, the text area being of `room` bytes
 abbrev pub find_given : RenamedFiles → List ℕ → ℕ → ℕ → Outcome (Option Rename)
-find_given rf entries room k = outcome_of (first_of (short (in_order_in rf entries room) ∷ [])) (rename_found rf entries k)
+find_given rf entries room k =
+    outcome_of (first_of (short (in_order_in rf entries room) ∷ [])) (rename_found rf entries k)
 
 -- `export_filenames`, one rename at a time, ascending: rename i, 11 where there is none
 abbrev pub exported : RenamedFiles → List ℕ → List ℕ → ℕ → Outcome Rename

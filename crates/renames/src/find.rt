@@ -1,5 +1,5 @@
-// A rename read back from the lent tables: that of a file, or rename i. Relies on check.rt and slot.rt and on the laws of
-// proofs/Finding.antt, proofs/Used.antt, proofs/Decisions.antt, proofs/Slots.antt and proofs/Chunks.antt.
+// A rename read back from the lent tables: that of a file, or rename i. Relies on check.rt and slot.rt and on the laws
+// of proofs/Finding.antt, proofs/Used.antt, proofs/Decisions.antt, proofs/Slots.antt and proofs/Chunks.antt.
 ghost use Rattle.std.specs.Prelude.{◌≡◌, ◌+◌, ◌*◌, ◌≤◌, ◌%◌, ◌^◌, pos, length, get_or};
 ghost use Rattle.types.specs.Refusals.{outcome};
 ghost use Rattle.rules.specs.Bounds.{clamped_of};
@@ -33,8 +33,8 @@ fn rename_at(entries: &[u64], i: usize, at: usize) -> Rename
 }
 
 // The rename of a file, if it has one; `room` is the length of the text area.
-// Stays: it is public (docs/PROMISES.md names it), and promises its answer for every length of a text area; `find` below
-// serves those who hold the area.
+// Stays: it is public (docs/PROMISES.md names it), and promises its answer for every length of a text area; `find`
+// below serves those who hold the area.
 #[tactic(auto, using(crate::proofs::Decisions::orders, crate::proofs::Used::in_use))]
 pub fn find_rename(
     renames: RenamedFiles,
@@ -44,7 +44,8 @@ pub fn find_rename(
 ) -> Result<Option<Rename>, Refusal>
     ensures { outcome result ≡ find_given renames rename_entries.now room file }
 {
-    // Stays: as in change.rt.
+    // Stays: the text area is not lent here, only its length; `LentRenames` holds the area, so none of its methods can
+    // be called.
     if !is_in_order(renames, rename_entries, room) {
         return Err(Refusal::NoRoom);
     }
@@ -82,7 +83,8 @@ pub fn export_filename(
         return Err(Refusal::NoSuchFile);
     }
     let names = LentRenames::new(renames, rename_entries, rename_text);
-    // Stays: as in change.rt.
+    // Stays: the cut below ends at entry i. From a method that gives the entries in use it would be a cut of a cut, and
+    // the check no longer finds alone that the bytes of its texts fit (`bytes_of-at-requires`).
     if !names.is_in_order() {
         return Err(Refusal::NoRoom);
     }

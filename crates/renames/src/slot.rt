@@ -28,8 +28,8 @@ fn entries_below(entries: &[u64], file: u64) -> usize
 }
 
 // The bytes of text that entries have together.
-// Stays: that the lengths sum to less than 2^64 is asked here and in the two functions of slots below; a type of entries
-// with that bound would be made in each caller from the test that the tables are in order.
+// Stays: that the lengths sum to less than 2^64 is asked here and in the two functions of slots below; a type of
+// entries with that bound would be made in each caller from the test that the tables are in order.
 pub(crate) fn bytes_of(entries: &[u64]) -> usize
     requires { bytes_from (length entries.now / 3) 0 entries.now < 2 ^ 64 }
     ensures { result ≡ bytes_from (length entries.now / 3) 0 entries.now }

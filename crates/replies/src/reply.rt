@@ -10,7 +10,8 @@ use types::Refusal;
 const ROOM: usize = 256;
 
 // Where an answer goes, and what of it is not yet written: the first `used` bytes.
-// Stays: there is no heap, so the buffer has a fixed size and its length stands beside it.
+// Stays: `ArrayVec<u8, 256>` of the kit's crate `arrayvec` is such a buffer with its length and never allocates, but
+// the crates here stand on the kit's std and on one another alone.
 #[derive(Drop)]
 pub struct Reply {
     out: Stdout,

@@ -1,29 +1,21 @@
 -- Laws of the texts by which links lead: the text of a lead is that of its number, and where the bytes of a join stand.
--- They rely on the kit's laws of tests and of lists, and on the parts of a join of `path`.
+-- They rely on the kit's laws of lists, and on the parts of a join of `path`.
 use Prim.Native.Nat.{ℕ, ◌+◌, ◌-◌, ◌*◌, ◌/◌, ◌%◌, ◌<◌, ◌≤◌}
-use mathlib.Core.Path.{◌≡◌, sym, ◌∙◌}
+use mathlib.Core.Path.{◌≡◌, sym, ap, ◌∙◌}
 use mathlib.Core.Bool.{Bool, true, false, cond}
-use mathlib.Core.Logic.{⊎_elim}
 use mathlib.Core.List.{List, ◌++◌}
 use native.Mathlib.Omega.{arith}
-use lib.Dec.{leb}
 use lib.ListN.{length, get_or, get_or-append}
 use lib.Seq.{get_or-append_right}
-use borrow.Author.Tests.{lt-ltb, le-ltb, lt-leb, le-leb}
-use Rattle.lists.proofs.Orders.{le-or-lt}
 use Rattle.path.specs.Join.{appended}
 use Rattle.path.proofs.Joins.{kept, between, parts}
 use Rattle.tables.specs.declared.lent.Lent.{Lent}
-use Rattle.rope.specs.Rope.{leads, texts_of, led_text, text_of}
+use Rattle.rope.specs.Rope.{lead_read, leads, texts_of, led_text, text_of}
 
--- the lead that a number is read as
-pub text_read : (l : Lent) (v n : ℕ) → n ≡ v → text_of l (record { file = n / 4; from_directory = leb 2 (n % 4) }) ≡ texts_of l v
+-- the text of the lead that a number is read as
+pub text_read : (l : Lent) (v n : ℕ) → n ≡ v → text_of l (lead_read n) ≡ texts_of l v
 unfolding leads
-text_read l v n e =
-    rw e
-    (⊎_elim (λ (h : 2 ≤ v % 4). rw (le-leb 2 (v % 4) h, le-ltb (v % 4) 2 h))
-    (λ (h : v % 4 < 2). rw (lt-leb 2 (v % 4) h, lt-ltb (v % 4) 2 h))
-    (le-or-lt 2 (v % 4)))
+text_read l v n e = ap (λ (n : ℕ). text_of l (lead_read n)) e
 
 -- and a number that it has
 pub text_numbered : (rows dirs text : List ℕ) (i v : ℕ) (b : Bool) → v ≡ i * 4 + cond b 2 0 → led_text rows dirs text (record { file = i; from_directory = b }) ≡ leads rows dirs text v

@@ -2,7 +2,8 @@
 -- much of it is used. Three words a frame are enough, whatever the lengths of texts. Frames past the list's end are
 -- read as zeros, so every list and every count of frames hold a path. It relies on what a row says of a link
 -- (`lookup`) and on the joins of `path`.
-use Rattle.std.specs.Prelude.{ℕ, zero, suc, ◌+◌, ◌-◌, ◌*◌, ◌/◌, ◌%◌, ◌^◌, ◌<◌, Bool, cond, ◌&&◌, List, [], ◌++◌, eqb, leb, ltb, length, get_or, take, drop, replicate}
+use Rattle.std.specs.Prelude.{ℕ, zero, suc, ◌+◌, ◌-◌, ◌*◌, ◌/◌, ◌%◌, ◌^◌, ◌<◌, Bool, cond, ◌&&◌, List, [], ◌++◌, eqb}
+use Rattle.std.specs.Prelude.{leb, ltb, length, get_or, take, drop, replicate}
 use Rattle.lists.specs.Lists.{equal}
 use Rattle.path.specs.Join.{appended}
 use Rattle.lookup.specs.Lookup.{covers}
@@ -15,19 +16,20 @@ use Rattle.rope.specs.declared.bytes.Bytes.{Bytes}
 
 -- ---- the texts by which links lead
 
--- the text by which the link of row i leads with lead m: below 2 as it was given, else from the link's directory
-abbrev pub row_lead : List ℕ → List ℕ → List ℕ → ℕ → ℕ → List ℕ
-row_lead rows dirs text i m =
-    cond (ltb m 2) (row_text rows text i) (appended (row_branch rows dirs text i) (row_text rows text i))
-
--- text v is that of file v / 4 with the lead v % 4
-unfoldable pub leads : List ℕ → List ℕ → List ℕ → ℕ → List ℕ
-leads rows dirs text v = row_lead rows dirs text (v / 4) (v % 4)
-
 -- the text of a lead
 abbrev pub led_text : List ℕ → List ℕ → List ℕ → Lead → List ℕ
 led_text rows dirs text t =
-    cond t.from_directory (appended (row_branch rows dirs text t.file) (row_text rows text t.file)) (row_text rows text t.file)
+    cond t.from_directory (appended (row_branch rows dirs text t.file) (row_text rows text t.file))
+    (row_text rows text t.file)
+
+-- the lead that a number is read as: the link of file v / 4, by its text as it was given where v % 4 is below 2, else
+-- by the text from the link's directory
+abbrev pub lead_read : ℕ → Lead
+lead_read v = record { file = v / 4; from_directory = leb 2 (v % 4) }
+
+-- text v is that of this lead
+unfoldable pub leads : List ℕ → List ℕ → List ℕ → ℕ → List ℕ
+leads rows dirs text v = led_text rows dirs text (lead_read v)
 
 abbrev pub text_of : Lent → Lead → List ℕ
 text_of l = led_text l.rows.now l.dirs.now l.text.now

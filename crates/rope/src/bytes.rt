@@ -1,4 +1,4 @@
-// The bytes of a path one after another. They rely on place.rt and the laws of proofs/Reading.antt.
+// The bytes of a path one after another. They rely on frame.rt, place.rt and the laws of proofs/Reading.antt.
 ghost use Rattle.std.specs.Prelude.{◌≡◌, drop};
 ghost use Rattle.std.specs.Iterator.{YieldsFirst, item_count};
 ghost use Rattle.rope.specs.Rope.{held, bytes_left};

@@ -1,5 +1,5 @@
 // A path as frames hold it, and one frame of it: which text it is, how much of it is left, and the bytes of that. They
-// rely on lead.rt.
+// rely on lead.rt, `lists` and the laws of proofs/Leads.antt.
 ghost use Rattle.std.specs.Prelude.{◌≡◌, ◌+◌, ◌/◌, ◌%◌, ◌^◌, ◌<◌, ltb, length, get_or};
 ghost use Rattle.rope.specs.Rope.{texts_of, text_of, kind, start, unused};
 
@@ -7,9 +7,11 @@ use crate::lead::{Lead, lead_byte, lead_length};
 use tables::Lent;
 
 // The words of a frame: its text's number with its separator, and both halves of its start.
-// Stays: made as a record of a file's number, two flags and both halves of the start, a frame of twelve bytes has a number
-// of 16 bits where a word has one of 29, which asks more of callers. With a number of 32 bits, or with its start as one,
-// it takes sixteen, so a walk's 65536 frames would take 1 MiB of stack and not 768 KiB (docs/DECISIONS.md).
+// Stays: made as a record of a file's number, two flags and both halves of the start, a frame of twelve bytes has a
+// number of 16 bits where a word has one of 29, which asks more of callers. With a number of 32 bits, or with its start
+// as one, it takes sixteen, so a walk's 65536 frames would take 1 MiB of stack and not 768 KiB (docs/DECISIONS.md). As
+// three words in an array a frame keeps its bits and its bytes; but `Path::frames` is public and lends any number of
+// words, and one that is no multiple of three could then not be lent, which asks more of callers.
 pub const FRAME_WIDTH: usize = 3;
 
 // The path that the first `depth` frames hold, with the texts of the lent tables.
@@ -64,11 +66,7 @@ impl Path<'_> {
     fn lead(self, k: u32) -> Lead
         ensures { text_of self.entry.lent result ≡ texts_of self.entry.lent (kind self.entry.frames.now k / 2) }
     {
-        let number = lists::item_or(self.frames, k as usize * FRAME_WIDTH, 0) / 2;
-        Lead {
-            file: number / 4,
-            from_directory: 2 <= number % 4,
-        }
+        Lead::from(lists::item_or(self.frames, k as usize * FRAME_WIDTH, 0) / 2)
     }
 
     // How many bytes of frame k's text are left. Start and that add up.

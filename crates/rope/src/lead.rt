@@ -2,7 +2,7 @@
 // laws of proofs/Leads.antt.
 ghost use Rattle.std.specs.Prelude.{◌≡◌, length, get_or};
 ghost use Rattle.path.specs.Join.{appended};
-ghost use Rattle.rope.specs.Rope.{text_of};
+ghost use Rattle.rope.specs.Rope.{lead_read, text_of};
 
 use tables::Lent;
 
@@ -16,8 +16,23 @@ pub struct Lead {
     pub from_directory: bool,
 }
 
+// The lead that a number is read as; a frame holds it doubled.
+impl From<u32> for Lead {
+    ghost from_gives = { λ number lead. lead ≡ lead_read number };
+
+    fn from(number: u32) -> Lead {
+        Lead {
+            file: number / 4,
+            from_directory: 2 <= number % 4,
+        }
+    }
+}
+
 // Byte j of a directory and a name joined, 0 past the end.
-// Stays: byte j is asked for at each step of a walk; a chain of the three would be passed over up to j.
+// Stays: tried as plain Rust, with all bytes of 12, 1 and 14 asked for in turn, one takes 2.8 ns, and by `nth` of a
+// chain of the three 4.0. Rattle's `nth` passes over each byte before j: written as it is, one takes 30 ns, and of 200,
+// 1 and 55 bytes 230 (here 2.7). Walks read their paths so, and cleanings are far behind the Rust's
+// (docs/BENCHMARKS.md).
 #[tactic(auto, using(crate::proofs::Leads::joined_bytes))]
 fn joined_byte(d: &[u8], n: &[u8], j: usize) -> u8
     ensures { result ≡ get_or (appended d.now n.now) j 0 }

@@ -1,5 +1,5 @@
-// Whether the first bytes of a path are a file's path, or a directory's. They rely on bytes.rt and the laws of
-// proofs/Comparing.antt and proofs/Fronting.antt.
+// Whether the first bytes of a path are a file's path, or a directory's. They rely on frame.rt, bytes.rt and the laws
+// of proofs/Comparing.antt and proofs/Fronting.antt.
 ghost use Rattle.std.specs.Prelude.{◌≡◌, [], drop};
 ghost use Rattle.path.specs.Join.{appended};
 ghost use Rattle.tables.specs.Rows.{row_at};
@@ -18,6 +18,8 @@ fn is_end(d: &[u8], e: usize) -> bool
 
 impl Path<'_> {
     // Whether a directory and a name joined are the first e bytes of the path: the lengths first, then byte by byte.
+    // Stays: lookup's `joins_to`, `is_covered` and `row_joins_to` ask this of a slice. A path in frames stands nowhere
+    // as one, here and below.
     fn is_joined(self, d: &[u8], n: &[u8], e: usize) -> bool
         ensures { result ≡ is_front (appended d.now n.now) (held self.entry) e }
     {
@@ -34,8 +36,8 @@ impl Path<'_> {
         e <= d.len() && is_end(d, e) && self.is_joined(b"", &d[..e], e)
     }
 
-    // Whether the internal path of file i is the first e bytes of the path. It is a call of its own, since a scan asks it
-    // only where the front is longer than the buffer that links copies it to (`HEAD_SIZE`).
+    // Whether the internal path of file i is the first e bytes of the path. It is a call of its own, since a scan asks
+    // it only where the front is longer than the buffer that links copies it to (`HEAD_SIZE`).
     #[inline(never)]
     pub fn is_own(self, i: usize, e: usize) -> bool
         ensures { result

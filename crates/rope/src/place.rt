@@ -1,5 +1,5 @@
-// Where the bytes of a path stand in its frames. It relies on frame.rt and the laws of proofs/Flat.antt and
-// proofs/Standing.antt.
+// Where the bytes of a path stand in its frames. It relies on frame.rt, on bytes.rt for a single byte, and on the laws
+// of proofs/Flat.antt and proofs/Standing.antt.
 ghost use Rattle.std.specs.Prelude.{◌≡◌, ◌-◌, ◌<◌, ◌≤◌, ltb, length, get_or, drop};
 ghost use Rattle.rope.specs.Rope.{texts_of, unused, place_in, held, held_to, Stands};
 
@@ -7,8 +7,8 @@ use crate::frame::{Path, is_in, tail_in};
 
 // A place in a path: the number of frames that are left there, and of their bytes that are passed.
 // Stays: k counts frames, and 0 of them are left at the path's end; a reader stands there too, and before all frames,
-// where no frame's number says where it stands. `seek` is public and gives a place for every byte's number, also past the
-// end: as an `Option` it would fail there, and no longer say how far past the end that is.
+// where no frame's number says where it stands. `seek` is public and gives a place for every byte's number, also past
+// the end: as an `Option` it would fail there, and no longer say how far past the end that is.
 #[derive(Clone, Copy)]
 pub struct Place {
     pub k: u32,
@@ -16,8 +16,8 @@ pub struct Place {
 }
 
 impl Path<'_> {
-    // The place, in a frame that isn't passed whole, of what stands from another place on, and how many bytes are left of
-    // that frame's text. Past the path's end no frame is left.
+    // The place, in a frame that isn't passed whole, of what stands from another place on, and how many bytes are left
+    // of that frame's text. Past the path's end no frame is left.
     #[tactic(auto, using(crate::proofs::Flat::walking))]
     pub(crate) fn seek_from(self, from: Place) -> (Place, usize)
         ensures k_value { drop result.0.at (held_to self.entry result.0.k)

@@ -16,4 +16,5 @@ composed_if k t buf = cond (eqb k 0) (joined_if (fits t buf) t buf) (record { sa
 -- a text about file z, by its number; `held` says whether the lent tables are long enough
 abbrev pub composed_file : FileStorage → ℤ → Bool → (ℕ → List ℕ) → List ℕ → Joined
 composed_file fs z held t buf =
-    composed_if (first_of (bad_piece_length fs ∷ no_file fs z ∷ short (held && few_entries fs) ∷ [])) (t (clamped_of z)) buf
+    composed_if (first_of (bad_piece_length fs ∷ no_file fs z ∷ short (held && few_entries fs) ∷ []))
+    (t (clamped_of z)) buf

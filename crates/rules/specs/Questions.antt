@@ -1,11 +1,12 @@
 -- Document 01's table of refusals, the rows for questions, each a rule: 'any question' 11, 13, 12, 14, 15, 16, and 10
 -- last. 1 comes first for every set. It relies on the rules in order of Rules.antt and on the rows of `tables`.
-use Rattle.std.specs.Prelude.{ℕ, ◌/◌, ◌%◌, Bool, not, ◌&&◌, ◌||◌, List, [], ◌∷◌, eqb, ltb, leb, ℤ, length}
+use Rattle.std.specs.Prelude.{ℕ, ◌/◌, ◌%◌, Bool, false, not, ◌&&◌, ◌||◌, List, [], ◌∷◌, eqb, ltb, leb, ℤ, length}
 use Rattle.lists.specs.Lists.{ceiling}
 use Rattle.types.specs.Refusals.{Outcome}
 use Rattle.tables.specs.declared.storage.FileStorage.{FileStorage}
 use Rattle.tables.specs.declared.rows.Row.{Row}
 use Rattle.tables.specs.Rows.{has, dir_width, pad_bit, root_width, row_width}
+use Rattle.rules.specs.declared.decide.Tests.{Tests}
 use Rattle.rules.specs.Rules.{Rule, when, first_of, outcome_of}
 use Rattle.rules.specs.Bounds.{is_negative, is_below, clamped_of, limit, max_pieces, max_entries, bad_length}
 
@@ -66,6 +67,19 @@ short held = when (not held) 10
 abbrev pub few_entries : FileStorage → Bool
 few_entries fs = leb fs.num_files max_entries && leb fs.num_paths max_entries
 
+-- the tests that every question makes: those of 1 and of 10, and none of another
+abbrev pub set_tests : FileStorage → Bool → Tests
+set_tests fs held =
+    record {
+      bad_length = bad_length fs.piece_length;
+      no_file = false;
+      many = false;
+      no_piece = false;
+      bad_range = false;
+      no_tree = false;
+      no_room = not (held && few_entries fs);
+    }
+
 -- ---- the lent tables are long enough for what the set counts
 
 -- row i is there
@@ -96,7 +110,8 @@ held_answer fs held a = answered (bad_piece_length fs ∷ short (held && few_ent
 
 -- an answer about directory i
 abbrev pub directory_answer : {A : Type 0} → FileStorage → ℕ → Bool → A → Outcome A
-directory_answer fs i held a = answered (bad_piece_length fs ∷ no_directory fs i ∷ short (held && few_entries fs) ∷ []) a
+directory_answer fs i held a =
+    answered (bad_piece_length fs ∷ no_directory fs i ∷ short (held && few_entries fs) ∷ []) a
 
 -- an answer about file z, by its number
 abbrev pub file_answer : {A : Type 0} → FileStorage → ℤ → Bool → (ℕ → A) → Outcome A
@@ -106,12 +121,14 @@ file_answer fs z held a =
 -- an answer about piece z, by its number
 abbrev pub piece_answer : {A : Type 0} → FileStorage → ℤ → Bool → (ℕ → A) → Outcome A
 piece_answer fs z held a =
-    answered (bad_piece_length fs ∷ many_pieces fs ∷ no_piece fs z ∷ short (held && few_entries fs) ∷ []) (a (clamped_of z))
+    answered (bad_piece_length fs ∷ many_pieces fs ∷ no_piece fs z ∷ short (held && few_entries fs) ∷ [])
+    (a (clamped_of z))
 
 -- an answer about file z that takes or gives a piece number or a count of pieces
 abbrev pub file_pieces_answer : {A : Type 0} → FileStorage → ℤ → Bool → (ℕ → A) → Outcome A
 file_pieces_answer fs z held a =
-    answered (bad_piece_length fs ∷ no_file fs z ∷ many_pieces fs ∷ short (held && few_entries fs) ∷ []) (a (clamped_of z))
+    answered (bad_piece_length fs ∷ no_file fs z ∷ many_pieces fs ∷ short (held && few_entries fs) ∷ [])
+    (a (clamped_of z))
 
 -- an answer about the link text of file z: `there` says which rows are there, `linked` which files hold a text
 abbrev pub link_answer : {A : Type 0} → FileStorage → ℤ → (ℕ → Bool) → (ℕ → Bool) → Bool → (ℕ → A) → Outcome A

@@ -6,7 +6,7 @@ ghost use Rattle.rules.specs.Rules.{when, first_of};
 ghost use Rattle.rules.specs.Results.{check_number};
 ghost use Rattle.rules.specs.Bounds.{bad_length};
 ghost use Rattle.rules.specs.Questions.{bad_piece_length, no_file, no_directory, many_pieces, no_piece};
-ghost use Rattle.rules.specs.Questions.{short, few_entries};
+ghost use Rattle.rules.specs.Questions.{short, few_entries, set_tests};
 ghost use Rattle.rules.specs.Questions.{file_answer};
 
 use crate::test::{are_held, has_many, is_bad_length, is_no_file, is_no_piece};
@@ -30,16 +30,7 @@ pub struct Tests {
 impl Tests {
     // The tests that every question about a set makes; `held` says whether the tables that are lent are long enough.
     pub fn of_set(fs: FileStorage, held: bool) -> Tests
-        ensures { result
-            ≡ record {
-              bad_length = bad_length fs.piece_length;
-              no_file = false;
-              many = false;
-              no_piece = false;
-              bad_range = false;
-              no_tree = false;
-              no_room = not (held && few_entries fs);
-            } }
+        ensures { result ≡ set_tests fs held }
     {
         Tests {
             bad_length: is_bad_length(fs.piece_length),
@@ -50,16 +41,10 @@ impl Tests {
 
     // Those of a question about a piece.
     pub fn of_piece(fs: FileStorage, piece: PieceIndex, held: bool) -> Tests
-        ensures { result
-            ≡ record {
-              bad_length = bad_length fs.piece_length;
-              no_file = false;
-              many = (many_pieces fs).test;
-              no_piece = (no_piece fs piece.0).test;
-              bad_range = false;
-              no_tree = false;
-              no_room = not (held && few_entries fs);
-            } }
+        ensures { result ≡ record (set_tests fs held) {
+          many = (many_pieces fs).test;
+          no_piece = (no_piece fs piece.0).test;
+        } }
     {
         Tests {
             many: has_many(fs),
@@ -70,16 +55,7 @@ impl Tests {
 
     // Those of a question about a file.
     pub fn of_file(fs: FileStorage, index: FileIndex, held: bool) -> Tests
-        ensures { result
-            ≡ record {
-              bad_length = bad_length fs.piece_length;
-              no_file = (no_file fs index.0).test;
-              many = false;
-              no_piece = false;
-              bad_range = false;
-              no_tree = false;
-              no_room = not (held && few_entries fs);
-            } }
+        ensures { result ≡ record (set_tests fs held) { no_file = (no_file fs index.0).test } }
     {
         Tests {
             no_file: is_no_file(fs, index),

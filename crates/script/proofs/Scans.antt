@@ -2,6 +2,7 @@
 use Rattle.std.proofs.Common.{ℕ, suc, ◌+◌, ◌-◌, ◌<◌, Bool, true, false, not, cond, eqb, List, [], ◌∷◌, length, drop, ◌≡◌, refl, sym, ap, ◌∙◌, arith, ne_eqb}
 use Rattle.std.specs.List.{filter, slice_split, onto_first}
 use Rattle.std.proofs.lemmas.List.{drop-drop}
+use Rattle.lists.specs.Lists.{unblanked}
 use Rattle.script.specs.Words.{count_before, blanks_of, word_end, from_word, words_from}
 
 count-by : (b : Bool) (n : ℕ) → cond b 0 (suc n) ≡ cond b 0 (1 + n)
@@ -11,20 +12,22 @@ count-by false n = omega arith
 pub before-more : (c x : ℕ) (xs : List ℕ) → count_before c (x ∷ xs) ≡ cond (eqb x c) 0 (1 + count_before c xs)
 before-more c x xs = count-by (eqb x c) (count_before c xs)
 
-blank-by : (b : Bool) (n : ℕ) → cond b (suc n) 0 ≡ cond (not b) 0 (1 + n)
-blank-by true n = omega arith
-blank-by false n = refl
+blank-by : (b : Bool) (n c : ℕ) (t u : List ℕ) → u ≡ drop n t → cond b u (c ∷ t) ≡ drop (cond b (suc n) 0) (c ∷ t)
+blank-by true n c t u e = e
+blank-by false n c t u e = refl
 
-pub blanks-more : (x : ℕ) (xs : List ℕ) → blanks_of (x ∷ xs) ≡ cond (not (eqb x 32)) 0 (1 + blanks_of xs)
-blanks-more x xs = blank-by (eqb x 32) (blanks_of xs)
+-- the bytes without the blanks at their start are what stands from their first other byte on
+pub blanks_passed : (l : List ℕ) → unblanked l ≡ drop (blanks_of l) l
+blanks_passed [] = refl
+blanks_passed (c ∷ t) = blank-by (eqb c 32) (blanks_of t) c t (unblanked t) (blanks_passed t)
 
 -- the next word, from what the word before leaves of the line
 pub word-turn : (n i k : ℕ) (l s : List ℕ) → i < n → k ≡ word_end l → s ≡ drop k l → from_word (n - (i + 1)) s ≡ from_word (n - i) l
 word-turn n i k l s h e p = let q : n - i ≡ suc (n - (i + 1)) = omega arith in rw (q, p, e)
 
 -- the same, where the blanks before that word are passed first
-pub word_passed : (n i : ℕ) (l u s : List ℕ) → i < n → u ≡ drop (blanks_of l) l → s ≡ drop (count_before 32 u) u → from_word (n - (i + 1)) s ≡ from_word (n - i) l
-word_passed n i l u s h e p = word-turn n i (word_end l) l s h refl (p ∙ rw e (drop-drop (count_before 32 (drop (blanks_of l) l)) (blanks_of l) l))
+pub word_passed : (n i : ℕ) (l u s : List ℕ) → i < n → u ≡ unblanked l → s ≡ drop (count_before 32 u) u → from_word (n - (i + 1)) s ≡ from_word (n - i) l
+word_passed n i l u s h e p = word-turn n i (word_end l) l s h refl (p ∙ rw (e, blanks_passed l) (drop-drop (count_before 32 (drop (blanks_of l) l)) (blanks_of l) l))
 
 -- how many parts hold a byte
 abbrev pub held-parts : List (List ℕ) → ℕ

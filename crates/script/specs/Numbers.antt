@@ -15,4 +15,5 @@ negative_of k (Some n) = cond (eqb n 0) None (cond (leb n (2 ^ k)) (Some (negsuc
 
 -- a number from −2 ^ k to 2 ^ k − 1
 abbrev pub signed_of : ℕ → List ℕ → Option ℤ
-signed_of k word = cond (eqb (get_or word 0 0) 45) (negative_of k (number_of (drop 1 word))) (positive_of k (number_of word))
+signed_of k word =
+    cond (eqb (get_or word 0 0) 45) (negative_of k (number_of (drop 1 word))) (positive_of k (number_of word))

@@ -33,7 +33,8 @@ abbrev pub repeated_by : Option ℕ → Option ℕ → Option (List ℕ)
 repeated_by h l = option_map (λ b. replicate 32 b) (byte_of h l)
 
 abbrev pub repeated_of : List ℕ → Option (List ℕ)
-repeated_of word = cond (eqb (length word) 3) (repeated_by (either_of (get_or word 1 0)) (either_of (get_or word 2 0))) None
+repeated_of word =
+    cond (eqb (length word) 3) (repeated_by (either_of (get_or word 1 0)) (either_of (get_or word 2 0))) None
 
 -- the root that a word is
 abbrev pub root_of : List ℕ → Option (List ℕ)

@@ -1,6 +1,7 @@
 -- docs/CALLS.md: 'A byte string is `:` and its bytes, all but graphic ASCII (33 to 126) and `%` itself as `%XX` in
 -- upper-case hex; `:` alone is the empty string.' 37 is `%`, 58 is `:`, 48 to 57 are the digits, 65 is `A`.
-use Rattle.std.specs.Prelude.{ℕ, ◌+◌, ◌-◌, ◌*◌, Bool, true, false, not, cond, ◌&&◌, List, [], ◌∷◌, eqb, ltb, leb, length, Option, None, Some}
+use Rattle.std.specs.Prelude.{ℕ, ◌+◌, ◌-◌, ◌*◌, Bool, true, false, not, cond, ◌&&◌, List, [], ◌∷◌, eqb, ltb, leb}
+use Rattle.std.specs.Prelude.{length, Option, None, Some}
 
 -- the bytes that a text stands for, up to its end or to the first fault, and whether it has none
 pub record Text : Type 0 where

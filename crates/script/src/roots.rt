@@ -6,8 +6,8 @@ ghost use Rattle.script.specs.Roots.{root_of, spelt_of};
 use crate::strings::hex_byte;
 
 // The root that a word is.
-// Stays: std's `from_str_radix` reads one number from a `str`, with letters of either case; none reads 32 bytes, and `*XX`
-// is the script's own form.
+// Stays: std's `from_str_radix` reads one number from a `str`, with letters of either case; none reads 32 bytes, and
+// `*XX` is the script's own form.
 pub fn to_root(word: &[u8]) -> Option<[u8; 32]>
     ensures { result ≡ root_of word.now }
 {

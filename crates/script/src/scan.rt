@@ -1,6 +1,6 @@
 // Scans for a byte: how much stands before it, and what stands from there on. Relies on the laws of proofs/Scans.antt.
 ghost use Rattle.std.specs.Prelude.{◌≡◌, ◌≤◌, length, drop};
-ghost use Rattle.script.specs.Words.{count_before, blanks_of};
+ghost use Rattle.script.specs.Words.{count_before};
 
 // How many bytes stand before the first byte c, or in all where there is none.
 pub fn before_first(bytes: &[u8], c: u8) -> usize
@@ -8,16 +8,6 @@ pub fn before_first(bytes: &[u8], c: u8) -> usize
     ensures within { result ≤ length bytes.now }
 {
     bytes.iter().position(|b| *b == c).unwrap_or(bytes.len())
-}
-
-// The bytes without the blanks at their start.
-// Stays: it begins with one call of std's `position`, as `before_first` does; a function for both would take the test,
-// and say in its contract what is now the body of each.
-pub(crate) fn unblanked(bytes: &[u8]) -> &[u8]
-    ensures { result.now ≡ drop (blanks_of bytes.now) bytes.now }
-{
-    let blanks = bytes.iter().position(|b| *b != b' ').unwrap_or(bytes.len());
-    &bytes[blanks..]
 }
 
 // What stands from the first blank on.

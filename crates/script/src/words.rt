@@ -1,9 +1,9 @@
 // The words of a line, parted by blanks and numbered from 0. A word that a line lacks has no bytes, and so is no string
-// and no number. Relies on scan.rt, and on the laws of proofs/Scans.antt.
+// and no number. Relies on scan.rt, on `lists` to drop blanks, and on the laws of proofs/Scans.antt.
 ghost use Rattle.std.specs.Prelude.{◌≡◌, false};
 ghost use Rattle.script.specs.Words.{from_word, word_of, after_word, words_from};
 
-use crate::scan::{before_first, past_word, unblanked};
+use crate::scan::{before_first, past_word};
 
 // The word of a number.
 // Stays: callers hand the word to what reads it; a function for a number or a string of a line would only join the two,
@@ -24,15 +24,15 @@ pub fn after(line: &[u8], number: usize) -> &[u8]
 
 // What stands from the word of a number on.
 // Stays: std's `split` gives the words, but not what stands after one, which `after` hands on.
-#[tactic(auto, using(crate::proofs::Scans::word_passed))]
+#[tactic(auto, using(crate::proofs::Scans::blanks_passed, crate::proofs::Scans::word_passed))]
 fn from_word(line: &[u8], number: usize) -> &[u8]
     ensures { result.now ≡ from_word number line.now }
 {
     let mut rest = line;
     for _ in 0..number {
-        rest = past_word(unblanked(rest));
+        rest = past_word(lists::unblanked(rest));
     }
-    unblanked(rest)
+    lists::unblanked(rest)
 }
 
 // The number of words of a line: the parts between blanks that hold a byte.

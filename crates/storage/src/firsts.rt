@@ -41,9 +41,9 @@ fn fill_begin(run: &mut [u16], file: u16)
 // Writes a file's number at four places or more, four at a time: how many pieces begin in a file is hard to foretell,
 // and a loop over them one by one would take the wrong turn at most additions.
 // Stays: tried, `run.fill(file)`: by rustc, runs of up to 16 places, of lengths by chance, take 15.4 ns, and so 5.9;
-// runs of up to 64 take 22.6 and 17.0. An addition with a table of first files is to take at most 1.1 of the time of one
-// without, and takes 1.05 to 1.15 as it is (docs/BENCHMARKS.md). `fill_places` tests the length of a run once, and the
-// functions that it calls, `fill_few` too, ask for what it found, so that none tests it again.
+// runs of up to 64 take 22.6 and 17.0. An addition with a table of first files is to take no longer than it does
+// (docs/BENCHMARKS.md, the bar). `fill_places` tests the length of a run once, and the functions that it calls,
+// `fill_few` too, ask for what it found, so that none tests it again.
 fn fill_many(run: &mut [u16], file: u16)
     requires { 4 ≤ length run.old }
     ensures { run.new ≡ replicate (length run.old) file }

@@ -7,7 +7,7 @@ use tables::{FileStorage, Span};
 use types::Refusal;
 
 // A set without files, with that piece length; below 1 it is refusal 1.
-// Stays: each field of a new record is written out, so that a new field isn't left at a derived `Default` unseen.
+// Each field of a new record is written out, so that a further one isn't left at a derived `Default` unseen.
 fn open_with(piece_length: i32, indexed: bool) -> Result<FileStorage, Refusal>
     ensures { outcome result ≡ opened piece_length indexed }
 {

@@ -5,5 +5,6 @@ pub mod Words
 pub mod Entries
 pub mod Filled
 pub mod Tabled
+pub mod Chunks
 pub mod Moves
 pub mod Paths

@@ -1,5 +1,5 @@
--- Sets whose tables are lent: the store that they hold, and whether two that are lent for writing lend the same tables. It
--- relies on the model of a set.
+-- Sets whose tables are lent: the store that they hold, and whether two that are lent for writing lend the same tables.
+-- It relies on the model of a set.
 use Rattle.std.specs.Prelude.{[], ◌≡◌}
 use Rattle.tables.specs.declared.lent.LentSet.{LentSet}
 use Rattle.tables.specs.declared.lent.LentSetMut.{LentSetMut}

@@ -4,8 +4,8 @@
 --
 -- Names from elsewhere: `cond t a b` is a where t is true, else b; `eqb`, `ltb` and `leb` test =, < and ≤; `a - b` is 0
 -- where b is larger. A text is its bytes, and `text_at` reads the bytes that a span (position, length) covers. `row_at`
--- and `dir_at` read a row of a table, `root_at` a root; `has flags bit` tests a bit; `unzigzag` is the signed number that
--- a word holds. `appended` puts a name after a directory, one separator between them.
+-- and `dir_at` read a row of a table, `root_at` a root; `has flags bit` tests a bit; `unzigzag` is the signed number
+-- that a word holds. `appended` puts a name after a directory, one separator between them.
 use Rattle.std.specs.Prelude.{ℕ, zero, suc, ◌%◌, Bool, true, false, cond, List, [], ◌∷◌, eqb, ℤ, Option, Some, None}
 use Rattle.types.specs.Signed.{unzigzag}
 use Rattle.path.specs.Join.{appended}

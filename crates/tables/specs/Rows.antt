@@ -1,7 +1,8 @@
 -- Records in flat lists: words for the file rows and the directory rows, bytes for the roots. Reading past a list's end
 -- gives zeros and storing there does nothing, so every list has a row at every index. It relies on the spans of
 -- Span.antt.
-use Rattle.std.specs.Prelude.{ℕ, zero, suc, ◌+◌, ◌-◌, ◌*◌, ◌/◌, ◌%◌, ◌^◌, min, Bool, cond, not, ◌&&◌, List, [], ◌∷◌, ◌++◌, eqb, ltb, length, get_or, take, drop, replicate}
+use Rattle.std.specs.Prelude.{ℕ, zero, suc, ◌+◌, ◌-◌, ◌*◌, ◌/◌, ◌%◌, ◌^◌, min, Bool, cond, not, ◌&&◌, List, [], ◌∷◌}
+use Rattle.std.specs.Prelude.{◌++◌, eqb, ltb, length, get_or, take, drop, replicate}
 use Rattle.std.proofs.lemmas.List.Edits.{sets}
 use Rattle.tables.specs.declared.span.Span.{Span}
 use Rattle.tables.specs.declared.rows.Row.{Row}
@@ -141,7 +142,8 @@ filled g i (suc n) = g i ++ filled g (i + 1) n
 
 -- the first n directory rows, or as many as there are, once the bytes of span c are removed from the text area
 abbrev pub dirs_lowered : List ℕ → ℕ → Span → List ℕ
-dirs_lowered dirs n c = sets dirs 0 (filled (λ i. dir_words (low c (dir_at dirs i))) 0 (min n (length dirs / dir_width)))
+dirs_lowered dirs n c =
+    sets dirs 0 (filled (λ i. dir_words (low c (dir_at dirs i))) 0 (min n (length dirs / dir_width)))
 
 -- the row that becomes row i where row f is removed
 abbrev pub skip : ℕ → ℕ → ℕ

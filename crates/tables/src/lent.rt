@@ -1,5 +1,5 @@
-// A set as a value that is passed on whole: the lent tables that hold its texts and say where they stand, and its record
-// with them, for reading or for writing.
+// A set as a value that is passed on whole: the lent tables that hold its texts and say where they stand, and its
+// record with them, for reading or for writing.
 ghost use Rattle.std.specs.Prelude.{◌≡◌};
 ghost use Rattle.tables.specs.Span.{text_at};
 ghost use Rattle.tables.specs.Rows.{directory_span};
@@ -35,7 +35,8 @@ pub struct LentSet<'a> {
 impl<'a> LentSet<'a> {
     // A set with its tables lent for reading.
     pub fn new(fs: FileStorage, rows: &'a [u64], dirs: &'a [u64], text: &'a [u8]) -> LentSet<'a>
-        ensures { result ≡ record { fs = fs; lent = record { rows = rows.entry; dirs = dirs.entry; text = text.entry } } }
+        ensures { result
+            ≡ record { fs = fs; lent = record { rows = rows.entry; dirs = dirs.entry; text = text.entry } } }
     {
         let lent = Lent { rows, dirs, text };
         LentSet { fs, lent }

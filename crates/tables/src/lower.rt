@@ -30,7 +30,8 @@ pub fn lower_dirs(dirs: &mut [u64], n: usize, c: Span)
 }
 
 // The row that becomes row i where row f is removed.
-// Stays: the next row's number is made here and below; a type for a number that can grow by one would be opened at once.
+// Stays: the next row's number is made here and below; a type for a number that can grow by one would be opened at
+// once.
 fn row_from(f: usize, i: usize) -> usize
     requires { i + 1 < 2 ^ 64 }
     ensures { result ≡ skip f i }

@@ -106,8 +106,8 @@ pub struct Row {
     // removal lowers every row's spans; an `Option` would be made of the bit at each reading and lose them.
     pub link: Span,
     // The number of a directory, NO_PATH or PATH_IS_ABSOLUTE.
-    // Stays: any word may stand in a lent row, and a trim reads rows and writes them back. An enum of the three would be
-    // made of the word and turned back at each row, for `is_inside` and two tests for PATH_IS_ABSOLUTE.
+    // Stays: any word may stand in a lent row, and a trim reads rows and writes them back. An enum of the three would
+    // be made of the word and turned back at each row, for `is_inside` and two tests for PATH_IS_ABSOLUTE.
     pub path_index: u64,
     pub flags: u64,
     // The modified time as a word (`types::zigzag64`).
@@ -187,9 +187,8 @@ fn packed_word(size: u64, flags: u64) -> u64
 
 // Stores words side by side from position `at` on, as many of them as there is room for. Its callers test the length
 // before they multiply by their width; here the product would ask for a bound of both.
-// Stays: tried, `copy_from_slice` takes 15.0 ns for a row's eight words, and this loop, which is unrolled, 7.9.
-// Additions to a v1 set of one directory take 1.0 to 1.15 of the Rust's time (docs/BENCHMARKS.md), so the slower form
-// adds to what is behind.
+// Stays: tried, `copy_from_slice` takes 15.0 ns for a row's eight words, and this loop, which is unrolled, 7.9. Each
+// addition writes a row, and is to take no longer than it does (docs/BENCHMARKS.md, the bar).
 #[tactic(auto, using(crate::proofs::Words::storing))]
 fn put_words<const N: usize>(target: &mut [u64], at: usize, words: &[u64; N])
     requires { (N < 2 ^ 63) × (at + N < 2 ^ 64) }
@@ -201,8 +200,8 @@ fn put_words<const N: usize>(target: &mut [u64], at: usize, words: &[u64; N])
 }
 
 // Writes row i, nothing past the end.
-// Stays: document 01 asks for lent tables of words; size and flags share one word of a row, so that the record's own
-// memory is no row that could be copied.
+// Stays: a row is eight words of a lent table (docs/DECISIONS.md, The set 1); size and flags share one of them, so that
+// the record's own memory is no row that could be copied.
 pub fn put_row(rows: &mut [u64], i: usize, row: Row)
     ensures { rows.new ≡ put_row rows.old i row }
 {
@@ -224,8 +223,8 @@ pub fn put_row(rows: &mut [u64], i: usize, row: Row)
 
 // Directory row i, zeros past the end; one test of the length serves both words of a whole row.
 // Stays: tried, with a test of each word, as `word_at` has, going over 50 directories takes 144 ns by rustc, and so 59.
-// `hashes` and `links` go over them so; an addition to a directory reads the last row by this, and to a v1 set of one
-// directory it takes 1.0 to 1.15 of the Rust's time (docs/BENCHMARKS.md).
+// `links` goes over them so, and an addition to a directory reads the last row by this; both are to take no longer than
+// they do (docs/BENCHMARKS.md, the bar).
 pub fn dir_at(dirs: &[u64], i: usize) -> Span
     ensures { result ≡ dir_at dirs.now i }
 {

@@ -2,8 +2,8 @@
 use crate::span::Span;
 
 // What a set is besides its tables.
-// Stays: its flags are facts of the set, and no field is there or missing by one of them; the table that `indexed` tells
-// of is no field, but lent beside the record to every addition.
+// Stays: its flags are facts of the set, and no field is there or missing by one of them; the table that `indexed`
+// tells of is no field, but lent beside the record to every addition.
 #[derive(Clone, Copy)]
 pub struct FileStorage {
     // From 1 to 2147483647; anything else is refusal 1.

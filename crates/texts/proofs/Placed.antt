@@ -91,8 +91,8 @@ module _ (s : Store) (i : ℕ) where
         let said = said-none fit s.text new x s.fs.text_len q in
         rw (own-parts s i, ← b, ← n, said.0, said.1)
 
-    pub own_written : (k : ℕ) {x rows : List ℕ} {u : ℕ} → Says (Ok k) x → u ≡ s.fs.text_len → rows ≡ put_row s.rows i (row_with row row.name (record { at = u; len = k }))
-        → ◌≡◌ {A = Store} (record { fs = storage_with s.fs s.fs.name (u + k); rows = rows; roots = s.roots; firsts = s.firsts; dirs = s.dirs; text = x }) (with_own s i)
-    own_written k {x} q e r =
+    pub own_written : (k : ℕ) {x rows : List ℕ} → Says (Ok k) x → rows ≡ put_row s.rows i (row_with row row.name (record { at = s.fs.text_len; len = k }))
+        → ◌≡◌ {A = Store} (record { fs = storage_with s.fs s.fs.name (s.fs.text_len + k); rows = rows; roots = s.roots; firsts = s.firsts; dirs = s.dirs; text = x }) (with_own s i)
+    own_written k {x} q r =
         let said = said-some fit s.text new x s.fs.text_len k q in
-        rw (own-parts s i, ← b, ← n, r, e, said.0, said.1, said.2)
+        rw (own-parts s i, ← b, ← n, r, said.0, said.1, said.2)

@@ -6,13 +6,14 @@ ghost use Rattle.path.specs.Join.{appended, fits, joined_if, joined_says};
 ghost use Rattle.tables.specs.Span.{end_of, text_at};
 ghost use Rattle.tables.specs.Rows.{row_at, put_row};
 ghost use Rattle.tables.specs.Lending.{store_in, held, SameTables};
+ghost use Rattle.lookup.specs.Lookup.{lent};
 ghost use Rattle.texts.specs.Texts.{row_with, gone_at, relinked, with_own, with_beside};
 ghost use Rattle.texts.specs.Texts.{text_beside, staged_beside};
 ghost use Rattle.texts.specs.private.Parts.{joined_behind, room_beside};
 
 use crate::cut::cut_out;
 use crate::parts::is_within;
-use tables::{LentSet, LentSetMut, Row, Span};
+use tables::{FileStorage, LentSet, LentSetMut, Row, Span};
 use types::Refusal;
 
 // Makes a span the link text of file i.
@@ -57,22 +58,32 @@ fn join_behind(text: &mut [u8], used: usize, branch: Span, leaf: Span) -> Result
 }
 
 // Writes the own path of link i, whose text was removed, as its text, where it fits.
-pub fn write_own(set: &mut LentSetMut<'_>, i: usize)
-    ensures after { held set.new ≡ with_own (held set.old) i }
-    ensures same { SameTables set.old set.new }
+// Stays: it is lent each table by itself, since it reads the directories and writes the other two; a `LentSetMut` would
+// ask for the directories for writing.
+pub fn write_own(
+    fs: FileStorage,
+    rows: &mut [u64],
+    dirs: &[u64],
+    text: &mut [u8],
+    i: usize,
+) -> FileStorage
+    ensures { lent result rows.new dirs.now text.new
+        ≡ with_own (lent fs rows.old dirs.now text.old) i }
 {
-    let LentSet { fs, lent } = set.read();
     let at = fs.text_len;
-    let row = tables::row_at(lent.rows, i);
-    let branch = tables::directory_span(lent.dirs, row);
+    let row = tables::row_at(rows, i);
+    let branch = tables::directory_span(dirs, row);
     if !is_within(at, branch) || !is_within(at, row.name) {
-        return;
+        return fs;
     }
-    let Ok(len) = join_behind(set.text, at, branch, row.name) else {
-        return;
+    let Ok(len) = join_behind(text, at, branch, row.name) else {
+        return fs;
     };
-    put_link(set.rows, i, Span { at, len });
-    set.fs.text_len = at + len;
+    put_link(rows, i, Span { at, len });
+    FileStorage {
+        text_len: at + len,
+        ..fs
+    }
 }
 
 // Writes the text of link i from the link's directory to the start of the scratch space, where it fits there.

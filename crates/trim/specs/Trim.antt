@@ -1,6 +1,7 @@
 -- Document 01, `remove_tail_padding`: 'skips empty files, removes at most one pad'; document 02 (vi): the time 'moves
 -- when the record moves'. All on the model; it relies on that of `tables`.
-use Rattle.std.specs.Prelude.{ℕ, ◌+◌, ◌-◌, true, cond, List, [], ◌∷◌, ◌++◌, map, eqb, get_or, take, drop, Option, Some, None}
+use Rattle.std.specs.Prelude.{ℕ, ◌+◌, ◌-◌, true, cond, List, [], ◌∷◌, ◌++◌, map, eqb, get_or, take, drop, Option, Some}
+use Rattle.std.specs.Prelude.{None}
 use Rattle.tables.specs.Model.{present_if, File, is_pad, Model}
 
 -- the index of the last file that is not empty, where that is a pad; the files are counted from i on, and `found` is

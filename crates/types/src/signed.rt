@@ -84,8 +84,8 @@ impl PieceIndex {
     }
 
     // The number as a `usize`, 0 where it is negative, as in the Rust's release build.
-    // Stays: a trait with this method needs one more, which gives an index's `i32`, an impl of that for each struct, and
-    // an import at every call.
+    // Stays: a trait with this method needs one more, which gives an index's `i32`, an impl of that for each struct,
+    // and an import at every call.
     pub fn get(self) -> usize
         ensures { result ≡ clamped_of self.0 }
     {
@@ -102,7 +102,8 @@ impl FileIndex {
     }
 
     // The number −1, for no file.
-    // Stays: document 01 answers with −1 where no file has the root asked for, and the C interface hands that number out.
+    // Stays: document 01 answers with −1 where no file has the root asked for, and the C interface hands that number
+    // out.
     pub fn none() -> FileIndex
         ensures { result.0 ≡ negsuc 0 }
     {
@@ -110,8 +111,8 @@ impl FileIndex {
     }
 
     // The number as a `usize`, 0 where it is negative, as in the Rust's release build.
-    // Stays: a trait with this method needs one more, which gives an index's `i32`, an impl of that for each struct, and
-    // an import at every call.
+    // Stays: a trait with this method needs one more, which gives an index's `i32`, an impl of that for each struct,
+    // and an import at every call.
     pub fn get(self) -> usize
         ensures { result ≡ clamped_of self.0 }
     {

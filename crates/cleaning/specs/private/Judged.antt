@@ -1,4 +1,5 @@
--- A set whose links are judged, as the private functions pass it, and the text that it needs. It relies on Writing.antt.
+-- A set whose links are judged, as the private functions pass it, and the text that it needs. It relies on
+-- Writing.antt.
 use Rattle.std.specs.Prelude.{ℕ, List}
 use Rattle.tables.specs.Rows.{row_at}
 use Rattle.tables.specs.Lending.{store_in}

@@ -13,7 +13,8 @@ use Rattle.lookup.specs.Lookup.{is_flagged}
 use Rattle.links.specs.declared.mark.LinkVerdict.{LinkVerdict}
 use Rattle.links.specs.declared.mark.LinkVerdict.TheVariants.{Keep, OwnPath, FromDirectory}
 use Rattle.links.specs.Judging.{verdict_read}
-use Rattle.cleaning.specs.Cleaning.{emptied_at, emptied, rewritten_at, rewritten, cleaned_store, if_changed, kept_after, new_bytes, Cleaned}
+use Rattle.cleaning.specs.Cleaning.{emptied_at, emptied, rewritten_at, rewritten, cleaned_store, if_changed, kept_after}
+use Rattle.cleaning.specs.Cleaning.{new_bytes, Cleaned}
 use Rattle.cleaning.specs.Cleaning.{cleaned_to, cleaning_number}
 
 -- ---- verdicts
@@ -96,5 +97,6 @@ cleaned_by_marks s marks scratch = cleaned_by (all_verdicts s marks) s scratch
 abbrev pub cleaned_within : Store → ℕ → List ℕ → ℕ → Cleaned
 cleaned_within s marks scratch walk_path =
     cond (eqb (cleaning_number s marks (length scratch) walk_path) 0)
-    (cleaned_to (value (cleaned_store (length scratch) s).fs) (cleaned_store (length scratch) s) [] (cleared scratch) [])
+    (cleaned_to (value (cleaned_store (length scratch) s).fs)
+    (cleaned_store (length scratch) s) [] (cleared scratch) [])
     (cleaned_to (refused (cleaning_number s marks (length scratch) walk_path)) s [] scratch [])

@@ -1,15 +1,17 @@
 -- What is listed of the directories that the private functions pass as one value. It relies on Gathering.antt.
-use Rattle.std.specs.Prelude.{ℕ, ◌/◌, List, map, length}
+use Rattle.std.specs.Prelude.{ℕ, List, map, get_or}
 use Rattle.tables.specs.Span.{text_at}
-use Rattle.tables.specs.Rows.{dir_at}
-use Rattle.tables.specs.Model.{tabled}
 use Rattle.hashes.specs.declared.hashes.Listed.{Listed}
 use Rattle.hashes.specs.Hashes.{beginnings, joined_lists}
 use Rattle.hashes.specs.private.Gathering.{hashes_after}
 
+-- the text that a directory's two words place
+abbrev pub placed : List ℕ → List ℕ → List ℕ
+placed text words = text_at text (record { at = get_or words 0 0; len = get_or words 1 0 })
+
 -- the directories
 abbrev pub listed_dirs : Listed → List (List ℕ)
-listed_dirs s = tabled (length s.dirs.now / 2) (λ i. text_at s.text.now (dir_at s.dirs.now i))
+listed_dirs s = map (placed s.text.now) s.dirs.now
 
 -- their hashes, in the directories' order, repeats included
 abbrev pub due : Listed → List ℕ

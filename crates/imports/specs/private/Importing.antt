@@ -1,6 +1,7 @@
 -- How `import_filenames` is decided: the renames that the list does not name are kept, and of each number's names the
 -- last is given to them. Merging.antt says how they come together. It relies on Imports.antt for what is due.
-use Rattle.std.specs.Prelude.{ℕ, zero, suc, ◌+◌, ◌*◌, ◌/◌, Bool, false, cond, not, ◌&&◌, ◌||◌, ◌≡◌, List, [], ◌∷◌, eqb, ltb, ℤ, length, get_or, take, drop}
+use Rattle.std.specs.Prelude.{ℕ, zero, suc, ◌+◌, ◌*◌, ◌/◌, Bool, false, cond, not, ◌&&◌, ◌||◌, ◌≡◌, List, [], ◌∷◌, eqb}
+use Rattle.std.specs.Prelude.{ltb, ℤ, length, get_or, take, drop}
 use Rattle.types.specs.Refusals.{Outcome}
 use Rattle.lists.specs.Lists.{any}
 use Rattle.tables.specs.declared.storage.FileStorage.{FileStorage}

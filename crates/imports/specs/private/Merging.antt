@@ -1,7 +1,8 @@
 -- How the names of a list come to the renames that are kept, in time linear in both. For each file the last number of
 -- the list that names it is noted, and where its name begins. Then the files are gone through in order: each gets the
 -- name that is noted, or keeps its rename. It relies on the list of `renames` and on the kit's `set`.
-use Rattle.std.specs.Prelude.{ℕ, zero, suc, ◌+◌, ◌-◌, ◌*◌, ◌≡◌, Bool, cond, not, List, [], ◌∷◌, ◌++◌, eqb, ℤ, length, get_or, set, drop, replicate}
+use Rattle.std.specs.Prelude.{ℕ, zero, suc, ◌+◌, ◌-◌, ◌*◌, ◌≡◌, Bool, cond, not, List, [], ◌∷◌, ◌++◌, eqb, ℤ, length}
+use Rattle.std.specs.Prelude.{get_or, set, drop, replicate}
 use Rattle.lists.specs.Lists.{part_of}
 use Rattle.rules.specs.Bounds.{clamped_of, is_below}
 use Rattle.renames.specs.declared.rename.RenameMode.TheVariants.{FullPath}

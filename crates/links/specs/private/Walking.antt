@@ -1,6 +1,7 @@
 -- Where the judgement of links stands, for the private parts of its code: marks in use, frames written, and what a walk
 -- needs. The meaning is that of Clean.antt; the marks are those of Judging.antt.
-use Rattle.std.specs.Prelude.{ℕ, zero, suc, ◌+◌, ◌*◌, ◌/◌, ◌%◌, ◌^◌, ◌<◌, ◌≤◌, Bool, true, false, cond, ◌≡◌, List, [], ◌∷◌, map, eqb, ltb, length, get_or, set, drop, Option}
+use Rattle.std.specs.Prelude.{ℕ, zero, suc, ◌+◌, ◌*◌, ◌/◌, ◌%◌, ◌^◌, ◌<◌, ◌≤◌, Bool, true, false, cond, ◌≡◌, List, []}
+use Rattle.std.specs.Prelude.{◌∷◌, map, eqb, ltb, length, get_or, set, drop, Option}
 use Rattle.std.specs.Option.{ForSome}
 use Rattle.std.specs.Borrow.{Bor}
 use Rattle.lists.specs.Lists.{equal}
@@ -72,7 +73,8 @@ abbrev pub any_at : List Entry → List ℕ → List ℕ → Bool
 any_at [] ms p = false
 any_at (f ∷ fs) ms p =
     cond f.flagged
-    (cond (ltb 0 (get_or ms 0 0)) (cond (equal (own_path f) p) true (any_at fs (drop 1 ms) p)) (any_at fs (drop 1 ms) p))
+    (cond (ltb 0 (get_or ms 0 0)) (cond (equal (own_path f) p) true (any_at fs (drop 1 ms) p))
+    (any_at fs (drop 1 ms) p))
     (any_at fs ms p)
 
 abbrev pub but_later : Bool → Bool → Bool
@@ -128,12 +130,11 @@ walk_of fs ds ms p e = goes (is_directory ds) (known fs ds) (open_of fs ms) p e
 abbrev pub path_of : Store → List ℕ → ℕ → List ℕ
 path_of s frames depth = held_path s.rows s.dirs s.text frames depth
 
--- what a walk of the path in the first frame needs: few files, a number for each place in the path, and a frame for
--- each open link
+-- what a walk of the path in the first frame needs: few files, a number for each place in the path, and 65536 frames
 pub record Walkable (s : Store) (ms frames : List ℕ) : Type 0 where
   pub few : s.fs.num_files ≤ 65535
   pub fits : length (path_of s frames 1) + weight (open_of (entries_of s) ms) < 2 ^ 64
-  pub room : (1 + length (open_of (entries_of s) ms)) * frame_width ≤ length frames
+  pub room : 65536 * frame_width ≤ length frames
 
 -- what the passes need: few files, document 01's space as a number, and 65536 frames
 pub record Bounded (s : Store) (frames : ℕ) : Type 0 where
@@ -166,7 +167,8 @@ first_marks_in s = first_marks (entries_of s) (directories_of s) (entries_of s)
 -- whether the walk of link i's text comes to a file or a directory of the set
 abbrev pub resolves_in : Store → ℕ → Bool
 resolves_in s i =
-    resolves (entries_of s) (directories_of s) (links_of (entries_of s) (directories_of s) (entries_of s)) (entry_at s i).text
+    resolves (entries_of s) (directories_of s) (links_of (entries_of s) (directories_of s) (entries_of s))
+    (entry_at s i).text
 
 abbrev pub walked_mark_in : Store → ℕ → ℕ → ℕ
 walked_mark_in s i m = walked_mark (entries_of s) (directories_of s) (entry_at s i) m

@@ -34,7 +34,8 @@ stopped_by (Err e) line = Err (record { refusal = e; line = line })
 -- the run that ends after the last line
 abbrev pub counted_by : FileStorage → ℕ → Result FileStorage Stop
 counted_by fs line =
-    cond (ltb 2147483647 (ceiling fs.total_size fs.piece_length)) (Err (record { refusal = TooManyPieces; line = line })) (Ok fs)
+    cond (ltb 2147483647 (ceiling fs.total_size fs.piece_length))
+    (Err (record { refusal = TooManyPieces; line = line })) (Ok fs)
 
 -- the set in the tables of a run, and what a change to them says; the set keeps no table of first files
 abbrev pub store_in : FileStorage → Tables → Store

@@ -1,6 +1,7 @@
 -- The steps that the code takes to a plan: directories, counts, spans of the new texts. proofs/Plans.antt ties them to
 -- `planned_for` of Plan.antt.
-use Rattle.std.specs.Prelude.{◌≡◌, ℕ, ◌+◌, ◌<◌, ◌≤◌, Bool, true, false, cond, ◌&&◌, ◌||◌, List, [], ◌∷◌, ◌++◌, length, ◌==◌, nat_lt, Option, Some, None, is_some, option_map, unwrap_or}
+use Rattle.std.specs.Prelude.{◌≡◌, ℕ, ◌+◌, ◌<◌, ◌≤◌, Bool, true, false, cond, ◌&&◌, ◌||◌, List, [], ◌∷◌, ◌++◌, length}
+use Rattle.std.specs.Prelude.{◌==◌, nat_lt, Option, Some, None, is_some, option_map, unwrap_or}
 use Rattle.std.specs.Bool.{then_some}
 use Rattle.std.specs.Option.{option_map_or, option_and_then, option_zip}
 use Rattle.lists.specs.Lists.{ceiling}
@@ -68,8 +69,8 @@ abbrev pub count_with : Bool → ℕ → ℕ
 count_with new n = n + cond new 1 0
 
 -- the same of the pad's directory, where a pad follows
-abbrev pub pad_dir_plan_of : Bool → List (List ℕ) → Option DirPlan
-pad_dir_plan_of follows ds = then_some follows (dir_plan_of (stored pad_directory_name false) ds)
+abbrev pub pad_dir_plan_of : Option ℕ → List (List ℕ) → Option DirPlan
+pad_dir_plan_of pad ds = option_map (λ size. dir_plan_of (stored pad_directory_name false) ds) pad
 
 -- how many directories there are with the file's and the pad's, and the length of the text of the pad's, where that is
 -- new
@@ -147,25 +148,25 @@ spans_within room p = cond (nat_lt room p.end) None (Some p)
 
 -- ---- the plan
 
-abbrev pub plan_from : FileStorage → Decided → Counts → DirPlans → TextSpans → AddPlan
-plan_from fs a counts d spans =
+abbrev pub plan_from : Decided → Counts → DirPlans → TextSpans → AddPlan
+plan_from a counts d spans =
     record {
-      before = fs;
+      before = a.fs;
       after = record {
-        piece_length = fs.piece_length;
+        piece_length = a.fs.piece_length;
         v2 = a.sizes.v2;
         num_files = counts.num_files;
         num_paths = dirs_after d;
         num_symlinks = counts.num_symlinks;
-        name = cond (fs.num_files == 0) spans.set fs.name;
+        name = cond (a.fs.num_files == 0) spans.set a.fs.name;
         text_len = spans.end;
         total_size = a.sizes.total_size;
         size_on_disk = counts.size_on_disk;
-        trimmed = fs.trimmed;
-        indexed = fs.indexed;
+        trimmed = a.fs.trimmed;
+        indexed = a.fs.indexed;
       };
       row = record {
-        offset = fs.total_size;
+        offset = a.fs.total_size;
         size = a.sizes.size;
         name = spans.name;
         link = spans.link;
@@ -186,20 +187,20 @@ plan_from fs a counts d spans =
           })
           (option_zip a.sizes.pad d.pad);
       dir =
-          option_map (λ len. record { slot = fs.num_paths; text = record { at = spans.directory; len = len } })
+          option_map (λ len. record { slot = a.fs.num_paths; text = record { at = spans.directory; len = len } })
           d.file.new;
       pad_dir =
           option_map (λ len. record { slot = d.file.count; text = record { at = spans.pad_directory; len = len } })
           (pad_new d);
-      old = old_name fs;
+      old = old_name a.fs;
       start = spans.set.at;
       parts = a.parts;
     }
 
 -- the spans of an addition whose texts have these lengths
-abbrev pub text_spans_for : FileStorage → Decided → DirPlans → TextSpans
-text_spans_for fs a d =
-    text_spans_of (text_kept fs)
+abbrev pub text_spans_for : Decided → DirPlans → TextSpans
+text_spans_for a d =
+    text_spans_of (text_kept a.fs)
     a.lengths.set_name
     (unwrap_or d.file.new 0)
     a.lengths.name
@@ -208,21 +209,21 @@ text_spans_for fs a d =
     (pad_length a.sizes.pad)
 
 -- the plan where there is room, else refusal 10
-abbrev pub planned_in : FileStorage → Rooms → Decided → DirPlans → Outcome AddPlan
-planned_in fs rooms a d =
+abbrev pub planned_in : Rooms → Decided → DirPlans → Outcome AddPlan
+planned_in rooms a d =
     outcome_of
     (cond
-    (short_of rooms (counts_of fs a.sizes a.facts).num_files (dirs_after d)
-    || nat_lt rooms.text (text_spans_for fs a d).end)
+    (short_of rooms (counts_of a.fs a.sizes a.facts).num_files (dirs_after d)
+    || nat_lt rooms.text (text_spans_for a d).end)
     10
     0)
-    (plan_from fs a (counts_of fs a.sizes a.facts) d (text_spans_for fs a d))
+    (plan_from a (counts_of a.fs a.sizes a.facts) d (text_spans_for a d))
 
 -- the same of a directory's text beside the directories that are stored
-abbrev pub planned_beside : FileStorage → Rooms → List (List ℕ) → Decided → Directory → Outcome AddPlan
-planned_beside fs rooms ds a d =
-    planned_in fs rooms a
-    (record { file = dir_plan_of d ds; pad = pad_dir_plan_of (is_some a.sizes.pad) (with_directory_of d ds) })
+abbrev pub planned_beside : Rooms → List (List ℕ) → Decided → Directory → Outcome AddPlan
+planned_beside rooms ds a d =
+    planned_in rooms a
+    (record { file = dir_plan_of d ds; pad = pad_dir_plan_of a.sizes.pad (with_directory_of d ds) })
 
 -- the lengths of the texts of an addition, whose path has these parts
 abbrev pub lengths_of : ℕ → Option (List ℕ) → List ℕ → PathParts → List ℕ → TextLengths

@@ -1,18 +1,17 @@
--- `hashes::hashes::keep_dir` meets its contract. The loop's invariant: x is the hash of the directory's first `from` bytes behind the
--- state, and the hashes of the beginnings that end at place `end` or behind it, kept in the table as it is, come to what is due.
-use Rattle.hashes.proofs.Hashing.{hashes_at}
+-- `hashes::hashes::keep_dir` meets its contract. The loop's invariant: x is the hash of what stands before the parts that are still to come,
+-- and the hashes at their ends, kept in the table as it is, come to what is due.
+use Rattle.std.specs.Iterator.{AlwaysYields}
+use Rattle.hashes.proofs.Hashing.{hashes_on}
 use Rattle.hashes.proofs.Inserting.{Going}
 use Rattle.hashes.specs.private.Gathering.{gathered, hashes_after}
-use Rattle.crc32c.specs.Crc.{crc_from, lower}
 use lib.Seq.{sets}
 use lib.ListN.{length, take}
-use mathlib.Core.List.{map}
-use mathlib.Core.Path.{◌≡◌}
-use Prim.Native.Nat.{◌≤◌, min}
+use mathlib.Core.List.{List}
+use Prim.Native.Nat.{ℕ, min}
 use Rattle.hashes.proofs.hashes.keep_dir.Given as goal
 
-abbrev pub invariant-loop-end : goal.invariant-loop-end
-invariant-loop-end l =
+abbrev pub invariant-loop-part : goal.invariant-loop-part
+invariant-loop-part l =
     let due = gathered l.bound (hashes_after l.state l.d) (take l.n l.fn.table) in
-    (l.from ≤ l.end) × (l.x ≡ crc_from l.state (map lower (take l.from l.d)))
-    × Going l.bound (hashes_at l.state l.d l.end) l.m l.table (sets l.fn.table 0 due) (min (length l.fn.table) (length due))
+    (left : List (List ℕ)) × AlwaysYields (goal.iterator-loop-part).next_gives (λ p. p.now) l.part-iterator left
+    × Going l.bound (hashes_on l.x left) l.m l.table (sets l.fn.table 0 due) (min (length l.fn.table) (length due))

@@ -21,7 +21,7 @@ returns-then-is_inside c =
     let inside : is_inside (row_at c.args.the_set.lent.rows.now c.args.i) ≡ c.is_inside.result = ap is_inside (sym c.row_at-row.ensures)
     ∙ sym c.is_inside.ensures in
     c.settled_mark.ensures
-    ∙ rw (c.new-front.ensures.path, c.new-front.ensures.end, c.new-path.ensures)
+    ∙ rw (c.new-front.ensures.set, c.new-front.ensures.path, c.new-front.ensures.end, c.new-path.ensures)
     (near_in (entries_of (set_of c.args.the_set)) (directories_of (set_of c.args.the_set)) (entry_at (set_of c.args.the_set) c.args.i).text
     walk_decides (set_of c.args.the_set) (row_at c.args.the_set.lent.rows.now c.args.i) _
     (inside ∙ c.if-is_inside.true)

@@ -24,13 +24,12 @@ invariant-loop-d l =
 abbrev pub invariant-loop-k : goal.invariant-loop-k
 invariant-loop-k l =
     (l.marks ≡ l.initial.marks)
-    × (l.depth ≡ l.initial.depth)
     × (l.e ≡ l.front.e)
     × Left (set_of l.the_set) l.k-iterator (λ fs k. Scan (entries_of (set_of l.the_set)) fs (map lead l.initial.marks) (front_of l.front.path l.front.e) k)
 
 abbrev pub invariant-walk : goal.invariant-walk
-invariant-walk l = (length l.buf ≡ 4096) × Walking (set_of l.the_set) l.initial.marks l.initial.frames
-    (answer_of (set_of l.the_set) l.initial.marks l.initial.frames) l.marks l.frames l.depth l.e
+invariant-walk l = (length l.buf ≡ 4096) × Walking (set_of l.the_set) l.initial.marks
+    (answer_of (set_of l.the_set) l.initial.marks l.fn.frames) l.marks l.stack.words.now l.stack.depth l.e
 
 abbrev pub decreases-walk : goal.decreases-walk
-decreases-walk l = left (open_of (entries_of (set_of l.the_set)) (map lead l.marks)) (path_of (set_of l.the_set) l.frames l.depth) l.e
+decreases-walk l = left (open_of (entries_of (set_of l.the_set)) (map lead l.marks)) (path_of (set_of l.the_set) l.stack.words.now l.stack.depth) l.e

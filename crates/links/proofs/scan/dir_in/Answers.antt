@@ -12,7 +12,7 @@ use Rattle.links.proofs.scan.dir_in.Goals as goal
 
 pub returns : goal.returns
 returns c =
-    any_from_yields_List (λ k. covers (directory_text (store_in c.args.fs c.args.front.path.lent) k) (front_of c.args.front.path c.args.front.e)) _ _ _ c.any.ensures.ran
-    (YieldsList-from_range 0 c.args.fs.num_paths c.args.fs.num_paths refl (sub-zero c.args.fs.num_paths))
+    any_from_yields_List (λ k. covers (directory_text (store_in c.args.front.fs c.args.front.path.lent) k) (front_of c.args.front.path c.args.front.e)) _ _ _ c.any.ensures.ran
+    (YieldsList-from_range 0 c.args.front.fs.num_paths c.args.front.fs.num_paths refl (sub-zero c.args.front.fs.num_paths))
     (λ x b q k. search rules)
-    ∙ any-directory (store_in c.args.fs c.args.front.path.lent) (front_of c.args.front.path c.args.front.e)
+    ∙ any-directory (store_in c.args.front.fs c.args.front.path.lent) (front_of c.args.front.path c.args.front.e)

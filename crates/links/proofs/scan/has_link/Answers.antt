@@ -12,6 +12,6 @@ use Rattle.links.proofs.scan.has_link.Goals as goal
 
 pub returns : goal.returns
 returns c =
-    any_from_yields_List (leads_at (store_in c.args.fs c.args.front.path.lent) (map lead c.args.marks.now) (front_of c.args.front.path c.args.front.e)) _ _ _ c.any.ensures.ran
+    any_from_yields_List (leads_at (store_in c.args.front.fs c.args.front.path.lent) (map lead c.args.marks.now) (front_of c.args.front.path c.args.front.e)) _ _ _ c.any.ensures.ran
     (links_given _ _ (ap links_left c.starting_at-links.ensures)) (λ x b q k. search rules)
-    ∙ any-links (store_in c.args.fs c.args.front.path.lent) (map lead c.args.marks.now) (front_of c.args.front.path c.args.front.e) (c.args.fs.num_files - c.args.i0) c.args.i0 c.args.k0
+    ∙ any-links (store_in c.args.front.fs c.args.front.path.lent) (map lead c.args.marks.now) (front_of c.args.front.path c.args.front.e) (c.args.front.fs.num_files - c.args.i0) c.args.i0 c.args.k0

@@ -3,17 +3,20 @@ use Rattle.std.proofs.Common.{sym, ◌∙◌, arith}
 use Rattle.plan.proofs.Directories.{none-stored, last-found, last-missed}
 use Rattle.plan.proofs.dirs.Stored.find.Goals as goal
 
-pub returns-then-self-eq0-clause-value : goal.returns-then-self-eq0-clause-value
-returns-then-self-eq0-clause-value c =
-    none-stored c.args.self.now.dirs.now c.args.self.now.text.now c.args.dir.now c.args.self.now.count (omega arith)
+pub returns-in_err-last-clause-value : goal.returns-in_err-last-clause-value
+returns-in_err-last-clause-value c =
+    rw c.from_residual.ensures (none-stored c.args.self.now.dirs.now c.args.self.now.text.now c.args.dir.now c.args.self.now.count (omega (arith, c.in_err-last.ensures)))
 
 pub returns-then-is_text-clause-value : goal.returns-then-is_text-clause-value
 returns-then-is_text-clause-value c =
-    last-found c.args.self.now.dirs.now c.args.self.now.text.now c.args.dir.now c.args.self.now.count (omega arith)
-    (sym c.if-is_text.true ∙ c.is_text.ensures ∙ rw c.dir_at.ensures)
+    let last = c.in_ok-last.ensures in
+    last.1 ∙ last-found c.args.self.now.dirs.now c.args.self.now.text.now c.args.dir.now c.args.self.now.count (omega (arith, last.0))
+    (sym c.if-is_text.true ∙ c.is_text.ensures ∙ rw (c.dir_at.ensures, last.1))
 
 pub returns-clause-value : goal.returns-clause-value
 returns-clause-value c =
+    let last = c.in_ok-last.ensures in
     c.find_among.ensures.value c.args.self.now.count
-    ∙ last-missed c.args.self.now.dirs.now c.args.self.now.text.now c.args.dir.now c.args.self.now.count (omega arith) c.min-n.result c.min-n.ensures
-    (sym (sym c.if-is_text.false ∙ c.is_text.ensures ∙ rw c.dir_at.ensures))
+    ∙ last-missed c.args.self.now.dirs.now c.args.self.now.text.now c.args.dir.now c.args.self.now.count (omega (arith, last.0)) c.min-n.result
+    (c.min-n.ensures ∙ rw last.1)
+    (sym (sym c.if-is_text.false ∙ c.is_text.ensures ∙ rw (c.dir_at.ensures, last.1)))
