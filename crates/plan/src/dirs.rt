@@ -51,7 +51,7 @@ impl DirPlan {
 // Whether a span's text is `dir`; where the area's end cannot cut a longer span to its length, the two lengths are
 // compared before the text is read.
 // Stays: tried, with `lists::same` of `tables::text_at` alone, an addition to a v1 set of 50 directories takes 221 ns,
-// and so 172.
+// and so 172; the Rust takes 180 to 195 (docs/BENCHMARKS.md).
 fn is_text(text: &[u8], s: Span, dir: &[u8]) -> bool
     ensures { result ≡ equal dir.now (text_at text.now s) }
 {
@@ -95,15 +95,17 @@ pub(crate) struct Stored<'a> {
 
 impl Stored<'_> {
     // The index of the last directory whose text is `dir`. The last row is looked at here, so that an addition to the
-    // directory that was stored last pays no call. Rows past the table's end have the empty text, as the last one then
-    // has, so only those in the table are left to search.
+    // directory that was stored last pays no search, and by `lists::same` alone, so that `is_text` has one caller,
+    // which takes it in. Rows past the table's end have the empty text, as the last one then has, so only those in the
+    // table are left to search.
     fn find(&self, dir: &[u8]) -> Option<usize>
         ensures bound { IfSome result (λ k. k < self.now.count) }
         ensures value { unwrap_or result self.now.count
             ≡ directory_index dir.now (dir_texts self.now.dirs.now self.now.text.now self.now.count) }
     {
         let last = self.count.checked_sub(1)?;
-        if is_text(self.text, tables::dir_at(self.dirs, last), dir) {
+        let text = tables::text_at(self.text, tables::dir_at(self.dirs, last));
+        if lists::same(dir, text) {
             return Some(last);
         }
         let n = last.min(self.dirs.len() / DIR_WIDTH);

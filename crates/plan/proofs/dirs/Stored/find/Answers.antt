@@ -7,11 +7,11 @@ pub returns-in_err-last-clause-value : goal.returns-in_err-last-clause-value
 returns-in_err-last-clause-value c =
     rw c.from_residual.ensures (none-stored c.args.self.now.dirs.now c.args.self.now.text.now c.args.dir.now c.args.self.now.count (omega (arith, c.in_err-last.ensures)))
 
-pub returns-then-is_text-clause-value : goal.returns-then-is_text-clause-value
-returns-then-is_text-clause-value c =
+pub returns-then-same-clause-value : goal.returns-then-same-clause-value
+returns-then-same-clause-value c =
     let last = c.in_ok-last.ensures in
     last.1 ∙ last-found c.args.self.now.dirs.now c.args.self.now.text.now c.args.dir.now c.args.self.now.count (omega (arith, last.0))
-    (sym c.if-is_text.true ∙ c.is_text.ensures ∙ rw (c.dir_at.ensures, last.1))
+    (sym c.if-same.true ∙ c.same.ensures ∙ rw (c.text_at-text.ensures, c.dir_at.ensures, last.1))
 
 pub returns-clause-value : goal.returns-clause-value
 returns-clause-value c =
@@ -19,4 +19,4 @@ returns-clause-value c =
     c.find_among.ensures.value c.args.self.now.count
     ∙ last-missed c.args.self.now.dirs.now c.args.self.now.text.now c.args.dir.now c.args.self.now.count (omega (arith, last.0)) c.min-n.result
     (c.min-n.ensures ∙ rw last.1)
-    (sym (sym c.if-is_text.false ∙ c.is_text.ensures ∙ rw (c.dir_at.ensures, last.1)))
+    (sym (sym c.if-same.false ∙ c.same.ensures ∙ rw (c.text_at-text.ensures, c.dir_at.ensures, last.1)))
