@@ -41,9 +41,11 @@ fn write_judged(
     Ok(set.fs)
 }
 
-// Cleans a set, with a mark for each of 65535 links on the stack; `walk_path` is a length.
+// Cleans a set, with a mark for each of 65535 links on the stack; `walk_path` is a length. It is a call of its own, so
+// that a set without flagged links is cleaned without that stack.
 // Stays: the work space is passed on, here and below: of a record of marks, scratch space and walk path each clause
 // would name a field before and after, and the lengths of two of the three are all that is read.
+#[inline(never)]
 fn clean_links(
     set: &mut LentSetMut<'_>,
     scratch: &mut [u8],
