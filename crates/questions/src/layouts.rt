@@ -1,13 +1,13 @@
 // Questions on the layout of a set; those that search for a file begin by the set's table of first files. Relies on
-// `layout`, `files` and `blocks`, on `script` and on `replies`.
+// `layout`, `files`, `mapping` and `blocks`, on `script`, on `lists` and on `replies`.
 use crate::answer::Question;
 use crate::{first, words};
-use std::io;
+use std::{array, io};
 use tables::Sha256Hash;
-use types::{FileIndex, PieceIndex};
+use types::{FileIndex, FileSlice, PieceIndex};
 
-// The places of a column of slices, more than a set has files.
-const COLUMN: usize = 1024;
+// The places of a table of slices, more than a set has files.
+const SLICES: usize = 1024;
 
 // Answers a line that has one of this module's forms.
 pub(crate) fn answer(question: Question<'_>) -> Option<io::Result<()>> {
@@ -20,6 +20,8 @@ pub(crate) fn answer(question: Question<'_>) -> Option<io::Result<()>> {
         map_file(question)
     } else if script::has_form(line, b"map_block PIECE OFFSET SIZE") {
         map_block(question)
+    } else if script::has_form(line, b"map_block_core PIECE OFFSET SIZE") {
+        map_block_core(question)
     } else {
         on_number(question)
     }
@@ -125,27 +127,69 @@ fn map_file(question: Question<'_>) -> Option<io::Result<()>> {
     Some(replies::answer(out, request))
 }
 
+// A block of a piece, as a line names it.
+#[derive(Clone, Copy)]
+struct Block {
+    piece: PieceIndex,
+    offset: i64,
+    size: i64,
+}
+
+impl Block {
+    // The block that the first three words name.
+    fn read(line: &[u8]) -> Option<Block> {
+        Some(Block {
+            piece: PieceIndex(script::to_i32(script::word(line, 1))?),
+            offset: script::to_i64(script::word(line, 2))?,
+            size: script::to_i64(script::word(line, 3))?,
+        })
+    }
+}
+
 // `map_block PIECE OFFSET SIZE`.
 fn map_block(question: Question<'_>) -> Option<io::Result<()>> {
     let Question { out, line, set } = question;
-    let piece = PieceIndex(script::to_i32(script::word(line, 1))?);
-    let offset = script::to_i64(script::word(line, 2))?;
-    let size = script::to_i64(script::word(line, 3))?;
-    // Stays: of the two that give a block's slices, this program tests `blocks::map_block_core`, which fills three
-    // columns; `mapping::map_block` fills a table of records.
-    let mut files = [0u64; COLUMN];
-    let mut offsets = [0u64; COLUMN];
-    let mut sizes = [0u64; COLUMN];
+    let block = Block::read(line)?;
+    let mut slices: [FileSlice; SLICES] = array::from_fn(|_| FileSlice {
+        file_index: FileIndex::none(),
+        offset: 0,
+        size: 0,
+    });
+    let res = mapping::map_block(
+        set.fs,
+        set.rows,
+        layout::window_for(set.fs, set.firsts, block.piece, block.offset),
+        block.piece,
+        block.offset,
+        block.size,
+        first(&mut slices, set.lent.slices),
+    );
+    Some(replies::slices(out, res, &slices))
+}
+
+// `map_block_core PIECE OFFSET SIZE`: the slices of the three columns that the core fills.
+fn map_block_core(question: Question<'_>) -> Option<io::Result<()>> {
+    let Question { out, line, set } = question;
+    let block = Block::read(line)?;
+    let mut files = [0u64; SLICES];
+    let mut offsets = [0u64; SLICES];
+    let mut sizes = [0u64; SLICES];
     let res = blocks::map_block_core(
         set.fs,
         set.rows,
-        layout::window_for(set.fs, set.firsts, piece, offset),
-        piece,
-        offset,
-        size,
+        layout::window_for(set.fs, set.firsts, block.piece, block.offset),
+        block.piece,
+        block.offset,
+        block.size,
         first(&mut files, set.lent.slices),
         first(&mut offsets, set.lent.slices),
         first(&mut sizes, set.lent.slices),
     );
-    Some(replies::slices(out, res, &files, &offsets, &sizes))
+    // A number that a record can't hold becomes −1, which no slice has.
+    let slices: [FileSlice; SLICES] = array::from_fn(|n| FileSlice {
+        file_index: FileIndex(i32::try_from(lists::item_or(&files, n, 0)).unwrap_or(-1)),
+        offset: i64::try_from(lists::item_or(&offsets, n, 0)).unwrap_or(-1),
+        size: i64::try_from(lists::item_or(&sizes, n, 0)).unwrap_or(-1),
+    });
+    Some(replies::slices(out, res, &slices))
 }

@@ -7,25 +7,20 @@ use renames::LentRenames;
 use std::io;
 use std::io::{Stdout, Write};
 use tables::FileStorage;
-use types::Refusal;
+use types::{FileSlice, Refusal};
 
-// The number of slices of a block, and the slices, which stand at the start of three columns: `file:offset:size`.
-// Stays: of the two that give a block's slices, the program tests `blocks::map_block_core`, which fills three columns;
-// `mapping::map_block` fills a table of records.
-pub fn slices(
-    out: Stdout,
-    res: Result<usize, Refusal>,
-    files: &[u64],
-    offsets: &[u64],
-    sizes: &[u64],
-) -> io::Result<()> {
+// The number of slices of a block, and the slices, which stand at the start of a table: `file:offset:size`.
+pub fn slices(out: Stdout, res: Result<usize, Refusal>, table: &[FileSlice]) -> io::Result<()> {
     let n = match res {
         Ok(n) => n,
         Err(refusal) => return refused(out, refusal),
     };
     let mut reply = Reply::ok(out)?;
     n.put(&mut reply)?;
-    for ((file, offset), size) in files.iter().zip(offsets).zip(sizes).take(n) {
+    for slice in table.iter().take(n) {
+        let file = slice.file_index.0;
+        let offset = slice.offset;
+        let size = slice.size;
         write!(reply, " {file}:{offset}:{size}")?;
     }
     reply.end()

@@ -150,7 +150,9 @@ fn layout_question(name: &[u8], words: &mut Words) -> Option<LayoutQuestion> {
         b"blocks_per_piece" => LayoutQuestion::BlocksPerPiece,
         b"file_index_at_offset" => LayoutQuestion::FileIndexAtOffset(words.number()?),
         b"file_index_for_root" => LayoutQuestion::FileIndexForRoot(words.root()?),
-        b"map_block" => LayoutQuestion::MapBlock(PieceIndex(words.number()?), words.number()?, words.number()?),
+        b"map_block" | b"map_block_core" => {
+            LayoutQuestion::MapBlock(PieceIndex(words.number()?), words.number()?, words.number()?)
+        }
         b"map_file" => LayoutQuestion::MapFile(FileIndex(words.number()?), words.number()?, words.number()?),
         _ => return None,
     })

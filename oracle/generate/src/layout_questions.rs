@@ -14,6 +14,9 @@ const PLAIN: [&str; 6] = ["num_pieces", "last_piece", "piece_range", "file_range
 const ON_PIECE: [&str; 5] =
     ["piece_size", "piece_size2", "blocks_in_piece2", "file_index_at_piece", "last_file_index_at_piece"];
 
+/// The questions on a block of a piece: its slices, by each of the two functions that give them.
+const ON_BLOCK: [&str; 2] = ["map_block", "map_block_core"];
+
 /// The questions on one file.
 const ON_FILE: [&str; 9] = [
     "exclusive",
@@ -45,13 +48,13 @@ pub fn every(script: &mut Script, set: &Set) -> io::Result<()> {
     let pieces = piece_count(&set.files);
     for piece in [-1, pieces] {
         on_piece(script, piece)?;
-        numbers(script, "map_block", &[piece, 0, 1])?;
+        on_block(script, [piece, 0, 1])?;
     }
     for piece in 0..pieces {
         on_piece(script, piece)?;
         for offset in 0..=length {
             for size in 0..=length + 2 {
-                numbers(script, "map_block", &[piece, offset, size])?;
+                on_block(script, [piece, offset, size])?;
             }
         }
     }
@@ -77,7 +80,7 @@ pub fn on_pieces(script: &mut Script, set: &Set) -> io::Result<()> {
     for piece in 0..=piece_count(&set.files) {
         on_piece(script, piece)?;
         for (offset, size) in [(0, 1), (0, length), (length - 1, 2 * length)] {
-            numbers(script, "map_block", &[piece, offset, size])?;
+            on_block(script, [piece, offset, size])?;
             numbers(script, "file_index_at_offset", &[piece * length + offset])?;
         }
     }
@@ -98,16 +101,16 @@ pub fn boundary(script: &mut Script, random: &mut Random, set: &Set) -> io::Resu
     for piece in [-1, 0, 1, last - 1, last, last + 1, i32::MIN.into(), i32::MAX.into()] {
         if i32::try_from(piece).is_ok() {
             on_piece(script, piece)?;
-            numbers(script, "map_block", &[piece, 0, length])?;
+            on_block(script, [piece, 0, length])?;
         }
     }
     for offset in [-1, 0, 1, total - 1, total, total + 1, LIMIT, LIMIT + 1, i64::MIN, i64::MAX] {
         numbers(script, "file_index_at_offset", &[offset])?;
-        numbers(script, "map_block", &[0, offset, total])?;
+        on_block(script, [0, offset, total])?;
         numbers(script, "map_file", &[0, offset, random.one_of(&[0, 1, 16384, i32::MAX]).into()])?;
     }
     for size in [-1, 0, 1, 16384, total, i32::MAX.into(), i64::MIN, i64::MAX] {
-        numbers(script, "map_block", &[last.clamp(0, i32::MAX.into()), 0, size])?;
+        on_block(script, [last.clamp(0, i32::MAX.into()), 0, size])?;
         if i32::try_from(size).is_ok() {
             numbers(script, "map_file", &[(files - 1).max(0), 0, size])?;
         }
@@ -129,7 +132,7 @@ pub fn random(script: &mut Script, random: &mut Random, set: &Set, count: usize)
         match random.below(21) {
             0..=6 => {
                 let piece = piece(random, set);
-                numbers(script, "map_block", &[piece, place(random, set), size(random, set, i64::MAX)])?;
+                on_block(script, [piece, place(random, set), size(random, set, i64::MAX)])?;
             }
             7..=9 => {
                 let file = file(random, set);
@@ -165,6 +168,11 @@ fn on_piece(script: &mut Script, piece: i64) -> io::Result<()> {
 
 fn on_file(script: &mut Script, file: i64) -> io::Result<()> {
     ON_FILE.iter().try_for_each(|name| numbers(script, name, &[file]))
+}
+
+/// Both calls that give the slices of a block, which the Rust answers alike.
+fn on_block(script: &mut Script, block: [i64; 3]) -> io::Result<()> {
+    ON_BLOCK.iter().try_for_each(|name| numbers(script, name, &block))
 }
 
 fn for_root(script: &mut Script, root: &str) -> io::Result<()> {
