@@ -18,7 +18,7 @@ use Rattle.additions.specs.Addition.{Addition}
 use Rattle.storage.specs.Opening.{new_storage}
 use Rattle.plan.specs.Write.{directory_index_from}
 use Rattle.links.specs.Clean.{step, walk}
-use Rattle.renames.specs.Renames.{renames_from, ordered_from}
+use Rattle.renames.specs.Renames.{renames_from, ordered_from, placed_from}
 use Rattle.imports.specs.Imports.{Naming}
 use Rattle.book.specs.Book.{Came, done, refused, Made, book}
 use Rattle.book.specs.Times.{times_in, timed_rows}
@@ -129,10 +129,10 @@ link =
 
 -- no renames, in tables with a place for one of 2 bytes, and one: the name u for file 0, by a rename or an import
 abbrev unnamed : Renames
-unnamed = record { rf = no_entries; entries = replicate 3 0; text = replicate 2 0 }
+unnamed = record { rf = no_entries; entries = replicate 4 0; text = replicate 2 0 }
 
 abbrev named : Renames
-named = record { rf = record { num_renames = 1; text_len = 1 }; entries = 0 ∷ 0 ∷ 1 ∷ []; text = 117 ∷ 0 ∷ [] }
+named = record { rf = record { num_renames = 1; text_len = 1 }; entries = 0 ∷ 0 ∷ 1 ∷ 0 ∷ []; text = 117 ∷ 0 ∷ [] }
 
 abbrev to : ℤ → Naming
 to z = record { file = z; name = 117 ∷ [] }
@@ -177,24 +177,24 @@ unfolding tabled filled step walk
 clean-done = refl
 
 rename-done : Comes three unnamed (renaming (to (pos 0))) done three named
-unfolding renames_from ordered_from
+unfolding renames_from ordered_from placed_from
 rename-done = refl
 
 rename-refused : Comes three named (renaming (to (pos 9))) (refused 11) three named
-unfolding renames_from ordered_from
+unfolding renames_from ordered_from placed_from
 rename-refused = refl
 
 -- a second entry has no place
 rename-full : Comes three named (renaming (to (pos 1))) (refused 10) three named
-unfolding renames_from ordered_from
+unfolding renames_from ordered_from placed_from
 rename-full = refl
 
 import-done : Comes three named (importing (to (pos 0) ∷ to (pos 9) ∷ [])) done three named
-unfolding renames_from ordered_from
+unfolding renames_from ordered_from placed_from
 import-done = refl
 
 import-refused : Comes three named (importing (to (negsuc 0) ∷ [])) (refused 11) three named
-unfolding renames_from ordered_from
+unfolding renames_from ordered_from placed_from
 import-refused = refl
 
 trim-done : Comes three named trimming done four named

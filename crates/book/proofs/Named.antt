@@ -19,7 +19,7 @@ use Rattle.tables.proofs.Tabled.{length-tabled}
 use Rattle.rules.specs.Rules.{Rule, when, first_of}
 use Rattle.rules.specs.Bounds.{bad_length, is_below, clamped_of}
 use Rattle.rules.specs.Questions.{few_entries}
-use Rattle.renames.specs.Renames.{Renamed, renames_of, ordered_from, in_order, with_rename, renamed_to, lacks_room, state_of, words_of, texts_of}
+use Rattle.renames.specs.Renames.{Renamed, renames_of, ordered_from, placed_from, in_order, with_rename, renamed_to, lacks_room, state_of, words_of, texts_of}
 use Rattle.renames.specs.Renames as renames
 use Rattle.imports.specs.Imports.{Naming, full_path, imported, has_negative}
 use Rattle.renames.proofs.Rising.{Rises, Small, rises-read, small-read, rises-with, small-with}
@@ -65,7 +65,7 @@ module _ (r : Renames) (o : Ordered r) where
           → Ordered (renames_after r (cond b (record { says = value (state_of rs); entries = sets r.entries 0 (words_of rs); text = sets r.text 0 (texts_of rs) }) (record { says = refused k; entries = r.entries; text = r.text })))
       at true q =
           let x = f (eqb-true k 0 q) in
-          let y = neither (ltb (length r.entries / 3) (length rs)) (ltb (length r.text) (length (texts_of rs))) x.2 in
+          let y = neither (ltb (length r.entries / 4) (length rs)) (ltb (length r.text) (length (texts_of rs))) x.2 in
           kept-order rs r.entries r.text x.0 x.1 (ltb-false _ _ y.0) (ltb-false _ _ y.1)
       at false q = o
 
@@ -93,28 +93,37 @@ not-not false e = sym e
 
 -- ---- other tables with the same entries
 
-ordered_same : (n i least left : ℕ) (e d : List ℕ) → ((j : ℕ) → j < (i + n) * 3 → get_or d j 0 ≡ get_or e j 0) → ordered_from n i least left d ≡ ordered_from n i least left e
+ordered_same : (n i least left : ℕ) (e d : List ℕ) → ((j : ℕ) → j < (i + n) * 4 → get_or d j 0 ≡ get_or e j 0) → ordered_from n i least left d ≡ ordered_from n i least left e
 unfolding ordered_from
 ordered_same zero i least left e d h = refl
 ordered_same (suc n) i least left e d h =
-    rw (h (i * 3) (omega arith), h (i * 3 + 1) (omega arith), h (i * 3 + 2) (omega arith))
-    (ap (λ (b : Bool). ((leb least (get_or e (i * 3) 0) && leb (get_or e (i * 3) 0) 2147483647) && (leb (get_or e (i * 3 + 1) 0) 2 && (leb (get_or e (i * 3 + 2) 0) left && b))))
-    (ordered_same n (i + 1) (get_or e (i * 3) 0 + 1) (left - get_or e (i * 3 + 2) 0) e d (λ j g. h j (omega arith))))
+    rw (h (i * 4) (omega arith), h (i * 4 + 1) (omega arith), h (i * 4 + 2) (omega arith))
+    (ap (λ (b : Bool). ((leb least (get_or e (i * 4) 0) && leb (get_or e (i * 4) 0) 2147483647) && (leb (get_or e (i * 4 + 1) 0) 2 && (leb (get_or e (i * 4 + 2) 0) left && b))))
+    (ordered_same n (i + 1) (get_or e (i * 4) 0 + 1) (left - get_or e (i * 4 + 2) 0) e d (λ j g. h j (omega arith))))
+
+placed_same : (n i at : ℕ) (e d : List ℕ) → ((j : ℕ) → j < (i + n) * 4 → get_or d j 0 ≡ get_or e j 0) → placed_from n i at d ≡ placed_from n i at e
+unfolding placed_from
+placed_same zero i at e d h = refl
+placed_same (suc n) i at e d h =
+    rw (h (i * 4 + 2) (omega arith), h (i * 4 + 3) (omega arith), placed_same n (i + 1) (at + get_or e (i * 4 + 2) 0) e d (λ j g. h j (omega arith)))
 
 lent-ordered : (r q : Renames) → SameRenames r q → Ordered r → Ordered q
 lent-ordered r q same o =
     let x = order-in r.rf r.entries (length r.text) o in
-    let long : r.rf.num_renames * 3 ≤ length r.entries = omega (arith, x.0) in
-    let a = as_long (r.rf.num_renames * 3) q.entries r.entries same.entries long in
+    let long : r.rf.num_renames * 4 ≤ length r.entries = omega (arith, x.0) in
+    let a = as_long (r.rf.num_renames * 4) q.entries r.entries same.entries long in
     let b = as_long r.rf.text_len q.text r.text same.text x.1 in
-    let d = ordered_same r.rf.num_renames 0 0 r.rf.text_len r.entries q.entries (λ j g. get_or-below (r.rf.num_renames * 3) q.entries r.entries same.entries j 0 (omega arith)) in
-    rw (same.rf, le-leb r.rf.num_renames (length q.entries / 3) (omega arith), le-leb r.rf.text_len (length q.text) b) (d ∙ x.2)
+    let w : (j : ℕ) → j < (0 + r.rf.num_renames) * 4 → get_or q.entries j 0 ≡ get_or r.entries j 0 =
+    λ j g. get_or-below (r.rf.num_renames * 4) q.entries r.entries same.entries j 0 (omega arith) in
+    let d = ordered_same r.rf.num_renames 0 0 r.rf.text_len r.entries q.entries w ∙ x.2 in
+    let p = placed_same r.rf.num_renames 0 0 r.entries q.entries w ∙ x.3 in
+    rw (same.rf, le-leb r.rf.num_renames (length q.entries / 4) (omega arith), le-leb r.rf.text_len (length q.text) b, d, p)
 
 -- ---- every list of calls
 
 opened-ordered : (r : Renames) → r.rf ≡ no_entries → Ordered r
-unfolding ordered_from
-opened-ordered r z = rw (z, le-leb 0 (length r.entries / 3) (omega arith), le-leb 0 (length r.text) (omega arith))
+unfolding ordered_from placed_from
+opened-ordered r z = rw (z, le-leb 0 (length r.entries / 4) (omega arith), le-leb 0 (length r.text) (omega arith))
 
 pub names-in-order : {n : ℕ} {made : List Made} {s : Store} {r : Renames} → Leads n made s r → Ordered r
 names-in-order (calls.opening {s} {r} indexed h e z) = opened-ordered r z

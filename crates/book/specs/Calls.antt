@@ -89,7 +89,7 @@ renames_after r c = record { rf = kept_names c.says r.rf; entries = c.entries; t
 -- tables q that hold the renames of the tables r
 pub record SameRenames (r q : Renames) : Type 0 where
   pub rf : q.rf ≡ r.rf
-  pub entries : take (r.rf.num_renames * 3) q.entries ≡ take (r.rf.num_renames * 3) r.entries
+  pub entries : take (r.rf.num_renames * 4) q.entries ≡ take (r.rf.num_renames * 4) r.entries
   pub text : take r.rf.text_len q.text ≡ take r.rf.text_len r.text
 
 -- the calls `made`, the latest first, on a set of piece length n, which an i32 holds, lead to the tables s and the

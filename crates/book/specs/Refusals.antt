@@ -6,7 +6,6 @@
 -- the first row that holds, 0 where none does. Of a path, `rsplit_leaf` is its `filename`, `has_parent_path` that it
 -- has a parent, and `is_complete` that it starts with a separator, as an absolute one does (path, specs/Split.antt).
 -- `any` tests that some element passes.
-use Rattle.types.specs.Refusals.{outcome}
 use Rattle.std.specs.Prelude.{ℕ, zero, suc, ◌+◌, ◌≡◌, ◌⊎◌, Bool, true, false, not, ◌&&◌, ◌||◌, List, [], ◌∷◌, ltb, leb}
 use Rattle.std.specs.Prelude.{ℤ, pos, negsuc, length, Option, Some, None}
 use Rattle.lists.specs.Lists.{any}

@@ -3,11 +3,10 @@
 ghost use Rattle.std.specs.Prelude.{◌≤◌};
 
 use crate::cleanings::LARGE_STAGE;
-use crate::places::{
-    Counts, ENTRY_WIDTH, MAX_DIRS, MAX_FILES, MAX_NAMES, MAX_PIECES, MAX_RENAMES, MAX_TEXT,
-};
+use crate::places::{Counts, MAX_DIRS, MAX_FILES, MAX_NAMES, MAX_PIECES, MAX_RENAMES, MAX_TEXT};
 use crate::sets::{Made, Place, Set, Work};
 use questions::Lent;
+use renames::ENTRY_WIDTH;
 use tables::{DIR_WIDTH, ROOT_WIDTH, ROW_WIDTH};
 
 // What a line says of one kind of room: the places that a word gives it, if one names it, and the most that it has.

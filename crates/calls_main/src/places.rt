@@ -1,4 +1,5 @@
 // The tables of a set, and how many places of each it is lent. Relies on `tables` for the widths of rows.
+use renames::ENTRY_WIDTH;
 use tables::{DIR_WIDTH, ROOT_WIDTH, ROW_WIDTH};
 
 // The most files of a set.
@@ -18,9 +19,6 @@ pub(crate) const MAX_RENAMES: usize = 256;
 
 // The most bytes of the names in a set's renames.
 pub(crate) const MAX_NAMES: usize = 65536;
-
-// The words of an entry of a rename.
-pub(crate) const ENTRY_WIDTH: usize = 3;
 
 // The tables that a set is lent the start of.
 // Stays: there is no heap, so each has the most places that a set can have.

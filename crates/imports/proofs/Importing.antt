@@ -25,7 +25,7 @@ use Rattle.rules.proofs.Rules.{both_true, either-false}
 use Rattle.rules.proofs.Deciding.{denied}
 use Rattle.renames.specs.declared.rename.RenamedFiles.{RenamedFiles}
 use Rattle.renames.specs.Renames.{Renamed, RenamesChanged, renames_of, ordered_from, in_order, lacks_room, state_of, words_of, texts_of}
-use Rattle.renames.specs.Finding.{bytes_from}
+use Rattle.renames.specs.private.Slots.{bytes_from}
 use Rattle.renames.specs.Renames.{in_order_in}
 use Rattle.imports.specs.declared.counted.Counted.{Counted}
 use Rattle.imports.specs.Imports.{namings, list_held, imported, has_negative, import_lent}
@@ -49,8 +49,8 @@ five-held a b l o s p q h =
 
 -- what stays lies within the tables
 pub stay-in : (named : ℕ → Bool) (rf : RenamedFiles) (e : List ℕ) (room : ℕ) → in_order_in rf e room ≡ true
-    → (rf.num_renames * 3 ≤ length e) × (bytes_from rf.num_renames 0 e ≤ room)
-    × ((kept_state named rf e).num_renames ≤ length e / 3) × ((kept_state named rf e).text_len ≤ room)
+    → (rf.num_renames * 4 ≤ length e) × (bytes_from rf.num_renames 0 e ≤ room)
+    × ((kept_state named rf e).num_renames ≤ length e / 4) × ((kept_state named rf e).text_len ≤ room)
 stay-in named rf e room h =
     let o = order-in rf e room h in
     let b = order-bytes rf.num_renames 0 0 rf.text_len e o.2 in (
@@ -140,13 +140,13 @@ module _ (fs : FileStorage) (rf : RenamedFiles) (e t : List ℕ) (zs : List ℤ)
     known =
         five-passed (bad_length fs.piece_length) (any is_negative zs) list (in_order_in rf e (length t)) (is_full (length e) (length t) counting) st counting h
 
-    pub import-in : (rf.num_renames * 3 ≤ length e) × (bytes_from rf.num_renames 0 e ≤ length t)
+    pub import-in : (rf.num_renames * 4 ≤ length e) × (bytes_from rf.num_renames 0 e ≤ length t)
     import-in = let s = stay-in named rf e (length t) known.1 in (s.0, s.1)
 
-    final-room : (length final ≤ length e / 3) × (length (texts_of final) ≤ length t)
+    final-room : (length final ≤ length e / 4) × (length (texts_of final) ≤ length t)
     final-room =
         let f = room-is known.1 ∙ known.2 in
-        let s = either-false (ltb (length e / 3) (length final)) (ltb (length t) (length (texts_of final))) f in
+        let s = either-false (ltb (length e / 4) (length final)) (ltb (length t) (length (texts_of final))) f in
         (ltb-false _ _ s.0, ltb-false _ _ s.1)
 
     -- the list is whole, and the set is counted
@@ -180,10 +180,10 @@ module _ (fs : FileStorage) (rf : RenamedFiles) (e t : List ℕ) (zs : List ℤ)
           known.3 ∙ ap (λ (r : RenamedFiles). record { stay = r; come = state_of comes }) (state-is known.1) in
           rw s (sym c.0, sym c.1)
 
-      pub import-ready : (rf.num_renames * 3 ≤ length e) × (bytes_from rf.num_renames 0 e ≤ length t)
-          × ((j : ℕ) → 0 ≤ j → j < 0 + rf.num_renames → get_or e (j * 3 + 1) 0 ≤ 2)
+      pub import-ready : (rf.num_renames * 4 ≤ length e) × (bytes_from rf.num_renames 0 e ≤ length t)
+          × ((j : ℕ) → 0 ≤ j → j < 0 + rf.num_renames → get_or e (j * 4 + 1) 0 ≤ 2)
           × (st.stay ≡ kept_state (is_noted l) rf e)
-          × ((st.stay.num_renames + st.come.num_renames) * 3 ≤ length e)
+          × ((st.stay.num_renames + st.come.num_renames) * 4 ≤ length e)
           × (st.stay.text_len + st.come.text_len ≤ length t)
           × (length all ≡ st.stay.num_renames + st.come.num_renames)
           × (length (texts_of all) ≡ st.stay.text_len + st.come.text_len)

@@ -7,29 +7,17 @@ use mathlib.Core.List.{List, [], ◌∷◌, ◌++◌, append_assoc}
 use native.Mathlib.Nat.{add-zero}
 use native.Mathlib.Omega.{arith}
 use lib.ListN.{length, get_or, take, drop, length-append, length-drop, take-append-drop}
-use lib.Seq.{paste, sets, sets-eq, length-sets, length-take-le, drop-cons, drop-drop, get_or-drop, get_or-take}
+use lib.Seq.{paste, sets, sets-eq, length-sets, length-take-le, drop-drop, get_or-drop, get_or-take}
 use Rattle.lists.specs.Lists.{part_of}
 use Rattle.lists.proofs.Parts.{drop-take}
 use Rattle.lists.proofs.Runs.{sets-append, drop-sets-le}
-use Rattle.renames.specs.Renames.{Renamed, mode_word, renames_from, words_of, texts_of}
-use Rattle.renames.specs.Finding.{bytes_from}
+use Rattle.renames.specs.Renames.{Renamed, mode_word, renames_from, words_from, texts_of}
+use Rattle.renames.specs.private.Slots.{bytes_from}
 use Rattle.imports.specs.private.Importing.{renames_kept, kept_count, kept_bytes, kept_words}
 use Rattle.renames.proofs.Readings.{mode-word}
 use Rattle.renames.proofs.Splices.{copied}
 
 -- ---- one entry, and one text, as it is moved down
-
--- three words of a table
-three : (e : List ℕ) (k : ℕ) → k + 3 ≤ length e → drop k (take (k + 3) e) ≡ get_or e k 0 ∷ get_or e (k + 1) 0 ∷ get_or e (k + 2) 0 ∷ []
-three e k h =
-    let n : k + 3 - k ≡ 3 = omega arith in
-    let a : k + 1 ≡ suc k = omega arith in
-    let b : k + 2 ≡ suc (suc k) = omega arith in
-    rw (drop-take k (k + 3) e, n, a, b, drop-cons e k 0 (omega arith), drop-cons e (suc k) 0 (omega arith), drop-cons e (suc (suc k)) 0 (omega arith))
-
-pub kept_entry : (e : List ℕ) (k dest : ℕ) → dest ≤ k → k + 3 ≤ length e
-    → paste e dest (drop k e) (k + 3 - k) ≡ sets e dest (get_or e k 0 ∷ get_or e (k + 1) 0 ∷ get_or e (k + 2) 0 ∷ [])
-kept_entry e k dest a b = copied e k (k + 3) dest (omega arith) b (omega arith) ∙ ap (λ (x : List ℕ). sets e dest x) (three e k b)
 
 part-is : (t : List ℕ) (from len : ℕ) → drop from (take (from + len) t) ≡ part_of t from len
 part-is t from len = let n : from + len - from ≡ len = omega arith in drop-take from (from + len) t ∙ rw n
@@ -42,7 +30,7 @@ module _ (named : ℕ → Bool) where
   -- ---- the counts are those of the list
 
   abbrev listed : List ℕ → ℕ → Bool
-  listed e i = named (get_or e (i * 3) 0)
+  listed e i = named (get_or e (i * 4) 0)
 
   one-count : (b : Bool) (r : Renamed) (l : List Renamed) → length (cond b l (r ∷ l)) ≡ cond b 0 1 + length l
   one-count true r l = omega arith
@@ -52,8 +40,8 @@ module _ (named : ℕ → Bool) where
   unfolding renames_from kept_count
   kept-count zero i e t = refl
   kept-count (suc n) i e t =
-      one-count (listed e i) _ (renames_kept named (renames_from n (i + 1) e (drop (get_or e (i * 3 + 2) 0) t)))
-      ∙ rw (kept-count n (i + 1) e (drop (get_or e (i * 3 + 2) 0) t))
+      one-count (listed e i) _ (renames_kept named (renames_from n (i + 1) e (drop (get_or e (i * 4 + 2) 0) t)))
+      ∙ rw (kept-count n (i + 1) e (drop (get_or e (i * 4 + 2) 0) t))
 
   one-text : (b : Bool) (r : Renamed) (l : List Renamed) → texts_of (cond b l (r ∷ l)) ≡ cond b [] r.name ++ texts_of l
   one-text true r l = refl
@@ -67,28 +55,32 @@ module _ (named : ℕ → Bool) where
   unfolding renames_from bytes_from kept_bytes
   kept-bytes zero i e t h = refl
   kept-bytes (suc n) i e t h =
-      let l = get_or e (i * 3 + 2) 0 in
+      let l = get_or e (i * 4 + 2) 0 in
       let rest = renames_kept named (renames_from n (i + 1) e (drop l t)) in
       let b = listed e i in
       ap length (one-text b _ rest)
       ∙ length-append (cond b [] (take l t)) (texts_of rest)
       ∙ rw (one-length b (take l t), length-take-le l t (omega arith), kept-bytes n (i + 1) e (drop l t) (omega (arith, length-drop l t)))
 
-  one-words : (b : Bool) (r : Renamed) (l : List Renamed) (f m k : ℕ) (w : List ℕ) → r.file ≡ f → mode_word r.mode ≡ m → length r.name ≡ k → words_of l ≡ w
-      → words_of (cond b l (r ∷ l)) ≡ cond b w (f ∷ m ∷ k ∷ w)
-  one-words true r l f m k w p q s h = h
-  one-words false r l f m k w p q s h = rw (p, q, s, h)
+  one-words : (b : Bool) (r : Renamed) (l : List Renamed) (at f m k : ℕ) (v w : List ℕ) → r.file ≡ f → mode_word r.mode ≡ m → length r.name ≡ k
+      → words_from at l ≡ v → words_from (at + k) l ≡ w → words_from at (cond b l (r ∷ l)) ≡ cond b v (f ∷ m ∷ k ∷ at ∷ w)
+  one-words true r l at f m k v w p q s h g = h
+  one-words false r l at f m k v w p q s h g = rw (p, q, s, g)
 
-  pub kept-words : (n i : ℕ) (e t : List ℕ) → ((j : ℕ) → i ≤ j → j < i + n → get_or e (j * 3 + 1) 0 ≤ 2) → bytes_from n i e ≤ length t
-      → words_of (renames_kept named (renames_from n i e t)) ≡ kept_words named n i e
+  pub kept-words : (n i at : ℕ) (e t : List ℕ) → ((j : ℕ) → i ≤ j → j < i + n → get_or e (j * 4 + 1) 0 ≤ 2) → bytes_from n i e ≤ length t
+      → words_from at (renames_kept named (renames_from n i e t)) ≡ kept_words named n i at e
   unfolding renames_from bytes_from kept_words
-  kept-words zero i e t m h = refl
-  kept-words (suc n) i e t m h =
-      let l = get_or e (i * 3 + 2) 0 in
-      one-words (listed e i) _ (renames_kept named (renames_from n (i + 1) e (drop l t))) (get_or e (i * 3) 0) (get_or e (i * 3 + 1) 0) l (kept_words named n (i + 1) e) refl
-      (mode-word (get_or e (i * 3 + 1) 0) (m i (omega arith) (omega arith)))
+  kept-words zero i at e t m h = refl
+  kept-words (suc n) i at e t m h =
+      let l = get_or e (i * 4 + 2) 0 in
+      let rest : (x : ℕ) → words_from x (renames_kept named (renames_from n (i + 1) e (drop l t))) ≡ kept_words named n (i + 1) x e =
+      λ x. kept-words n (i + 1) x e (drop l t) (λ j a c. m j (omega arith) (omega arith)) (omega (arith, length-drop l t)) in
+      one-words (listed e i) _ (renames_kept named (renames_from n (i + 1) e (drop l t))) at (get_or e (i * 4) 0) (get_or e (i * 4 + 1) 0) l
+      (kept_words named n (i + 1) at e) (kept_words named n (i + 1) (at + l) e) refl
+      (mode-word (get_or e (i * 4 + 1) 0) (m i (omega arith) (omega arith)))
       (length-take-le l t (omega arith))
-      (kept-words n (i + 1) e (drop l t) (λ j a c. m j (omega arith) (omega arith)) (omega (arith, length-drop l t)))
+      (rest at)
+      (rest (at + l))
 
   -- ---- their bounds
 
@@ -108,7 +100,7 @@ module _ (named : ℕ → Bool) where
   pub kept-short : (n i : ℕ) (e : List ℕ) → kept_bytes named n i e ≤ bytes_from n i e
   unfolding kept_bytes bytes_from
   kept-short zero i e = omega arith
-  kept-short (suc n) i e = omega (arith, some-le (listed e i) (get_or e (i * 3 + 2) 0), kept-short n (i + 1) e)
+  kept-short (suc n) i e = omega (arith, some-le (listed e i) (get_or e (i * 4 + 2) 0), kept-short n (i + 1) e)
 
   -- ---- one entry of the counts, and their end
 
@@ -117,7 +109,7 @@ module _ (named : ℕ → Bool) where
     unfolding kept_count
     count_turn h = let m : n - i ≡ suc (n - (i + 1)) = omega arith in rw m
 
-    pub size-turn : i < n → kept_bytes named (n - i) i e ≡ cond (listed e i) 0 (get_or e (i * 3 + 2) 0) + kept_bytes named (n - (i + 1)) (i + 1) e
+    pub size-turn : i < n → kept_bytes named (n - i) i e ≡ cond (listed e i) 0 (get_or e (i * 4 + 2) 0) + kept_bytes named (n - (i + 1)) (i + 1) e
     unfolding kept_bytes
     size-turn h = let m : n - i ≡ suc (n - (i + 1)) = omega arith in rw m
 
@@ -131,67 +123,86 @@ module _ (named : ℕ → Bool) where
 
   -- ---- the entries moved together: those from i on are as they were, and what is left of them gives the whole
 
-  abbrev pub Moved : ℕ → List ℕ → List ℕ → ℕ → ℕ → Type 0
-  Moved n e₀ e i to =
+  abbrev pub Moved : ℕ → ℕ → List ℕ → List ℕ → ℕ → ℕ → ℕ → Type 0
+  Moved n at₀ e₀ e i to at =
       (to ≤ i)
       × (i ≤ n)
-      × (n * 3 ≤ length e₀)
+      × (n * 4 ≤ length e₀)
       × (length e ≡ length e₀)
-      × (drop (i * 3) e ≡ drop (i * 3) e₀)
-      × (sets e (to * 3) (kept_words named (n - i) i e₀) ≡ sets e₀ 0 (kept_words named n 0 e₀))
+      × (drop (i * 4) e ≡ drop (i * 4) e₀)
+      × (at + kept_bytes named (n - i) i e₀ ≡ at₀ + kept_bytes named n 0 e₀)
+      × (sets e (to * 4) (kept_words named (n - i) i at e₀) ≡ sets e₀ 0 (kept_words named n 0 at₀ e₀))
 
-  module _ (n : ℕ) (e₀ : List ℕ) where
+  module _ (n at₀ : ℕ) (e₀ : List ℕ) where
     -- an entry that is not moved yet
-    moved_word : (e : List ℕ) (i to j : ℕ) → Moved n e₀ e i to → get_or e (i * 3 + j) 0 ≡ get_or e₀ (i * 3 + j) 0
-    moved_word e i to j (a, b, h, l, d, s) =
-        sym (get_or-drop (i * 3) e j 0) ∙ ap (λ (x : List ℕ). get_or x j 0) d ∙ get_or-drop (i * 3) e₀ j 0
+    moved_word : (e : List ℕ) (i to at j : ℕ) → Moved n at₀ e₀ e i to at → get_or e (i * 4 + j) 0 ≡ get_or e₀ (i * 4 + j) 0
+    moved_word e i to at j (a, b, h, l, d, u, s) =
+        sym (get_or-drop (i * 4) e j 0) ∙ ap (λ (x : List ℕ). get_or x j 0) d ∙ get_or-drop (i * 4) e₀ j 0
 
-    moved-file : (e : List ℕ) (i to : ℕ) → Moved n e₀ e i to → get_or e (i * 3) 0 ≡ get_or e₀ (i * 3) 0
-    moved-file e i to m = let w = moved_word e i to 0 m in rw (add-zero (i * 3)) at w
+    moved-file : (e : List ℕ) (i to at : ℕ) → Moved n at₀ e₀ e i to at → get_or e (i * 4) 0 ≡ get_or e₀ (i * 4) 0
+    moved-file e i to at m = let w = moved_word e i to at 0 m in rw (add-zero (i * 4)) at w
 
-    abbrev entry : ℕ → List ℕ
-    entry i = get_or e₀ (i * 3) 0 ∷ get_or e₀ (i * 3 + 1) 0 ∷ get_or e₀ (i * 3 + 2) 0 ∷ []
+    abbrev entry : ℕ → ℕ → List ℕ
+    entry i at = get_or e₀ (i * 4) 0 ∷ get_or e₀ (i * 4 + 1) 0 ∷ get_or e₀ (i * 4 + 2) 0 ∷ at ∷ []
 
-    words-turn : (i : ℕ) → i < n
-        → kept_words named (n - i) i e₀
-        ≡ cond (named (get_or e₀ (i * 3) 0)) (kept_words named (n - (i + 1)) (i + 1) e₀) (entry i ++ kept_words named (n - (i + 1)) (i + 1) e₀)
+    words-turn : (i at : ℕ) → i < n
+        → kept_words named (n - i) i at e₀
+        ≡ cond (named (get_or e₀ (i * 4) 0)) (kept_words named (n - (i + 1)) (i + 1) at e₀)
+        (entry i at ++ kept_words named (n - (i + 1)) (i + 1) (at + get_or e₀ (i * 4 + 2) 0) e₀)
     unfolding kept_words
-    words-turn i h = let m : n - i ≡ suc (n - (i + 1)) = omega arith in rw m
+    words-turn i at h = let m : n - i ≡ suc (n - (i + 1)) = omega arith in rw m
 
-    words-end : (i : ℕ) → n ≤ i → kept_words named (n - i) i e₀ ≡ []
+    words-end : (i at : ℕ) → n ≤ i → kept_words named (n - i) i at e₀ ≡ []
     unfolding kept_words
-    words-end i h = let m : n - i ≡ 0 = omega arith in rw m
+    words-end i at h = let m : n - i ≡ 0 = omega arith in rw m
 
-    rest-same : (e : List ℕ) (i to : ℕ) → Moved n e₀ e i to → drop ((i + 1) * 3) e ≡ drop ((i + 1) * 3) e₀
-    rest-same e i to (a, b, h, l, d, s) =
-        let p : (i + 1) * 3 ≡ i * 3 + 3 = omega arith in
-        rw p (sym (drop-drop 3 (i * 3) e) ∙ ap (drop 3) d ∙ drop-drop 3 (i * 3) e₀)
+    rest-same : (e : List ℕ) (i to at : ℕ) → Moved n at₀ e₀ e i to at → drop ((i + 1) * 4) e ≡ drop ((i + 1) * 4) e₀
+    rest-same e i to at (a, b, h, l, d, u, s) =
+        let p : (i + 1) * 4 ≡ i * 4 + 4 = omega arith in
+        rw p (sym (drop-drop 4 (i * 4) e) ∙ ap (drop 4) d ∙ drop-drop 4 (i * 4) e₀)
 
-    pub moved-skip : (e : List ℕ) (i to : ℕ) → Moved n e₀ e i to → i < n → named (get_or e (i * 3) 0) ≡ true → Moved n e₀ e (i + 1) to
-    moved-skip e i to (a, b, h, l, d, s) g r =
-        let w = words-turn i g in
-        let q = rw (moved-file e i to (a, b, h, l, d, s)) at r in
-        (omega arith, omega arith, h, l, rest-same e i to (a, b, h, l, d, s), rw (w, q) at s)
+    -- the bytes of the texts that are kept from an entry on
+    bytes-skip : (i : ℕ) → i < n → named (get_or e₀ (i * 4) 0) ≡ true → kept_bytes named (n - i) i e₀ ≡ kept_bytes named (n - (i + 1)) (i + 1) e₀
+    bytes-skip i g q = size-turn n i e₀ g ∙ rw q (omega arith)
 
-    pub moved-keep : (e : List ℕ) (i to : ℕ) → Moved n e₀ e i to → i < n → named (get_or e (i * 3) 0) ≡ false
-        → Moved n e₀ (sets e (to * 3) (get_or e (i * 3) 0 ∷ get_or e (i * 3 + 1) 0 ∷ get_or e (i * 3 + 2) 0 ∷ [])) (i + 1) (to + 1)
-    moved-keep e i to (a, b, h, l, d, s) g r =
-        let m : Moved n e₀ e i to = (a, b, h, l, d, s) in
-        let w = words-turn i g in
-        let f = moved-file e i to m in
+    bytes-keep : (i : ℕ) → i < n → named (get_or e₀ (i * 4) 0) ≡ false
+        → kept_bytes named (n - i) i e₀ ≡ get_or e₀ (i * 4 + 2) 0 + kept_bytes named (n - (i + 1)) (i + 1) e₀
+    bytes-keep i g q = size-turn n i e₀ g ∙ rw q
+
+    -- the place of the next text fits a word where all do
+    pub moved_fits : (e : List ℕ) (i to at : ℕ) → Moved n at₀ e₀ e i to at → i < n → named (get_or e (i * 4) 0) ≡ false
+        → at + get_or e (i * 4 + 2) 0 ≤ at₀ + kept_bytes named n 0 e₀
+    moved_fits e i to at (a, b, h, l, d, u, s) g r =
+        let m : Moved n at₀ e₀ e i to at = (a, b, h, l, d, u, s) in
+        omega (arith, u, bytes-keep i g (rw (moved-file e i to at m) at r), moved_word e i to at 2 m)
+
+    pub moved-skip : (e : List ℕ) (i to at : ℕ) → Moved n at₀ e₀ e i to at → i < n → named (get_or e (i * 4) 0) ≡ true → Moved n at₀ e₀ e (i + 1) to at
+    moved-skip e i to at (a, b, h, l, d, u, s) g r =
+        let m : Moved n at₀ e₀ e i to at = (a, b, h, l, d, u, s) in
+        let w = words-turn i at g in
+        let q = rw (moved-file e i to at m) at r in
+        (omega arith, omega arith, h, l, rest-same e i to at m, omega (arith, u, bytes-skip i g q), rw (w, q) at s)
+
+    pub moved-keep : (e : List ℕ) (i to at : ℕ) → Moved n at₀ e₀ e i to at → i < n → named (get_or e (i * 4) 0) ≡ false
+        → Moved n at₀ e₀ (sets e (to * 4) (get_or e (i * 4) 0 ∷ get_or e (i * 4 + 1) 0 ∷ get_or e (i * 4 + 2) 0 ∷ at ∷ [])) (i + 1) (to + 1) (at + get_or e (i * 4 + 2) 0)
+    moved-keep e i to at (a, b, h, l, d, u, s) g r =
+        let m : Moved n at₀ e₀ e i to at = (a, b, h, l, d, u, s) in
+        let w = words-turn i at g in
+        let f = moved-file e i to at m in
         let q = rw f at r in
-        let p : (to + 1) * 3 ≡ to * 3 + 3 = omega arith in
-        rw (f, moved_word e i to 1 m, moved_word e i to 2 m) (
+        let p : (to + 1) * 4 ≡ to * 4 + 4 = omega arith in
+        rw (f, moved_word e i to at 1 m, moved_word e i to at 2 m) (
           omega arith,
           omega arith,
           h,
-          length-sets e (to * 3) (entry i) ∙ l,
-          drop-sets-le (entry i) e (to * 3) ((i + 1) * 3) (omega arith) ∙ rest-same e i to (a, b, h, l, d, s),
-          rw p (sym (sets-append (entry i) (kept_words named (n - (i + 1)) (i + 1) e₀) e (to * 3)) ∙ (rw (w, q) at s)),
+          length-sets e (to * 4) (entry i at) ∙ l,
+          drop-sets-le (entry i at) e (to * 4) ((i + 1) * 4) (omega arith) ∙ rest-same e i to at m,
+          omega (arith, u, bytes-keep i g q),
+          rw p (sym (sets-append (entry i at) (kept_words named (n - (i + 1)) (i + 1) (at + get_or e₀ (i * 4 + 2) 0) e₀) e (to * 4)) ∙ (rw (w, q) at s)),
         )
 
-    pub moved-end : (e : List ℕ) (i to : ℕ) → Moved n e₀ e i to → n ≤ i → e ≡ sets e₀ 0 (kept_words named n 0 e₀)
-    moved-end e i to (a, b, h, l, d, s) g = let w = words-end i g in rw w at s
+    pub moved-end : (e : List ℕ) (i to at : ℕ) → Moved n at₀ e₀ e i to at → n ≤ i → e ≡ sets e₀ 0 (kept_words named n 0 at₀ e₀)
+    moved-end e i to at (a, b, h, l, d, u, s) g = let w = words-end i at g in rw w at s
 
   -- the first words of a table, lent and filled, before its others
   pub front-filled : (w e : List ℕ) (k : ℕ) → length w ≤ k → k ≤ length e → sets (take k e) 0 w ++ drop k e ≡ sets e 0 w
@@ -206,48 +217,56 @@ module _ (named : ℕ → Bool) where
       rw (p, q, z) (append_assoc w (drop m (take k e)) (drop k e) ∙ ap (λ (l : List ℕ). w ++ l) r)
 
   -- the kept ones of the first n entries, lent and moved, before the others
-  words-short : (n i : ℕ) (e : List ℕ) → length (kept_words named n i e) ≤ n * 3
+  words-short : (n i at : ℕ) (e : List ℕ) → length (kept_words named n i at e) ≤ n * 4
   unfolding kept_words
-  words-short zero i e = omega arith
-  words-short (suc n) i e = at (listed e i) (words-short n (i + 1) e)
+  words-short zero i at e = omega arith
+  words-short (suc n) i at e = either (listed e i) (words-short n (i + 1) at e) (words-short n (i + 1) (at + get_or e (i * 4 + 2) 0) e)
     where
-      at : (b : Bool) → length (kept_words named n (i + 1) e) ≤ n * 3
-          → length (cond b (kept_words named n (i + 1) e) (get_or e (i * 3) 0 ∷ get_or e (i * 3 + 1) 0 ∷ get_or e (i * 3 + 2) 0 ∷ kept_words named n (i + 1) e)) ≤ suc n * 3
-      at true h = omega arith
-      at false h = omega arith
+      either : (b : Bool) → length (kept_words named n (i + 1) at e) ≤ n * 4 → length (kept_words named n (i + 1) (at + get_or e (i * 4 + 2) 0) e) ≤ n * 4
+          → length (cond b (kept_words named n (i + 1) at e)
+          (get_or e (i * 4) 0 ∷ get_or e (i * 4 + 1) 0 ∷ get_or e (i * 4 + 2) 0 ∷ at ∷ kept_words named n (i + 1) (at + get_or e (i * 4 + 2) 0) e)) ≤ suc n * 4
+      either true h g = omega arith
+      either false h g = omega arith
 
-  words-front : (k n i : ℕ) (e : List ℕ) → (i + n) * 3 ≤ k → kept_words named n i (take k e) ≡ kept_words named n i e
+  words-front : (k n i at : ℕ) (e : List ℕ) → (i + n) * 4 ≤ k → kept_words named n i at (take k e) ≡ kept_words named n i at e
   unfolding kept_words
-  words-front k zero i e h = refl
-  words-front k (suc n) i e h =
-      rw (get_or-take k e (i * 3) 0 (omega arith), get_or-take k e (i * 3 + 1) 0 (omega arith), get_or-take k e (i * 3 + 2) 0 (omega arith), words-front k n (i + 1) e (omega arith)) refl
+  words-front k zero i at e h = refl
+  words-front k (suc n) i at e h =
+      rw (
+        get_or-take k e (i * 4) 0 (omega arith),
+        get_or-take k e (i * 4 + 1) 0 (omega arith),
+        get_or-take k e (i * 4 + 2) 0 (omega arith),
+        words-front k n (i + 1) at e (omega arith),
+        words-front k n (i + 1) (at + get_or e (i * 4 + 2) 0) e (omega arith),
+      )
+      refl
 
   -- the kept ones of the entries in use are counted
-  count-front : (k n i : ℕ) (e : List ℕ) → (i + n) * 3 ≤ k → kept_count named n i (take k e) ≡ kept_count named n i e
+  count-front : (k n i : ℕ) (e : List ℕ) → (i + n) * 4 ≤ k → kept_count named n i (take k e) ≡ kept_count named n i e
   unfolding kept_count
   count-front k zero i e h = refl
-  count-front k (suc n) i e h = rw (get_or-take k e (i * 3) 0 (omega arith), count-front k n (i + 1) e (omega arith)) refl
+  count-front k (suc n) i e h = rw (get_or-take k e (i * 4) 0 (omega arith), count-front k n (i + 1) e (omega arith)) refl
 
-  size-front : (k n i : ℕ) (e : List ℕ) → (i + n) * 3 ≤ k → kept_bytes named n i (take k e) ≡ kept_bytes named n i e
+  size-front : (k n i : ℕ) (e : List ℕ) → (i + n) * 4 ≤ k → kept_bytes named n i (take k e) ≡ kept_bytes named n i e
   unfolding kept_bytes
   size-front k zero i e h = refl
   size-front k (suc n) i e h =
-      rw (get_or-take k e (i * 3) 0 (omega arith), get_or-take k e (i * 3 + 2) 0 (omega arith), size-front k n (i + 1) e (omega arith)) refl
+      rw (get_or-take k e (i * 4) 0 (omega arith), get_or-take k e (i * 4 + 2) 0 (omega arith), size-front k n (i + 1) e (omega arith)) refl
 
-  pub count_in_use : (n : ℕ) (e : List ℕ) → n * 3 ≤ length e
-      → (kept_count named (length (take (n * 3) e) / 3) 0 (take (n * 3) e) ≡ kept_count named n 0 e)
-      × (kept_bytes named (length (take (n * 3) e) / 3) 0 (take (n * 3) e) ≡ kept_bytes named n 0 e)
+  pub count_in_use : (n : ℕ) (e : List ℕ) → n * 4 ≤ length e
+      → (kept_count named (length (take (n * 4) e) / 4) 0 (take (n * 4) e) ≡ kept_count named n 0 e)
+      × (kept_bytes named (length (take (n * 4) e) / 4) 0 (take (n * 4) e) ≡ kept_bytes named n 0 e)
   count_in_use n e h =
-      let c : length (take (n * 3) e) / 3 ≡ n = omega (arith, length-take-le (n * 3) e h) in
-      rw c (count-front (n * 3) n 0 e (omega arith), size-front (n * 3) n 0 e (omega arith))
+      let c : length (take (n * 4) e) / 4 ≡ n = omega (arith, length-take-le (n * 4) e h) in
+      rw c (count-front (n * 4) n 0 e (omega arith), size-front (n * 4) n 0 e (omega arith))
 
-  pub moved-front : (n : ℕ) (e x : List ℕ) → n * 3 ≤ length e
-      → x ≡ sets (take (n * 3) e) 0 (kept_words named (length (take (n * 3) e) / 3) 0 (take (n * 3) e))
-      → x ++ drop (n * 3) e ≡ sets e 0 (kept_words named n 0 e)
-  moved-front n e x h q =
-      let c : length (take (n * 3) e) / 3 ≡ n = omega (arith, length-take-le (n * 3) e h) in
-      let w : x ≡ sets (take (n * 3) e) 0 (kept_words named n 0 e) = q ∙ rw c (ap (λ (l : List ℕ). sets (take (n * 3) e) 0 l) (words-front (n * 3) n 0 e (omega arith))) in
-      rw w (front-filled (kept_words named n 0 e) e (n * 3) (words-short n 0 e) h)
+  pub moved-front : (n at : ℕ) (e x : List ℕ) → n * 4 ≤ length e
+      → x ≡ sets (take (n * 4) e) 0 (kept_words named (length (take (n * 4) e) / 4) 0 at (take (n * 4) e))
+      → x ++ drop (n * 4) e ≡ sets e 0 (kept_words named n 0 at e)
+  moved-front n at e x h q =
+      let c : length (take (n * 4) e) / 4 ≡ n = omega (arith, length-take-le (n * 4) e h) in
+      let w : x ≡ sets (take (n * 4) e) 0 (kept_words named n 0 at e) = q ∙ rw c (ap (λ (l : List ℕ). sets (take (n * 4) e) 0 l) (words-front (n * 4) n 0 at e (omega arith))) in
+      rw w (front-filled (kept_words named n 0 at e) e (n * 4) (words-short n 0 at e) h)
 
   -- ---- the texts moved together, in the same way
 
@@ -262,7 +281,7 @@ module _ (named : ℕ → Bool) where
 
   module _ (n : ℕ) (e t₀ : List ℕ) where
     abbrev len : ℕ → ℕ
-    len i = get_or e (i * 3 + 2) 0
+    len i = get_or e (i * 4 + 2) 0
 
     bytes-step : (i : ℕ) → i < n → bytes_from (n - i) i e ≡ len i + bytes_from (n - (i + 1)) (i + 1) e
     unfolding bytes_from
@@ -270,7 +289,7 @@ module _ (named : ℕ → Bool) where
 
     texts-turn : (i from : ℕ) → i < n
         → texts_of (renames_kept named (renames_from (n - i) i e (drop from t₀)))
-        ≡ cond (named (get_or e (i * 3) 0)) [] (part_of t₀ from (len i)) ++ texts_of (renames_kept named (renames_from (n - (i + 1)) (i + 1) e (drop (from + len i) t₀)))
+        ≡ cond (named (get_or e (i * 4) 0)) [] (part_of t₀ from (len i)) ++ texts_of (renames_kept named (renames_from (n - (i + 1)) (i + 1) e (drop (from + len i) t₀)))
     unfolding renames_from
     texts-turn i from h =
         let m : n - i ≡ suc (n - (i + 1)) = omega arith in
@@ -287,17 +306,17 @@ module _ (named : ℕ → Bool) where
     joined-part : (t : List ℕ) (i from to : ℕ) → Joined n e t₀ t i from to → part_of t from (len i) ≡ part_of t₀ from (len i)
     joined-part t i from to (a, b, h, l, d, s) = ap (take (len i)) d
 
-    pub joined_in : (t : List ℕ) (i from to : ℕ) → Joined n e t₀ t i from to → i < n → from + get_or e (i * 3 + 2) 0 ≤ length t
+    pub joined_in : (t : List ℕ) (i from to : ℕ) → Joined n e t₀ t i from to → i < n → from + get_or e (i * 4 + 2) 0 ≤ length t
     joined_in t i from to (a, b, h, l, d, s) g = omega (arith, bytes-step i g)
 
-    pub joined-skip : (t : List ℕ) (i from to : ℕ) → Joined n e t₀ t i from to → i < n → named (get_or e (i * 3) 0) ≡ true
-        → Joined n e t₀ t (i + 1) (from + get_or e (i * 3 + 2) 0) to
+    pub joined-skip : (t : List ℕ) (i from to : ℕ) → Joined n e t₀ t i from to → i < n → named (get_or e (i * 4) 0) ≡ true
+        → Joined n e t₀ t (i + 1) (from + get_or e (i * 4 + 2) 0) to
     joined-skip t i from to (a, b, h, l, d, s) g q =
         let w = texts-turn i from g in
         (omega arith, omega arith, omega (arith, bytes-step i g), l, text-rest t i from to (a, b, h, l, d, s), rw (w, q) at s)
 
-    pub joined-keep : (t : List ℕ) (i from to : ℕ) → Joined n e t₀ t i from to → i < n → named (get_or e (i * 3) 0) ≡ false
-        → Joined n e t₀ (sets t to (part_of t from (get_or e (i * 3 + 2) 0))) (i + 1) (from + get_or e (i * 3 + 2) 0) (to + get_or e (i * 3 + 2) 0)
+    pub joined-keep : (t : List ℕ) (i from to : ℕ) → Joined n e t₀ t i from to → i < n → named (get_or e (i * 4) 0) ≡ false
+        → Joined n e t₀ (sets t to (part_of t from (get_or e (i * 4 + 2) 0))) (i + 1) (from + get_or e (i * 4 + 2) 0) (to + get_or e (i * 4 + 2) 0)
     joined-keep t i from to (a, b, h, l, d, s) g q =
         let w = texts-turn i from g in
         let part = part_of t from (len i) in
@@ -319,6 +338,6 @@ module _ (named : ℕ → Bool) where
 
 pub ruleset counting = (count_turn, size-turn, count-end, size-end, kept-few, kept-short)
 
-pub ruleset moving = (moved-skip, moved-keep, moved-end)
+pub ruleset moving = (moved_fits, moved-skip, moved-keep, moved-end)
 
 pub ruleset joining = (joined_in, joined-skip, joined-keep, joined_end)

@@ -145,13 +145,14 @@ length-noted (z ∷ zs) i l =
 pub noted-length : (files : ℕ) (zs : List ℤ) (l : List ℕ) → Noted files zs l → length l ≡ files
 noted-length files zs l n = ap length n ∙ length-noted zs 0 (replicate files 0) ∙ length-replicate {A = ℕ} files 0
 
--- of the cells one is lent for each file: they are zeros, and the notes of a list in them
-pub lent_zeros : {n files : ℕ} → n ≡ min files 65536 → min files 65536 ≡ files → take {A = ℕ} n (replicate 65536 0) ≡ replicate files 0
-lent_zeros {n} h e = take-replicate n 65536 0 (omega (arith, h)) ∙ ap (λ (k : ℕ). replicate k 0) (h ∙ e)
+-- of so many cells one is lent for each file: they are zeros, and the notes of a list in them
+pub lent_zeros : {n files : ℕ} (cells : ℕ) → min files 65536 ≤ cells → n ≡ min files 65536 → min files 65536 ≡ files → take {A = ℕ} n (replicate cells 0) ≡ replicate files 0
+lent_zeros {n} cells g h e = take-replicate n cells 0 (omega (arith, h)) ∙ ap (λ (k : ℕ). replicate k 0) (h ∙ e)
 
-pub lent_notes : {n : ℕ} (files : ℕ) (zs : List ℤ) (l : List ℕ) → l ≡ noted_from 0 zs (take n (replicate 65536 0)) → n ≡ min files 65536 → Noted (length l) zs l × (length l ≡ min files 65536)
-lent_notes {n} files zs l e h =
-    let m : Noted n zs l = e ∙ ap (noted_from 0 zs) (take-replicate n 65536 0 (omega (arith, h))) in
+pub lent_notes : {n : ℕ} (cells files : ℕ) (zs : List ℤ) (l : List ℕ) → min files 65536 ≤ cells → l ≡ noted_from 0 zs (take n (replicate cells 0)) → n ≡ min files 65536
+    → Noted (length l) zs l × (length l ≡ min files 65536)
+lent_notes {n} cells files zs l g e h =
+    let m : Noted n zs l = e ∙ ap (noted_from 0 zs) (take-replicate n cells 0 (omega (arith, h))) in
     let k = noted-length n zs l m in
     (subst (λ (i : ℕ). Noted i zs l) (sym k) m, k ∙ h)
 

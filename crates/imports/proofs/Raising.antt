@@ -2,7 +2,7 @@
 -- overwrites all that was moved. These laws rely on those of proofs/Keeping.antt and of `renames` (its proofs/Kept.antt).
 use Prim.Native.Nat.{ℕ, suc, ◌+◌, ◌-◌, ◌*◌, ◌/◌, ◌≤◌, ◌<◌}
 use mathlib.Core.Path.{◌≡◌, refl, sym, ap, ◌∙◌}
-use mathlib.Core.Bool.{Bool}
+use mathlib.Core.Bool.{Bool, true}
 use mathlib.Core.Logic.{⊎_elim}
 use mathlib.Core.List.{List, [], ◌∷◌, ◌++◌, append-nil}
 use native.Mathlib.Omega.{arith}
@@ -12,12 +12,13 @@ use Rattle.lists.proofs.Orders.{le-or-lt}
 use Rattle.lists.proofs.Parts.{drop-take}
 use Rattle.lists.proofs.Runs.{sets-drop, sets_over, sets-set-below, part-sets}
 use Rattle.renames.specs.declared.rename.RenamedFiles.{RenamedFiles}
-use Rattle.renames.specs.Renames.{Renamed, renames_from, renames_of, words_of, texts_of}
-use Rattle.renames.specs.Finding.{bytes_from}
+use Rattle.renames.specs.Renames.{Renamed, placed_from, renames_from, renames_of, words_from, words_of, texts_of}
+use Rattle.renames.specs.private.Slots.{bytes_from}
 use Rattle.imports.specs.private.Importing.{renames_kept, kept_state, kept_words}
 use Rattle.imports.specs.private.Merging.{merged_from, kept_in}
 use Rattle.renames.proofs.Splices.{copied}
-use Rattle.renames.proofs.Kept.{at-word, words-rest, mode_small, length-words, list_read}
+use Rattle.renames.proofs.Placed.{length-words}
+use Rattle.renames.proofs.Kept.{at-word, words-rest, mode_small, list_read, list-placed}
 use Rattle.imports.proofs.Keeping.{kept-count, kept-bytes, kept-words, front-filled}
 
 -- ---- runs
@@ -43,32 +44,33 @@ drop-sets t l i h =
 
 -- ---- words that stand in a table from entry i on
 
-bytes_read : (rs : List Renamed) (i : ℕ) (e post : List ℕ) → drop (i * 3) e ≡ words_of rs ++ post → bytes_from (length rs) i e ≡ length (texts_of rs)
+bytes_read : (rs : List Renamed) (i at : ℕ) (e post : List ℕ) → drop (i * 4) e ≡ words_from at rs ++ post
+    → bytes_from (length rs) i e ≡ length (texts_of rs)
 unfolding bytes_from
-bytes_read [] i e post h = refl
-bytes_read (r ∷ rs) i e post h =
+bytes_read [] i at e post h = refl
+bytes_read (r ∷ rs) i at e post h =
     omega (
       arith,
-      at-word r rs i e post h 2,
-      bytes_read rs (i + 1) e post (words-rest r rs i e post h),
+      at-word r rs i at e post h 2,
+      bytes_read rs (i + 1) (at + length r.name) e post (words-rest r rs i at e post h),
       length-append r.name (texts_of rs),
     )
 
-modes-read : (rs : List Renamed) (i : ℕ) (e post : List ℕ) → drop (i * 3) e ≡ words_of rs ++ post
-    → (j : ℕ) → i ≤ j → j < i + length rs → get_or e (j * 3 + 1) 0 ≤ 2
-modes-read [] i e post h j a b = absurd (omega arith)
-modes-read (r ∷ rs) i e post h j a b =
+modes-read : (rs : List Renamed) (i at : ℕ) (e post : List ℕ) → drop (i * 4) e ≡ words_from at rs ++ post
+    → (j : ℕ) → i ≤ j → j < i + length rs → get_or e (j * 4 + 1) 0 ≤ 2
+modes-read [] i at e post h j a b = absurd (omega arith)
+modes-read (r ∷ rs) i at e post h j a b =
     ⊎_elim
-    (λ g. modes-read rs (i + 1) e post (words-rest r rs i e post h) j (omega arith) (omega arith))
-    (λ g. let q : j ≡ i = omega arith in rw q (omega (arith, at-word r rs i e post h 1, mode_small r.mode)))
+    (λ g. modes-read rs (i + 1) (at + length r.name) e post (words-rest r rs i at e post h) j (omega arith) (omega arith))
+    (λ g. let q : j ≡ i = omega arith in rw q (omega (arith, at-word r rs i at e post h 1, mode_small r.mode)))
     (le-or-lt (suc i) j)
 
 -- ---- the tables before the merge
 
 module _ (named : ℕ → Bool) (given : ℕ → Renamed) (files : ℕ) (rf stay come : RenamedFiles) (e t : List ℕ)
-    (words : rf.num_renames * 3 ≤ length e) (bytes : bytes_from rf.num_renames 0 e ≤ length t)
-    (modes : (j : ℕ) → 0 ≤ j → j < 0 + rf.num_renames → get_or e (j * 3 + 1) 0 ≤ 2) (kept : stay ≡ kept_state named rf e)
-    (held : (stay.num_renames + come.num_renames) * 3 ≤ length e) (room : stay.text_len + come.text_len ≤ length t) where
+    (words : rf.num_renames * 4 ≤ length e) (bytes : bytes_from rf.num_renames 0 e ≤ length t)
+    (modes : (j : ℕ) → 0 ≤ j → j < 0 + rf.num_renames → get_or e (j * 4 + 1) 0 ≤ 2) (kept : stay ≡ kept_state named rf e)
+    (held : (stay.num_renames + come.num_renames) * 4 ≤ length e) (room : stay.text_len + come.text_len ≤ length t) where
   abbrev stays : List Renamed
   stays = renames_kept named (renames_of rf e t)
 
@@ -84,24 +86,28 @@ module _ (named : ℕ → Bool) (given : ℕ → Renamed) (files : ℕ) (rf stay
   stay-bytes : stay.text_len ≡ length (texts_of stays)
   stay-bytes = rw kept (sym (kept-bytes named rf.num_renames 0 e t bytes))
 
-  words_are : kept_words named rf.num_renames 0 e ≡ words_of stays
-  words_are = sym (kept-words named rf.num_renames 0 e t modes bytes)
+  -- their words, the first text beginning behind the names that come
+  abbrev stays_words : List ℕ
+  stays_words = words_from come.text_len stays
 
-  count-is : length (words_of stays) ≡ stay.num_renames * 3
-  count-is = omega (arith, length-words stays, stay-count)
+  words_are : kept_words named rf.num_renames 0 come.text_len e ≡ stays_words
+  words_are = sym (kept-words named rf.num_renames 0 come.text_len e t modes bytes)
+
+  count-is : length stays_words ≡ stay.num_renames * 4
+  count-is = omega (arith, length-words come.text_len stays, stay-count)
 
   -- moved together
-  module _ (e₁ t₁ : List ℕ) (x₁ : e₁ ≡ sets e 0 (kept_words named rf.num_renames 0 e)) (y₁ : t₁ ≡ sets t 0 (texts_of stays)) where
-    together : e₁ ≡ sets e 0 (words_of stays)
+  module _ (e₁ t₁ : List ℕ) (x₁ : e₁ ≡ sets e 0 (kept_words named rf.num_renames 0 come.text_len e)) (y₁ : t₁ ≡ sets t 0 (texts_of stays)) where
+    together : e₁ ≡ sets e 0 stays_words
     together = x₁ ∙ ap (sets e 0) words_are
 
     long : (length e₁ ≡ length e) × (length t₁ ≡ length t)
-    long = (rw together (length-sets e 0 (words_of stays)), rw y₁ (length-sets t 0 (texts_of stays)))
+    long = (rw together (length-sets e 0 stays_words), rw y₁ (length-sets t 0 (texts_of stays)))
 
-    first-words : take (stay.num_renames * 3) e₁ ≡ words_of stays
+    first-words : take (stay.num_renames * 4) e₁ ≡ stays_words
     first-words =
-        let p = part-sets (words_of stays) e 0 (omega (arith, count-is)) in
-        ap (take (stay.num_renames * 3)) together ∙ ap (λ (n : ℕ). take n (sets e 0 (words_of stays))) (sym count-is) ∙ p
+        let p = part-sets stays_words e 0 (omega (arith, count-is)) in
+        ap (take (stay.num_renames * 4)) together ∙ ap (λ (n : ℕ). take n (sets e 0 stays_words)) (sym count-is) ∙ p
 
     first-bytes : take stay.text_len t₁ ≡ texts_of stays
     first-bytes =
@@ -109,13 +115,13 @@ module _ (named : ℕ → Bool) (given : ℕ → Renamed) (files : ℕ) (rf stay
         ap (take stay.text_len) y₁ ∙ ap (λ (n : ℕ). take n (sets t 0 (texts_of stays))) stay-bytes ∙ p
 
     -- and up
-    module _ (e₂ t₂ : List ℕ) (x₂ : e₂ ≡ paste e₁ (come.num_renames * 3) (drop 0 e₁) (stay.num_renames * 3 - 0))
+    module _ (e₂ t₂ : List ℕ) (x₂ : e₂ ≡ paste e₁ (come.num_renames * 4) (drop 0 e₁) (stay.num_renames * 4 - 0))
         (y₂ : t₂ ≡ paste t₁ come.text_len (drop 0 t₁) (stay.text_len - 0)) where
-      up-words : e₂ ≡ sets e₁ (c * 3) (words_of stays)
+      up-words : e₂ ≡ sets e₁ (c * 4) stays_words
       up-words =
           x₂
-          ∙ copied e₁ 0 (stay.num_renames * 3) (c * 3) (omega arith) (omega (arith, long.0)) (omega (arith, long.0))
-          ∙ ap (sets e₁ (c * 3)) first-words
+          ∙ copied e₁ 0 (stay.num_renames * 4) (c * 4) (omega arith) (omega (arith, long.0)) (omega (arith, long.0))
+          ∙ ap (sets e₁ (c * 4)) first-words
 
       up-bytes : t₂ ≡ sets t₁ cb (texts_of stays)
       up-bytes =
@@ -127,37 +133,37 @@ module _ (named : ℕ → Bool) (given : ℕ → Renamed) (files : ℕ) (rf stay
       total = stay.num_renames + c
 
       long-up : (length e₂ ≡ length e) × (length t₂ ≡ length t)
-      long-up = (rw up-words (length-sets e₁ (c * 3) (words_of stays)) ∙ long.0, rw up-bytes (length-sets t₁ cb (texts_of stays)) ∙ long.1)
+      long-up = (rw up-words (length-sets e₁ (c * 4) stays_words) ∙ long.0, rw up-bytes (length-sets t₁ cb (texts_of stays)) ∙ long.1)
 
       -- the entries that all need are lent to the merge
       abbrev front : List ℕ
-      front = take ((stay.num_renames + come.num_renames) * 3) e₂
+      front = take ((stay.num_renames + come.num_renames) * 4) e₂
 
-      front-count : length front / 3 ≡ total
-      front-count = omega (arith, length-take-le (total * 3) e₂ (omega (arith, held, long-up.0)))
+      front-count : length front / 4 ≡ total
+      front-count = omega (arith, length-take-le (total * 4) e₂ (omega (arith, held, long-up.0)))
 
-      there-words : drop (c * 3) front ≡ words_of stays ++ []
+      there-words : drop (c * 4) front ≡ stays_words ++ []
       there-words =
-          let n : total * 3 - c * 3 ≡ length (words_of stays) = omega (arith, count-is) in
-          let post = drop (length (words_of stays)) (drop (c * 3) e₁) in
-          let up : drop (c * 3) e₂ ≡ words_of stays ++ post = rw up-words (drop-sets (words_of stays) e₁ (c * 3) (omega (arith, count-is, long.0))) in
-          drop-take (c * 3) (total * 3) e₂
-          ∙ rw n (ap (take (length (words_of stays))) up ∙ take-append_seam (words_of stays) post ∙ sym (append-nil (words_of stays)))
+          let n : total * 4 - c * 4 ≡ length stays_words = omega (arith, count-is) in
+          let post = drop (length stays_words) (drop (c * 4) e₁) in
+          let up : drop (c * 4) e₂ ≡ stays_words ++ post = rw up-words (drop-sets stays_words e₁ (c * 4) (omega (arith, count-is, long.0))) in
+          drop-take (c * 4) (total * 4) e₂
+          ∙ rw n (ap (take (length stays_words)) up ∙ take-append_seam stays_words post ∙ sym (append-nil stays_words))
 
       there-bytes : drop cb t₂ ≡ texts_of stays ++ drop (length (texts_of stays)) (drop cb t₁)
       there-bytes = rw up-bytes (drop-sets (texts_of stays) t₁ cb (omega (arith, stay-bytes, long.1)))
 
-      rest-count : length front / 3 - c ≡ length stays
+      rest-count : length front / 4 - c ≡ length stays
       rest-count = omega (arith, front-count, stay-count)
 
-      kept_there : kept_in (length front / 3) come.num_renames come.text_len front t₂ ≡ stays
+      kept_there : kept_in (length front / 4) come.num_renames come.text_len front t₂ ≡ stays
       kept_there =
           ap (λ (n : ℕ). renames_from n c front (drop cb t₂)) rest-count
           ∙ ap (renames_from (length stays) c front) there-bytes
-          ∙ list_read stays c front [] (drop (length (texts_of stays)) (drop cb t₁)) there-words
+          ∙ list_read stays c cb front [] (drop (length (texts_of stays)) (drop cb t₁)) there-words
 
-      size-there : bytes_from (length front / 3 - c) c front ≡ length (texts_of stays)
-      size-there = ap (λ (n : ℕ). bytes_from n c front) rest-count ∙ bytes_read stays c front [] there-words
+      size-there : bytes_from (length front / 4 - c) c front ≡ length (texts_of stays)
+      size-there = ap (λ (n : ℕ). bytes_from n c front) rest-count ∙ bytes_read stays c cb front [] there-words
 
       abbrev all : List Renamed
       all = merged_from named given files 0 stays
@@ -165,32 +171,34 @@ module _ (named : ℕ → Bool) (given : ℕ → Renamed) (files : ℕ) (rf stay
       module _ (count : length (merged_from named given files 0 stays) ≡ stay.num_renames + come.num_renames)
           (size : length (texts_of (merged_from named given files 0 stays)) ≡ stay.text_len + come.text_len) where
         abbrev there : List Renamed
-        there = merged_from named given files 0 (kept_in (length front / 3) come.num_renames come.text_len front t₂)
+        there = merged_from named given files 0 (kept_in (length front / 4) come.num_renames come.text_len front t₂)
 
-        pub merge-ready : (come.num_renames ≤ length front / 3)
-            × (come.text_len + bytes_from (length front / 3 - come.num_renames) come.num_renames front ≤ length t₂)
-            × ((j : ℕ) → come.num_renames ≤ j → j < length front / 3 → get_or front (j * 3 + 1) 0 ≤ 2)
-            × (length there ≡ length front / 3)
-            × (length (texts_of there) ≡ come.text_len + bytes_from (length front / 3 - come.num_renames) come.num_renames front)
+        pub merge-ready : (come.num_renames ≤ length front / 4)
+            × (come.text_len + bytes_from (length front / 4 - come.num_renames) come.num_renames front ≤ length t₂)
+            × ((j : ℕ) → come.num_renames ≤ j → j < length front / 4 → get_or front (j * 4 + 1) 0 ≤ 2)
+            × (placed_from (length front / 4 - come.num_renames) come.num_renames come.text_len front ≡ true)
+            × (length there ≡ length front / 4)
+            × (length (texts_of there) ≡ come.text_len + bytes_from (length front / 4 - come.num_renames) come.num_renames front)
         merge-ready = (
           omega (arith, front-count),
           omega (arith, size-there, stay-bytes, long-up.1),
-          λ j a b. modes-read stays c front [] there-words j a (omega (arith, b, front-count, stay-count)),
+          λ j a b. modes-read stays c cb front [] there-words j a (omega (arith, b, front-count, stay-count)),
+          ap (λ (n : ℕ). placed_from n c cb front) rest-count ∙ list-placed stays c cb front [] there-words,
           rw kept_there count ∙ sym front-count,
           rw kept_there (omega (arith, size, size-there, stay-bytes)),
         )
 
         pub merge-done : (e₃ t₃ : List ℕ) → e₃ ≡ sets front 0 (words_of there) → t₃ ≡ sets t₂ 0 (texts_of there)
-            → (e₃ ++ drop ((stay.num_renames + come.num_renames) * 3) e₂ ≡ sets e 0 (words_of (merged_from named given files 0 stays))) × (t₃ ≡ sets t 0 (texts_of (merged_from named given files 0 stays)))
+            → (e₃ ++ drop ((stay.num_renames + come.num_renames) * 4) e₂ ≡ sets e 0 (words_of (merged_from named given files 0 stays))) × (t₃ ≡ sets t 0 (texts_of (merged_from named given files 0 stays)))
         merge-done e₃ t₃ x₃ y₃ =
-            let n = length-words all in
+            let n = length-words 0 all in
             let m : length there ≡ total = rw kept_there count in
-            let f : e₃ ++ drop (total * 3) e₂ ≡ sets e₂ 0 (words_of there) =
-            rw x₃ (front-filled named (words_of there) e₂ (total * 3) (omega (arith, length-words there, m)) (omega (arith, held, long-up.0))) in
+            let f : e₃ ++ drop (total * 4) e₂ ≡ sets e₂ 0 (words_of there) =
+            rw x₃ (front-filled named (words_of there) e₂ (total * 4) (omega (arith, length-words 0 there, m)) (omega (arith, held, long-up.0))) in
             let p : sets e₂ 0 (words_of there) ≡ sets e₁ 0 (words_of all) =
-            rw (kept_there, up-words) (sets-within (words_of all) e₁ (words_of stays) 0 (c * 3) (omega arith) (omega (arith, n, count, count-is))) in
+            rw (kept_there, up-words) (sets-within (words_of all) e₁ stays_words 0 (c * 4) (omega arith) (omega (arith, n, count, count-is))) in
             let q : sets e₁ 0 (words_of all) ≡ sets e 0 (words_of all) =
-            rw together (sets-within (words_of all) e (words_of stays) 0 0 (omega arith) (omega (arith, n, count, count-is))) in
+            rw together (sets-within (words_of all) e stays_words 0 0 (omega arith) (omega (arith, n, count, count-is))) in
             let r : sets t₂ 0 (texts_of there) ≡ sets t₁ 0 (texts_of all) =
             rw (kept_there, up-bytes) (sets-within (texts_of all) t₁ (texts_of stays) 0 cb (omega arith) (omega (arith, size, stay-bytes))) in
             let u : sets t₁ 0 (texts_of all) ≡ sets t 0 (texts_of all) =

@@ -3,7 +3,7 @@
 ghost use Rattle.std.specs.Prelude.{◌≡◌, ◌+◌, ◌/◌, ◌≤◌, ◌<◌, ◌^◌, length};
 ghost use Rattle.imports.specs.private.Importing.{is_full};
 
-use renames::{LentRenames, RenamedFiles};
+use renames::{ENTRY_WIDTH, LentRenames, RenamedFiles};
 
 // The record of the renames that stay, and that of the names that come.
 #[derive(Clone, Copy)]
@@ -15,10 +15,10 @@ pub(crate) struct Counted {
 impl Counted {
     // Whether the tables of `held` are too short for both.
     pub(crate) fn is_full(self, held: LentRenames<'_>) -> bool
-        requires { (self.stay.num_renames ≤ length held.entries.now / 3) × (self.stay.text_len ≤ length held.text.now) }
+        requires { (self.stay.num_renames ≤ length held.entries.now / 4) × (self.stay.text_len ≤ length held.text.now) }
         ensures { result ≡ is_full (length held.entry.entries.now) (length held.entry.text.now) self }
     {
-        held.entries.len() / 3 - self.stay.num_renames < self.come.num_renames
+        held.entries.len() / ENTRY_WIDTH - self.stay.num_renames < self.come.num_renames
             || held.text.len() - self.stay.text_len < self.come.text_len
     }
 

@@ -2,11 +2,12 @@
 -- stops a question (proofs/Deciding.antt of `renames`).
 use Rattle.std.specs.Prelude.{Option, Some, None, Result, IsErrAnd}
 use Prim.Native.Nat.{ℕ}
-use mathlib.Core.Path.{◌≡◌, sym, ◌∙◌}
+use mathlib.Core.Path.{◌≡◌, refl, sym, ap, ◌∙◌}
 use mathlib.Core.Bool.{Bool, true, false, cond, not, ◌&&◌}
 use mathlib.Core.List.{List}
 use lib.Dec.{eqb}
 use lib.IntN.{ℤ}
+use lib.ListN.{length}
 use Rattle.types.specs.declared.refusal.Refusal.{Refusal}
 use Rattle.types.specs.Refusals.{number_of, outcome, value, refused}
 use Rattle.types.proofs.Refusals.{exit}
@@ -23,11 +24,10 @@ use Rattle.tables.specs.Span.{text_at}
 use Rattle.names.specs.Paths.{file_path, names_held}
 use Rattle.renames.specs.declared.rename.Rename.{Rename}
 use Rattle.renames.specs.declared.rename.RenamedFiles.{RenamedFiles}
-use Rattle.renames.specs.Renames.{renames_of, in_order}
+use Rattle.renames.specs.Renames.{Renamed, renames_of, renames_held, in_order}
 use Rattle.renames.specs.Finding.{rename_for, rename_found}
-use Rattle.renames.proofs.Finding.{read_found}
+use Rattle.renames.proofs.Finding.{read_found, renamed-found}
 use Rattle.renamed.specs.Questions.{path_by, renamed_path, path_into}
-use Rattle.renamed.proofs.Questions.{listed}
 
 module _ {A : Type 0} (fs : FileStorage) (z : ℤ) (held order : Bool) (f : ℕ → A) (t : ℕ → List ℕ) (buf : List ℕ) where
   abbrev bad : Bool
@@ -67,19 +67,24 @@ module _ {A : Type 0} (fs : FileStorage) (z : ℤ) (held order : Bool) (f : ℕ 
         let b = both_true held order all_held in
         h ∙ rw (good, within, few, b.0, b.1, w)
 
+-- the path of a file that has a rename of the list, or its own
+abbrev pub renamed_to : Option Renamed → List ℕ → List ℕ → List ℕ → List ℕ
+renamed_to None own save set = own
+renamed_to (Some r) own save set = path_by r.mode save set r.name
+
 -- the path of file z through its rename, in a lent buffer
 module _ (fs : FileStorage) (rows dirs text : List ℕ) (rf : RenamedFiles) (e t : List ℕ) (z : ℤ) (save buf : List ℕ) where
   abbrev held : Bool
   held = names_held fs rows dirs text
 
   abbrev order : Bool
-  order = in_order rf e t
+  order = renames_held rf e (length t)
 
   abbrev own : ℕ → List ℕ
   own k = file_path fs dirs text save (row_at rows k)
 
   abbrev new : ℕ → List ℕ
-  new k = renamed_path (rename_for k (renames_of rf e t)) (own k) save (text_at text fs.name)
+  new k = renamed_path t (rename_found rf e k) (own k) save (text_at text fs.name)
 
   pub renamed-refused : (r : Result ℕ Refusal) (x : Refusal) → IsErrAnd r (λ y. y ≡ x)
       → refused (number_of x) ≡ file_answer fs z (held && order) (rename_found rf e)
@@ -87,10 +92,8 @@ module _ (fs : FileStorage) (rows dirs text : List ℕ) (rf : RenamedFiles) (e t
   renamed-refused r x i h = rw (exit r x i) (path-refused fs z held order (rename_found rf e) new buf (number_of x) h)
 
   module _ (x : Option Rename) (h : value x ≡ file_answer fs z (held && order) (rename_found rf e)) where
-    there : (y : Option Rename) → x ≡ y → rename_for (clamped_of z) (renames_of rf e t) ≡ read_found t y
-    there y is =
-        let k = path-asked fs z held order (rename_found rf e) new buf x h in
-        listed rf e t (clamped_of z) k.0 y (sym k.1 ∙ is)
+    there : (y : Option Rename) → x ≡ y → rename_found rf e (clamped_of z) ≡ y
+    there y is = sym (path-asked fs z held order (rename_found rf e) new buf x h).1 ∙ is
 
     pub renamed-text : (r : Rename) → x ≡ Some r → (set name : List ℕ) → set ≡ text_at text fs.name → name ≡ text_at t r.name
         → (j : Joined) → j ≡ composed_if 0 (path_by r.mode save set name) buf → j ≡ path_into fs rows dirs text rf e t z save buf
@@ -102,3 +105,12 @@ module _ (fs : FileStorage) (rows dirs text : List ℕ) (rf : RenamedFiles) (e t
     renamed-own is j p =
         let none = there None is in
         path-own fs z held order (rename_found rf e) new buf x h own j p (rw none)
+
+-- on tables in order it is the path of the file's rename in the list of renames, or its own
+pub path-said : (rf : RenamedFiles) (e t : List ℕ) (k : ℕ) (own save set : List ℕ) → in_order rf e t ≡ true
+    → renamed_path t (rename_found rf e k) own save set ≡ renamed_to (rename_for k (renames_of rf e t)) own save set
+path-said rf e t k own save set h = at (rename_found rf e k) ∙ ap (λ (o : Option Renamed). renamed_to o own save set) (sym (renamed-found rf e t k h))
+  where
+    at : (o : Option Rename) → renamed_path t o own save set ≡ renamed_to (read_found t o) own save set
+    at None = refl
+    at (Some r) = refl

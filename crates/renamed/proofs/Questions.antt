@@ -1,5 +1,5 @@
--- Laws of the questions through the renames: what a rename that was found tells, a leaf's place, and what the name's place reads as
--- in the list of renames. They rely on the laws of `renames` about renames that are read back.
+-- Laws of the questions through the renames: what a rename that was found tells, a leaf's place, and that on tables in order the
+-- answers are those of the list of renames. They rely on the laws of `renames` about renames that are read back.
 use Rattle.std.specs.Prelude.{Option, Some, None, MatchOption, Result, Ok, Err, IsErrAnd}
 use Prim.Native.Nat.{ℕ, ◌+◌, ◌-◌, ◌≤◌}
 use mathlib.Core.Path.{◌≡◌, refl, sym, ap, ◌∙◌}
@@ -26,7 +26,7 @@ use Rattle.rules.specs.Bounds.{bad_length, clamped_of, is_below}
 use Rattle.rules.specs.Questions.{few_entries, file_answer, rows_are_held, text_held}
 use Rattle.renames.specs.declared.rename.Rename.{Rename}
 use Rattle.renames.specs.declared.rename.RenamedFiles.{RenamedFiles}
-use Rattle.renames.specs.Renames.{Renamed, renames_of, in_order}
+use Rattle.renames.specs.Renames.{Renamed, renames_of, renames_held, in_order}
 use Rattle.renames.specs.Finding.{rename_for, rename_found, find_given}
 use Rattle.renames.proofs.Finding.{read_found, renamed-found, read_as, read-if}
 use Rattle.renames.proofs.Deciding.{asked-own}
@@ -34,7 +34,7 @@ use Rattle.answers.specs.Given.{file_absolute_path_given, file_name_given}
 use Rattle.renamed.specs.declared.result.FileName.{FileName}
 use Rattle.renamed.specs.Results.{name_says}
 use Rattle.renamed.proofs.Deciding.{asked-refused, asked-disorder, asked-value}
-use Rattle.renamed.specs.Questions.{renamed_name, renamed_absolute, is_by_itself, NameSpan, in_set, in_renames, leaf_span, name_span, name_given, absolute_given}
+use Rattle.renamed.specs.Questions.{renamed_absolute, is_by_itself, NameSpan, in_set, in_renames, leaf_span, name_span, name_given, absolute_given}
 
 -- ---- what a rename that was found tells
 
@@ -48,29 +48,25 @@ module _ {A : Type 0} (a : A) where
   untold false m e = (refl, cc)
 
 module _ (rf : RenamedFiles) (e t : List ℕ) (k : ℕ) where
-  pub found-value : (x : Option Rename) → value x ≡ find_given rf e (length t) k → (in_order rf e t ≡ true) × (rename_found rf e k ≡ x)
-  found-value x p = let w = told (rename_found rf e k) (in_order rf e t) x p in (w.0, sym w.1)
+  pub found-value : (x : Option Rename) → value x ≡ find_given rf e (length t) k → (renames_held rf e (length t) ≡ true) × (rename_found rf e k ≡ x)
+  found-value x p = let w = told (rename_found rf e k) (renames_held rf e (length t)) x p in (w.0, sym w.1)
 
-  pub found-refused : (m : ℕ) → refused m ≡ find_given rf e (length t) k → (in_order rf e t ≡ false) × (m ≡ 10)
-  found-refused m p = untold (rename_found rf e k) (in_order rf e t) m p
-
-  -- the rename in the list
-  pub listed : in_order rf e t ≡ true → (x : Option Rename) → rename_found rf e k ≡ x → rename_for k (renames_of rf e t) ≡ read_found t x
-  listed o x q = renamed-found rf e t k o ∙ ap (read_found t) q
+  pub found-refused : (m : ℕ) → refused m ≡ find_given rf e (length t) k → (renames_held rf e (length t) ≡ false) × (m ≡ 10)
+  found-refused m p = untold (rename_found rf e k) (renames_held rf e (length t)) m p
 
 -- the set's own answer about a file first, then that of its rename
 module _ {A B : Type 0} (fs : FileStorage) (z : ℤ) (held : Bool) (rf : RenamedFiles) (e t : List ℕ) (own : ℕ → A) (new : ℕ → B) (v : A)
     (h : value v ≡ file_answer fs z held own) where
-  rename-refused : (m : ℕ) → refused m ≡ find_given rf e (length t) (clamped_of z) → refused m ≡ file_answer fs z (held && in_order rf e t) new
+  rename-refused : (m : ℕ) → refused m ≡ find_given rf e (length t) (clamped_of z) → refused m ≡ file_answer fs z (held && renames_held rf e (length t)) new
   rename-refused m p =
       let w = found-refused rf e t (clamped_of z) m p in
-      ap refused w.1 ∙ asked-disorder fs z held (in_order rf e t) own new v h w.0
+      ap refused w.1 ∙ asked-disorder fs z held (renames_held rf e (length t)) own new v h w.0
 
   rename-told : (x : Option Rename) → value x ≡ find_given rf e (length t) (clamped_of z)
-      → (w : B) → (rename_for (clamped_of z) (renames_of rf e t) ≡ read_found t x → w ≡ new (clamped_of z)) → value w ≡ file_answer fs z (held && in_order rf e t) new
+      → (w : B) → (rename_found rf e (clamped_of z) ≡ x → w ≡ new (clamped_of z)) → value w ≡ file_answer fs z (held && renames_held rf e (length t)) new
   rename-told x p w q =
       let f = found-value rf e t (clamped_of z) x p in
-      asked-value fs z held (in_order rf e t) own new v h f.0 w (q (listed rf e t (clamped_of z) f.0 x f.1))
+      asked-value fs z held (renames_held rf e (length t)) own new v h f.0 w (q f.1)
 
 -- ---- whether a file's path is absolute
 
@@ -79,7 +75,7 @@ module _ (fs : FileStorage) (rows : List ℕ) (rf : RenamedFiles) (e t : List �
   own_absolute k = is_absolute (row_at rows k)
 
   abbrev new_absolute : ℕ → Bool
-  new_absolute k = renamed_absolute (rename_for k (renames_of rf e t)) (own_absolute k)
+  new_absolute k = renamed_absolute (rename_found rf e k) (own_absolute k)
 
   module _ (own : Bool) (h : value own ≡ file_absolute_path_given fs rows z) where
     pub absolute-said : (x : Option Rename) → value x ≡ find_given rf e (length t) (clamped_of z)
@@ -104,7 +100,7 @@ module _ (fs : FileStorage) (rows text : List ℕ) (rf : RenamedFiles) (e t : Li
   new_name k = name_span t (own_name k) (rename_found rf e k)
 
   pub name-refused : (m : ℕ) → refused m ≡ file_name_given fs rows text z → refused m ≡ name_given fs rows text rf e t z
-  name-refused = asked-refused fs z (rows_are_held fs rows && text_held fs text) (in_order rf e t) own_name new_name
+  name-refused = asked-refused fs z (rows_are_held fs rows && text_held fs text) (renames_held rf e (length t)) own_name new_name
 
   pub name-disorder : (own : Span) → value own ≡ file_name_given fs rows text z
       → (m : ℕ) → refused m ≡ find_given rf e (length t) (clamped_of z) → refused m ≡ name_given fs rows text rf e t z
@@ -165,7 +161,16 @@ leaf-text l s =
     leaf-place l s.at s.len (length (trimmed is_separator (text_at l s))) (rsplit_leaf (text_at l s)) f.0 f.1 refl
     (length (trimmed is_separator (text_at l s)) - length (rsplit_leaf (text_at l s))) refl
 
--- ---- what the name's place reads as
+-- ---- what is read through a rename of the list
+
+-- the leaf of the rename, or the set's own name
+abbrev pub renamed_name : Option Renamed → List ℕ → List ℕ
+renamed_name None own = own
+renamed_name (Some r) own = rsplit_leaf r.name
+
+abbrev pub listed_absolute : Option Renamed → Bool → Bool
+listed_absolute None own = own
+listed_absolute (Some r) own = is_by_itself r.mode
 
 -- the text at a place of a name, in the text area of the set or in that of the renames
 abbrev pub read_name : List ℕ → List ℕ → NameSpan → List ℕ
@@ -176,29 +181,36 @@ name-if : (text t : List ℕ) (own : Span) (o : Option Rename) → read_name tex
 name-if text t own None = refl
 name-if text t own (Some r) = leaf-text t r.name
 
--- a value that is known only in order
-in-order-only : {A : Type 0} (bad missing held o few : Bool) (x y : A) → (o ≡ true → x ≡ y)
-    → outcome_of (cond bad 1 (cond missing 11 (cond (not ((held && o) && few)) 10 0))) x
-    ≡ outcome_of (cond bad 1 (cond missing 11 (cond (not ((held && o) && few)) 10 0))) y
-in-order-only true missing held o few x y h = refl
-in-order-only false true held o few x y h = refl
-in-order-only false false true true true x y h = ap value (h refl)
-in-order-only false false true true false x y h = refl
-in-order-only false false true false few x y h = refl
-in-order-only false false false o few x y h = refl
+-- on tables in order the name of a file is the leaf of its rename in the list of renames, or its own, and whether its path is
+-- absolute is said by that rename or by its own row
+module _ (fs : FileStorage) (rows text : List ℕ) (rf : RenamedFiles) (e names : List ℕ) (z : ℤ) (ordered : in_order rf e names ≡ true) where
+  abbrev k : ℕ
+  k = clamped_of z
 
--- the name of a file as a text: the leaf of its rename in the list of renames, or its own
-pub name-said : (fs : FileStorage) (rows text : List ℕ) (rf : RenamedFiles) (e names : List ℕ) (z : ℤ)
-    → read_as (read_name text names) (name_given fs rows text rf e names z)
-    ≡ file_answer fs z ((rows_are_held fs rows && text_held fs text) && in_order rf e names)
-    (λ k. renamed_name (rename_for k (renames_of rf e names)) (text_at text (row_at rows k).name))
-name-said fs rows text rf e names z =
-    let k = clamped_of z in
-    let held = (rows_are_held fs rows && text_held fs text) in
-    let o = in_order rf e names in
-    let own = (row_at rows k).name in
-    let f = rename_found rf e k in
-    let m : ℕ = cond (bad_length fs.piece_length) 1 (cond (not (is_below fs.num_files z)) 11 (cond (not ((held && o) && few_entries fs)) 10 0)) in
-    read-if (read_name text names) (eqb m 0) m (name_span names own f)
-    ∙ in-order-only (bad_length fs.piece_length) (not (is_below fs.num_files z)) held o (few_entries fs) (read_name text names (name_span names own f)) (renamed_name (rename_for k (renames_of rf e names)) (text_at text own))
-    (λ q. name-if text names own f ∙ ap (λ (x : Option Renamed). renamed_name x (text_at text own)) (sym (renamed-found rf e names k q)))
+  abbrev held : Bool
+  held = renames_held rf e (length names)
+
+  abbrev number : Bool → ℕ
+  number all = cond (bad_length fs.piece_length) 1 (cond (not (is_below fs.num_files z)) 11 (cond (not (all && few_entries fs)) 10 0))
+
+  pub name-said : read_as (read_name text names) (name_given fs rows text rf e names z)
+      ≡ file_answer fs z ((rows_are_held fs rows && text_held fs text) && renames_held rf e (length names))
+      (λ k. renamed_name (rename_for k (renames_of rf e names)) (text_at text (row_at rows k).name))
+  name-said =
+      let own = (row_at rows k).name in
+      let f = rename_found rf e k in
+      let m = number ((rows_are_held fs rows && text_held fs text) && held) in
+      read-if (read_name text names) (eqb m 0) m (name_span names own f)
+      ∙ ap (outcome_of m) (name-if text names own f ∙ ap (λ (x : Option Renamed). renamed_name x (text_at text own)) (sym (renamed-found rf e names k ordered)))
+
+  absolute-if : (o : Option Rename) (own : Bool) → renamed_absolute o own ≡ listed_absolute (read_found names o) own
+  absolute-if None own = refl
+  absolute-if (Some r) own = refl
+
+  pub absolute-listed : absolute_given fs rows rf e names z
+      ≡ file_answer fs z (rows_are_held fs rows && renames_held rf e (length names))
+      (λ k. listed_absolute (rename_for k (renames_of rf e names)) (is_absolute (row_at rows k)))
+  absolute-listed =
+      let own = is_absolute (row_at rows k) in
+      ap (outcome_of (number (rows_are_held fs rows && held)))
+      (absolute-if (rename_found rf e k) own ∙ ap (λ (x : Option Renamed). listed_absolute x own) (sym (renamed-found rf e names k ordered)))

@@ -1,12 +1,12 @@
 // A file's whole path through its rename, composed into a lent buffer. Relies on `renames` for the rename, on
 // `names` and `path` for joins and on the laws of proofs/Paths.antt and proofs/Deciding.antt.
-ghost use Rattle.std.specs.Prelude.{◌&&◌, ◌≡◌};
+ghost use Rattle.std.specs.Prelude.{◌&&◌, ◌≡◌, length};
 ghost use Rattle.types.specs.Refusals.{outcome};
 ghost use Rattle.path.specs.Join.{joined_says};
 ghost use Rattle.rules.specs.Questions.{file_answer};
 ghost use Rattle.rules.specs.Composed.{composed_if};
 ghost use Rattle.names.specs.Paths.{names_held};
-ghost use Rattle.renames.specs.Renames.{in_order};
+ghost use Rattle.renames.specs.Renames.{renames_held};
 ghost use Rattle.renames.specs.Finding.{rename_found};
 ghost use Rattle.renamed.specs.Questions.{path_by, path_into};
 
@@ -22,7 +22,7 @@ fn find_through(
 ) -> Result<Option<Rename>, Refusal>
     ensures { outcome result ≡ file_answer set.entry.fs index.0
         (names_held set.entry.fs set.entry.lent.rows.now set.entry.lent.dirs.now set.entry.lent.text.now
-        && in_order names.entry.renames names.entry.entries.now names.entry.text.now)
+        && renames_held names.entry.renames names.entry.entries.now (length names.entry.text.now))
         (rename_found names.entry.renames names.entry.entries.now) }
 {
     names::file_of(set, index)?;

@@ -23,7 +23,7 @@ use Rattle.rules.proofs.Deciding.{allowed, denied}
 use Rattle.renames.proofs.Deciding.{passes}
 use Rattle.renames.specs.declared.rename.RenamedFiles.{RenamedFiles}
 use Rattle.renames.specs.declared.slot.Slot.{Slot}
-use Rattle.renames.specs.Renames.{Renamed, RenamesChanged, ordered_from, renames_of, renamed_to, lacks_room, in_order, state_of, words_of, texts_of, rename_file_answer}
+use Rattle.renames.specs.Renames.{Renamed, RenamesChanged, ordered_from, placed_from, renames_held, renames_of, renamed_to, lacks_room, in_order, state_of, words_of, texts_of, rename_file_answer}
 use Rattle.renames.specs.private.Slots.{slot_of}
 use Rattle.renames.specs.Renames.{in_order_in}
 use Rattle.renames.specs.private.Changing.{is_short, slot_number, slot_given, rename_of}
@@ -33,16 +33,17 @@ use Rattle.renames.proofs.Changes.{slot_in, count-after, bytes_after}
 
 -- what tables in order hold
 pub order-in : (rf : RenamedFiles) (e : List ℕ) (room : ℕ) → in_order_in rf e room ≡ true
-    → (rf.num_renames ≤ length e / 3) × (rf.text_len ≤ room) × (ordered_from rf.num_renames 0 0 rf.text_len e ≡ true)
+    → (rf.num_renames ≤ length e / 4) × (rf.text_len ≤ room) × (ordered_from rf.num_renames 0 0 rf.text_len e ≡ true) × (placed_from rf.num_renames 0 0 e ≡ true)
 order-in rf e room h =
-    let a = both_true (leb rf.num_renames (length e / 3)) (leb rf.text_len room && ordered_from rf.num_renames 0 0 rf.text_len e) h in
-    let b = both_true (leb rf.text_len room) (ordered_from rf.num_renames 0 0 rf.text_len e) a.1 in
-    (leb-true _ _ a.0, leb-true _ _ b.0, b.1)
+    let c = both_true (renames_held rf e room) (ordered_from rf.num_renames 0 0 rf.text_len e && placed_from rf.num_renames 0 0 e) h in
+    let a = both_true (leb rf.num_renames (length e / 4)) (leb rf.text_len room) c.0 in
+    let b = both_true (ordered_from rf.num_renames 0 0 rf.text_len e) (placed_from rf.num_renames 0 0 e) c.1 in
+    (leb-true _ _ a.0, leb-true _ _ a.1, b.0, b.1)
 
 -- what a slot among the entries in use asks of the room
 pub room_asked : (rf : RenamedFiles) (e : List ℕ) (room k : ℕ) (p : Slot) → in_order_in rf e room ≡ true
-    → p ≡ slot_of (length (take (rf.num_renames * 3) e) / 3) k (take (rf.num_renames * 3) e)
-    → (rf.num_renames ≤ length e / 3) × (rf.text_len ≤ room) × (p.old ≤ rf.text_len) × (p.same ≤ 1)
+    → p ≡ slot_of (length (take (rf.num_renames * 4) e) / 4) k (take (rf.num_renames * 4) e)
+    → (rf.num_renames ≤ length e / 4) × (rf.text_len ≤ room) × (p.old ≤ rf.text_len) × (p.same ≤ 1)
 room_asked rf e room k p h is =
     let o = order-in rf e room h in
     let s = slot_in rf.num_renames rf.text_len k e o.2 p (is ∙ slot_in_use rf.num_renames e (omega (arith, o.0)) k) in
@@ -81,8 +82,8 @@ module _ (fs : FileStorage) (rf : RenamedFiles) (e t : List ℕ) (z : ℤ) (name
       let r : Renamed = rename_of (clamped_of z) name in
       let n = rf.num_renames in
       let u = rf.text_len in
-      let held : n * 3 ≤ length e = omega arith in
-      rw (count-after n u r e t o.2 held o.1, bytes_after n u r e t o.2 held o.1)
+      let held : n * 4 ≤ length e = omega arith in
+      rw (count-after n u r e t o.2 o.3 held o.1, bytes_after n u r e t o.2 o.3 held o.1)
 
   abbrev change_number : ℕ
   change_number =
@@ -98,13 +99,13 @@ module _ (fs : FileStorage) (rf : RenamedFiles) (e t : List ℕ) (z : ℤ) (name
     known =
         five-passed (bad_length fs.piece_length) (not (is_below fs.num_files z)) (few_entries fs) (in_order_in rf e (length t)) (is_short rf there (length e) (length t) (length name)) p there h
 
-    pub slot-known : (ordered_from rf.num_renames 0 0 rf.text_len e ≡ true) × (p ≡ there)
-        × (rf.num_renames ≤ length e / 3) × (rf.text_len ≤ length t)
-        × (rf.num_renames + 1 - p.same ≤ length e / 3) × (rf.text_len - p.old + length name ≤ length t)
+    pub slot-known : (ordered_from rf.num_renames 0 0 rf.text_len e ≡ true) × (placed_from rf.num_renames 0 0 e ≡ true) × (p ≡ there)
+        × (rf.num_renames ≤ length e / 4) × (rf.text_len ≤ length t)
+        × (rf.num_renames + 1 - p.same ≤ length e / 4) × (rf.text_len - p.old + length name ≤ length t)
     slot-known =
         let o = order-in rf e (length t) known.1 in
-        let s = either-false (ltb (length e / 3) (rf.num_renames + 1 - there.same)) (ltb (length t) (rf.text_len - there.old + length name)) known.2 in
-        (o.2, known.3, o.0, o.1, rw known.3 (ltb-false _ _ s.0), rw known.3 (ltb-false _ _ s.1))
+        let s = either-false (ltb (length e / 4) (rf.num_renames + 1 - there.same)) (ltb (length t) (rf.text_len - there.old + length name)) known.2 in
+        (o.2, o.3, known.3, o.0, o.1, rw known.3 (ltb-false _ _ s.0), rw known.3 (ltb-false _ _ s.1))
 
     pub slot-changed : (rf' : RenamedFiles) (e' t' : List ℕ) → rf' ≡ state_of after → e' ≡ sets e 0 (words_of after) → t' ≡ sets t 0 (texts_of after)
         → ◌≡◌ {A = RenamesChanged} (record { says = value rf'; entries = e'; text = t' }) (rename_file_answer fs rf e t z name)

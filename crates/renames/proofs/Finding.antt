@@ -1,16 +1,16 @@
 -- Laws of a rename read back: where the search for a file's rename stops, there it is or nowhere; rename i is one of the list. They
 -- rely on the laws of proofs/Ordered.antt, proofs/Readings.antt and proofs/Decisions.antt.
 use Rattle.std.specs.Prelude.{Option, Some, None}
-use Prim.Native.Nat.{ℕ, zero, suc, ◌+◌, ◌-◌, ◌*◌, ◌%◌, ◌^◌, ◌≤◌, ◌<◌}
+use Prim.Native.Nat.{ℕ, zero, suc, ◌+◌, ◌-◌, ◌*◌, ◌/◌, ◌%◌, ◌≤◌, ◌<◌}
 use mathlib.Core.Path.{◌≡◌, refl, sym, ap, ◌∙◌}
-use mathlib.Core.Bool.{Bool, true, false, cond, not, false≢true, ◌&&◌}
+use mathlib.Core.Bool.{Bool, true, false, cond, false≢true, ◌&&◌}
 use mathlib.Core.Logic.{◌⊎◌, inl, inr}
 use mathlib.Core.List.{List, [], ◌∷◌}
 use native.Mathlib.Nat.{zero-add, add-zero, mod-eq_of_lt}
 use native.Mathlib.Omega.{arith}
-use borrow.Author.Tests.{ltb-true, lt-ltb, le-ltb, le-leb, eq-eqb, ne_eqb}
+use borrow.Author.Tests.{ltb-true, lt-ltb, le-ltb, le-leb, lt-leb, eq-eqb, ne_eqb}
 use lib.Dec.{eqb, ltb, leb}
-use lib.IntN.{ℤ, pos}
+use lib.IntN.{ℤ}
 use lib.ListN.{length, get_or, take, drop}
 use lib.Seq.{drop-drop}
 use Rattle.lists.proofs.Orders.{le-or-lt}
@@ -22,11 +22,12 @@ use Rattle.renames.specs.declared.rename.RenameMode.{RenameMode}
 use Rattle.renames.specs.declared.rename.RenameMode.TheVariants.{FullPath}
 use Rattle.renames.specs.declared.rename.Rename.{Rename}
 use Rattle.renames.specs.declared.rename.RenamedFiles.{RenamedFiles}
-use Rattle.renames.specs.declared.slot.Slot.{Slot}
-use Rattle.renames.specs.Renames.{Renamed, mode_of, renames_from, renames_of, ordered_from, in_order}
+use Rattle.renames.specs.Renames.{Renamed, mode_of, renames_from, renames_of, ordered_from, placed_from, in_order}
 use Rattle.renames.specs.Finding.{rename_in, rename_for, rename_found, exported}
-use Rattle.renames.specs.Finding.{below_from, bytes_from, entry_is_named}
-use Rattle.renames.specs.private.Slots.{slot_of}
+use Rattle.renames.specs.Finding.{entry_is_named, entry_sought}
+use Rattle.renames.specs.private.Slots.{bytes_from}
+use Rattle.renames.proofs.Halves.{below_from, sought-below}
+use Rattle.renames.proofs.Placed.{place-at}
 use Rattle.renames.proofs.Ordered.{order-first, order-rest, order-entry}
 use Rattle.renames.proofs.Readings.{is_named_from, ltb-both}
 use Rattle.renames.proofs.Decisions.{order-in}
@@ -37,9 +38,9 @@ use Rattle.renames.proofs.Decisions.{order-in}
 abbrev pub rename_at : ℕ → List ℕ → List ℕ → Renamed
 rename_at j e t =
     record {
-      file = get_or e (j * 3) 0;
-      mode = mode_of (get_or e (j * 3 + 1) 0);
-      name = take (get_or e (j * 3 + 2) 0) t;
+      file = get_or e (j * 4) 0;
+      mode = mode_of (get_or e (j * 4 + 1) 0);
+      name = take (get_or e (j * 4 + 2) 0) t;
     }
 
 -- a number below all others is not there
@@ -47,8 +48,8 @@ pub rename-none : (n i least left k : ℕ) (e t : List ℕ) → ordered_from n i
 unfolding renames_from
 rename-none zero i least left k e t h g = refl
 rename-none (suc n) i least left k e t h g =
-    let f = get_or e (i * 3) 0 in
-    let l = get_or e (i * 3 + 2) 0 in
+    let f = get_or e (i * 4) 0 in
+    let l = get_or e (i * 4 + 2) 0 in
     let o = order-first n i least left e h in
     rw (ne_eqb f k (λ q. omega arith)) (rename-none n (i + 1) (f + 1) (left - l) k e (drop l t) (order-rest n i least left e h) (omega arith))
 
@@ -61,26 +62,26 @@ rename-found : (n i least left k : ℕ) (e t : List ℕ) → ordered_from n i le
 unfolding renames_from below_from bytes_from
 rename-found zero i least left k e t h = refl
 rename-found (suc n) i least left k e t h =
-    step (le-or-lt k (get_or e (i * 3) 0)) (le-or-lt (get_or e (i * 3) 0) k)
-    (rename-found n (i + 1) (get_or e (i * 3) 0 + 1) (left - get_or e (i * 3 + 2) 0) k e (drop (get_or e (i * 3 + 2) 0) t) (order-rest n i least left e h))
+    step (le-or-lt k (get_or e (i * 4) 0)) (le-or-lt (get_or e (i * 4) 0) k)
+    (rename-found n (i + 1) (get_or e (i * 4) 0 + 1) (left - get_or e (i * 4 + 2) 0) k e (drop (get_or e (i * 4 + 2) 0) t) (order-rest n i least left e h))
   where
-    step : (k ≤ get_or e (i * 3) 0) ⊎ (get_or e (i * 3) 0 < k) → (get_or e (i * 3) 0 ≤ k) ⊎ (k < get_or e (i * 3) 0)
-        → Found n (i + 1) k e (drop (get_or e (i * 3 + 2) 0) t) (below_from n (i + 1) k e)
+    step : (k ≤ get_or e (i * 4) 0) ⊎ (get_or e (i * 4) 0 < k) → (get_or e (i * 4) 0 ≤ k) ⊎ (k < get_or e (i * 4) 0)
+        → Found n (i + 1) k e (drop (get_or e (i * 4 + 2) 0) t) (below_from n (i + 1) k e)
         → Found (suc n) i k e t (below_from (suc n) i k e)
     step (inr g) b ih =
-        let f = get_or e (i * 3) 0 in
-        let l = get_or e (i * 3 + 2) 0 in
+        let f = get_or e (i * 4) 0 in
+        let l = get_or e (i * 4 + 2) 0 in
         let j = below_from n (i + 1) k e in
         let w : i + (j + 1) ≡ i + 1 + j = omega arith in
         let s : j + 1 ≡ suc j = omega arith in
         rw (ne_eqb f k (λ q. omega arith), lt-ltb f k g, ltb-both j n, w, s, ← drop-drop (bytes_from j (i + 1) e) l t) ih
     step (inl g) (inr b) ih =
-        let f = get_or e (i * 3) 0 in
-        let l = get_or e (i * 3 + 2) 0 in
+        let f = get_or e (i * 4) 0 in
+        let l = get_or e (i * 4 + 2) 0 in
         rw (le-ltb f k g, ne_eqb f k (λ q. omega arith), lt-ltb 0 (suc n) (omega arith), add-zero i, ne_eqb f k (λ q. omega arith))
         (rename-none n (i + 1) (f + 1) (left - l) k e (drop l t) (order-rest n i least left e h) (omega arith))
     step (inl g) (inl b) ih =
-        let f = get_or e (i * 3) 0 in
+        let f = get_or e (i * 4) 0 in
         rw (le-ltb f k g, eq-eqb f k (omega arith), lt-ltb 0 (suc n) (omega arith), add-zero i, eq-eqb f k (omega arith))
 
 -- a rename with its text
@@ -91,64 +92,39 @@ abbrev pub read_found : List ℕ → Option Rename → Option Renamed
 read_found names None = None
 read_found names (Some r) = Some (read_rename names r)
 
+-- an entry of tables in order, read with its text
+pub read-back : (n u j : ℕ) (e t : List ℕ) → ordered_from n 0 0 u e ≡ true → placed_from n 0 0 e ≡ true → j < n
+    → read_rename t (rename_in e j) ≡ rename_at j e (drop (bytes_from j 0 e) t)
+read-back n u j e t ordered placed h =
+    let o = order-entry n 0 0 u e ordered j (omega arith) (omega arith) in
+    let d : get_or e (j * 4) 0 % 2147483648 ≡ get_or e (j * 4) 0 = mod-eq_of_lt (omega (arith, o.0)) in
+    let p = rw (zero-add j, zero-add (bytes_from j 0 e)) at (place-at n 0 0 e placed j h) in
+    rw (d, p)
+
 -- the entry that was found is the rename in the list
-found-if : (b : Bool) (e t : List ℕ) (j : ℕ)
+found-if : (b : Bool) (e t : List ℕ) (j : ℕ) → (b ≡ true → read_rename t (rename_in e j) ≡ rename_at j e (drop (bytes_from j 0 e) t))
     → cond b (Some (rename_at j e (drop (bytes_from j 0 e) t))) None ≡ read_found t (cond b (Some (rename_in e j)) None)
-found-if true e t j = refl
-found-if false e t j = refl
-
-pub renamed-found : (rf : RenamedFiles) (e t : List ℕ) (k : ℕ) → in_order rf e t ≡ true → rename_for k (renames_of rf e t) ≡ read_found t (rename_found rf e k)
-renamed-found rf e t k h =
-    let n = rf.num_renames in
-    let j = below_from n 0 k e in
-    let w = rename-found n 0 0 rf.text_len k e t (order-in rf e (length t) h).2 in
-    (rw (zero-add j) at w) ∙ found-if (entry_is_named n k j e) e t j
-
--- ---- rename i
-
-same-rename : (r : Rename) (f : ℤ) (m : RenameMode) (a n : ℕ) → r.file_index.0 ≡ f → r.mode ≡ m → r.name.at ≡ a → r.name.len ≡ n
-    → r ≡ record { file_index = record { 0 = f }; mode = m; name = record { at = a; len = n } }
-same-rename r f m a n e g h i = rw (← e, ← g, ← h, ← i)
-
-pub rename-is : (n u i : ℕ) (e : List ℕ) → ordered_from n 0 0 u e ≡ true → i < n → (r : Rename) → r.file_index.0 ≡ pos (get_or e (i * 3) 0 % 2 ^ 31)
-    → r.mode ≡ mode_of (get_or e (i * 3 + 1) 0) → r.name.at ≡ bytes_from i 0 e → r.name.len ≡ get_or e (i * 3 + 2) 0 → r ≡ rename_in e i
-rename-is n u i e ordered b r f m a l =
-    let o = order-entry n 0 0 u e ordered i (omega arith) (omega arith) in
-    let d : get_or e (i * 3) 0 % 2 ^ 31 ≡ get_or e (i * 3) 0 = mod-eq_of_lt (omega (arith, o.0)) in
-    same-rename r (pos (get_or e (i * 3) 0)) (mode_of (get_or e (i * 3 + 1) 0)) (bytes_from i 0 e) (get_or e (i * 3 + 2) 0) (f ∙ ap pos d) m a l
-
--- ---- a file's rename by its slot
-
-gone : (b : Bool) → (◌≡◌ {A = ℕ} (cond b 1 0) 0 → ⊥) → b ≡ true
-gone true h = refl
-gone false h = absurd (h refl)
+found-if true e t j h = ap Some (sym (h refl))
+found-if false e t j h = refl
 
 among : (b c : Bool) → (b && c) ≡ true → b ≡ true
 among true c h = refl
 among false c h = absurd (false≢true h)
 
-module _ (rf : RenamedFiles) (k : ℕ) (e : List ℕ) (ordered : ordered_from rf.num_renames 0 0 rf.text_len e ≡ true)
-    (p : Slot) (is : p ≡ slot_of rf.num_renames k e) where
-  abbrev n : ℕ
-  n = rf.num_renames
+pub renamed-found : (rf : RenamedFiles) (e t : List ℕ) (k : ℕ) → in_order rf e t ≡ true → rename_for k (renames_of rf e t) ≡ read_found t (rename_found rf e k)
+renamed-found rf e t k h =
+    let n = rf.num_renames in
+    let o = order-in rf e (length t) h in
+    let s = sought-below n 0 rf.text_len k e o.2 in
+    let j = entry_sought n k e in
+    let w = rename-found n 0 0 rf.text_len k e t o.2 in
+    (rw (zero-add (below_from n 0 k e), ← s) at w)
+    ∙ found-if (entry_is_named n k j e) e t j (λ q. read-back n rf.text_len j e t o.2 o.3 (ltb-true j n (among (ltb j n) (eqb (get_or e (j * 4) 0) k) q)))
 
-  abbrev j : ℕ
-  j = below_from n 0 k e
-
-  named : (p.same ≡ 0 → ⊥) → entry_is_named n k j e ≡ true
-  named h = gone (entry_is_named n k j e) (λ q. h (ap (λ (x : Slot). x.same) is ∙ q))
-
-  below : (p.same ≡ 0 → ⊥) → j < n
-  below h = ltb-true j n (among (ltb j n) (eqb (get_or e (j * 3) 0) k) (named h))
-
-  pub slot-renamed : (p.same ≡ 0 → ⊥) → (r : Rename) → r.file_index.0 ≡ pos (get_or e (p.entry * 3) 0 % 2 ^ 31)
-      → r.mode ≡ mode_of (get_or e (p.entry * 3 + 1) 0) → r.name.at ≡ p.at → r.name.len ≡ get_or e (p.entry * 3 + 2) 0 → Some r ≡ rename_found rf e k
-  slot-renamed h r f m a l =
-      let b = named h in
-      let x : p.entry ≡ j = ap (λ (y : Slot). y.entry) is in
-      let w = rename-is n rf.text_len j e ordered (below h) r (f ∙ ap (λ (i : ℕ). pos (get_or e (i * 3) 0 % 2 ^ 31)) x)
-      (m ∙ ap (λ (i : ℕ). mode_of (get_or e (i * 3 + 1) 0)) x) (a ∙ ap (λ (y : Slot). y.at) is) (l ∙ ap (λ (i : ℕ). get_or e (i * 3 + 2) 0) x) in
-      rw b (ap Some w)
+-- a rename by its parts
+pub same-rename : (r : Rename) (f : ℤ) (m : RenameMode) (a n : ℕ) → r.file_index.0 ≡ f → r.mode ≡ m → r.name.at ≡ a → r.name.len ≡ n
+    → r ≡ record { file_index = record { 0 = f }; mode = m; name = record { at = a; len = n } }
+same-rename r f m a n e g h i = rw (← e, ← g, ← h, ← i)
 
 -- ---- what an answer reads as
 
@@ -170,20 +146,23 @@ unfolding renames_from bytes_from
 rename-get zero i j e t h = absurd (omega arith)
 rename-get (suc n) i zero e t h = rw (add-zero i)
 rename-get (suc n) i (suc j) e t h =
-    let l = get_or e (i * 3 + 2) 0 in
+    let l = get_or e (i * 4 + 2) 0 in
     let w : i + suc j ≡ i + 1 + j = omega arith in
     rw (w, ← drop-drop (bytes_from j (i + 1) e) l t) (rename-get n (i + 1) j e (drop l t) (omega arith))
 
-pub export-said : (rf : RenamedFiles) (e names : List ℕ) (i : ℕ)
-    → read_as (read_rename names) (exported rf e names i)
-    ≡ outcome_of (first_of (when (leb rf.num_renames i) 11 ∷ when (not (in_order rf e names)) 10 ∷ [])) (get_or (renames_of rf e names) i nothing)
-export-said rf e names i = at (le-or-lt rf.num_renames i)
+pub export-said : (rf : RenamedFiles) (e names : List ℕ) (i : ℕ) → in_order rf e names ≡ true
+    → read_as (read_rename names) (exported rf e names i) ≡ outcome_of (first_of (when (leb rf.num_renames i) 11 ∷ [])) (get_or (renames_of rf e names) i nothing)
+export-said rf e names i h = at (le-or-lt rf.num_renames i)
   where
-    at : (rf.num_renames ≤ i) ⊎ (i < rf.num_renames)
-        → read_as (read_rename names) (exported rf e names i)
-        ≡ outcome_of (first_of (when (leb rf.num_renames i) 11 ∷ when (not (in_order rf e names)) 10 ∷ [])) (get_or (renames_of rf e names) i nothing)
-    at (inl h) = rw (le-leb rf.num_renames i h)
-    at (inr h) =
-        let m : ℕ = cond (leb rf.num_renames i) 11 (cond (not (in_order rf e names)) 10 0) in
-        read-if (read_rename names) (eqb m 0) m (rename_in e i)
-        ∙ ap (outcome_of m) (sym (rename-get rf.num_renames 0 i e names h ∙ rw (zero-add i)))
+    n : ℕ
+    n = rf.num_renames
+
+    o : (n ≤ length e / 4) × (rf.text_len ≤ length names) × (ordered_from n 0 0 rf.text_len e ≡ true) × (placed_from n 0 0 e ≡ true)
+    o = order-in rf e (length names) h
+
+    at : (n ≤ i) ⊎ (i < n)
+        → read_as (read_rename names) (exported rf e names i) ≡ outcome_of (first_of (when (leb n i) 11 ∷ [])) (get_or (renames_of rf e names) i nothing)
+    at (inl g) = rw (le-leb n i g)
+    at (inr g) =
+        rw (lt-leb n i g, le-leb n (length e / 4) o.0, le-leb rf.text_len (length names) o.1, rename-get n 0 i e names g, zero-add i)
+        (ap value (read-back n rf.text_len i e names o.2 o.3 g))

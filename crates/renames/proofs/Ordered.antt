@@ -11,7 +11,7 @@ use lib.Dec.{eqb, leb}
 use lib.ListN.{get_or}
 use Rattle.lists.proofs.Orders.{le-or-lt}
 use Rattle.renames.specs.Renames.{ordered_from}
-use Rattle.renames.specs.Finding.{bytes_from}
+use Rattle.renames.specs.private.Slots.{bytes_from}
 use Rattle.rules.proofs.Rules.{both_true}
 
 -- an entry in order: its number, its mode and its text's length
@@ -35,32 +35,32 @@ regroup false b c d r = refl
 -- the first entry, and the others
 module _ (n i least left : ℕ) (e : List ℕ) where
   abbrev first : Bool
-  first = entry_ordered (get_or e (i * 3) 0) (get_or e (i * 3 + 1) 0) (get_or e (i * 3 + 2) 0) least left
+  first = entry_ordered (get_or e (i * 4) 0) (get_or e (i * 4 + 1) 0) (get_or e (i * 4 + 2) 0) least left
 
   pub order-step : ordered_from (suc n) i least left e
-      ≡ (entry_ordered (get_or e (i * 3) 0) (get_or e (i * 3 + 1) 0) (get_or e (i * 3 + 2) 0) least left
-      && ordered_from n (i + 1) (get_or e (i * 3) 0 + 1) (left - get_or e (i * 3 + 2) 0) e)
+      ≡ (entry_ordered (get_or e (i * 4) 0) (get_or e (i * 4 + 1) 0) (get_or e (i * 4 + 2) 0) least left
+      && ordered_from n (i + 1) (get_or e (i * 4) 0 + 1) (left - get_or e (i * 4 + 2) 0) e)
   unfolding ordered_from
   order-step =
-      regroup (leb least (get_or e (i * 3) 0)) (leb (get_or e (i * 3) 0) 2147483647) (leb (get_or e (i * 3 + 1) 0) 2) (leb (get_or e (i * 3 + 2) 0) left)
-      (ordered_from n (i + 1) (get_or e (i * 3) 0 + 1) (left - get_or e (i * 3 + 2) 0) e)
+      regroup (leb least (get_or e (i * 4) 0)) (leb (get_or e (i * 4) 0) 2147483647) (leb (get_or e (i * 4 + 1) 0) 2) (leb (get_or e (i * 4 + 2) 0) left)
+      (ordered_from n (i + 1) (get_or e (i * 4) 0 + 1) (left - get_or e (i * 4 + 2) 0) e)
 
   pub order-first : ordered_from (suc n) i least left e ≡ true
-      → (least ≤ get_or e (i * 3) 0) × (get_or e (i * 3) 0 ≤ 2147483647) × (get_or e (i * 3 + 1) 0 ≤ 2) × (get_or e (i * 3 + 2) 0 ≤ left)
+      → (least ≤ get_or e (i * 4) 0) × (get_or e (i * 4) 0 ≤ 2147483647) × (get_or e (i * 4 + 1) 0 ≤ 2) × (get_or e (i * 4 + 2) 0 ≤ left)
   order-first h =
-      entry_in (get_or e (i * 3) 0) (get_or e (i * 3 + 1) 0) (get_or e (i * 3 + 2) 0) least left
-      (both_true first (ordered_from n (i + 1) (get_or e (i * 3) 0 + 1) (left - get_or e (i * 3 + 2) 0) e) (sym order-step ∙ h)).0
+      entry_in (get_or e (i * 4) 0) (get_or e (i * 4 + 1) 0) (get_or e (i * 4 + 2) 0) least left
+      (both_true first (ordered_from n (i + 1) (get_or e (i * 4) 0 + 1) (left - get_or e (i * 4 + 2) 0) e) (sym order-step ∙ h)).0
 
   pub order-rest : ordered_from (suc n) i least left e ≡ true
-      → ordered_from n (i + 1) (get_or e (i * 3) 0 + 1) (left - get_or e (i * 3 + 2) 0) e ≡ true
+      → ordered_from n (i + 1) (get_or e (i * 4) 0 + 1) (left - get_or e (i * 4 + 2) 0) e ≡ true
   order-rest h =
-      (both_true first (ordered_from n (i + 1) (get_or e (i * 3) 0 + 1) (left - get_or e (i * 3 + 2) 0) e) (sym order-step ∙ h)).1
+      (both_true first (ordered_from n (i + 1) (get_or e (i * 4) 0 + 1) (left - get_or e (i * 4 + 2) 0) e) (sym order-step ∙ h)).1
 
 -- one entry of the check, or its end
 module _ (n i least left : ℕ) (e : List ℕ) where
   pub order_turn : i < n → ordered_from (n - i) i least left e
-      ≡ (entry_ordered (get_or e (i * 3) 0) (get_or e (i * 3 + 1) 0) (get_or e (i * 3 + 2) 0) least left
-      && ordered_from (n - (i + 1)) (i + 1) (get_or e (i * 3) 0 + 1) (left - get_or e (i * 3 + 2) 0) e)
+      ≡ (entry_ordered (get_or e (i * 4) 0) (get_or e (i * 4 + 1) 0) (get_or e (i * 4 + 2) 0) least left
+      && ordered_from (n - (i + 1)) (i + 1) (get_or e (i * 4) 0 + 1) (left - get_or e (i * 4 + 2) 0) e)
   order_turn h = let m : n - i ≡ suc (n - (i + 1)) = omega arith in rw m (order-step (n - (i + 1)) i least left e)
 
   pub order_end : n ≤ i → ordered_from (n - i) i least left e ≡ eqb left 0
@@ -71,15 +71,15 @@ pub ruleset turns = (order_turn, order_end)
 
 -- each number is one of 31 bits, and each mode one of three
 pub order-entry : (n i least left : ℕ) (e : List ℕ) → ordered_from n i least left e ≡ true
-    → (j : ℕ) → i ≤ j → j < i + n → (get_or e (j * 3) 0 ≤ 2147483647) × (get_or e (j * 3 + 1) 0 ≤ 2)
+    → (j : ℕ) → i ≤ j → j < i + n → (get_or e (j * 4) 0 ≤ 2147483647) × (get_or e (j * 4 + 1) 0 ≤ 2)
 order-entry zero i least left e h j a b = absurd (omega arith)
 order-entry (suc n) i least left e h j a b =
-    ⊎_elim (λ g. order-entry n (i + 1) (get_or e (i * 3) 0 + 1) (left - get_or e (i * 3 + 2) 0) e (order-rest n i least left e h) j (omega arith) (omega arith))
+    ⊎_elim (λ g. order-entry n (i + 1) (get_or e (i * 4) 0 + 1) (left - get_or e (i * 4 + 2) 0) e (order-rest n i least left e h) j (omega arith) (omega arith))
     (λ g. let q : j ≡ i = omega arith in let o = order-first n i least left e h in rw q (o.1, o.2))
     (le-or-lt (suc i) j)
 
 pub order-mode : (n i least left : ℕ) (e : List ℕ) → ordered_from n i least left e ≡ true
-    → (j : ℕ) → i ≤ j → j < i + n → get_or e (j * 3 + 1) 0 ≤ 2
+    → (j : ℕ) → i ≤ j → j < i + n → get_or e (j * 4 + 1) 0 ≤ 2
 order-mode n i least left e h j a b = (order-entry n i least left e h j a b).1
 
 -- the texts have so many bytes together
@@ -90,5 +90,5 @@ order-bytes (suc n) i least left e h =
     omega (
       arith,
       (order-first n i least left e h).3,
-      order-bytes n (i + 1) (get_or e (i * 3) 0 + 1) (left - get_or e (i * 3 + 2) 0) e (order-rest n i least left e h),
+      order-bytes n (i + 1) (get_or e (i * 4) 0 + 1) (left - get_or e (i * 4 + 2) 0) e (order-rest n i least left e h),
     )

@@ -27,15 +27,15 @@ pub rises-read : (n i least left : ℕ) (e t : List ℕ) → ordered_from n i le
 unfolding renames_from
 rises-read zero i least left e t h = tt
 rises-read (suc n) i least left e t h =
-    let l = get_or e (i * 3 + 2) 0 in
-    ((order-first n i least left e h).0, rises-read n (i + 1) (get_or e (i * 3) 0 + 1) (left - l) e (drop l t) (order-rest n i least left e h))
+    let l = get_or e (i * 4 + 2) 0 in
+    ((order-first n i least left e h).0, rises-read n (i + 1) (get_or e (i * 4) 0 + 1) (left - l) e (drop l t) (order-rest n i least left e h))
 
 pub small-read : (n i least left : ℕ) (e t : List ℕ) → ordered_from n i least left e ≡ true → Small (renames_from n i e t)
 unfolding renames_from
 small-read zero i least left e t h = tt
 small-read (suc n) i least left e t h =
-    let l = get_or e (i * 3 + 2) 0 in
-    ((order-first n i least left e h).1, small-read n (i + 1) (get_or e (i * 3) 0 + 1) (left - l) e (drop l t) (order-rest n i least left e h))
+    let l = get_or e (i * 4 + 2) 0 in
+    ((order-first n i least left e h).1, small-read n (i + 1) (get_or e (i * 4) 0 + 1) (left - l) e (drop l t) (order-rest n i least left e h))
 
 pub rises-weaker : (rs : List Renamed) (least m : ℕ) → m ≤ least → Rises least rs → Rises m rs
 rises-weaker [] least m h a = tt

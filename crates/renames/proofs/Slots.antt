@@ -1,5 +1,5 @@
--- Laws of a rename's slot: how the scans go from entry to entry, and the bounds of what they give. They rely on the
--- definitions of specs/Finding.antt and specs/private/Slots.antt.
+-- Laws of a rename's slot: what it has already, and the bytes before and behind it. They rely on the definitions of
+-- specs/Finding.antt and specs/private/Slots.antt.
 use Prim.Native.Nat.{ℕ, zero, suc, ◌+◌, ◌-◌, ◌*◌, ◌≤◌}
 use mathlib.Core.Path.{◌≡◌, refl, ap, ◌∙◌}
 use mathlib.Core.Bool.{Bool, true, false, cond, ◌&&◌}
@@ -8,18 +8,8 @@ use native.Mathlib.Omega.{arith}
 use borrow.Author.Tests.{ltb-true}
 use lib.Dec.{eqb, ltb}
 use lib.ListN.{get_or}
-use Rattle.renames.specs.Finding.{below_from, bytes_from, entry_is_named}
-use Rattle.renames.specs.private.Slots.{same_at, old_at}
-
--- the slot is one of n, or the end
-below_step : (b : Bool) (n m : ℕ) → m ≤ n → cond b (m + 1) 0 ≤ suc n
-below_step true n m h = omega arith
-below_step false n m h = omega arith
-
-pub below_le : (n i k : ℕ) (e : List ℕ) → below_from n i k e ≤ n
-unfolding below_from
-below_le zero i k e = omega arith
-below_le (suc n) i k e = below_step (ltb (get_or e (i * 3) 0) k) n (below_from n (i + 1) k e) (below_le n (i + 1) k e)
+use Rattle.renames.specs.Finding.{entry_is_named}
+use Rattle.renames.specs.private.Slots.{bytes_from, same_at, old_at}
 
 -- the bytes of some entries and of those behind them
 pub bytes-split : (k m i : ℕ) (e : List ℕ) → bytes_from (k + m) i e ≡ bytes_from k i e + bytes_from m (i + k) e
@@ -38,9 +28,9 @@ module _ (n k i : ℕ) (e : List ℕ) (h : i ≤ n) where
   at_most false c q = omega arith
 
   pub same-le : i + same_at n k i e ≤ n
-  same-le = at_most (ltb i n) (eqb (get_or e (i * 3) 0) k) refl
+  same-le = at_most (ltb i n) (eqb (get_or e (i * 4) 0) k) refl
 
-one-bytes : (i : ℕ) (e : List ℕ) → bytes_from 1 i e ≡ get_or e (i * 3 + 2) 0
+one-bytes : (i : ℕ) (e : List ℕ) → bytes_from 1 i e ≡ get_or e (i * 4 + 2) 0
 unfolding bytes_from
 one-bytes i e = omega arith
 
@@ -48,7 +38,7 @@ no_bytes : (i : ℕ) (e : List ℕ) → bytes_from 0 i e ≡ 0
 unfolding bytes_from
 no_bytes i e = refl
 
-same_bytes : (b : Bool) (i : ℕ) (e : List ℕ) → bytes_from (cond b 1 0) i e ≡ cond b (get_or e (i * 3 + 2) 0) 0
+same_bytes : (b : Bool) (i : ℕ) (e : List ℕ) → bytes_from (cond b 1 0) i e ≡ cond b (get_or e (i * 4 + 2) 0) 0
 same_bytes true i e = one-bytes i e
 same_bytes false i e = no_bytes i e
 

@@ -1,14 +1,11 @@
--- Laws of a part replaced: items copied within a table or from another one, and the new items in front of what was moved. They
+-- Laws of a part replaced: items copied within a table, and the new items in front of what was moved. They
 -- rely on the laws of `lists`.
 use Prim.Native.Nat.{ℕ, ◌+◌, ◌-◌, ◌≤◌}
-use mathlib.Core.Path.{◌≡◌, refl, sym, ap, ◌∙◌}
+use mathlib.Core.Path.{◌≡◌, sym, ◌∙◌}
 use mathlib.Core.List.{List, ◌++◌}
 use native.Mathlib.Omega.{arith}
-use borrow.Rule.Slice.PartMut.{put_mid}
 use lib.ListN.{length, take, drop, take-append-drop}
 use lib.Seq.{paste, sets, sets-eq, length-take-le}
-use Rattle.std.proofs.lemmas.List.{take_all}
-use Rattle.std.proofs.lemmas.Slice.{put_mid-paste}
 use Rattle.lists.proofs.Runs.{moved, sets-append, sets-comm}
 use Rattle.renames.specs.private.Slots.{spliced}
 
@@ -16,14 +13,6 @@ module _ {A : Type 0} (l : List A) where
   -- the items from i up to j, copied to `dest`
   pub copied : (i j dest : ℕ) → i ≤ j → j ≤ length l → dest + (j - i) ≤ length l → paste l dest (drop i l) (j - i) ≡ sets l dest (drop i (take j l))
   copied i j dest a b c = moved l j i dest (j - i) (omega arith) (omega arith)
-
-  -- the items of another table, written from `at` on
-  pub written : (new : List A) (at k : ℕ) → k ≡ length new → at + k ≤ length l → put_mid at k l new ≡ sets l at new
-  written new at k e h =
-      let p : length new ≡ k = sym e in
-      put_mid-paste at k l new new k refl refl e
-      ∙ ap (λ (x : List A). take at l ++ x ++ drop (at + k) l) (take_all k new (omega arith))
-      ∙ sym (sets-eq new l at (omega arith) ∙ ap (λ (n : ℕ). take at l ++ new ++ drop (at + n) l) p)
 
   -- the moved items, then the new ones in front of them
   pub splice_is : (new : List A) (u at old : ℕ) → sets (sets l (at + length new) (drop (at + old) (take u l))) at new ≡ spliced l u at old new

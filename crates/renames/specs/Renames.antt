@@ -1,9 +1,9 @@
 -- Document 01, 'Names': 'a rename entry holds its file number and one of three modes'. A set's renames are a list,
--- ascending by file number, each number once. In the lent tables an entry is three words: number, mode, length of the
--- text; the texts stand in the entries' order in the text area, one after the other. It relies on the rules in order of
--- `rules`.
-use Rattle.std.specs.Prelude.{ℕ, zero, suc, ◌+◌, ◌-◌, ◌*◌, ◌/◌, Bool, cond, ◌&&◌, ◌||◌, List, [], ◌∷◌, ◌++◌, eqb, ltb}
-use Rattle.std.specs.Prelude.{leb, ℤ, length, get_or, take, drop}
+-- ascending by file number, each number once. In the lent tables an entry is four words: number, mode, length of the
+-- text, and where it begins in the text area; the texts stand there in the entries' order, one after the other. It
+-- relies on the rules in order of `rules`.
+use Rattle.std.specs.Prelude.{ℕ, zero, suc, ◌+◌, ◌-◌, ◌*◌, ◌/◌, Bool, true, cond, ◌&&◌, ◌||◌, List, [], ◌∷◌, ◌++◌, eqb}
+use Rattle.std.specs.Prelude.{ltb, leb, ℤ, length, get_or, take, drop}
 use Rattle.std.proofs.lemmas.List.Edits.{sets}
 use Rattle.types.specs.Refusals.{Outcome, value, refused}
 use Rattle.path.specs.Split.{is_complete}
@@ -36,19 +36,23 @@ unfoldable pub renames_from : ℕ → ℕ → List ℕ → List ℕ → List Ren
 renames_from zero i entries t = []
 renames_from (suc n) i entries t =
     record {
-      file = get_or entries (i * 3) 0;
-      mode = mode_of (get_or entries (i * 3 + 1) 0);
-      name = take (get_or entries (i * 3 + 2) 0) t;
+      file = get_or entries (i * 4) 0;
+      mode = mode_of (get_or entries (i * 4 + 1) 0);
+      name = take (get_or entries (i * 4 + 2) 0) t;
     } ∷
-    renames_from n (i + 1) entries (drop (get_or entries (i * 3 + 2) 0) t)
+    renames_from n (i + 1) entries (drop (get_or entries (i * 4 + 2) 0) t)
 
 abbrev pub renames_of : RenamedFiles → List ℕ → List ℕ → List Renamed
 renames_of rf entries text = renames_from rf.num_renames 0 entries text
 
--- the same list as words and as text
+-- the same list as words, the first text beginning at byte `at`, and as text
+abbrev pub words_from : ℕ → List Renamed → List ℕ
+words_from at [] = []
+words_from at (r ∷ rs) =
+    r.file ∷ mode_word r.mode ∷ length r.name ∷ at ∷ words_from (at + length r.name) rs
+
 abbrev pub words_of : List Renamed → List ℕ
-words_of [] = []
-words_of (r ∷ rs) = r.file ∷ mode_word r.mode ∷ length r.name ∷ words_of rs
+words_of rs = words_from 0 rs
 
 abbrev pub texts_of : List Renamed → List ℕ
 texts_of [] = []
@@ -62,16 +66,27 @@ state_of rs = record { num_renames = length rs; text_len = length (texts_of rs) 
 unfoldable pub ordered_from : ℕ → ℕ → ℕ → ℕ → List ℕ → Bool
 ordered_from zero i least left entries = eqb left 0
 ordered_from (suc n) i least left entries =
-    (leb least (get_or entries (i * 3) 0) && leb (get_or entries (i * 3) 0) 2147483647)
-    && (leb (get_or entries (i * 3 + 1) 0) 2
-    && (leb (get_or entries (i * 3 + 2) 0) left
-    && ordered_from n (i + 1) (get_or entries (i * 3) 0 + 1) (left - get_or entries (i * 3 + 2) 0) entries))
+    (leb least (get_or entries (i * 4) 0) && leb (get_or entries (i * 4) 0) 2147483647)
+    && (leb (get_or entries (i * 4 + 1) 0) 2
+    && (leb (get_or entries (i * 4 + 2) 0) left
+    && ordered_from n (i + 1) (get_or entries (i * 4) 0 + 1) (left - get_or entries (i * 4 + 2) 0) entries))
 
--- the lent tables hold what the record counts, in order; the text area has `room` bytes
+-- the texts of the n entries from entry i on begin one where the other ends, the first at byte `at`
+unfoldable pub placed_from : ℕ → ℕ → ℕ → List ℕ → Bool
+placed_from zero i at entries = true
+placed_from (suc n) i at entries =
+    eqb (get_or entries (i * 4 + 3) 0) at
+    && placed_from n (i + 1) (at + get_or entries (i * 4 + 2) 0) entries
+
+-- the lent tables hold what the record counts; the text area has `room` bytes
+abbrev pub renames_held : RenamedFiles → List ℕ → ℕ → Bool
+renames_held rf entries room = leb rf.num_renames (length entries / 4) && leb rf.text_len room
+
+-- and are in order
 abbrev pub in_order_in : RenamedFiles → List ℕ → ℕ → Bool
 in_order_in rf entries room =
-    leb rf.num_renames (length entries / 3)
-    && (leb rf.text_len room && ordered_from rf.num_renames 0 0 rf.text_len entries)
+    renames_held rf entries room
+    && (ordered_from rf.num_renames 0 0 rf.text_len entries && placed_from rf.num_renames 0 0 entries)
 
 abbrev pub in_order : RenamedFiles → List ℕ → List ℕ → Bool
 in_order rf entries text = in_order_in rf entries (length text)
@@ -93,7 +108,7 @@ renamed_to z name rs = with_rename (record { file = clamped_of z; mode = mode_fo
 
 -- refusal 10: more entries or more bytes of text than the tables have room for
 abbrev pub lacks_room : List Renamed → List ℕ → List ℕ → Bool
-lacks_room rs entries text = ltb (length entries / 3) (length rs) || ltb (length text) (length (texts_of rs))
+lacks_room rs entries text = ltb (length entries / 4) (length rs) || ltb (length text) (length (texts_of rs))
 
 -- the answer, and each table after it
 pub record RenamesChanged : Type 0 where

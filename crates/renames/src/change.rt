@@ -3,21 +3,21 @@
 ghost use Rattle.std.specs.Prelude.{◌≡◌, true, ◌+◌, ◌-◌, ◌/◌, ◌≤◌, length};
 ghost use Rattle.types.specs.Refusals.{outcome};
 ghost use Rattle.std.proofs.lemmas.List.Edits.{sets};
-ghost use Rattle.renames.specs.Renames.{mode_for, ordered_from, words_of, texts_of, state_of};
+ghost use Rattle.renames.specs.Renames.{mode_for, ordered_from, placed_from, words_of, texts_of, state_of};
 ghost use Rattle.renames.specs.Renames.{renames_changed_of, rename_file_answer};
 ghost use Rattle.renames.specs.private.Slots.{slot_of};
 ghost use Rattle.renames.specs.private.Changing.{slot_given, is_short, renames_with};
 
 use crate::lent::LentRenames;
-use crate::rename::{RenameMode, RenamedFiles};
-use crate::slot::{Slot, slot_of};
+use crate::rename::{ENTRY_WIDTH, RenameMode, RenamedFiles};
+use crate::slot::{Slot, place_texts, slot_of};
 use crate::splice::splice;
 use tables::FileStorage;
 use types::{FileIndex, Refusal};
 
 // Whether the tables are too short for a text of `len` bytes at slot p.
 fn is_short(names: LentRenames<'_>, p: Slot, len: usize) -> bool
-    requires { (names.renames.num_renames ≤ length names.entries.now / 3)
+    requires { (names.renames.num_renames ≤ length names.entries.now / 4)
         × (names.renames.text_len ≤ length names.text.now)
         × (p.old ≤ names.renames.text_len)
         × (p.same ≤ 1) }
@@ -25,7 +25,7 @@ fn is_short(names: LentRenames<'_>, p: Slot, len: usize) -> bool
         ≡ is_short names.entry.renames p (length names.entry.entries.now) (length names.entry.text.now) len }
 {
     let held = names.renames;
-    names.entries.len() / 3 < held.num_renames + 1 - p.same
+    names.entries.len() / ENTRY_WIDTH < held.num_renames + 1 - p.same
         || names.text.len() - (held.text_len - p.old) < len
 }
 
@@ -48,7 +48,10 @@ fn slot_in(
     if !names.is_in_order() {
         return Err(Refusal::NoRoom);
     }
-    let p = slot_of(&names.entries[..names.renames.num_renames * 3], file as u64);
+    let p = slot_of(
+        &names.entries[..names.renames.num_renames * ENTRY_WIDTH],
+        file as u64,
+    );
     if is_short(names, p, len) {
         return Err(Refusal::NoRoom);
     }
@@ -80,10 +83,11 @@ pub(crate) fn put_rename(
     name: &[u8],
 ) -> RenamedFiles
     requires { (ordered_from renames.num_renames 0 0 renames.text_len entries.old ≡ true)
+        × (placed_from renames.num_renames 0 0 entries.old ≡ true)
         × (p ≡ slot_of renames.num_renames file entries.old)
-        × (renames.num_renames ≤ length entries.old / 3)
+        × (renames.num_renames ≤ length entries.old / 4)
         × (renames.text_len ≤ length text.old)
-        × (renames.num_renames + 1 - p.same ≤ length entries.old / 3)
+        × (renames.num_renames + 1 - p.same ≤ length entries.old / 4)
         × (renames.text_len - p.old + length name.now ≤ length text.old) }
     ensures value { result ≡ state_of (renames_with renames entries.old text.old file mode name.now) }
     ensures entries_after { entries.new
@@ -93,18 +97,21 @@ pub(crate) fn put_rename(
         ≡ sets text.old 0
         (texts_of (renames_with renames entries.old text.old file mode name.now)) }
 {
-    let entry = [file, u64::from(mode), name.len() as u64];
+    let len = name.len();
+    let entry = [file, u64::from(mode), len as u64, p.at as u64];
     splice(text, renames.text_len, p.at, p.old, name);
     splice(
         entries,
-        renames.num_renames * 3,
-        p.entry * 3,
-        p.same * 3,
+        renames.num_renames * ENTRY_WIDTH,
+        p.entry * ENTRY_WIDTH,
+        p.same * ENTRY_WIDTH,
         &entry,
     );
+    let count = renames.num_renames + 1 - p.same;
+    place_texts(entries, p.entry + 1, count, p.at + len);
     RenamedFiles {
-        num_renames: renames.num_renames + 1 - p.same,
-        text_len: renames.text_len - p.old + name.len(),
+        num_renames: count,
+        text_len: renames.text_len - p.old + len,
     }
 }
 

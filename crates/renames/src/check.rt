@@ -1,10 +1,11 @@
-// Whether the lent tables of renames are in order. Relies on the laws of proofs/Ordered.antt and
-// proofs/Used.antt.
-ghost use Rattle.std.specs.Prelude.{◌&&◌, ◌≡◌, ◌/◌, leb, length};
-ghost use Rattle.renames.specs.Renames.{ordered_from, in_order_in, in_order};
+// Whether the lent tables of renames hold what the record counts, and are in order. Relies on the laws of
+// proofs/Ordered.antt, proofs/Placed.antt and proofs/Used.antt.
+ghost use Rattle.std.specs.Prelude.{◌&&◌, ◌≡◌, ◌/◌, ◌<◌, ◌^◌, leb, length};
+ghost use Rattle.renames.specs.Renames.{ordered_from, placed_from, renames_held, in_order_in, in_order};
+ghost use Rattle.renames.specs.private.Slots.{bytes_from};
 
 use crate::lent::LentRenames;
-use crate::rename::RenamedFiles;
+use crate::rename::{ENTRY_WIDTH, RenamedFiles};
 
 // Whether an entry is in order: its number is at least `least` and has 31 bits, its mode is one of three, and its text
 // has at most `left` bytes.
@@ -18,11 +19,11 @@ fn is_entry_in_order(file: u64, mode: u64, len: u64, least: u64, left: usize) ->
 // Stays: `len` counts bytes of the texts, and no entries.
 #[tactic(auto, using(crate::proofs::Ordered::turns))]
 fn are_in_order(entries: &[u64], len: usize) -> bool
-    ensures { result ≡ ordered_from (length entries.now / 3) 0 0 len entries.now }
+    ensures { result ≡ ordered_from (length entries.now / 4) 0 0 len entries.now }
 {
     let mut least: u64 = 0;
     let mut left = len;
-    for entry in entries.chunks_exact(3) {
+    for entry in entries.chunks_exact(ENTRY_WIDTH) {
         let file = entry[0];
         let size = entry[2];
         if !is_entry_in_order(file, entry[1], size, least, left) {
@@ -34,16 +35,42 @@ fn are_in_order(entries: &[u64], len: usize) -> bool
     left == 0
 }
 
-// Whether the lent tables hold what the record counts, in order; `room` is the length of the text area.
+// Whether the texts of the entries in use begin one where the other ends.
+#[tactic(auto, using(crate::proofs::Placed::turns))]
+fn are_placed(entries: &[u64]) -> bool
+    requires { bytes_from (length entries.now / 4) 0 entries.now < 2 ^ 64 }
+    ensures { result ≡ placed_from (length entries.now / 4) 0 0 entries.now }
+{
+    let mut at = 0;
+    for entry in entries.chunks_exact(ENTRY_WIDTH) {
+        if entry[3] != at {
+            return false;
+        }
+        at += entry[2];
+    }
+    true
+}
+
+// Whether the lent tables hold what the record counts; `room` is the length of the text area.
+// Stays: `find_rename`, which is public, is given the area's length and no area.
+pub(crate) fn is_held(renames: RenamedFiles, entries: &[u64], room: usize) -> bool
+    ensures { result ≡ renames_held renames entries.now room }
+{
+    renames.num_renames <= entries.len() / ENTRY_WIDTH && renames.text_len <= room
+}
+
+// Whether they also are in order.
 // Stays: it is public, and promises its answer for every length of a text area; the method below serves those who hold
 // the area.
 #[tactic(auto, using(crate::proofs::Used::in_use))]
 pub fn is_in_order(renames: RenamedFiles, entries: &[u64], room: usize) -> bool
     ensures { result ≡ in_order_in renames entries.now room }
 {
-    renames.num_renames <= entries.len() / 3
-        && renames.text_len <= room
-        && are_in_order(&entries[..renames.num_renames * 3], renames.text_len)
+    if !is_held(renames, entries, room) {
+        return false;
+    }
+    let entries = &entries[..renames.num_renames * ENTRY_WIDTH];
+    are_in_order(entries, renames.text_len) && are_placed(entries)
 }
 
 impl LentRenames<'_> {

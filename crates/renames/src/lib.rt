@@ -14,5 +14,5 @@ pub use change::rename_file;
 pub use check::is_in_order;
 pub use find::{export_filename, find_rename};
 pub use lent::LentRenames;
-pub use rename::{Rename, RenameMode, RenamedFiles};
+pub use rename::{ENTRY_WIDTH, Rename, RenameMode, RenamedFiles};
 pub use slot::is_named;

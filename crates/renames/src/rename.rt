@@ -46,8 +46,11 @@ pub struct Rename {
     pub name: Span,
 }
 
-// The number of renames and the bytes of their texts. The entries, three words each (file, mode,
-// length of the text), and the text area are slices that the caller lends.
+// The words of an entry: its file, its mode, the length of its text and where the text begins.
+pub const ENTRY_WIDTH: usize = 4;
+
+// The number of renames and the bytes of their texts. The entries and the text area are slices
+// that the caller lends.
 #[derive(Clone, Copy)]
 pub struct RenamedFiles {
     pub num_renames: usize,

@@ -1,8 +1,10 @@
 // The slot of a file's rename in the lent tables: where it stands, or would stand. Relies on the total accessors of
 // `lists` and on the laws of proofs/Chunks.antt, proofs/Slots.antt and proofs/Used.antt.
-ghost use Rattle.std.specs.Prelude.{◌≡◌, ◌*◌, ◌/◌, ◌≤◌, ◌<◌, ◌^◌, length, get_or};
-ghost use Rattle.renames.specs.Finding.{below_from, bytes_from, entry_is_named};
-ghost use Rattle.renames.specs.private.Slots.{slot_at, slot_of};
+ghost use Rattle.std.specs.Prelude.{◌≡◌, ◌+◌, ◌-◌, ◌*◌, ◌/◌, ◌≤◌, ◌<◌, ◌^◌, length, get_or};
+ghost use Rattle.renames.specs.Finding.{entry_sought, entry_is_named};
+ghost use Rattle.renames.specs.private.Slots.{bytes_from, slot_at, slot_of, with_places};
+
+use crate::rename::ENTRY_WIDTH;
 
 // The entry of a rename, the number of entries that it has already (one or none), the position of its text, and the
 // bytes of text that it has already.
@@ -16,34 +18,47 @@ pub(crate) struct Slot {
     pub old: usize,
 }
 
-// How many of the entries in use stand before the first whose number is `file` or above. Document 01 says that a scan
-// will do.
-fn entries_below(entries: &[u64], file: u64) -> usize
-    ensures { result ≡ below_from (length entries.now / 3) 0 file entries.now }
+// The entry at which the search for a file's number ends, by halves.
+// Stays: `partition_point` of std says what it finds only where the numbers ascend, and a question is answered whatever
+// the table holds.
+#[tactic(auto, using(crate::proofs::Halves::turns))]
+pub(crate) fn entry_sought(entries: &[u64], file: u64) -> usize
+    ensures { result ≡ entry_sought (length entries.now / 4) file entries.now }
 {
-    entries
-        .chunks_exact(3)
-        .position(|entry| file <= entry[0])
-        .unwrap_or(entries.len() / 3)
+    let mut first = 0;
+    let mut count = entries.len() / ENTRY_WIDTH;
+    while 0 < count {
+        let half = count / 2;
+        if entries[(first + half) * ENTRY_WIDTH] < file {
+            first += half + 1;
+            count -= half + 1;
+        } else {
+            count = half;
+        }
+    }
+    first
 }
 
 // The bytes of text that entries have together.
-// Stays: that the lengths sum to less than 2^64 is asked here and in the two functions of slots below; a type of
+// Stays: that the lengths sum to less than 2^64 is asked here and of all that sum them, in check.rt too; a type of
 // entries with that bound would be made in each caller from the test that the tables are in order.
 pub(crate) fn bytes_of(entries: &[u64]) -> usize
-    requires { bytes_from (length entries.now / 3) 0 entries.now < 2 ^ 64 }
-    ensures { result ≡ bytes_from (length entries.now / 3) 0 entries.now }
+    requires { bytes_from (length entries.now / 4) 0 entries.now < 2 ^ 64 }
+    ensures { result ≡ bytes_from (length entries.now / 4) 0 entries.now }
 {
-    entries.chunks_exact(3).map(|entry| entry[2] as usize).sum()
+    entries
+        .chunks_exact(ENTRY_WIDTH)
+        .map(|entry| entry[2] as usize)
+        .sum()
 }
 
 // The number of entry i, 0 past the end.
-// Stays: it reads a last entry that is cut off too, which `chunks_exact` passes over; the test keeps 3 i from overflow.
+// Stays: it reads a last entry that is cut off too, which `chunks_exact` passes over; the test keeps 4 i from overflow.
 fn number_at(entries: &[u64], i: usize) -> u64
-    ensures { result ≡ get_or entries.now (i * 3) 0 }
+    ensures { result ≡ get_or entries.now (i * 4) 0 }
 {
     if i < entries.len() {
-        lists::item_or(entries, i * 3, 0)
+        lists::item_or(entries, i * ENTRY_WIDTH, 0)
     } else {
         0
     }
@@ -61,12 +76,12 @@ pub fn is_named(entries: &[u64], n: usize, file: u64, i: usize) -> bool
 // The slot of a file whose rename stands at entry i of those in use, or would stand there.
 #[tactic(auto, using(crate::proofs::Used::in_use))]
 fn slot_at(entries: &[u64], file: u64, i: usize) -> Slot
-    requires { (i ≤ length entries.now / 3) × (bytes_from i 0 entries.now < 2 ^ 64) }
-    ensures { result ≡ slot_at (length entries.now / 3) file i entries.now }
+    requires { (i ≤ length entries.now / 4) × (bytes_from i 0 entries.now < 2 ^ 64) }
+    ensures { result ≡ slot_at (length entries.now / 4) file i entries.now }
 {
-    let at = bytes_of(&entries[..i * 3]);
-    let (same, old) = if is_named(entries, entries.len() / 3, file, i) {
-        (1, entries[i * 3 + 2] as usize)
+    let at = bytes_of(&entries[..i * ENTRY_WIDTH]);
+    let (same, old) = if is_named(entries, entries.len() / ENTRY_WIDTH, file, i) {
+        (1, entries[i * ENTRY_WIDTH + 2] as usize)
     } else {
         (0, 0)
     };
@@ -79,10 +94,24 @@ fn slot_at(entries: &[u64], file: u64, i: usize) -> Slot
 }
 
 // The slot of a file among the entries in use.
-#[tactic(auto, using(crate::proofs::Slots::below_le, crate::proofs::Slots::bytes_first))]
+#[tactic(auto, using(crate::proofs::Halves::sought_le, crate::proofs::Slots::bytes_first))]
 pub(crate) fn slot_of(entries: &[u64], file: u64) -> Slot
-    requires { bytes_from (length entries.now / 3) 0 entries.now < 2 ^ 64 }
-    ensures { result ≡ slot_of (length entries.now / 3) file entries.now }
+    requires { bytes_from (length entries.now / 4) 0 entries.now < 2 ^ 64 }
+    ensures { result ≡ slot_of (length entries.now / 4) file entries.now }
 {
-    slot_at(entries, file, entries_below(entries, file))
+    slot_at(entries, file, entry_sought(entries, file))
+}
+
+// Writes where the texts of the entries from `first` up to `end` begin, the first at byte `at`.
+// Stays: a loop over `chunks_exact_mut` would leave only the table's length known.
+pub(crate) fn place_texts(entries: &mut [u64], first: usize, end: usize, at: usize)
+    requires { (first ≤ end) × (end ≤ length entries.old / 4)
+        × (at + bytes_from (end - first) first entries.old < 2 ^ 64) }
+    ensures { entries.new ≡ with_places (end - first) first at entries.old }
+{
+    let mut begin = at as u64;
+    for i in first..end {
+        entries[i * ENTRY_WIDTH + 3] = begin;
+        begin += entries[i * ENTRY_WIDTH + 2];
+    }
 }

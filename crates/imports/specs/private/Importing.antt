@@ -54,22 +54,23 @@ Fresh files zs (r ∷ rs) = (is_listed files zs r.file ≡ false) × Fresh files
 
 -- ---- the entries
 
--- of the n entries from entry i on those that are kept: their number, the bytes of their texts, and their words
+-- of the n entries from entry i on those that are kept: their number, the bytes of their texts, and their words, the
+-- first text beginning at byte `at`
 unfoldable pub kept_count : (ℕ → Bool) → ℕ → ℕ → List ℕ → ℕ
 kept_count named zero i entries = 0
-kept_count named (suc n) i entries = cond (named (get_or entries (i * 3) 0)) 0 1 + kept_count named n (i + 1) entries
+kept_count named (suc n) i entries = cond (named (get_or entries (i * 4) 0)) 0 1 + kept_count named n (i + 1) entries
 
 unfoldable pub kept_bytes : (ℕ → Bool) → ℕ → ℕ → List ℕ → ℕ
 kept_bytes named zero i entries = 0
 kept_bytes named (suc n) i entries =
-    cond (named (get_or entries (i * 3) 0)) 0 (get_or entries (i * 3 + 2) 0) + kept_bytes named n (i + 1) entries
+    cond (named (get_or entries (i * 4) 0)) 0 (get_or entries (i * 4 + 2) 0) + kept_bytes named n (i + 1) entries
 
-unfoldable pub kept_words : (ℕ → Bool) → ℕ → ℕ → List ℕ → List ℕ
-kept_words named zero i entries = []
-kept_words named (suc n) i entries =
-    cond (named (get_or entries (i * 3) 0)) (kept_words named n (i + 1) entries)
-    (get_or entries (i * 3) 0 ∷ get_or entries (i * 3 + 1) 0 ∷ get_or entries (i * 3 + 2) 0 ∷
-    kept_words named n (i + 1) entries)
+unfoldable pub kept_words : (ℕ → Bool) → ℕ → ℕ → ℕ → List ℕ → List ℕ
+kept_words named zero i at entries = []
+kept_words named (suc n) i at entries =
+    cond (named (get_or entries (i * 4) 0)) (kept_words named n (i + 1) at entries)
+    (get_or entries (i * 4) 0 ∷ get_or entries (i * 4 + 1) 0 ∷ get_or entries (i * 4 + 2) 0 ∷ at ∷
+    kept_words named n (i + 1) (at + get_or entries (i * 4 + 2) 0) entries)
 
 -- the record of those that are kept
 abbrev pub kept_state : (ℕ → Bool) → RenamedFiles → List ℕ → RenamedFiles
@@ -84,7 +85,7 @@ kept_state named rf entries =
 -- `lacks_room` where the renames that are counted are kept and given
 abbrev pub is_full : ℕ → ℕ → Counted → Bool
 is_full words room c =
-    ltb (words / 3) (c.stay.num_renames + c.come.num_renames)
+    ltb (words / 4) (c.stay.num_renames + c.come.num_renames)
     || ltb room (c.stay.text_len + c.come.text_len)
 
 -- the records of those that are kept and of those that come

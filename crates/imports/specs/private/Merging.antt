@@ -68,11 +68,11 @@ merged_from named given (suc n) k rs =
 abbrev pub kept_in : ℕ → ℕ → ℕ → List ℕ → List ℕ → List Renamed
 kept_in total next from entries text = renames_from (total - next) next entries (drop from text)
 
--- one file: it is noted, or has an own rename, or neither
-abbrev pub step_words : Bool → Bool → ℕ → List ℕ → List ℕ → ℕ → List ℕ
-step_words noted own k name entries i =
-    cond noted (k ∷ 0 ∷ length name ∷ [])
-    (cond own (get_or entries (i * 3) 0 ∷ get_or entries (i * 3 + 1) 0 ∷ get_or entries (i * 3 + 2) 0 ∷ []) [])
+-- one file: it is noted, or has an own rename, or neither; its text begins at byte `at`
+abbrev pub step_words : Bool → Bool → ℕ → ℕ → List ℕ → List ℕ → ℕ → List ℕ
+step_words noted own k at name entries i =
+    cond noted (k ∷ 0 ∷ length name ∷ at ∷ [])
+    (cond own (get_or entries (i * 4) 0 ∷ get_or entries (i * 4 + 1) 0 ∷ get_or entries (i * 4 + 2) 0 ∷ at ∷ []) [])
 
 abbrev pub step_text : Bool → Bool → List ℕ → List ℕ → ℕ → ℕ → List ℕ
 step_text noted own name text from len = cond noted name (cond own (part_of text from len) [])

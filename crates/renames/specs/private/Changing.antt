@@ -15,7 +15,7 @@ use Rattle.renames.specs.private.Slots.{slot_of}
 -- `lacks_room` where a text of `len` bytes comes to slot p
 abbrev pub is_short : RenamedFiles → Slot → ℕ → ℕ → ℕ → Bool
 is_short rf p words room len =
-    ltb (words / 3) (rf.num_renames + 1 - p.same) || ltb room (rf.text_len - p.old + len)
+    ltb (words / 4) (rf.num_renames + 1 - p.same) || ltb room (rf.text_len - p.old + len)
 
 abbrev pub slot_number : FileStorage → RenamedFiles → List ℕ → ℕ → ℤ → ℕ → ℕ
 slot_number fs rf entries room z len =

@@ -21,7 +21,7 @@ count_kept-stay-requires c =
 -- the record that is counted is that of the renames that are kept, which lie within the tables
 counted : (c : After-count_kept-stay)
     → (c.count_kept-stay.result ≡ kept_state (is_noted c.args.notes.now) c.args.held.renames c.args.held.entries.now)
-    × (c.count_kept-stay.result.num_renames ≤ length c.args.held.entries.now / 3)
+    × (c.count_kept-stay.result.num_renames ≤ length c.args.held.entries.now / 4)
     × (c.count_kept-stay.result.text_len ≤ length c.args.held.text.now)
 counted c =
     let k = stay-in (is_noted c.args.notes.now) c.args.held.renames c.args.held.entries.now (length c.args.held.text.now) (sym c.is_in_order.ensures ∙ c.if-not-is_in_order.false) in

@@ -11,8 +11,8 @@ abbrev pub invariant-loop-entry : goal.invariant-loop-entry
 invariant-loop-entry l =
     let i = length l.yielded in
     record {
-      counted : l.count + kept_count (is_noted l.notes) (length l.entries / 3 - i) i l.entries
-          ≡ kept_count (is_noted l.notes) (length l.entries / 3) 0 l.entries;
-      summed : l.bytes + kept_bytes (is_noted l.notes) (length l.entries / 3 - i) i l.entries
-          ≡ kept_bytes (is_noted l.notes) (length l.entries / 3) 0 l.entries;
+      counted : l.count + kept_count (is_noted l.notes) (length l.entries / 4 - i) i l.entries
+          ≡ kept_count (is_noted l.notes) (length l.entries / 4) 0 l.entries;
+      summed : l.bytes + kept_bytes (is_noted l.notes) (length l.entries / 4 - i) i l.entries
+          ≡ kept_bytes (is_noted l.notes) (length l.entries / 4) 0 l.entries;
     }

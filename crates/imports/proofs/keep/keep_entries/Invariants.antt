@@ -7,4 +7,4 @@ use Rattle.imports.proofs.Keeping.{Moved}
 use Rattle.imports.proofs.keep.keep_entries.Given as goal
 
 abbrev pub invariant-loop-i : goal.invariant-loop-i
-invariant-loop-i l = Moved (is_noted l.notes) (length l.initial.entries / 3) l.initial.entries l.entries l.i l.to
+invariant-loop-i l = Moved (is_noted l.notes) (length l.initial.entries / 4) l.at l.initial.entries l.entries l.i l.to l.begin

@@ -7,4 +7,4 @@ use Rattle.imports.proofs.Keeping.{Joined}
 use Rattle.imports.proofs.keep.keep_texts.Given as goal
 
 abbrev pub invariant-loop-entry : goal.invariant-loop-entry
-invariant-loop-entry l = Joined (is_noted l.notes) (length l.entries / 3) l.entries l.initial.text l.text (length l.yielded) l.from l.to
+invariant-loop-entry l = Joined (is_noted l.notes) (length l.entries / 4) l.entries l.initial.text l.text (length l.yielded) l.from l.to

@@ -8,4 +8,4 @@ use Rattle.imports.proofs.Merging.{Going}
 use Rattle.imports.proofs.merge.merge.Given as goal
 
 abbrev pub invariant-loop-k : goal.invariant-loop-k
-invariant-loop-k l = Going (named_in l.list) (given_in l.list) (λ (k : ℕ). refl) (λ (k : ℕ). refl) (length l.list.notes.now) (length l.initial.entries / 3) l.initial.p.next l.initial.p.from l.initial.entries l.initial.text l.k l.p l.entries l.text
+invariant-loop-k l = Going (named_in l.list) (given_in l.list) (λ (k : ℕ). refl) (λ (k : ℕ). refl) (length l.list.notes.now) (length l.initial.entries / 4) l.initial.p.next l.initial.p.from l.initial.entries l.initial.text l.k l.p l.entries l.text

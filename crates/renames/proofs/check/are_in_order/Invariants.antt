@@ -9,4 +9,4 @@ use Rattle.renames.proofs.check.are_in_order.Given as goal
 abbrev pub invariant-loop-entry : goal.invariant-loop-entry
 invariant-loop-entry l =
     let i = length l.yielded in
-    ordered_from (length l.entries / 3 - i) i l.least l.left l.entries ≡ ordered_from (length l.entries / 3) 0 0 l.len l.entries
+    ordered_from (length l.entries / 4 - i) i l.least l.left l.entries ≡ ordered_from (length l.entries / 4) 0 0 l.len l.entries
