@@ -1,104 +1,94 @@
--- Laws of putting hashes in order into a table by windows: those behind the last one of a window go into the next; and of
--- beginnings counted with repeats. They rely on the laws of proofs/Inserting.antt and of `lists` about runs of stores.
---     window-lent                                a part of a table, lent
---     Filling, filled_next                       the windows up to a place are filled, from the start, one after the other
---     filled-over, filled-all                    the hashes end, or the table
+-- Laws of putting hashes in order into a table, or of counting them, a range after the other; and of beginnings counted with
+-- repeats. They rely on the laws of proofs/Ascending.antt and Collecting.antt, and of `lists` about runs of stores.
+--     ranges-joined                              the hashes below a bound, and those of the next range
+--     Passed, first-passed, passed_next          the ranges up to a bound are gone over, the first and one more
+--     passed-few, counted-over                   no more are counted than there are
+--     passed-stored                              a range more is stored
 --     beginnings_fit                             the beginnings of all directories by their numbers, and whether there is room for them
 --     repeats-enough                             a place for each beginning is a place for each hash
-use Prim.Native.Nat.{ℕ, suc, ◌+◌, ◌-◌, ◌≤◌, ◌<◌, min}
+use Prim.Native.Nat.{ℕ, suc, ◌+◌, ◌≤◌, ◌<◌}
 use mathlib.Core.Path.{◌≡◌, refl, sym, ap, ◌∙◌}
-use mathlib.Core.Bool.{Bool, true, false, cond}
+use mathlib.Core.Logic.{⊎_elim}
+use mathlib.Core.Bool.{Bool, true, false, cond, ◌&&◌, ◌||◌}
 use mathlib.Core.List.{List, [], ◌∷◌, ◌++◌, map}
-use native.Mathlib.Nat.{sub-zero, zero-add}
 use native.Mathlib.Omega.{arith}
 use lib.Dec.{eqb, ltb, leb}
-use lib.ListN.{length, get_or, set, take, drop, length-append, length-map, length-take, length-drop, length-set, take-append-drop}
-use lib.Seq.{sets, length-take-le, take_all, take-add, get_or-take, set-append_left}
-use borrow.Author.Tests.{le-leb, leb-true}
-use Rattle.lists.specs.Lists.{part_of, sum}
-use Rattle.lists.proofs.Parts.{part-length-within}
-use Rattle.lists.proofs.Runs.{sets-append, sets-cut, sets-drop, get_or-sets}
+use lib.ListN.{length, take, length-append, length-map}
+use lib.Seq.{sets, length-take-le}
+use borrow.Author.Tests.{le-leb, lt-leb, lt-ltb, le-ltb, leb-true}
+use Rattle.std.proofs.lemmas.List.Folds.{list_any-append}
+use Rattle.lists.specs.Lists.{sum}
+use Rattle.lists.proofs.Orders.{le-or-lt}
+use Rattle.lists.proofs.Runs.{sets-append}
 use Rattle.crc32c.specs.Crc.{crc_from, lower}
 use Rattle.hashes.specs.Hashes.{beginnings, joined_lists, inserted, ascending}
+use Rattle.hashes.specs.declared.hashes.Collected.{Collected}
 use Rattle.hashes.specs.declared.hashes.Listed.{Listed}
-use Rattle.hashes.specs.private.Gathering.{above, TableHolds, WindowHolds, hashes_after}
+use Rattle.hashes.specs.private.Gathering.{within, Gathered, hashes_after}
 use Rattle.hashes.specs.private.Due.{placed, listed_dirs, due, due_beginnings}
-use Rattle.hashes.proofs.Inserting.{above-next}
+use Rattle.hashes.proofs.Ascending.{has, has-ascending, ascending-rises, rising_same, rising-append}
+use Rattle.hashes.proofs.Collecting.{has-within, within-range, within-rises}
 
--- a run of stores within the first of two lists
-sets_first : (t p r : List ℕ) (i : ℕ) → i + length t ≤ length p → sets (p ++ r) i t ≡ sets p i t ++ r
-sets_first [] p r i h = refl
-sets_first (x ∷ t) p r i h = rw (set-append_left p r i x (omega arith)) (sets_first t (set p i x) r (suc i) (omega (arith, length-set p i x)))
+-- the hashes below a bound, and then those of the next range
+module _ (b c : ℕ) (h : b ≤ c) (hs : List ℕ) where
+  either : (z : ℕ) (t : Bool) → (((leb 0 z && ltb z b) && t) || ((leb b z && ltb z c) && t)) ≡ ((leb 0 z && ltb z c) && t)
+  either z t =
+      ⊎_elim
+      (λ p. rw (le-leb 0 z (omega arith), le-ltb z b p, le-leb b z p))
+      (λ p. rw (le-leb 0 z (omega arith), lt-ltb z b p, lt-leb b z p, lt-ltb z c (omega arith)) (or-false t))
+      (le-or-lt b z)
+    where
+      or-false : (t : Bool) → (t || false) ≡ t
+      or-false true = refl
+      or-false false = refl
 
--- the places of a window, lent and written from their start
-pub window-lent : (l : List ℕ) (at w : ℕ) (xs part : List ℕ) (n : ℕ) → at + w ≤ length l → TableHolds (part_of l at w) xs part n
-    → WindowHolds l at w xs (take at l ++ (part ++ drop w (drop at l))) n
-window-lent l at w xs part n h p =
-    let d = drop at l in
-    let q : length (take w d) ≡ w = part-length-within l at w h in
-    let s = p.stored in
-    let u : sets (take w d) 0 xs ≡ sets (take w d) 0 (take w xs) = rw (q, sub-zero) at (sets-cut xs (take w d) 0) in
-    let v : sets d 0 (take w xs) ≡ sets (take w d) 0 (take w xs) ++ drop w d = rw (take-append-drop w d) at (sets_first (take w xs) (take w d) (drop w d) 0 (omega (arith, length-take w xs))) in
-    record { stored = rw (s, u) (ap (λ (k : List ℕ). take at l ++ k) (sym v) ∙ sym (sets-drop l at (take w xs) (omega arith))); count = rw q at p.count }
+  pub ranges-joined : ascending (within 0 b hs) ++ ascending (within b c hs) ≡ ascending (within 0 c hs)
+  ranges-joined =
+      let s = ascending (within 0 b hs) in
+      let t = ascending (within b c hs) in
+      rising_same 0 0 (s ++ t) (ascending (within 0 c hs))
+      (rising-append 0 b s t (omega arith) (ascending-rises (within 0 b hs)) (λ z e. (within-range 0 b hs z e).1) (within-rises b c hs))
+      (ascending-rises (within 0 c hs))
+      (λ z. list_any-append (eqb z) s t ∙ cc (has-ascending z (within 0 b hs) ∙ has-within 0 b z hs, has-ascending z (within b c hs) ∙ has-within b c z hs)
+      ∙ either z (has z hs) ∙ sym (has-ascending z (within 0 c hs) ∙ has-within 0 c z hs))
 
--- the table holds the first `at` of all hashes, and those from the bound on are those behind them
-pub record Filling (hs old : List ℕ) (at bound : ℕ) (table : List ℕ) : Type 0 where
-  pub within : at ≤ length (ascending (above 0 hs))
-  pub stored : table ≡ sets old 0 (take at (ascending (above 0 hs)))
-  pub rest : ascending (above bound hs) ≡ drop at (ascending (above 0 hs))
+-- the hashes below `from` are gone over, n of them
+pub record Passed (hs : List ℕ) (from n : ℕ) : Type 0 where
+  pub bound : from ≤ 4294967296
+  pub count : n ≡ length (ascending (within 0 from hs))
+  pub small : within 0 4294967296 hs ≡ hs
 
-module _ (hs old : List ℕ) where
-  abbrev all : List ℕ
-  all = ascending (above 0 hs)
+module _ (hs : List ℕ) where
+  pub first-passed : (c : Collected) (batch : List ℕ) → Gathered hs 0 c batch → Passed hs c.end c.count
+  first-passed c batch g = record { bound = g.range.1; count = omega (arith, ap length g.stored, length-take-le c.count batch g.places); small = g.small }
 
-  module _ (at bound end n : ℕ) (table after : List ℕ) (f : Filling hs old at bound table) (k : at < end) (m : end ≤ length old)
-      (h : WindowHolds table at (end - at) (ascending (above bound hs)) after n) where
-    window : after ≡ sets old 0 (take end all)
-    window =
-        let t = take at all in
-        let u = take (end - at) (drop at all) in
-        let z : 0 + length t ≡ at = omega (arith, length-take-le at all f.within) in
-        let e : end ≡ at + (end - at) = omega arith in
-        let a : take end all ≡ t ++ u = ap (λ (j : ℕ). take j all) e ∙ take-add at (end - at) all in
-        let b : after ≡ sets (sets old 0 t) at u = rw (f.stored, f.rest) at h.stored in
-        b ∙ ap (λ (j : ℕ). sets (sets old 0 t) j u) (sym z) ∙ sym (sets-append t u old 0) ∙ ap (sets old 0) (sym a)
+  module _ (from n : ℕ) (p : Passed hs from n) where
+    -- no more than all hashes
+    pub passed-few : n ≤ length (ascending hs)
+    passed-few =
+        let s = ascending (within 0 from hs) in
+        let t = ascending (within from 4294967296 hs) in
+        let e = ap length (ranges-joined from 4294967296 p.bound hs ∙ ap ascending p.small) in
+        omega (arith, p.count, length-append s t)
 
-    counted : n ≡ min (end - at) (length all - at)
-    counted = h.count ∙ ap (λ (j : ℕ). min (end - at) j) (ap length f.rest ∙ length-drop at all)
+    pub counted-over : (room : ℕ) → room < n → false ≡ leb (length (ascending hs)) room
+    counted-over room h = sym (lt-leb (length (ascending hs)) room (omega (arith, passed-few)))
 
-    pub filled-over : n < end - at → TableHolds old all after (at + n)
-    filled-over q =
-        let w = f.within in
-        let c = counted in
-        record {
-          stored = window ∙ ap (sets old 0) (take_all end all (omega arith));
-          count = omega arith;
-        }
+    -- a range more
+    module _ (c : Collected) (batch : List ℕ) (g : Gathered hs from c batch) where
+      next : ascending (within 0 from hs) ++ take c.count batch ≡ ascending (within 0 c.end hs)
+      next = ap (λ (l : List ℕ). ascending (within 0 from hs) ++ l) g.stored ∙ ranges-joined from c.end (omega (arith, g.range.0)) hs
 
-    pub filled_next : end - at ≤ n → (b : ℕ) → b ≡ get_or after (end - 1) 0 + 1 → Filling hs old end b after
-    filled_next q b e =
-        let w = f.within in
-        let c = counted in
-        let l : end ≤ length all = omega arith in
-        let g : get_or after (end - 1) 0 ≡ get_or all (end - 1) 0 =
-        ap (λ (x : List ℕ). get_or x (end - 1) 0) window
-        ∙ rw zero-add at (get_or-sets (take end all) old 0 (end - 1) 0 (omega (arith, length-take-le end all l)) (omega arith))
-        ∙ get_or-take end all (end - 1) 0 (omega arith)
-        in
-        let s : suc (end - 1) ≡ end = omega arith in
-        record {
-          within = l;
-          stored = window;
-          rest = rw (e, g) (above-next 0 hs (end - 1) (omega arith) ∙ ap (λ (j : ℕ). drop j all) s);
-        }
+      pub passed_next : Passed hs c.end (n + c.count)
+      passed_next =
+          let l = length-append (ascending (within 0 from hs)) (take c.count batch) in
+          record { bound = g.range.1; count = omega (arith, p.count, l, ap length next, length-take-le c.count batch g.places); small = g.small }
 
-  pub filled-all : (at bound : ℕ) (table : List ℕ) → Filling hs old at bound table → at ≡ length old → TableHolds old all table at
-  filled-all at bound table f e =
-      let w = f.within in
-      record {
-        stored = f.stored ∙ rw e (sym (rw sub-zero at (sets-cut all old 0)));
-        count = omega arith;
-      }
+      pub passed-stored : (out now : List ℕ) → now ≡ sets out 0 (ascending (within 0 from hs)) → sets now n (take c.count batch) ≡ sets out 0 (ascending (within 0 c.end hs))
+      passed-stored out now e =
+          let s = ascending (within 0 from hs) in
+          let z : n ≡ 0 + length s = omega (arith, p.count) in
+          rw (e, z) (sym (sets-append s (take c.count batch) out 0) ∙ ap (sets out 0) next)
 
 -- the beginnings of all directories, by their numbers
 beginnings-sum : (text : List ℕ) (rows : List (List ℕ)) → sum (map (λ ws. length (beginnings (placed text ws))) rows) ≡ length (joined_lists (map beginnings (map (placed text) rows)))

@@ -12,7 +12,7 @@ use mathlib.Core.Bool.{Bool, true, false, cond}
 use mathlib.Core.List.{List, [], ◌∷◌, ◌++◌, map}
 use native.Mathlib.Numerals.{add-one}
 use native.Mathlib.Omega.{arith}
-use lib.ListN.{length, get_or, take, drop, drop_of_length-le, length-map}
+use lib.ListN.{length, get_or, take, drop, length-map}
 use borrow.Author.Tests.{eqb-true}
 use lib.Seq.{drop-cons}
 use Rattle.std.proofs.Common.{Bor, Option, Some, None}
@@ -108,11 +108,6 @@ module _ {A : Type 0} (f : List ℕ → List A) (text : List ℕ) (rows : List (
       let k : i < length (map f ds) = omega (arith, l, length-map ds f) in
       let g : get_or (map f ds) i [] ≡ f t = get_or-map f ds i [] [] (omega arith) ∙ ap f (get_or-map (placed text) rows i d [] h ∙ sym e) in
       rw (add-one i, drop-cons (map f ds) i [] k, g)
-
-  pub rows-end : (i : ℕ) → length rows ≤ i → joined_lists (drop i (map f ds)) ≡ []
-  rows-end i h =
-      let k : length (map f ds) ≤ i = omega (arith, length-map rows (placed text), length-map ds f) in
-      rw (drop_of_length-le (map f ds) {i = i} k)
 
 -- the first rows of a table
 pub rows-within : (state : ℕ) (dirs text : List ℕ) (n : ℕ) → n ≤ length dirs / 2

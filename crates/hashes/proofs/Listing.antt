@@ -7,7 +7,7 @@ use mathlib.Core.Bool.{Bool, true, false, not, false≢true, ◌&&◌}
 use mathlib.Core.List.{List, [], ◌∷◌}
 use lib.Dec.{eqb, leb}
 use lib.ListN.{length}
-use Rattle.types.specs.Refusals.{value, refused, outcome}
+use Rattle.types.specs.Refusals.{outcome}
 use Rattle.types.specs.declared.refusal.Refusal.{Refusal}
 use Rattle.tables.specs.declared.storage.FileStorage.{FileStorage}
 use Rattle.tables.specs.declared.span.Span.{Span}
@@ -18,8 +18,7 @@ use Rattle.rules.specs.Questions.{held_answer, dirs_held, text_held, few_entries
 use Rattle.rules.proofs.Deciding.{allowed}
 use Rattle.names.specs.Paths.{led, hash_of}
 use Rattle.hashes.specs.Hashes.{hashes_of, ascending, HashesListed, listed, all_path_hashes}
-use Rattle.hashes.specs.private.Gathering.{above, TableHolds, hashes_within}
-use Rattle.hashes.proofs.Counting.{all-stored}
+use Rattle.hashes.specs.private.Gathering.{hashes_within}
 use Rattle.hashes.proofs.Hashing.{all-within}
 
 -- the number of the first refusal of all, of those of the name, and of those behind
@@ -37,18 +36,6 @@ named true dirs text room e = absurd (false≢true e)
 named false dirs false room e = absurd (false≢true e)
 named false true true room e = refl
 named false false true room e = refl
-
--- the refusals behind, decided by whether the directories are held and by a test t of the room
-module _ (hs out : List ℕ) (held t : Bool) (q : t ≡ leb (length (ascending hs)) (length out)) where
-  pub all-put : held ≡ true → t ≡ true → (n : ℕ) (after : List ℕ) → TableHolds out (ascending (above 0 hs)) after n
-      → ◌≡◌ {A = HashesListed} (record { says = value n; table = after }) (listed (rest_number held (leb (length (ascending hs)) (length out))) (ascending hs) out)
-  all-put e f n after h =
-      let w = all-stored hs out after n h (sym q ∙ f) in
-      rw (e, ← q, f, w.0, w.1)
-
-  pub none-put : held ≡ true → t ≡ false
-      → ◌≡◌ {A = HashesListed} (record { says = refused 10; table = out }) (listed (rest_number held (leb (length (ascending hs)) (length out))) (ascending hs) out)
-  none-put e f = rw (e, ← q, f)
 
 module _ (fs : FileStorage) (dirs text out : List ℕ) (d : Result Span Refusal) (p : outcome d ≡ held_answer fs (text_held fs text) fs.name) where
   abbrev room : Bool

@@ -1,79 +1,104 @@
 // `all_path_hashes`, from file_storage.rs: the hashes of all directories and of what stands before their
-// separators, in order, each once. There is no work space: a pass over the directories puts the hashes
-// at or above a bound into a table of at most 8192 places, in order, and the next pass goes on behind them. It
-// relies on `crc32c` for the running hash, on `names` for the hash of what stands before, on `answers` for the
-// refusals, and on the laws of proofs/.
-ghost use Rattle.std.specs.Prelude.{◌≡◌, [], ◌∷◌, ◌+◌, ◌-◌, ◌≤◌, ◌<◌, leb, length, take};
+// separators, in order, each once. They are collected in a batch of the function's own and sorted there. A batch that
+// gets full keeps the least, and the next pass over the directories goes on behind these. It relies on `crc32c` for the
+// running hash, on `names` for the hash of what stands before, on `lists` for copies, on `answers` for the refusals,
+// and on the laws of proofs/.
+ghost use Rattle.std.specs.Prelude.{◌≡◌, [], ◌∷◌, ◌≤◌, ◌<◌, leb, length, take, MatchOption};
+ghost use Rattle.std.proofs.lemmas.List.Edits.{sets};
 ghost use Rattle.names.specs.Paths.{led, hash_of};
-ghost use Rattle.hashes.specs.Hashes.{beginnings, inserted, ascending, listed_of, all_path_hashes};
-ghost use Rattle.hashes.specs.private.Gathering.{above, gathered, Begun, TableHolds, WindowHolds};
-ghost use Rattle.hashes.specs.private.Gathering.{hashes_after, hashes_put};
+ghost use Rattle.hashes.specs.Hashes.{beginnings, ascending, listed_of, all_path_hashes};
+ghost use Rattle.hashes.specs.private.Gathering.{Adds, Gathered, hashes_after, all_put, hashes_put};
 ghost use Rattle.hashes.specs.private.Due.{due, due_beginnings};
 
 use names::hash_led;
 use tables::{DIR_WIDTH, FileStorage, Span};
 use types::Refusal;
 
-// Puts h before a run, whose last falls off; a run of nothing stays so.
-fn push(run: &mut [u32], h: u32)
-    ensures { run.new ≡ take (length run.old) (h ∷ run.old) }
-{
-    if let Some(last) = run.len().checked_sub(1) {
-        run.copy_within(..last, 1);
-        run[0] = h;
-    }
+// One more than the greatest hash.
+const HASH_END: u64 = 0x1_0000_0000;
+
+// What a batch of hashes holds: in its first `count` places, in any order and with repeats, those at or above `from`
+// and below `end`.
+// Stays: the batch itself stands apart. With the `&mut` in the record, each function that takes it would have to
+// promise beside its clause that the field keeps its reference.
+#[derive(Clone, Copy)]
+struct Collected {
+    from: u64,
+    end: u64,
+    count: usize,
 }
 
-// Puts h among the first n hashes unless it is there, and gives the number of hashes after it.
-// Stays: a record of table and count would hold a `&mut`: each of its methods would have to promise beside this clause
-// that the field keeps its reference, and `gather`, which alone would make one, that reference's last value; `Begun` is
-// shorter.
-fn insert(table: &mut [u32], n: usize, h: u32) -> usize
-    requires { Begun n table.old }
-    ensures { TableHolds table.old (inserted h (take n table.old)) table.new result }
+// Puts numbers in order, each once, at the start of where they stand. Gives how many these are.
+// Stays: std drops repeats of a `Vec` alone, so the loop reads at one index and writes at another.
+fn sort_distinct(run: &mut [u32]) -> usize
+    ensures { (take result run.new ≡ ascending run.old) × (result ≤ length run.new) }
 {
-    match table[..n].binary_search(&h) {
-        Ok(_) => n,
-        Err(p) => {
-            let end = table.len().min(n + 1);
-            push(&mut table[p..end], h);
-            end
+    run.sort_unstable();
+    let mut kept = 0;
+    for i in 0..run.len() {
+        let h = run[i];
+        if kept == 0 || run[kept - 1] != h {
+            run[kept] = h;
+            kept += 1;
         }
     }
+    kept
 }
 
-// The same where h is at or above `bound`; else nothing changes.
-// Stays: as `insert`, to which it hands table and count on.
-fn keep(table: &mut [u32], n: usize, bound: u64, h: u32) -> usize
-    requires { Begun n table.old }
-    ensures { TableHolds table.old (gathered bound (h ∷ []) (take n table.old)) table.new result }
+// Makes room in a full batch: repeats are dropped, and where more than three quarters of its places stay taken, all but
+// the least, as many as half of its places hold.
+// Stays: the batch stands beside what it holds, here and below, as `Collected` says.
+fn compact(batch: &mut [u32], full: Collected) -> Collected
+    requires { (full.count ≡ length batch.old) × (1 < length batch.old) }
+    ensures { (result.count < length batch.new) × Adds [] full batch.old result batch.new }
 {
-    if u64::from(h) < bound {
-        return n;
+    let count = sort_distinct(batch);
+    let half = batch.len() / 2;
+    if count <= half + half / 2 {
+        return Collected { count, ..full };
     }
-    insert(table, n, h)
+    let end = u64::from(batch[half]);
+    Collected {
+        end,
+        count: half,
+        ..full
+    }
 }
 
-// Keeps the hashes of a directory's beginnings, and gives the number of hashes after it; `state` is the hash of what
-// stands before the directory. A beginning ends at each separator and at the directory's end, and its hash goes on from
-// the one before it.
-// Stays: table and count stand apart as in `insert`.
-fn keep_dir(table: &mut [u32], n: usize, bound: u64, state: u32, d: &[u8]) -> usize
-    requires { Begun n table.old }
-    ensures { TableHolds table.old
-        (gathered bound (hashes_after state d.now) (take n table.old)) table.new
-        result }
+// Collects h too where it is in the range.
+fn keep(batch: &mut [u32], collected: Collected, h: u32) -> Collected
+    requires { (collected.count < length batch.old) × (1 < length batch.old) }
+    ensures { (result.count < length batch.new) × Adds (h ∷ []) collected batch.old result batch.new }
+{
+    let x = u64::from(h);
+    if x < collected.from || collected.end <= x {
+        return collected;
+    }
+    batch[collected.count] = h;
+    let count = collected.count + 1;
+    let more = Collected { count, ..collected };
+    if count == batch.len() {
+        return compact(batch, more);
+    }
+    more
+}
+
+// Collects the hashes of a directory's beginnings; `state` is the hash of what stands before the directory. A beginning
+// ends at each separator and at the directory's end, and its hash goes on from the one before it.
+fn keep_dir(batch: &mut [u32], collected: Collected, state: u32, d: &[u8]) -> Collected
+    requires { (collected.count < length batch.old) × (1 < length batch.old) }
+    ensures { (result.count < length batch.new) × Adds (hashes_after state d.now) collected batch.old result batch.new }
 {
     if d.is_empty() {
-        return n;
+        return collected;
     }
-    let (mut x, mut m) = (state, n);
+    let (mut x, mut more) = (state, collected);
     for part in d.split(|c| *c == b'/') {
         x = crc32c::crc32c_append_lowercase(x, part);
-        m = keep(table, m, bound, x);
+        more = keep(batch, more, x);
         x = crc32c::crc32c_append_lowercase(x, b"/");
     }
-    m
+    more
 }
 
 // The number of a directory's beginnings.
@@ -95,66 +120,64 @@ struct Listed<'a> {
 }
 
 impl Listed<'_> {
-    // Puts the hashes at or above `bound` into the table: the least first, each once, as many as there is room for.
-    // Gives their number.
-    fn gather(self, table: &mut [u32], bound: u64) -> usize
-        ensures { TableHolds table.old (ascending (above bound (due self.entry))) table.new result }
+    // Collects the hashes from `from` on, as many as a pass finds places for, and puts them in order, each once.
+    fn gather(self, batch: &mut [u32], from: u64) -> Collected
+        requires { (from < 4294967296) × (1 < length batch.old) }
+        ensures { Gathered (due self.entry) from result batch.new }
     {
-        let mut held = 0;
+        let mut collected = Collected {
+            from,
+            end: HASH_END,
+            count: 0,
+        };
         for &row in self.dirs {
             let d = tables::text_at(self.text, Span::from(row));
-            held = keep_dir(table, held, bound, self.state, d);
+            collected = keep_dir(batch, collected, self.state, d);
         }
-        held
+        let count = sort_distinct(&mut batch[..collected.count]);
+        Collected { count, ..collected }
     }
 
-    // Puts the hashes at or above `bound` into the places of `out` from `at` up to `end`: the least first, each once,
-    // as many as there is room for. Gives their number.
-    fn fill_window(self, out: &mut [u32], at: usize, end: usize, bound: u64) -> usize
-        requires { (at ≤ end) × (end ≤ length out.old) }
-        ensures { WindowHolds out.old at (end - at) (ascending (above bound (due self.entry))) out.new result }
+    // Puts the hashes into `out`, a batch after the other, and gives their number. The first one is gathered already.
+    // Stays: no index is counted here; the next batch begins where the one before it ends.
+    fn fill(self, batch: &mut [u32], first: Collected, out: &mut [u32]) -> usize
+        requires { (1 < length batch.old)
+            × Gathered (due self) 0 first batch.old
+            × (length (ascending (due self)) ≤ length out.old) }
+        ensures { (out.new ≡ sets out.old 0 (ascending (due self.entry)))
+            × (result ≡ length (ascending (due self.entry))) }
     {
-        self.gather(&mut out[at..end], bound)
-    }
-
-    // Puts the hashes into `out`: the least first, each once, as many as there is room for. Gives their number. Each
-    // window of 8192 places takes a pass, and the next one starts behind its last hash.
-    fn fill(self, out: &mut [u32]) -> usize
-        ensures { TableHolds out.old (ascending (above 0 (due self.entry))) out.new result }
-    {
-        let mut bound = 0;
-        // Stays: tried, over `out.chunks_mut(8192)` nothing is known of the slice after the loop, and `returns` stayed
-        // open; so the windows are cut by number.
-        for at in (0..out.len()).step_by(8192) {
-            let end = at + 8192.min(out.len() - at);
-            let n = self.fill_window(out, at, end, bound);
-            if n < end - at {
-                return at + n;
-            }
-            bound = u64::from(out[end - 1]) + 1;
+        lists::copy_in(out, &batch[..first.count]);
+        let (mut at, mut from) = (first.count, first.end);
+        while from < HASH_END {
+            let more = self.gather(batch, from);
+            lists::copy_after(out, at, &batch[..more.count]);
+            at += more.count;
+            from = more.end;
         }
-        out.len()
+        at
     }
 
-    // Whether a table of `room` places holds the hashes. They are counted by passes, the least first, each of as many
-    // as `table` holds.
-    // Stays: the room is that of the table that is to be filled; the one lent here is that of one pass.
-    fn has_room(self, table: &mut [u32], room: usize) -> bool
-        requires { 0 < length table.old }
+    // Whether a table of `room` places holds the hashes. They are counted, a batch after the other. The first one is
+    // gathered already.
+    // Stays: as `fill`; and the room is that of the table that is to be filled, not of the batch.
+    fn has_room(self, batch: &mut [u32], first: Collected, room: usize) -> bool
+        requires { (1 < length batch.old) × Gathered (due self) 0 first batch.old }
         ensures { result ≡ leb (length (ascending (due self.entry))) room }
     {
-        let mut left = room;
-        let mut n = self.gather(table, 0);
-        // Stays: no index is counted here; a pass follows each one that filled the table.
-        while n == table.len() {
-            if left < n {
+        if room < first.count {
+            return false;
+        }
+        let (mut left, mut from) = (room - first.count, first.end);
+        while from < HASH_END {
+            let next = self.gather(batch, from);
+            if left < next.count {
                 return false;
             }
-            left -= n;
-            let bound = u64::from(table[n - 1]) + 1;
-            n = self.gather(table, bound);
+            left -= next.count;
+            from = next.end;
         }
-        n <= left
+        true
     }
 
     // Whether the directories have at most `room` beginnings, repeats included.
@@ -168,12 +191,46 @@ impl Listed<'_> {
             .is_some()
     }
 
-    // Whether a table of `room` places holds the hashes. Nothing is hashed where it has a place for each beginning;
-    // else they are counted with a table of 8192 places.
-    fn all_fit(self, room: usize) -> bool
-        ensures { result ≡ leb (length (ascending (due self.entry))) room }
+    // Gathers the first batch, or nothing where a table of `room` places doesn't hold all hashes. Those behind it are
+    // counted only where there is no place for each beginning.
+    // Stays: the room is that of the table that is to be filled, not of the batch.
+    fn first_batch(self, batch: &mut [u32], room: usize) -> Option<Collected>
+        requires { 1 < length batch.old }
+        ensures { MatchOption result
+            (room < length (ascending (due self.entry)))
+            (λ first.
+            (length (ascending (due self.entry)) ≤ room) × Gathered (due self.entry) 0 first batch.new) }
     {
-        self.repeats_fit(room) || self.has_room(&mut [0u32; 8192], room)
+        let first = self.gather(batch, 0);
+        if HASH_END <= first.end {
+            return (first.count <= room).then_some(first);
+        }
+        if self.repeats_fit(room) {
+            return Some(first);
+        }
+        if self.has_room(batch, first, room) {
+            return Some(self.gather(batch, 0));
+        }
+        None
+    }
+
+    // Puts the hashes into `out`, or refuses where it is too short.
+    fn put(self, batch: &mut [u32], out: &mut [u32]) -> Result<usize, Refusal>
+        requires { 1 < length batch.old }
+        ensures { listed_of result out.new ≡ all_put (due self.entry) out.old }
+    {
+        let first = self.first_batch(batch, out.len()).ok_or(Refusal::NoRoom)?;
+        Ok(self.fill(batch, first, out))
+    }
+
+    // The same, with a batch of so many places. It is a call of its own, so that the stack for many places is taken
+    // only where many are asked for.
+    #[inline(never)]
+    fn list_with<const PLACES: usize>(self, out: &mut [u32]) -> Result<usize, Refusal>
+        requires { (1 < PLACES) × (PLACES ≤ 131072) }
+        ensures { listed_of result out.new ≡ all_put (due self.entry) out.old }
+    {
+        self.put(&mut [0u32; PLACES], out)
     }
 }
 
@@ -185,6 +242,8 @@ fn lead(name: &[u8]) -> u32
 }
 
 // Puts the hashes of the first `count` directories, after `state`, into `out`, or refuses where a table is too short.
+// 1023 beginnings don't fill the small batch. The large one has places for two beginnings of each of the 65535
+// directories that a set may have.
 // Stays: `out` is a lent table of hashes, and `count` the set's number of directories, of which `dirs` may hold fewer,
 // which is refused, or more.
 fn put_hashes(
@@ -199,10 +258,10 @@ fn put_hashes(
     let (rows, _) = dirs.as_chunks::<DIR_WIDTH>();
     let dirs = rows.get(..count).ok_or(Refusal::NoRoom)?;
     let listed = Listed { state, dirs, text };
-    if listed.all_fit(out.len()) {
-        return Ok(listed.fill(out));
+    if listed.repeats_fit(1023) {
+        return listed.list_with::<1024>(out);
     }
-    Err(Refusal::NoRoom)
+    listed.list_with::<131072>(out)
 }
 
 // The hash of each directory and of each part of one that stands before a separator, after the set's name:

@@ -1,43 +1,38 @@
--- How `all_path_hashes` finds its hashes in order without work space of its own: hashes at or above a bound are put
--- into a table, in order, and those that it has no room for fall off its end. It relies on Hashes.antt for what is due.
-use Rattle.std.specs.Prelude.{ℕ, ◌+◌, ◌/◌, ◌≤◌, min, ◌≡◌, cond, not, List, [], ◌∷◌, map, ltb, leb, length, take}
-use Rattle.std.proofs.lemmas.List.Edits.{sets}
+-- How `all_path_hashes` finds its hashes in order: those of a range are collected in a batch, in any order, and a batch
+-- that gets full keeps the least and cuts the range. 4294967296 is one more than the greatest hash. It relies on
+-- Hashes.antt for what is due.
+use Rattle.std.specs.Prelude.{ℕ, ◌/◌, ◌≤◌, ◌<◌, ◌≡◌, not, ◌&&◌, List, [], ◌∷◌, ◌++◌, map, ltb, leb, length, take}
+use Rattle.std.specs.List.{filter}
 use Rattle.crc32c.specs.Crc.{crc_from, lower}
 use Rattle.tables.specs.Span.{text_at}
 use Rattle.tables.specs.Rows.{dir_at, dir_width}
 use Rattle.tables.specs.Model.{tabled}
 use Rattle.rules.specs.Rules.{when, first_of}
-use Rattle.hashes.specs.Hashes.{beginnings, joined_lists, inserted, ascending, HashesListed, listed}
+use Rattle.rules.specs.Questions.{short}
+use Rattle.hashes.specs.declared.hashes.Collected.{Collected}
+use Rattle.hashes.specs.Hashes.{beginnings, joined_lists, ascending, HashesListed, listed}
 
--- those at or above b
-abbrev pub above : ℕ → List ℕ → List ℕ
-above b [] = []
-above b (h ∷ hs) = cond (ltb h b) (above b hs) (h ∷ above b hs)
+-- those at or above `from` and below `end`
+abbrev pub within : ℕ → ℕ → List ℕ → List ℕ
+within from end hs = filter (λ (h : ℕ). leb from h && ltb h end) hs
 
--- xs with each of the hashes that is at or above b put into it, one after the other
-abbrev pub gathered : ℕ → List ℕ → List ℕ → List ℕ
-gathered b [] xs = xs
-gathered b (h ∷ hs) xs = gathered b hs (cond (ltb h b) xs (inserted h xs))
+-- the batch holds those of the hashes hs that are in the range, in any order and with repeats; each hash has 32 bits
+pub record Holds (hs : List ℕ) (c : Collected) (batch : List ℕ) : Type 0 where
+  pub range : (c.from < c.end) × (c.end ≤ 4294967296)
+  pub places : c.count ≤ length batch
+  pub same : ascending (take c.count batch) ≡ ascending (within c.from c.end hs)
+  pub small : within 0 4294967296 hs ≡ hs
 
--- each is above the one before it, and the first is at or above b
-abbrev pub Rising : ℕ → List ℕ → Type 0
-Rising b [] = Unit
-Rising b (x ∷ xs) = (b ≤ x) × Rising (x + 1) xs
+-- whatever hashes the batch held before, it holds these and hs; the range may end sooner
+abbrev pub Adds : List ℕ → Collected → List ℕ → Collected → List ℕ → Type 0
+Adds hs c batch d after = (d.from ≡ c.from) × ((gs : List ℕ) → Holds gs c batch → Holds (gs ++ hs) d after)
 
--- a table whose first n numbers rise
-pub record Begun (n : ℕ) (table : List ℕ) : Type 0 where
-  pub within : n ≤ length table
-  pub rising : Rising 0 (take n table)
-
--- `after` is the table with the numbers xs at its start, as many as there is room for, and n counts them
-pub record TableHolds (table xs after : List ℕ) (n : ℕ) : Type 0 where
-  pub stored : after ≡ sets table 0 xs
-  pub count : n ≡ min (length table) (length xs)
-
--- `after` is the table with the numbers xs in its w places from `at` on, as many as these hold, and n counts them
-pub record WindowHolds (table : List ℕ) (at w : ℕ) (xs after : List ℕ) (n : ℕ) : Type 0 where
-  pub stored : after ≡ sets table at (take w xs)
-  pub count : n ≡ min w (length xs)
+-- the batch begins with those of the hashes hs that are in the range, in order, each once; each hash has 32 bits
+pub record Gathered (hs : List ℕ) (from : ℕ) (c : Collected) (batch : List ℕ) : Type 0 where
+  pub range : (from < c.end) × (c.end ≤ 4294967296)
+  pub places : c.count ≤ length batch
+  pub stored : take c.count batch ≡ ascending (within from c.end hs)
+  pub small : within 0 4294967296 hs ≡ hs
 
 -- the hashes of a directory's beginnings, from the hash of what stands before the directory
 abbrev pub hashes_after : ℕ → List ℕ → List ℕ
@@ -50,6 +45,10 @@ hashes_within state dirs text n = joined_lists (map (hashes_after state) (tabled
 -- in order, each once
 abbrev pub ascending_within : ℕ → List ℕ → List ℕ → ℕ → List ℕ
 ascending_within state dirs text n = ascending (hashes_within state dirs text n)
+
+-- `put`: refusal 10 where `out` is too short
+abbrev pub all_put : List ℕ → List ℕ → HashesListed
+all_put hs out = listed (first_of (short (leb (length (ascending hs)) (length out)) ∷ [])) (ascending hs) out
 
 -- `put_hashes`: refusal 10 where the directories or `out` are too few
 abbrev pub hashes_put : ℕ → List ℕ → List ℕ → ℕ → List ℕ → HashesListed

@@ -1,16 +1,13 @@
--- `hashes::hashes::Listed::gather` meets its contract. The loop's invariant: the hashes of the directories from the next row on, kept in the
--- table as it is, come to what is due.
-use Rattle.hashes.proofs.Hashing.{rows-turn, rows-end}
-use Rattle.hashes.proofs.Inserting.{gone-on, arrived, gathered-is}
-use Rattle.hashes.specs.private.Gathering.{hashes_after}
-use Rattle.hashes.specs.private.Due.{listed_dirs, due}
-use Rattle.hashes.specs.Hashes.{joined_lists}
+-- `hashes::hashes::Listed::gather` meets its contract. The loop's invariant: the batch holds the hashes of the directories before the next row.
+use Prim.Native.Nat.{ℕ, ◌+◌}
+use mathlib.Core.Path.{sym, ap, ◌∙◌}
+use mathlib.Core.List.{List, ◌++◌, map, append_assoc}
+use lib.ListN.{drop}
 use Rattle.tables.specs.Span.{text_at}
-use lib.Seq.{sets}
-use lib.ListN.{length, drop}
-use mathlib.Core.List.{List, map}
-use mathlib.Core.Path.{◌∙◌, ap}
-use Prim.Native.Nat.{min, ℕ, ◌+◌}
+use Rattle.hashes.specs.Hashes.{joined_lists}
+use Rattle.hashes.specs.private.Gathering.{hashes_after}
+use Rattle.hashes.specs.private.Due.{listed_dirs}
+use Rattle.hashes.proofs.Hashing.{rows-turn}
 use Rattle.hashes.proofs.hashes.Listed.gather.Goals as goal
 
 pub loop-row-preserved : goal.loop-row-preserved
@@ -18,20 +15,14 @@ loop-row-preserved c =
     let l = c.loop-row in
     let s = c.args.self in
     let f = hashes_after s.state in
-    let t = c.text_at-d in (
-      c.keep_dir-held.auto.table ∙ l.invariant.0,
-      gone-on c.args.bound (f t.result.now) (joined_lists (drop (l.row-index + 1) (map f (listed_dirs s)))) l.invariant.1
-          (rows-turn f s.text.now s.dirs.now l.row-index _ t.result.now c.loop-row-test.true (t.ensures ∙ ap (text_at s.text.now) c.from.ensures)) c.keep_dir-held.ensures,
+    let t = c.text_at-d in
+    let k = c.keep_dir-collected in
+    let rest = joined_lists (drop (l.row-index + 1) (map f (listed_dirs s))) in
+    let more = rows-turn f s.text.now s.dirs.now l.row-index _ t.result.now c.loop-row-test.true (t.ensures ∙ ap (text_at s.text.now) c.from.ensures) in (
+      l.invariant.0 ++ f t.result.now,
+      append_assoc l.invariant.0 (f t.result.now) rest ∙ ap (λ (r : List ℕ). l.invariant.0 ++ r) (sym more) ∙ l.invariant.1,
+      k.auto.batch ∙ l.invariant.2,
+      k.ensures.0,
+      k.ensures.1.0 ∙ l.invariant.4,
+      k.ensures.1.1 l.invariant.0 l.invariant.5,
     )
-
-pub returns : goal.returns
-returns c =
-    let l = c.loop-row in
-    let a = c.args in
-    let s = a.self in
-    let g = rw (rows-end (hashes_after s.state) s.text.now s.dirs.now l.row-index c.loop-row-test.false) at l.invariant.1 in
-    let r = arrived a.bound l.held g in
-    record {
-      stored = r.0 ∙ ap (sets a.table.now 0) (gathered-is a.bound (due s));
-      count = r.1 ∙ ap (λ (xs : List ℕ). min (length a.table.now) (length xs)) (gathered-is a.bound (due s));
-    }

@@ -1,30 +1,34 @@
--- `hashes::hashes::Listed::has_room` meets its contract. The loop's invariant: the table holds the first n of the hashes from some bound on,
--- and these fit what is left where all hashes fit the room.
-use Rattle.hashes.proofs.Counting.{counted-first, counted_next}
-use Rattle.hashes.specs.private.Due.{due}
-use lib.ListN.{length}
-use native.Mathlib.Omega.{arith}
+-- `hashes::hashes::Listed::has_room` meets its contract. The loop's invariant: the hashes below `from` are counted, and `left` places are left.
+use Prim.Native.Nat.{◌+◌}
 use mathlib.Core.Path.{refl, ◌∙◌}
-use Prim.Native.Nat.{◌<◌}
+use native.Mathlib.Omega.{arith}
+use Rattle.hashes.specs.private.Due.{due}
+use Rattle.hashes.proofs.Filling.{first-passed, passed_next, counted-over}
 use Rattle.hashes.proofs.hashes.Listed.has_room.Goals as goal
 
-pub loop-n-init : goal.loop-n-init
-loop-n-init c =
+pub returns-then-room-first : goal.returns-then-room-first
+returns-then-room-first c =
     let a = c.args in
-    let g = c.gather-n in
-    let k = g.auto.table in
-    let z : 0 < length a.table.now = c.requires in
-    (omega arith, refl, counted-first (due a.self) a.room g.result a.table.now g.new.table g.ensures)
+    counted-over (due a.self) a.first.end a.first.count (first-passed (due a.self) a.first a.batch.now c.requires.1) a.room c.if-room-first.true
 
-pub loop-n-preserved : goal.loop-n-preserved
-loop-n-preserved c =
-    let l = c.loop-n in
+pub loop-from-init : goal.loop-from-init
+loop-from-init c =
     let a = c.args in
-    let g = c.gather-n-in-loop-n in
-    let k = g.auto.table in
-    let i = l.invariant.0 in
-    let t = c.loop-n-test.true in (
-      omega arith,
-      k ∙ l.invariant.1,
-      counted_next (due a.self) a.room l.left l.n l.table l.invariant.2 g.result _ g.new.table t (omega arith) c.if-left-n.false (omega arith) g.ensures,
+    (refl, a.first.count, omega (arith, c.if-room-first.false), first-passed (due a.self) a.first a.batch.now c.requires.1)
+
+pub returns-then-left-next : goal.returns-then-left-next
+returns-then-left-next c =
+    let i = c.loop-from.invariant in
+    let g = c.gather-next in
+    counted-over (due c.args.self) g.result.end (i.1 + g.result.count) (passed_next (due c.args.self) c.loop-from.from i.1 i.3 g.result g.new.batch g.ensures) c.args.room
+    (omega (arith, i.2, c.if-left-next.true))
+
+pub loop-from-preserved : goal.loop-from-preserved
+loop-from-preserved c =
+    let i = c.loop-from.invariant in
+    let g = c.gather-next in (
+      g.auto.batch ∙ i.0,
+      i.1 + g.result.count,
+      omega (arith, i.2, c.if-left-next.false),
+      passed_next (due c.args.self) c.loop-from.from i.1 i.3 g.result g.new.batch g.ensures,
     )

@@ -1,14 +1,13 @@
--- `hashes::hashes::Listed::has_room` meets its contract. The loop's invariant: the table holds the first n of the hashes from some bound on,
--- and these fit what is left where all hashes fit the room.
-use Rattle.hashes.proofs.Counting.{Counting}
+-- `hashes::hashes::Listed::has_room` meets its contract. The loop's invariant: the hashes below `from` are counted, and `left` places are left.
 use Rattle.hashes.specs.private.Due.{due}
+use Rattle.hashes.proofs.Filling.{Passed}
 use lib.ListN.{length}
 use mathlib.Core.Path.{◌≡◌}
-use Prim.Native.Nat.{◌<◌}
+use Prim.Native.Nat.{ℕ, ◌+◌, ◌-◌}
 use Rattle.hashes.proofs.hashes.Listed.has_room.Given as goal
 
-abbrev pub invariant-loop-n : goal.invariant-loop-n
-invariant-loop-n l = (0 < length l.table) × (length l.table ≡ length l.initial.table) × Counting (due l.self) l.room l.left l.n l.table
+abbrev pub invariant-loop-from : goal.invariant-loop-from
+invariant-loop-from l = (length l.batch ≡ length l.fn.batch) × (n : ℕ) × (l.room ≡ l.left + n) × Passed (due l.self) l.from n
 
-abbrev pub decreases-loop-n : goal.decreases-loop-n
-decreases-loop-n l = l.left
+abbrev pub decreases-loop-from : goal.decreases-loop-from
+decreases-loop-from l = 4294967296 - l.from
