@@ -5,6 +5,7 @@
 --     first_is                       the file found, as a search over a list of numbers gives it
 --     byte_above, first_alike        files behind the rows that differ
 --     near-least, near_has           the same of a window's first files
+--     near_first, near_behind        the window's very first one has the byte, or it is found behind that
 use Rattle.std.proofs.Common.{◌≡◌, ℕ, zero, suc, ◌+◌, ◌-◌, ◌*◌, ◌<◌, ◌≤◌, Bool, true, false, cond, ◌&&◌, ltb, leb, List, drop, Option, Some, None, option_map, unwrap_or, sym, refl, ap, ◌∙◌, arith, ltb-true}
 use Rattle.std.specs.List.{find, range_with_len}
 use Rattle.tables.specs.declared.rows.Row.{Row}
@@ -83,3 +84,18 @@ near_has rows w t e =
   where
     behind : (k end low : ℕ) → low ≤ k → k < end → k < low + (end - low)
     behind k end low a b = omega arith
+
+-- its very first one, and those behind it
+near-split : (rows : List ℕ) (w : Window) (t : ℕ) → w.low < w.high
+    → found_near rows w t ≡ cond (has_byte rows w.low t) w.low (first_with rows (near_end w - (w.low + 1)) (w.low + 1) t)
+unfolding first_with
+near-split rows w t h = let e : near_end w - w.low ≡ suc (near_end w - (w.low + 1)) = omega arith in rw e refl
+
+pub near_first : (rows : List ℕ) (w : Window) (t : ℕ) → w.low < w.high → has_byte rows w.low t ≡ true → found_near rows w t ≡ w.low
+near_first rows w t h e =
+    near-split rows w t h ∙ ap (λ (b : Bool). cond b w.low (first_with rows (near_end w - (w.low + 1)) (w.low + 1) t)) e
+
+pub near_behind : (rows : List ℕ) (w : Window) (t : ℕ) → w.low < w.high → has_byte rows w.low t ≡ false
+    → found_near rows w t ≡ first_with rows (near_end w - (w.low + 1)) (w.low + 1) t
+near_behind rows w t h e =
+    near-split rows w t h ∙ ap (λ (b : Bool). cond b w.low (first_with rows (near_end w - (w.low + 1)) (w.low + 1) t)) e

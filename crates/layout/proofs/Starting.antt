@@ -5,14 +5,14 @@
 --     found_alike                      'the search, given its start, answers the same whatever the rows before it hold'
 --     from-least                       the search from a window's first file finds that one or a later one
 --     window-is, is-window             a window that has files of the set
---     checked-near, near_found         the file found among its first ones
+--     checked-near, first_found, near_found, far_found     the file found is its first, one of its first ones, or another
 --     within_below, within_in          the file found is one of them, whatever the rows hold
 --     last-unique, byte_last           the last file that begins at or before a byte
 --     found_within                     for every window, the file found is the last that begins at or before the target
 --     within-as-read                   so it is the one that the search over all rows finds
 --     found-from                       the file found among those of a window that has the byte
 --     told-within, told-found          the same by a table of the file in which each piece begins
-use Rattle.std.proofs.Common.{◌≡◌, ℕ, zero, suc, ◌+◌, ◌-◌, ◌*◌, ◌<◌, ◌≤◌, min, Bool, true, false, cond, ◌&&◌, ltb, leb, ◌⊎◌, List, get_or, drop, sym, refl, ap, ◌∙◌, subst, inl, inr, arith, get_or-drop, ltb-true, lt-ltb, le-leb, leb-true}
+use Rattle.std.proofs.Common.{◌≡◌, ℕ, zero, suc, ◌+◌, ◌-◌, ◌*◌, ◌<◌, ◌≤◌, min, Bool, true, false, cond, ◌&&◌, ltb, leb, ◌⊎◌, List, get_or, drop, sym, refl, ap, ◌∙◌, subst, inl, inr, arith, get_or-drop, ltb-true, lt-ltb, le-ltb, le-leb, leb-true}
 use Rattle.lists.proofs.Orders.{le-or-lt}
 use Rattle.tables.specs.declared.storage.FileStorage.{FileStorage}
 use Rattle.tables.specs.declared.rows.Row.{Row}
@@ -23,7 +23,7 @@ use Rattle.layout.specs.declared.window.Window.{Window}
 use Rattle.layout.specs.Window.{Begins, Told}
 use Rattle.layout.specs.Search.{file_found, has_byte, first_with, near_end, found_near, found_far, found_from, is_within, found_within}
 use Rattle.layout.proofs.Halving.{Ascending, Last, found-last, found_below, found_in}
-use Rattle.layout.proofs.Near.{first_alike, near-least, near_has}
+use Rattle.layout.proofs.Near.{first_alike, near-least, near_has, near_first, near_behind}
 
 -- a row among those from a file on
 pub row-dropped : (rows : List ℕ) (low i : ℕ) → row_at (drop (low * row_width) rows) i ≡ row_at rows (low + i)
@@ -71,12 +71,31 @@ module _ (rows : List ℕ) (n : ℕ) (w : Window) (t : ℕ) where
       ap (λ (x : Bool). cond (x && has_byte rows (found_near rows w t) t) (found_near rows w t) (file_found rows n t)) e ∙
       ap (λ (x : Bool). cond x (found_near rows w t) (file_found rows n t)) b)
 
-  -- the same as the code says it, which has computed where its first ones end
-  pub near_found : {k end : ℕ} → w.low < w.high → w.high ≤ n → end ≡ min (w.low + 4) w.high → k ≡ first_with rows (end - w.low) w.low t → k < end
-      → k ≡ found_within rows n w t
-  near_found a b e f h =
-      let g = f ∙ ap (λ (x : ℕ). first_with rows (x - w.low) w.low t) e in
-      g ∙ checked-near (is-window w n a b) (rw (g, e) at h)
+  -- the same as the code says it: the window's very first file has the byte
+  pub first_found : w.low < w.high → w.high ≤ n → has_byte rows w.low t ≡ true → w.low ≡ found_within rows n w t
+  first_found a b e =
+      let g = near_first rows w t a e in
+      let h : found_near rows w t < near_end w = omega arith in
+      sym g ∙ checked-near (is-window w n a b) h
+
+  -- it doesn't; `end` is where the first ones end
+  module _ {end : ℕ} (a : w.low < w.high) (b : w.high ≤ n) (e : end ≡ min (w.low + 4) w.high) (none : has_byte rows w.low t ≡ false) where
+    behind : first_with rows (end - (w.low + 1)) (w.low + 1) t ≡ found_near rows w t
+    behind = ap (λ (x : ℕ). first_with rows (x - (w.low + 1)) (w.low + 1) t) e ∙ sym (near_behind rows w t a none)
+
+    -- one behind it has the byte
+    pub near_found : {k : ℕ} → k ≡ first_with rows (end - (w.low + 1)) (w.low + 1) t → k < end → k ≡ found_within rows n w t
+    near_found f h = let g = f ∙ behind in g ∙ checked-near (is-window w n a b) (rw (g, e) at h)
+
+    -- none of the first ones has it
+    pub far_found : {r : ℕ} → end ≡ first_with rows (end - (w.low + 1)) (w.low + 1) t
+        → r ≡ cond (has_byte rows (found_far rows w t) t) (found_far rows w t) (file_found rows n t) → r ≡ found_within rows n w t
+    far_found f h =
+        let g : found_near rows w t ≡ near_end w = sym (f ∙ behind) ∙ e in
+        let l : ltb (found_near rows w t) (near_end w) ≡ false = le-ltb (found_near rows w t) (near_end w) (omega arith) in
+        h ∙ sym
+        (ap (λ (x : Bool). cond (is_within w n && has_byte rows (cond x (found_near rows w t) (found_far rows w t)) t) (cond x (found_near rows w t) (found_far rows w t)) (file_found rows n t)) l ∙
+        ap (λ (x : Bool). cond (x && has_byte rows (found_far rows w t) t) (found_far rows w t) (file_found rows n t)) (is-window w n a b))
 
 near-below : (rows : List ℕ) (w : Window) (t n : ℕ) → w.high ≤ n → ltb (found_near rows w t) (near_end w) ≡ true → found_near rows w t < n
 near-below rows w t n h q = among (found_near rows w t) (ltb-true (found_near rows w t) (near_end w) q)
@@ -241,4 +260,4 @@ module _ (fs : FileStorage) (rows firsts : List ℕ) (laid : Laid rows fs.num_fi
       behind (inr (d, e)) i g k = absurd (omega arith)
 
 -- what a search needs that looks at a window's first files before it halves
-pub ruleset near_first = (within_in, near_found, found_in)
+pub ruleset near_files = (within_in, first_found, near_found, far_found, found_in)

@@ -3,11 +3,7 @@
 --     block_open        a start with a cursor: only room is left to look at
 --     block_from        where that cursor is
 --     from_block        the slices from there on
---     plan_refused, plan_short, plan_whole     the block's plan
---     plan_open, plan_is, plan_fits            what a plan says of the block
 use Rattle.std.proofs.Common.{◌≡◌, ℕ, ◌<◌, ◌≤◌, ◌&&◌, true, false, List, [], ◌∷◌, length, ℤ, sym, refl, ap, ◌∙◌, to_z-of_z, le-leb, leb-true}
-use Rattle.std.specs.Prelude.{nat_le}
-use borrow.Author.Tests.{lt-leb, not-false}
 use Rattle.types.specs.Refusals.{number_of, value, refused}
 use Rattle.types.specs.declared.refusal.Refusal.{Refusal}
 use Rattle.tables.specs.declared.storage.FileStorage.{FileStorage}
@@ -17,11 +13,9 @@ use Rattle.rules.specs.Questions.{rows_are_held, bad_piece_length, many_pieces, 
 use Rattle.layout.specs.declared.start.Cursor.{Cursor}
 use Rattle.layout.specs.declared.window.Window.{Window}
 use Rattle.layout.specs.Mapping.{target_of, block_of, block_rules}
-use Rattle.layout.specs.declared.plan.Plan.{Plan}
-use Rattle.layout.specs.Plan.{whole, block_plan}
 use Rattle.layout.specs.Start.{slices_from, cursor_at, block_start}
 use Rattle.types.proofs.Refusals.{numbered, exit}
-use Rattle.rules.proofs.Rules.{first-append, after, passed, outcome-value, outcome-refused}
+use Rattle.rules.proofs.Rules.{first-append, after, outcome-value, outcome-refused}
 
 module _ (fs : FileStorage) (rows : List ℕ) (w : Window) (z offset size : ℤ) where
   abbrev rules : List Rule
@@ -47,39 +41,5 @@ module _ (fs : FileStorage) (rows : List ℕ) (w : Window) (z offset size : ℤ)
     pub from_block : slices_from rows from ≡ block_of fs rows w z offset size
     from_block = ap (slices_from rows) block_from
 
-    pub plan_short : (room : ℕ) → room < length (slices_from rows from) → refused 10 ≡ block_plan fs rows w z offset size room
-    plan_short room l =
-        let b : nat_le (length (block_of fs rows w z offset size)) room ≡ false = lt-leb _ room (rw from_block at l) in
-        rw (block_open (short (nat_le (length (block_of fs rows w z offset size)) room) ∷ []), b)
-
-    pub plan_whole : (room : ℕ) → length (slices_from rows from) ≤ room → value (whole (slices_from rows from) from) ≡ block_plan fs rows w z offset size room
-    plan_whole room l =
-        let b : nat_le (length (block_of fs rows w z offset size)) room ≡ true = le-leb _ room (rw from_block at l) in
-        rw (block_open (short (nat_le (length (block_of fs rows w z offset size)) room) ∷ []), b)
-        (ap (λ (c : Cursor). value (whole (slices_from rows c) c)) block_from)
-
-  pub plan_refused : (e : Refusal) (room : ℕ) → refused (number_of e) ≡ block_start fs rows w z offset size
-      → refused (number_of e) ≡ block_plan fs rows w z offset size room
-  plan_refused e room h = rw (block_stopped e (short (nat_le (length (block_of fs rows w z offset size)) room) ∷ []) h, numbered e)
-
-  -- what a plan says of its slices
-  module _ (room : ℕ) {p : Plan} (h : value p ≡ block_plan fs rows w z offset size room) where
-    given : (first_of (block_rules fs rows z offset size (short (nat_le (length (block_of fs rows w z offset size)) room) ∷ [])) ≡ 0)
-        × (p ≡ whole (block_of fs rows w z offset size) begin)
-    given = outcome-value _ p (whole (block_of fs rows w z offset size) begin) h
-
-    pub plan_open : first_of (block_rules fs rows z offset size (short (nat_le (length (block_of fs rows w z offset size)) room) ∷ [])) ≡ 0
-    plan_open = given.0
-
-    pub plan_is : p ≡ whole (block_of fs rows w z offset size) begin
-    plan_is = given.1
-
-    pub plan_fits : p.count ≤ room
-    plan_fits =
-        let q = passed (block_rules fs rows z offset size (short (nat_le (length (block_of fs rows w z offset size)) room) ∷ [])) refl (sym plan_open) in
-        rw plan_is (leb-true _ room (not-false _ q.1.1.1.1.1.0))
-
--- what a block's start and its plan need, with signed numbers as the code passes them on
+-- what a block's start needs, with signed numbers as the code passes them on
 pub ruleset starting = (numbered, exit, to_z-of_z)
-
-pub ruleset planning = (plan_refused, plan_short, plan_whole, exit, to_z-of_z)

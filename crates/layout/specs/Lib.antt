@@ -7,5 +7,4 @@ pub mod Pieces
 pub mod Given
 pub mod Mapping
 pub mod Start
-pub mod Plan
 pub mod private

@@ -5,7 +5,6 @@
 
 mod asked;
 mod piece;
-mod plan;
 mod search;
 mod slices;
 mod start;
@@ -15,7 +14,6 @@ pub use piece::{
     blocks_in_piece2, blocks_per_piece, file_index_at_offset, file_index_at_piece, file_range,
     last_file_index_at_piece, last_piece, num_pieces, piece_range, piece_size, piece_size2,
 };
-pub use plan::{Plan, plan_block};
 pub use slices::{Slice, Slices};
 pub use start::{Cursor, has_room, start_block};
 pub use window::{Window, no_window, window_for};

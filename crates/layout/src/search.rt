@@ -3,7 +3,7 @@
 // that of the slice. It relies on `tables` for the offsets and on the laws of proofs/Halving.antt, proofs/Levels.antt,
 // proofs/Near.antt, proofs/Front.antt and proofs/Starting.antt.
 ghost use Rattle.std.specs.Prelude.{◌≡◌, ◌+◌, ◌-◌, ◌/◌, ◌%◌, ◌^◌, ◌<◌, ◌≤◌};
-ghost use Rattle.std.specs.Prelude.{length, if◌then◌else◌, cond, nat_le, slice_index, IfSome, unwrap_or};
+ghost use Rattle.std.specs.Prelude.{length, if◌then◌else◌, cond, nat_le, slice_index, IfSome, unwrap_or, false};
 ghost use Rattle.layout.specs.Search.{partition_point, file_found, first_with, found_far, has_byte, found_within};
 ghost use Rattle.layout.specs.Steps.{reach};
 ghost use Rattle.layout.specs.private.Level.{Level};
@@ -112,6 +112,8 @@ fn has_byte(rows: &[u64], k: usize, target: u64) -> bool
 }
 
 // The first file from one on and before another that has the byte at the target.
+// Stays: tried, each of the three behind a window's first looked at without a branch: with a table of first files and
+// on 10 files `file_index_at_offset` takes 10.6 ns, and so 11.7, but `map_block` 0.64 of the Rust's time, and so 0.62.
 fn first_with(rows: &[u64], from: usize, to: usize, target: u64) -> Option<usize>
     requires { (from ≤ to) × (to ≤ length rows.now / 8) }
     ensures bound { IfSome result (λ k. k < to) }
@@ -125,7 +127,8 @@ fn first_with(rows: &[u64], from: usize, to: usize, target: u64) -> Option<usize
 // Stays: rows and target go side by side, here, above and below. Tried, a record of the two with these functions as
 // methods: `file_index_at_offset` with a table of first files takes 19.3 ns in a set of 1,000 files, and so 15.1; on 10
 // files it is behind the Rust's as it is (docs/BENCHMARKS.md). A record with the window would be made in `file_of`,
-// `find_near_within` and `partition_point`, each for its call of `find_within`, which passes it on to `find_far` alone.
+// `find_near_within` and `partition_point`, each for its call of `find_within`, which passes it on to `find_behind`
+// alone.
 #[tactic(auto, using(crate::proofs::Front::found_among, crate::proofs::Halving::found_below))]
 fn find_far(rows: &[u64], window: Window, target: u64) -> usize
     requires { (window.low < window.high) × (window.high ≤ length rows.now / 8) }
@@ -142,9 +145,26 @@ fn find_far(rows: &[u64], window: Window, target: u64) -> usize
     find(rows, target)
 }
 
-// The file found at the target, where the search begins with a window. It is one call in each question: taken in, it
-// would make the start of a block too large to be taken in itself.
-#[tactic(auto, using(crate::proofs::Starting::near_first))]
+// The file found at the target, where a window's first file does not have the byte there. It is a call of its own: most
+// bytes are in the first file, and what is left to do for the others would make every question larger.
+// Stays: it promises what `find_within` does, where the first file is looked at already.
+#[inline(never)]
+#[tactic(auto, using(crate::proofs::Starting::near_files))]
+fn find_behind(rows: &[u64], window: Window, target: u64) -> usize
+    requires { (window.low < window.high)
+        × (window.high ≤ length rows.now / 8)
+        × (has_byte rows.now window.low target ≡ false) }
+    ensures { result ≡ found_within rows.now (length rows.now / 8) window target }
+{
+    let end = (window.low + 4).min(window.high);
+    if let Some(k) = first_with(rows, window.low + 1, end, target) {
+        return k;
+    }
+    find_far(rows, window, target)
+}
+
+// The file found at the target, where the search begins with a window.
+#[tactic(auto, using(crate::proofs::Starting::near_files))]
 fn find_within(rows: &[u64], window: Window, target: u64) -> usize
     ensures value { result ≡ found_within rows.now (length rows.now / 8) window target }
     ensures among { result ≤ length rows.now / 8 }
@@ -152,11 +172,10 @@ fn find_within(rows: &[u64], window: Window, target: u64) -> usize
     if window.high <= window.low || rows.len() / 8 < window.high {
         return find(rows, target);
     }
-    let end = (window.low + 4).min(window.high);
-    if let Some(k) = first_with(rows, window.low, end, target) {
-        return k;
+    if has_byte(rows, window.low, target) {
+        return window.low;
     }
-    find_far(rows, window, target)
+    find_behind(rows, window, target)
 }
 
 // The file of a set found at the target: the search is lent the rows of the set's files.

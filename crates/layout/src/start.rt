@@ -39,9 +39,15 @@ pub fn has_room(rows: &[u64], at: Cursor, room: usize) -> bool
     at.files <= room || at.left <= room as u64 || count_slices(rows, at) <= room
 }
 
-// The start of a block of a piece.
+// The start of a block of a piece. The compiler takes it into both forms of `map_block`, for which it is a little too
+// large without the word (a cost of 285, the limit is 250): a call costs 3 ns of 20.
+// Stays: the piece length is tested before the other rules, and again among them: where it is in range, nothing is left
+// of the quotient by which `Tests::of_piece` counts the pieces of any other, and a block costs 1 ns less.
+// Stays: the offset of the file found is taken from its word. `tables::offset_at` tests first that the row's number can
+// be multiplied, which costs 1 ns.
 // Stays: no record of piece, offset and size: the three come from a call of document 01's, one rule tests that the
 // piece is there, another the offset and the size, and only this function reads all.
+#[inline(always)]
 #[tactic(auto, using(crate::proofs::Starts::starting, types::proofs::Boundary::negative_is))]
 pub fn start_block(
     fs: FileStorage,
@@ -53,6 +59,9 @@ pub fn start_block(
 ) -> Result<Cursor, Refusal>
     ensures { outcome result ≡ block_start fs rows.now window piece.0 offset size }
 {
+    if rules::is_bad_length(fs.piece_length) {
+        return Err(Refusal::InvalidPieceLength);
+    }
     let bad_range = is_bad_range(offset, size);
     Tests {
         bad_range,
@@ -68,7 +77,7 @@ pub fn start_block(
     Ok(Cursor {
         file,
         files: fs.num_files,
-        skip: target.saturating_sub(tables::offset_at(rows, file)),
+        skip: target.saturating_sub(lists::item_or(rows, file * 8, 0) % tables::SIZE_RANGE),
         left: clamped(size).min(fs.total_size.saturating_sub(target)),
     })
 }

@@ -7,7 +7,6 @@
 --     offset-alike                         `file_index_at_offset`
 --     piece-alike, last-piece-alike        `file_index_at_piece`, `last_file_index_at_piece`
 --     size2-alike, blocks2-alike           `piece_size2`, `blocks_in_piece2`
-use Rattle.types.specs.Refusals.{outcome}
 use Prim.Native.Nat.{ℕ, ◌*◌, ◌≤◌, ◌<◌}
 use mathlib.Core.Path.{◌≡◌, ap}
 use mathlib.Core.Bool.{Bool, true, cond}
