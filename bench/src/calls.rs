@@ -2,7 +2,8 @@
 //! what is refused is compared by document 01's number, and must leave all that is lent as it was; what is built is
 //! compared by its rows. 2, 6 and 7, where the Rust has assertions, and 1 and 10 to 14, where it has no counterpart, are
 //! those that document 01's words ask for; times are those that the additions gave. A set keeps a table of first files,
-//! or is lent one that it does not keep, or none; tables that are not true must change no answer.
+//! or is lent one that it does not keep, or none; tables that are not true must change no answer. After each addition
+//! names are imported, and paths through renames and the hashes of all paths are asked for (renaming.rs).
 
 use bitdaemon_common::{FileIndex, PieceIndex, Sha256Hash};
 use bitdaemon_core::Error;
@@ -13,6 +14,7 @@ use bitdaemon_core::path::{has_parent_path, is_complete};
 use crate::compare;
 use crate::inputs::{PIECE_LENGTH, Random};
 use crate::port::{Addition, Columns, Set, Slice};
+use crate::renaming::{self, Renamed};
 
 /// How many sets are built, and how many additions each is given at most.
 const SETS: usize = 3000;
@@ -50,13 +52,14 @@ pub fn check() {
         play(&mut random);
     }
     refusals();
+    renaming::refusals();
 }
 
-fn one_of<T: Copy>(random: &mut Random, all: &[T]) -> T {
+pub fn one_of<T: Copy>(random: &mut Random, all: &[T]) -> T {
     all[(random.next() % all.len() as u64) as usize]
 }
 
-fn once_in(random: &mut Random, n: u64) -> bool {
+pub fn once_in(random: &mut Random, n: u64) -> bool {
     random.next() % n == 0
 }
 
@@ -126,6 +129,7 @@ fn play(random: &mut Random) {
     let (mut times, mut is_trimmed) = (Vec::new(), false);
     let rooted = one_of(random, &[1, 1, 2, 1000]);
     let trims = one_of(random, &[2, 4, 1000]);
+    let mut renamed = Renamed::new();
     for _ in 0..1 + random.next() % ADDITIONS {
         if once_in(random, trims) {
             is_trimmed |= compare::compare_trimmed(&mut rust, &mut times, &mut port);
@@ -161,6 +165,7 @@ fn play(random: &mut Random) {
             ask(random, &rust, &port.clone().lending(firsts));
         }
         ask(random, &rust, &port);
+        renamed.play(random, &rust, &port);
     }
     compare::compare_trimmed(&mut rust, &mut times, &mut port);
 }

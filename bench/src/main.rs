@@ -1,6 +1,7 @@
 //! Measures the unchanged Rust and the port on the same inputs, and compares all that both built and answered.
-//! Prints tables in Markdown: `add` that of additions, `layout` that of questions, `links` that of cleanings, no word all. A number
-//! after `layout` is the piece length of its sets. `check` only compares.
+//! Prints tables in Markdown: `add` that of additions, `layout` that of questions, `links` that of cleanings, `names`
+//! that of imports, path hashes and paths through renames, no word all. A number after `layout` is the piece length of
+//! its sets. `check` only compares.
 
 mod additions;
 mod best;
@@ -9,18 +10,22 @@ mod compare;
 mod inputs;
 mod layout;
 mod links;
+mod names;
 mod port;
+mod renaming;
 
 fn main() {
     match std::env::args().nth(1).as_deref() {
         Some("add") => additions::table(),
         Some("layout") => layout::table(piece_length()),
         Some("links") => links::table(),
+        Some("names") => names::table(),
         Some("check") => {
             additions::check();
             layout::check();
             calls::check();
             links::check();
+            names::check();
             println!("The C interface and the Rust: no difference");
         }
         None => {
@@ -29,9 +34,11 @@ fn main() {
             layout::table(inputs::PIECE_LENGTH);
             println!();
             links::table();
+            println!();
+            names::table();
         }
         Some(word) => {
-            eprintln!("{word}: add, layout, links, check, or no word for all tables");
+            eprintln!("{word}: add, layout, links, names, check, or no word for all tables");
             std::process::exit(2);
         }
     }

@@ -1,5 +1,9 @@
 //! The port through its C interface, and the tables that are lent to it.
 
+mod names;
+
+pub use names::{ENTRY, Names, Renames};
+
 use crate::inputs::{Input, PIECE_LENGTH};
 
 unsafe extern "C" {

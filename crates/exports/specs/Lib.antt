@@ -2,3 +2,4 @@
 pub mod State
 pub mod Layout
 pub mod Cleanings
+pub mod Paths

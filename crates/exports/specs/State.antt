@@ -66,8 +66,8 @@ pub record Exported : Type 0 where
   pub dirs : List ℕ
   pub text : List ℕ
 
-abbrev pub number_returned : Outcome FileStorage → ℕ
-number_returned (value fs) = 0
+abbrev pub number_returned : {A : Type 0} → Outcome A → ℕ
+number_returned (value v) = 0
 number_returned (refused k) = k
 
 abbrev pub state_after : Outcome FileStorage → List ℕ → List ℕ

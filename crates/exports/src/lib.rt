@@ -1,8 +1,9 @@
 // What the C interface does, for benchmarks and other languages; the static library `exports_c` has its functions under
 // the same names. A set's record is twelve lent words and a root 32 lent bytes, arrays with their sizes in their types.
-// A change returns 0 or document 01's number; questions.rt and slices.rt say what a question returns. An addition has
-// 15 parameters and can't have fewer in C: each table and each text is a slice of its own. Relies on `storage`,
-// `additions`, `trim`, `cleaning`, `tables`, `layout`, `files`, `blocks` and `mapping`.
+// A change returns 0 or document 01's number; questions.rt, slices.rt and paths.rt say what a question returns. An
+// addition has 15 parameters and can't have fewer in C: each table and each text is a slice of its own. Relies on
+// `storage`, `additions`, `trim`, `cleaning`, `tables`, `layout`, `files`, `blocks` and `mapping`, and for names and
+// paths on `imports`, `hashes`, `renames` and `renamed`.
 #![tactic(auto)]
 
 ghost use Rattle.std.specs.Prelude.{◌≡◌, List, ℕ};
@@ -14,11 +15,15 @@ ghost use Rattle.exports.specs.State.{Exported, exported, storage_of, store_at, 
 ghost use Rattle.exports.specs.State.{number_returned, state_after};
 
 mod cleanings;
+mod paths;
 mod questions;
 mod slices;
 
 use additions::FileInfo;
 pub use cleanings::niflathen_sanitize_symlinks;
+pub use paths::{
+    RenameState, niflathen_all_path_hashes, niflathen_file_path, niflathen_import_filenames,
+};
 pub use questions::{
     FileRequest, niflathen_file_index_at_offset, niflathen_map_block, niflathen_map_file,
     niflathen_map_files,

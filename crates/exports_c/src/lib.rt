@@ -16,13 +16,18 @@ ghost use Rattle.blocks.specs.Block.{map_block};
 ghost use Rattle.mapping.specs.Table.{block_mapped};
 ghost use Rattle.lookup.specs.Lookup.{lent};
 ghost use Rattle.cleaning.specs.Cleaning.{clean_stored};
+ghost use Rattle.hashes.specs.Hashes.{all_path_hashes};
+ghost use Rattle.imports.specs.Imports.{import_lent};
+ghost use Rattle.renamed.specs.Questions.{path_into};
 ghost use Rattle.exports.specs.State.{Exported, exported, storage_of, store_at, presence_of};
 ghost use Rattle.exports.specs.Layout.{file_returned, request_returned};
 ghost use Rattle.exports.specs.Layout.{BlockReturned, block_returned, ListReturned, list_returned};
 ghost use Rattle.exports.specs.Layout.{SlicesReturned, slices_returned};
 ghost use Rattle.exports.specs.Cleanings.{CleaningReturned, cleaning_returned};
+ghost use Rattle.exports.specs.Paths.{renamed_files_of, ImportReturned, import_returned};
+ghost use Rattle.exports.specs.Paths.{HashesReturned, hashes_returned, PathReturned, path_returned};
 
-use exports::{FileRequest, Root, State};
+use exports::{FileRequest, RenameState, Root, State};
 use types::FileSlice;
 
 // `storage::add_file`; `given` and `rooted` are 0 for none.
@@ -249,4 +254,88 @@ pub extern "C" fn niflathen_map_block_slices(
         piece offset size out.old)) }
 {
     exports::niflathen_map_block_slices(state, rows, firsts, piece, offset, size, out)
+}
+
+// `imports::import_filenames`, which takes 1 MiB of the caller's stack: 0, or the number of the refusal.
+// Stays: the C interface fixes the name, the parameters and the answer.
+#[unsafe(no_mangle)]
+pub extern "C" fn niflathen_import_filenames(
+    state: &State,
+    renames: &mut RenameState,
+    rename_entries: &mut [u64],
+    rename_text: &mut [u8],
+    numbers: &[i32],
+    lengths: &[u64],
+    names: &[u8],
+) -> u32
+    ensures { ◌≡◌ {A = ImportReturned}
+        (record {
+          number = result;
+          renames = renames.new;
+          entries = rename_entries.new;
+          text = rename_text.new;
+        })
+        (import_returned renames.old
+        (import_lent (storage_of state.now) (renamed_files_of renames.old)
+        rename_entries.old rename_text.old numbers.now lengths.now names.now)) }
+{
+    exports::niflathen_import_filenames(
+        state,
+        renames,
+        rename_entries,
+        rename_text,
+        numbers,
+        lengths,
+        names,
+    )
+}
+
+// `hashes::all_path_hashes`: the number of hashes, or minus the number of the refusal.
+// Stays: the C interface fixes the name, the parameters and the answer.
+#[unsafe(no_mangle)]
+pub extern "C" fn niflathen_all_path_hashes(
+    state: &State,
+    dirs: &[u64],
+    text: &[u8],
+    out: &mut [u32],
+) -> i64
+    ensures { ◌≡◌ {A = HashesReturned} (record { answer = result; table = out.new })
+        (hashes_returned
+        (all_path_hashes (storage_of state.now) dirs.now text.now out.old)) }
+{
+    exports::niflathen_all_path_hashes(state, dirs, text, out)
+}
+
+// `renamed::file_path`: the length of the path, or minus the number of the refusal.
+// Stays: the C interface fixes the name, the parameters and the answer.
+#[unsafe(no_mangle)]
+pub extern "C" fn niflathen_file_path(
+    state: &State,
+    rows: &[u64],
+    dirs: &[u64],
+    text: &[u8],
+    renames: &RenameState,
+    rename_entries: &[u64],
+    rename_text: &[u8],
+    index: i32,
+    save_path: &[u8],
+    buf: &mut [u8],
+) -> i64
+    ensures { ◌≡◌ {A = PathReturned} (record { answer = result; buf = buf.new })
+        (path_returned
+        (path_into (storage_of state.now) rows.now dirs.now text.now (renamed_files_of renames.now)
+        rename_entries.now rename_text.now index save_path.now buf.old)) }
+{
+    exports::niflathen_file_path(
+        state,
+        rows,
+        dirs,
+        text,
+        renames,
+        rename_entries,
+        rename_text,
+        index,
+        save_path,
+        buf,
+    )
 }
