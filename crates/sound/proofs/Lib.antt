@@ -5,3 +5,4 @@ pub mod Texts
 pub mod Opened
 pub mod Added
 pub mod Trimmed
+pub mod Untouched

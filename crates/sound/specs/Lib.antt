@@ -1,3 +1,4 @@
 -- Tables in order.
 pub mod Sound
 pub mod Documents
+pub mod Held
