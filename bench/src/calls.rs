@@ -123,7 +123,8 @@ fn play(random: &mut Random) {
     let length = one_of(random, &[PIECE_LENGTH, PIECE_LENGTH, 10, 7, 1]);
     let mut rust = FileStorage::new();
     rust.set_piece_length(length);
-    let mut port = with_table(random, Set::new(64, 64, 65536));
+    let set = Set::new(64, 64, 65536).with_text_of(random.next() as u8);
+    let mut port = with_table(random, set);
     port.set_piece_length(length as u64);
     let has_table = port.has_table();
     let (mut times, mut is_trimmed) = (Vec::new(), false);
@@ -150,6 +151,7 @@ fn play(random: &mut Random) {
             times.resize(rust.num_files() as usize, 0);
             assert!(port.is_marked_plainly(has_table), "whether there is a table");
             compare_places(&before, &port, begun);
+            compare::compare_text(&before, &port);
         } else {
             assert!(port == before, "a refusal changes what was lent");
         }

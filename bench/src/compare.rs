@@ -46,6 +46,14 @@ fn compare_firsts(rust: &FileStorage, port: &Set) {
     }
 }
 
+/// An addition leaves every byte of the text area that neither held text before nor holds it after.
+pub fn compare_text(before: &Set, after: &Set) {
+    let (was, is) = (before.held(), after.held());
+    for (k, (old, new)) in before.text().iter().zip(after.text()).enumerate() {
+        assert!(was[k] || is[k] || old == new, "byte {k} of the text area, which holds no text");
+    }
+}
+
 /// The flags that an addition gives, and the link texts held.
 pub fn compare_links(rust: &FileStorage, port: &Set) {
     for i in 0..port.num_files() {

@@ -239,6 +239,12 @@ impl Set {
         self
     }
 
+    /// The set with a text area of such bytes, before it holds any text.
+    pub fn with_text_of(mut self, byte: u8) -> Self {
+        self.text.fill(byte);
+        self
+    }
+
     /// The set without files again, and zeros in its tables.
     pub fn clear(&mut self) {
         let mark = self.state[MARK];
@@ -530,6 +536,28 @@ impl Set {
 
     pub fn directory(&self, i: usize) -> &[u8] {
         self.part(self.dirs[i * 2] as usize, self.dirs[i * 2 + 1] as usize)
+    }
+
+    /// The text area.
+    pub fn text(&self) -> &[u8] {
+        &self.text
+    }
+
+    /// For each byte of the text area whether a text of the set has it: its name, a directory, a file's name or a link
+    /// text.
+    pub fn held(&self) -> Vec<bool> {
+        let mut held = vec![false; self.text.len()];
+        let mut hold = |(at, len): (usize, usize)| held[at..at + len].fill(true);
+        hold((self.state[6] as usize, self.state[7] as usize));
+        for dir in self.dirs.chunks_exact(2).take(self.num_paths()) {
+            hold((dir[0] as usize, dir[1] as usize));
+        }
+        for i in 0..self.num_files() {
+            let row = self.row(i);
+            hold(row.name);
+            hold(row.link);
+        }
+        held
     }
 
     pub fn part(&self, at: usize, len: usize) -> &[u8] {
