@@ -128,10 +128,10 @@ module _ (s : Store) (ok : Sound s) where
       by (inl h) = h
       by (inr h) =
           let w : Fit (In (s.fs.num_paths) (s.fs.num_files)) (λ p. low c (span_of s p)) (s.fs.text_len - 1) =
-              record {
-                within = λ p x. within-kept c (span_of s p) s.fs.text_len (omega arith) (ok.within p) (beside p);
-                apart = λ p q x y n. apart-kept c (span_of s p) (span_of s q) (beside p) (beside q) (ok.apart p q n);
-              } in
+          record {
+            within = λ p x. within-kept c (span_of s p) s.fs.text_len (omega arith) (ok.within p) (beside p);
+            apart = λ p q x y n. apart-kept c (span_of s p) (span_of s q) (beside p) (beside q) (ok.apart p q n);
+          } in
           absurd (omega (arith, packed (s.fs.num_paths) (s.fs.num_files) (λ p. low c (span_of s p)) (s.fs.text_len - 1) w, ok.full))
 
 -- ---- what an addition writes
