@@ -45,7 +45,8 @@ fn put_renames(words: &mut RenameState, answer: Result<RenamedFiles, Refusal>) -
     }
 }
 
-// `imports::import_filenames`, which takes 1 MiB of the caller's stack: 0, or the number of the refusal.
+// `imports::import_filenames`, which takes 16 KiB of the caller's stack, and 1 MiB where the set has more than 1024
+// files: 0, or the number of the refusal.
 // Stays: the C interface fixes the parameters and the answer.
 pub fn niflathen_import_filenames(
     state: &State,

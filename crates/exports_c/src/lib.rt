@@ -256,7 +256,8 @@ pub extern "C" fn niflathen_map_block_slices(
     exports::niflathen_map_block_slices(state, rows, firsts, piece, offset, size, out)
 }
 
-// `imports::import_filenames`, which takes 1 MiB of the caller's stack: 0, or the number of the refusal.
+// `imports::import_filenames`, which takes 16 KiB of the caller's stack, and 1 MiB where the set has more than 1024
+// files: 0, or the number of the refusal.
 // Stays: the C interface fixes the name, the parameters and the answer.
 #[unsafe(no_mangle)]
 pub extern "C" fn niflathen_import_filenames(
