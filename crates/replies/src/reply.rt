@@ -21,13 +21,18 @@ pub struct Reply {
 }
 
 impl Reply {
-    // The start of an answer that has values after it.
-    pub(crate) fn ok(out: Stdout) -> io::Result<Reply> {
-        let mut reply = Reply {
+    // The start of an answer, of which nothing is put yet.
+    fn empty(out: Stdout) -> Reply {
+        Reply {
             out,
             used: 0,
             bytes: [0; ROOM],
-        };
+        }
+    }
+
+    // The start of an answer that has values after it.
+    pub(crate) fn ok(out: Stdout) -> io::Result<Reply> {
+        let mut reply = Reply::empty(out);
         reply.write_all(b"ok")?;
         Ok(reply)
     }
@@ -65,10 +70,13 @@ pub fn bad_call(mut out: Stdout) -> io::Result<()> {
     out.write_all(b"badcall\n")
 }
 
-// Answers a call that is refused.
-pub fn refused(mut out: Stdout, refusal: Refusal) -> io::Result<()> {
+// Answers a call that is refused, by one write: `writeln!` on standard output itself, which has no buffer, would make a
+// write of each part.
+pub fn refused(out: Stdout, refusal: Refusal) -> io::Result<()> {
     let number = u32::from(refusal);
-    writeln!(out, "refused {number}")
+    let mut reply = Reply::empty(out);
+    write!(reply, "refused {number}")?;
+    reply.end()
 }
 
 // Answers a change that was made.
