@@ -37,9 +37,10 @@ pub fn links_to_judge(
         (link_count (files_in fs rows.now dirs.now text.now)) }
 {
     let set = LentSet::new(fs, rows, dirs, text);
-    let held = rules::holds_set(set)
-        && !lacks_space(fs, rows, dirs, text, marks, scratch, walk_path);
-    Tests::of_set(fs, held).first_refusal()?;
+    Tests::of_set(fs, rules::holds_set(set)).first_refusal()?;
+    if lacks_space(fs, rows, dirs, text, marks, scratch, walk_path) {
+        return Err(Refusal::NoRoom);
+    }
     Ok(count_links(fs, rows))
 }
 

@@ -8,18 +8,12 @@ use Rattle.rules.specs.Questions.{rows_are_held, dirs_held, text_held, few_entri
 use Rattle.lookup.specs.Lookup.{lent}
 use Rattle.lookup.proofs.Spaces.{count-rows}
 use Rattle.links.proofs.judge.links_to_judge.Goals as goal
-use Rattle.links.proofs.judge.links_to_judge.Goals.{then-holds_set, else-holds_set}
 
 pub returns : goal.returns
 returns c =
     let counted = c.count_links.ensures ∙ count-rows (lent c.args.fs c.args.rows.now [] [])
     (lent c.args.fs c.args.rows.now c.args.dirs.now c.args.text.now) refl refl in
     let is-good : bad_length c.args.fs.piece_length ≡ false = search rules in
-    elim c.if-holds_set.branch [
-      | then-holds_set w ↦
-          let is_whole : ((rows_are_held c.args.fs c.args.rows.now && (dirs_held c.args.fs c.args.dirs.now && text_held c.args.fs c.args.text.now)) &&
-          few_entries c.args.fs) ≡ true = rw (c.new-set.ensures) at (sym c.holds_set.ensures ∙ w.if-holds_set.true) in
-          let roomy : w.lacks_space.result ≡ false = search rules in
-          rw (is-good, is_whole, sym w.lacks_space.ensures ∙ roomy, counted)
-      | else-holds_set w ↦ search rules
-    ]
+    let is_whole : ((rows_are_held c.args.fs c.args.rows.now && (dirs_held c.args.fs c.args.dirs.now && text_held c.args.fs c.args.text.now)) &&
+    few_entries c.args.fs) ≡ true = search rules in
+    rw (is-good, is_whole, sym c.lacks_space.ensures ∙ c.if-lacks_space.false, counted)
