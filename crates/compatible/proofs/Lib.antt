@@ -2,5 +2,6 @@
 -- iterators.
 pub mod Items
 pub mod Rows
+pub mod Runs
 pub mod Sets
 pub mod Walks

@@ -38,7 +38,9 @@ impl<'a> FileIn<'a> {
         FileIn { set, row }
     }
 
-    // The file's path, in pieces.
+    // The file's path, in pieces. It is taken into the comparison, which calls it twice: a call of its own costs a copy of
+    // the set's record.
+    #[inline(always)]
     fn path_pieces(self) -> Pieces<'a>
         ensures { whole_of result ≡ path_of (set_of self.entry.set) self.entry.row }
     {

@@ -1,9 +1,9 @@
-// Two composed paths compared by their pieces, and else byte by byte, each read from its pieces in a row: no buffer is
-// needed, and no length is summed. Relies on `lists`, on the tests of a join of `path` and on the laws of proofs/.
-ghost use Rattle.std.specs.Prelude.{◌≡◌};
+// Two composed paths compared by their pieces in a row, run by run: no buffer is needed, and no length is summed. Relies
+// on `lists`, on the tests of a join of `path` and on the laws of proofs/.
+ghost use Rattle.std.specs.Prelude.{◌≡◌, [], ◌++◌};
 ghost use Rattle.lists.specs.Lists.{equal};
 ghost use Rattle.path.specs.Join.{appended};
-ghost use Rattle.compatible.specs.private.Walk.{in_a_row, whole_of, same_each};
+ghost use Rattle.compatible.specs.private.Walk.{behind_first, bytes_of, whole_of};
 
 // A composed path in pieces: its parts, and what stands behind the first and the second, which is a separator or
 // nothing.
@@ -19,18 +19,11 @@ pub(crate) struct Pieces<'a> {
 }
 
 impl<'a> Pieces<'a> {
-    // The pieces in a row.
-    fn in_a_row(self) -> [&'a [u8]; 5]
-        ensures { result ≡ in_a_row self.entry }
+    // The pieces behind the first, in a row.
+    fn behind_first(self) -> [&'a [u8]; 4]
+        ensures { result ≡ behind_first self.entry }
     {
-        let Pieces {
-            first,
-            first_end,
-            second,
-            second_end,
-            last,
-        } = self;
-        [first, first_end, second, second_end, last]
+        [self.first_end, self.second, self.second_end, self.last]
     }
 }
 
@@ -69,26 +62,50 @@ pub(crate) fn compose<'a>(first: &'a [u8], second: &'a [u8], last: &'a [u8]) -> 
     }
 }
 
-// Whether the pieces of two paths are the same, one by one.
-// Stays: `lists::same` compares each pair; the figures beside `==` stand at that function.
-fn same_each(a: Pieces<'_>, b: Pieces<'_>) -> bool
-    ensures { result ≡ same_each a.entry b.entry }
+// Whether the pieces of a row are all empty.
+fn are_empty(row: &[&[u8]]) -> bool
+    ensures { result ≡ equal [] (bytes_of row.now) }
 {
-    a.in_a_row()
-        .into_iter()
-        .zip(b.in_a_row())
-        .all(|(p, q)| lists::same(p, q))
+    row.iter().all(|piece| piece.is_empty())
 }
 
-// Whether two composed paths are the same. Those of compatible sets mostly have the same pieces, so these are compared
-// first.
-// Stays: the iterators' `eq` compares, byte by byte; the pieces stand in no slice that `==` could take.
+// Whether two rows are the same, each a piece and those behind it. A turn compares the shorter of the two pieces with as
+// much of the other, and goes on with what is left of that and the next piece of the row whose piece is done. They are
+// compared from the front: sets whose names differ early are told apart there.
+fn same_rows<'a>(
+    mut p: &'a [u8],
+    mut a: &'a [&'a [u8]],
+    mut q: &'a [u8],
+    mut b: &'a [&'a [u8]],
+) -> bool
+    ensures { result ≡ equal (p.now ++ bytes_of a.now) (q.now ++ bytes_of b.now) }
+{
+    loop {
+        if p.len() <= q.len() {
+            let (front, rest) = q.split_at(p.len());
+            if p != front {
+                return false;
+            }
+            let [next, more @ ..] = a else {
+                return rest.is_empty() && are_empty(b);
+            };
+            (p, a, q) = (next, more, rest);
+        } else {
+            let (front, rest) = p.split_at(q.len());
+            if q != front {
+                return false;
+            }
+            let [next, more @ ..] = b else {
+                return false;
+            };
+            (q, b, p) = (next, more, rest);
+        }
+    }
+}
+
+// Whether two composed paths are the same.
 pub(crate) fn same_pieces(a: Pieces<'_>, b: Pieces<'_>) -> bool
     ensures { result ≡ equal (whole_of a.entry) (whole_of b.entry) }
 {
-    if same_each(a, b) {
-        return true;
-    }
-    let path = a.in_a_row().into_iter().flatten();
-    path.eq(b.in_a_row().into_iter().flatten())
+    same_rows(a.first, &a.behind_first(), b.first, &b.behind_first())
 }

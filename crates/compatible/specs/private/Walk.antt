@@ -19,3 +19,12 @@ same_each p q =
     && (equal p.first_end.now q.first_end.now
     && (equal p.second.now q.second.now
     && (equal p.second_end.now q.second_end.now && equal p.last.now q.last.now)))
+
+-- the pieces behind the first
+abbrev pub behind_first : Pieces → List (Bor (List ℕ))
+behind_first p = p.first_end ∷ p.second ∷ p.second_end ∷ p.last ∷ []
+
+-- the bytes of pieces in a row
+abbrev pub bytes_of : List (Bor (List ℕ)) → List ℕ
+bytes_of [] = []
+bytes_of (r ∷ rs) = r.now ++ bytes_of rs
