@@ -4,14 +4,14 @@ use mathlib.Core.Path.{◌≡◌, refl, sym, ap, ◌∙◌}
 use mathlib.Core.Logic.{◌⊎◌, inl, inr, ⊎_elim}
 use mathlib.Core.List.{List, [], ◌∷◌, ◌++◌}
 use Prim.Native.Nat.{ℕ, zero, suc, ◌+◌, ◌*◌, ◌/◌, ◌%◌, ◌^◌, ◌≤◌, ◌<◌}
-use native.Mathlib.Nat.{mul-le-mul_right, mod-eq_of_lt, mod-lt}
+use native.Mathlib.Nat.{zero-add, mul-le-mul_right, mod-eq_of_lt, mod-lt}
 use native.Mathlib.Numerals.{add-one}
 use native.Mathlib.Omega.{arith}
-use lib.ListN.{length, get_or, set, take, drop, replicate, length-append, length-take}
+use lib.ListN.{length, get_or, set, take, drop, replicate, length-append, length-take, length-drop}
 use lib.Seq.{sets, take_all, take-suc, length-take-le, length-sets, ext_get_or, get_or-take, get_or-drop}
 use Rattle.std.proofs.lemmas.List.{take-replicate}
 use Rattle.lists.proofs.Orders.{le-or-lt}
-use Rattle.lists.proofs.Runs.{sets-after, sets-append, sets-past, get_or-sets, get_or-sets-below, get_or-sets-above}
+use Rattle.lists.proofs.Runs.{sets-after, sets-append, sets-part, sets-drop, sets-past, get_or-sets, get_or-sets-below, get_or-sets-above}
 use Rattle.tables.specs.declared.span.Span.{Span}
 use Rattle.tables.specs.declared.rows.Row.{Row}
 use Rattle.tables.specs.Rows.{row_at, packed, words, put_row, dir_at, dir_words, put_dir, root_at, put_root}
@@ -26,7 +26,17 @@ stored_more t l at k h =
 pub stored_all : (t l : List ℕ) (at k : ℕ) → length t ≤ k → sets l at (take k t) ≡ sets l at t
 stored_all t l at k h = rw (take_all k t h)
 
-pub ruleset storing = (stored_more, stored_all, sets-past)
+-- the same from the start of what is left of a table
+pub stored_next : (t l : List ℕ) (k : ℕ) → k < length t → set (sets l 0 (take k t)) k (get_or t k 0) ≡ sets l 0 (take (k + 1) t)
+stored_next t l k h = rw (zero-add k) at (stored_more t l 0 k h)
+
+-- words stored in the place of the first n of the rest of a table
+pub stored_whole : (l t : List ℕ) (at n : ℕ) → at ≤ length l → length t ≡ n → n ≤ length (drop at l) → take at l ++ (t ++ drop n (drop at l)) ≡ sets l at t
+stored_whole l t at n h e f =
+    let p = sets-part t l at n h (omega (arith, length-drop at l)) in
+    rw (take_all n t (omega arith)) at p
+
+pub ruleset storing = (stored_next, stored_all, stored_whole, sets-drop, sets-past)
 
 -- two places that are not the same
 sides : (i k : ℕ) → (k ≡ i → ⊥) → (k < i) ⊎ (i < k)

@@ -5,4 +5,4 @@ use lib.Seq.{sets}
 use Rattle.tables.proofs.rows.put_words.Given as goal
 
 abbrev pub invariant-loop-k : goal.invariant-loop-k
-invariant-loop-k g l = l.target ≡ sets l.initial.target l.at (take l.k l.words)
+invariant-loop-k g l = l.rest ≡ sets l.initial.rest 0 (take l.k l.words)
