@@ -6,7 +6,7 @@ use Prim.Native.Nat.{ℕ, zero, suc, ◌+◌, ◌-◌, ◌≤◌, ◌<◌, min}
 use native.Mathlib.Nat.{add-zero, zero-add, suc-add, add-suc}
 use native.Mathlib.Omega.{arith}
 use lib.ListN.{length, get_or, set, take, drop, replicate, length-set, length-take, length-drop, length-replicate, take-append-drop, drop_of_length-le}
-use lib.Seq.{paste, sets, sets-eq, length-sets, set_out, set_comm, set-set, take_all, drop-drop, length-take-le, get_or-set_same, get_or-set_other, take-set-le, drop-set-lt}
+use lib.Seq.{paste, sets, sets-eq, length-sets, drop-cons, set_out, set_comm, set-set, take_all, drop-drop, length-take-le, get_or-set_same, get_or-set_other, take-set-le, drop-set-lt}
 use Rattle.std.proofs.lemmas.List.{take-replicate}
 use Rattle.lists.specs.Lists.{part_of}
 use Rattle.lists.proofs.Parts.{take-take-min, drop-take, part-whole, part-append-first, part-append-second}
@@ -21,6 +21,13 @@ module _ {A : Type 0} where
   pub sets-none : (t l : List A) (i : ℕ) → min (length l - i) (length t) ≡ 0 → sets l i t ≡ l
   sets-none [] l i h = refl
   sets-none (x ∷ t) l i h = sets-past (x ∷ t) l i (omega arith)
+
+  -- one item of a copy, and its end
+  pub copy_turn : (l s : List A) (j k i : ℕ) (v : A) → v ≡ get_or s i v → i < length s → k ≡ suc j → sets (set l j v) k (drop (suc i) s) ≡ sets l j (drop i s)
+  copy_turn l s j k i v e h q = rw (q, drop-cons s i v h, sym e)
+
+  pub copy_end : (l s : List A) (i : ℕ) → min (length l - i) (length s - i) ≡ 0 → sets l i (drop i s) ≡ l
+  copy_end l s i h = sets-none (drop i s) l i (omega (arith, length-drop i s))
 
   -- two runs, one after the other
   pub sets-append : (t u l : List A) (i : ℕ) → sets l i (t ++ u) ≡ sets (sets l i t) (i + length t) u
@@ -176,6 +183,9 @@ module _ {A : Type 0} where
 
 -- for copies to a part of a slice
 pub ruleset storing = (sets-past, sets-none, sets-front, sets-filled, sets-lent)
+
+-- for a copy, item by item
+pub ruleset copying = (copy_turn, copy_end)
 
 -- for a copy to what stands behind a split
 pub ruleset behind = (sets-past, sets-drop)

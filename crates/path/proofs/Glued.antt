@@ -35,15 +35,21 @@ module _ (branch leaf : List ℕ) (n : ℕ) (closed : Bool) (e : n ≡ length br
     glued-refused q =
         rw (rw length-glued at (sym f ∙ q))
 
+    pub glued-written : room ≡ true → (x : List ℕ) (r : ℕ) → r ≡ n + cond closed (length leaf) (length leaf + 1)
+        → x ≡ sets (sets buf 0 branch) n (cond closed leaf (47 ∷ leaf))
+        → ◌≡◌ {A = Joined} (record { says = value r; buf = x }) (joined_if (fits (glued branch leaf) buf) (glued branch leaf) buf)
+    glued-written q x r k w =
+        written_is (fits (glued branch leaf) buf) (glued branch leaf) buf r x
+        (rw length-glued at (sym f ∙ q)) (k ∙ length-glued) (w ∙ sets-glued buf)
+
     -- l holds the branch, and the leaf is written to the start of its rest
-    pub glued-written : room ≡ true → (l rest : List ℕ) (m k : ℕ) → l ≡ sets buf 0 branch → k ≡ length l - n
+    pub glued-lent : room ≡ true → (l rest : List ℕ) (m k : ℕ) → l ≡ sets buf 0 branch → k ≡ length l - n
         → m ≡ cond closed (length leaf) (length leaf + 1) → rest ≡ sets (take k (drop n l)) 0 (cond closed leaf (47 ∷ leaf))
         → ◌≡◌ {A = Joined} (record { says = value (n + m); buf = take n l ++ (rest ++ drop k (drop n l)) })
         (joined_if (fits (glued branch leaf) buf) (glued branch leaf) buf)
-    glued-written q l rest m k a d g w =
+    glued-lent q l rest m k a d g w =
         let t = cond closed leaf (47 ∷ leaf) in
         let o : leb (n + cond closed (length leaf) (length leaf + 1)) (length buf) ≡ true = sym f ∙ q in
         let b : n ≤ length l = omega (arith, leb-true (n + cond closed (length leaf) (length leaf + 1)) (length buf) o, length-sets buf 0 branch, ap length a) in
         let s : take n l ++ (rest ++ drop k (drop n l)) ≡ sets l n t = rw w (sets-lent l n k t b d) in
-        written_is (fits (glued branch leaf) buf) (glued branch leaf) buf (n + m) (take n l ++ (rest ++ drop k (drop n l)))
-        (rw length-glued at o) (rw g length-glued) (s ∙ rw a (sets-glued buf))
+        glued-written q (take n l ++ (rest ++ drop k (drop n l))) (n + m) (ap (λ (x : ℕ). n + x) g) (s ∙ ap (λ (x : List ℕ). sets x n t) a)

@@ -74,6 +74,14 @@ leaf_written a b rest x y r w e f g =
     let k : x ++ (y ++ drop (length b) r) ≡ sets rest 0 (a ++ b) = rw (e, g, d, q) (sym (append_assoc a b (drop (length a + length b) rest))) in
     written_is (fits (a ++ b) rest) (a ++ b) rest (length a + length b) (x ++ (y ++ drop (length b) r)) (le-leb (length (a ++ b)) (length rest) (omega (arith, n))) (sym n) k
 
+-- a separator, and a leaf behind it
+pub leaf_copied : (a b rest x y : List ℕ) → length a + length b ≤ length rest → x ≡ sets rest 0 a → y ≡ sets x (length a) b
+    → ◌≡◌ {A = Joined} (record { says = value (length a + length b); buf = y }) (joined_if (fits (a ++ b) rest) (a ++ b) rest)
+leaf_copied a b rest x y w e f =
+    let n = length-append a b in
+    let k : y ≡ sets rest 0 (a ++ b) = rw (f, e) (sym (rw zero-add at (sets-append a b rest 0))) in
+    written_is (fits (a ++ b) rest) (a ++ b) rest (length a + length b) y (le-leb (length (a ++ b)) (length rest) (omega (arith, n))) (sym n) k
+
 says-number : Outcome ℕ → ℕ
 says-number (value n) = n
 says-number (refused n) = 0

@@ -1,6 +1,6 @@
 // Joins of paths in a lent buffer: what stands before the leaf is decided first, and the rest of the buffer behind the
-// branch is lent to the writer of the leaf. Relies on split.rt for a branch that ends in a separator, and on the laws
-// of proofs/Joins.antt.
+// branch is lent to the writer of the leaf. Relies on split.rt for a branch that ends in a separator, on `lists` for
+// copies, and on the laws of proofs/Joins.antt.
 ghost use Rattle.std.specs.Prelude.{◌≡◌, cond, [], ◌++◌, length};
 ghost use Rattle.path.specs.Join.{joined_says, is_alone, separator, appended, joined_if, fits, append_into};
 ghost use Rattle.path.specs.Join.{combine_into};
@@ -52,8 +52,8 @@ pub fn joined_length(branch: &[u8], leaf: &[u8]) -> usize
 }
 
 // Writes a separator, or nothing, and a leaf to the start of `rest`, and gives the length of both.
-// Stays: std's `copy_from_slice` copies both; the buffer is lent, and a refusal leaves it untouched, as no `write!`
-// does.
+// Stays: tried, std's `copy_from_slice`; the archive for C would need memmove from outside, which it did not before. The
+// buffer is lent, and a refusal leaves it untouched, as no `write!` does.
 fn put_leaf(rest: &mut [u8], separator: &[u8], leaf: &[u8]) -> Result<usize, Refusal>
     ensures { joined_says result rest.new
         ≡ joined_if (fits (separator.now ++ leaf.now) rest.old) (separator.now ++ leaf.now) rest.old }
@@ -62,9 +62,8 @@ fn put_leaf(rest: &mut [u8], separator: &[u8], leaf: &[u8]) -> Result<usize, Ref
     if rest.len() < n {
         return Err(Refusal::NoRoom);
     }
-    let (front, back) = rest.split_at_mut(separator.len());
-    front.copy_from_slice(separator);
-    back[..leaf.len()].copy_from_slice(leaf);
+    lists::copy_in(rest, separator);
+    lists::copy_after(rest, separator.len(), leaf);
     Ok(n)
 }
 
@@ -94,6 +93,7 @@ pub fn combine_path(left: &[u8], right: &[u8], buf: &mut [u8]) -> Result<usize, 
 
 // Writes `leaf` appended to `branch` to the start of `buf`, and gives its length: `append_path` where
 // the branch doesn't stand in the buffer yet.
+// Stays: the branch is copied by `lists`, as in `put_leaf`.
 pub fn join_path(branch: &[u8], leaf: &[u8], buf: &mut [u8]) -> Result<usize, Refusal>
     ensures { joined_says result buf.new
         ≡ joined_if (fits (appended branch.now leaf.now) buf.old) (appended branch.now leaf.now) buf.old }
@@ -101,6 +101,6 @@ pub fn join_path(branch: &[u8], leaf: &[u8], buf: &mut [u8]) -> Result<usize, Re
     let (kept, separator) = join_prefix(branch, leaf);
     let (front, rest) = buf.split_at_mut_checked(kept.len()).ok_or(Refusal::NoRoom)?;
     let n = put_leaf(rest, separator, leaf)?;
-    front.copy_from_slice(kept);
+    lists::copy_in(front, kept);
     Ok(front.len() + n)
 }

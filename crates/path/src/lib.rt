@@ -1,6 +1,6 @@
 // Path splits and joins over bytes, from path.rs, with `/` as the separator. A split gives parts of
 // the caller's slice; a join is written into a lent buffer, or refused with the buffer untouched.
-// Relies on `types` for the refusal.
+// Relies on `lists` for copies and on `types` for the refusal.
 #![tactic(auto)]
 
 mod join;
