@@ -173,7 +173,7 @@ unled-rest q = at (any is_separator q) refl
         ap without_leading (drop_of_length-le q {i = length (before_first q)} (omega (arith, ap length (first-all q e))) ∙ sym (rest-none q e))
 
 -- what stands before a text's first separator is no longer than the text
-before-le : (q : List ℕ) → length (before_first q) ≤ length q
+pub before-le : (q : List ℕ) → length (before_first q) ≤ length q
 before-le [] = omega arith
 before-le (c ∷ t) = at (is_separator c) (before-le t)
   where

@@ -75,12 +75,12 @@ flags-if : (b : Bool) (x s : Store) (j : ℕ) → flags_in x.rows j ≡ flags_in
 flags-if true x s j p = p
 flags-if false x s j p = refl
 
-emptied-keeps : Keeps emptied_at
+pub emptied-keeps : Keeps emptied_at
 emptied-keeps Keep s i j = refl
 emptied-keeps OwnPath s i j = flags-relinked s i [] j
 emptied-keeps FromDirectory s i j = refl
 
-rewritten-keeps : (n : ℕ) → Keeps (rewritten_at n)
+pub rewritten-keeps : (n : ℕ) → Keeps (rewritten_at n)
 rewritten-keeps n Keep s i j = refl
 rewritten-keeps n OwnPath s i j =
     flags-if (own_fits s i (own_text s i)) (linked s i (own_text s i)) s j (flags-linked s i (own_text s i) j)
@@ -97,11 +97,11 @@ step-still false n s i = refl
 
 -- ---- a pass
 
-emptied-pass : (vs : List LinkVerdict) (i : ℕ) (s : Store) → passed emptied_at vs i s ≡ emptied vs i s
+pub emptied-pass : (vs : List LinkVerdict) (i : ℕ) (s : Store) → passed emptied_at vs i s ≡ emptied vs i s
 emptied-pass [] i s = refl
 emptied-pass (v ∷ vs) i s = emptied-pass vs (i + 1) (emptied_at v s i)
 
-rewritten-pass : (n : ℕ) (vs : List LinkVerdict) (i : ℕ) (s : Store) → passed (rewritten_at n) vs i s ≡ rewritten n vs i s
+pub rewritten-pass : (n : ℕ) (vs : List LinkVerdict) (i : ℕ) (s : Store) → passed (rewritten_at n) vs i s ≡ rewritten n vs i s
 rewritten-pass n [] i s = refl
 rewritten-pass n (v ∷ vs) i s = rewritten-pass n vs (i + 1) (rewritten_at n v s i)
 
@@ -122,20 +122,26 @@ emptied-count (Keep ∷ vs) i s = emptied-count vs (i + 1) s
 emptied-count (OwnPath ∷ vs) i s = emptied-count vs (i + 1) (emptied_at OwnPath s i)
 emptied-count (FromDirectory ∷ vs) i s = emptied-count vs (i + 1) s
 
-both-passes : (size : ℕ) (marks : List ℕ) (s t : Store) → t ≡ emptied (all_verdicts s marks) 0 s
-    → rewritten size (all_verdicts t marks) 0 t ≡ rewritten size (all_verdicts s marks) 0 (emptied (all_verdicts s marks) 0 s)
-both-passes size marks s t e =
-    let vs = all_verdicts s marks in
+pub both-passes : (size n : ℕ) (marks : List ℕ) (s t : Store) → t ≡ emptied (verdicts_by (flags_in s.rows) marks n 0 0) 0 s
+    → rewritten size (verdicts_by (flags_in t.rows) marks n 0 0) 0 t
+    ≡ rewritten size (verdicts_by (flags_in s.rows) marks n 0 0) 0 (emptied (verdicts_by (flags_in s.rows) marks n 0 0) 0 s)
+both-passes size n marks s t e =
+    let vs = verdicts_by (flags_in s.rows) marks n 0 0 in
     let same : (j : ℕ) → flags_in t.rows j ≡ flags_in s.rows j = λ j. ap (λ (x : Store). flags_in x.rows j) e ∙ emptied-flags vs 0 s j in
-    let count : t.fs.num_files ≡ s.fs.num_files = ap (λ (x : Store). x.fs.num_files) e ∙ emptied-count vs 0 s in
-    ap (λ (n : ℕ). rewritten size (verdicts_by (flags_in t.rows) marks n 0 0) 0 t) count
-    ∙ ap (λ (ws : List LinkVerdict). rewritten size ws 0 t) (verdicts-same (flags_in t.rows) (flags_in s.rows) same marks s.fs.num_files 0 0)
+    ap (λ (ws : List LinkVerdict). rewritten size ws 0 t) (verdicts-same (flags_in t.rows) (flags_in s.rows) same marks n 0 0)
     ∙ ap (rewritten size vs 0) e
+
+-- over all files
+all-passes : (size : ℕ) (marks : List ℕ) (s t : Store) → t ≡ emptied (all_verdicts s marks) 0 s
+    → rewritten size (all_verdicts t marks) 0 t ≡ rewritten size (all_verdicts s marks) 0 (emptied (all_verdicts s marks) 0 s)
+all-passes size marks s t e =
+    let count : t.fs.num_files ≡ s.fs.num_files = ap (λ (x : Store). x.fs.num_files) e ∙ emptied-count (all_verdicts s marks) 0 s in
+    ap (λ (n : ℕ). rewritten size (verdicts_by (flags_in t.rows) marks n 0 0) 0 t) count ∙ both-passes size s.fs.num_files marks s t e
 
 pub passes-written : (size : ℕ) (marks : List ℕ) (s t : Store) → t ≡ passed (step_at true size) (all_verdicts s marks) 0 s
     → passed (step_at false size) (all_verdicts t marks) 0 t ≡ rewritten size (all_verdicts s marks) 0 (emptied (all_verdicts s marks) 0 s)
 passes-written size marks s t e =
-    rewritten-pass size (all_verdicts t marks) 0 t ∙ both-passes size marks s t (e ∙ emptied-pass (all_verdicts s marks) 0 s)
+    rewritten-pass size (all_verdicts t marks) 0 t ∙ all-passes size marks s t (e ∙ emptied-pass (all_verdicts s marks) 0 s)
 
 -- the verdicts still to come, file by file
 module _ (g : ℕ → ℕ) where
@@ -153,13 +159,13 @@ module _ (g : ℕ → ℕ) where
       at true others = others (k + 1)
       at false others = others k
 
-  verdicts-turn : (marks : List ℕ) (n i : ℕ) → i < n → verdicts_by g marks (n - i) i 0 ≡ verdict_by (g i) marks 0 ∷ verdicts_by g marks (n - (i + 1)) (i + 1) (mark_after (g i) 0)
+  pub verdicts-turn : (marks : List ℕ) (n i k : ℕ) → i < n → verdicts_by g marks (n - i) i k ≡ verdict_by (g i) marks k ∷ verdicts_by g marks (n - (i + 1)) (i + 1) (mark_after (g i) k)
   unfolding verdicts_by
-  verdicts-turn marks n i h = let e : n - i ≡ suc (n - (i + 1)) = omega arith in rw e
+  verdicts-turn marks n i k h = let e : n - i ≡ suc (n - (i + 1)) = omega arith in rw e
 
-  verdicts-end : (marks : List ℕ) (n i : ℕ) → n ≤ i → verdicts_by g marks (n - i) i 0 ≡ []
+  pub verdicts-end : (marks : List ℕ) (n i k : ℕ) → n ≤ i → verdicts_by g marks (n - i) i k ≡ []
   unfolding verdicts_by
-  verdicts-end marks n i h = let e : n - i ≡ 0 = omega arith in rw e
+  verdicts-end marks n i k h = let e : n - i ≡ 0 = omega arith in rw e
 
 -- i files are passed: the flags are those at the start, and what is still to do with the marks that are left gives the whole
 module _ (f : LinkVerdict → Store → ℕ → Store) (marks : List ℕ) (n : ℕ) (s₀ : Store) where
@@ -169,7 +175,7 @@ module _ (f : LinkVerdict → Store → ℕ → Store) (marks : List ℕ) (n : �
     pub rest : passed f (verdicts_by (flags_in s₀.rows) left (n - i) i 0) i s ≡ passed f (verdicts_by (flags_in s₀.rows) marks n 0 0) 0 s₀
 
   pub going_end : (s : Store) (i : ℕ) (left : List ℕ) → Going s i left → n ≤ i → s ≡ passed f (verdicts_by (flags_in s₀.rows) marks n 0 0) 0 s₀
-  going_end s i left p h = ap (λ (vs : List LinkVerdict). passed f vs i s) (sym (verdicts-end (flags_in s₀.rows) left n i h)) ∙ p.rest
+  going_end s i left p h = ap (λ (vs : List LinkVerdict). passed f vs i s) (sym (verdicts-end (flags_in s₀.rows) left n i 0 h)) ∙ p.rest
 
   module _ (keeps : Keeps f) (still : (s : Store) (i : ℕ) → f Keep s i ≡ s) (s : Store) (i : ℕ) (left : List ℕ) (p : Going s i left) (h : i < n) where
     -- the flags of file i decide whether the next mark is its own
@@ -180,7 +186,7 @@ module _ (f : LinkVerdict → Store → ℕ → Store) (marks : List ℕ) (n : �
         let g = flags_in s₀.rows in
         let q : is_flagged (g i) ≡ b = ap is_flagged (sym (p.flags i)) ∙ e in
         ap (λ (c : Bool). passed f (verdicts_by g left (n - (i + 1)) (i + 1) (cond c 1 0)) (i + 1) (f (cond c (verdict_read (get_or left 0 0)) Keep) s i)) (sym q)
-        ∙ ap (λ (vs : List LinkVerdict). passed f vs i s) (sym (verdicts-turn g left n i h))
+        ∙ ap (λ (vs : List LinkVerdict). passed f vs i s) (sym (verdicts-turn g left n i 0 h))
         ∙ p.rest
 
     next : (s' : Store) (left' : List ℕ) → ((j : ℕ) → flags_in s'.rows j ≡ flags_in s.rows j)

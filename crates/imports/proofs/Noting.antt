@@ -115,7 +115,7 @@ module _ (files k : ℕ) where
         at true q = ne_eqb (last_at 0 zs 0) 0 (λ e. omega (arith, last-listed zs 0 0 q, e))
         at false q = eq-eqb (last_at 0 zs 0) 0 (last-unlisted zs 0 0 q)
 
-    noted-is : is_noted l k ≡ is_listed files zs k
+    pub noted-is : is_noted l k ≡ is_listed files zs k
     noted-is = rw cell-none (not-not (is_listed files zs k))
       where
         not-not : (b : Bool) → not (not b) ≡ b

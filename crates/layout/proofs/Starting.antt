@@ -57,12 +57,12 @@ window-is w n e =
     let a = both_true (ltb w.low w.high) (leb w.high n) e in
     (ltb-true w.low w.high a.0, leb-true w.high n a.1)
 
-is-window : (w : Window) (n : ℕ) → w.low < w.high → w.high ≤ n → is_within w n ≡ true
+pub is-window : (w : Window) (n : ℕ) → w.low < w.high → w.high ≤ n → is_within w n ≡ true
 is-window w n a b = rw (lt-ltb w.low w.high a, le-leb w.high n b)
 
 -- the file found by a window that has files of the set, where it is one of its first
 module _ (rows : List ℕ) (n : ℕ) (w : Window) (t : ℕ) where
-  checked-near : is_within w n ≡ true → found_near rows w t < near_end w → found_near rows w t ≡ found_within rows n w t
+  pub checked-near : is_within w n ≡ true → found_near rows w t < near_end w → found_near rows w t ≡ found_within rows n w t
   checked-near e h =
       let l : ltb (found_near rows w t) (near_end w) ≡ true = lt-ltb (found_near rows w t) (near_end w) h in
       let b : has_byte rows (found_near rows w t) t ≡ true = near_has rows w t l in

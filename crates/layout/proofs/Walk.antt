@@ -10,7 +10,7 @@ use Rattle.tables.specs.Rows.{row_at}
 use Rattle.layout.specs.declared.slices.Slice.{Slice}
 use Rattle.layout.specs.Mapping.{before, walk}
 
-one_le : (n : ℕ) → cond (eqb n 0) 0 1 ≤ 1
+pub one_le : (n : ℕ) → cond (eqb n 0) 0 1 ≤ 1
 one_le n = at (eqb n 0)
   where
     at : (b : Bool) → cond b 0 1 ≤ 1

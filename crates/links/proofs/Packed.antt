@@ -32,10 +32,10 @@ module _ (f : ℕ → ℕ) where
     done-long : k < length ms → length (map f (take k ms)) ≡ k
     done-long h = length-map (take k ms) f ∙ length-take-le k ms (omega arith)
 
-    map_read : k < length ms → get_or (map f (take k ms) ++ drop k ms) k 0 ≡ get_or ms k 0
+    pub map_read : k < length ms → get_or (map f (take k ms) ++ drop k ms) k 0 ≡ get_or ms k 0
     map_read h = rw (drop-cons ms k 0 h) (get_or_at (map f (take k ms)) (get_or ms k 0) (drop (suc k) ms) 0 k (done-long h))
 
-    map-turn : k < length ms → set (map f (take k ms) ++ drop k ms) k (f (get_or ms k 0)) ≡ map f (take (k + 1) ms) ++ drop (k + 1) ms
+    pub map-turn : k < length ms → set (map f (take k ms) ++ drop k ms) k (f (get_or ms k 0)) ≡ map f (take (k + 1) ms) ++ drop (k + 1) ms
     map-turn h =
         rw (drop-cons ms k 0 h, set_at (map f (take k ms)) (get_or ms k 0) (drop (suc k) ms) (f (get_or ms k 0)) k (done-long h), add-one, take-suc ms k 0 h, map-append (take k ms) (get_or ms k 0 ∷ []), append_snoc)
 
@@ -81,7 +81,7 @@ marks_from (x ∷ a) (y ∷ b) h k =
 
 -- ---- a lead without its use
 
-fresh-small : (m : ℕ) → untraversed m ≤ m
+pub fresh-small : (m : ℕ) → untraversed m ≤ m
 fresh-small zero = omega arith
 fresh-small (suc zero) = omega arith
 fresh-small (suc (suc zero)) = omega arith

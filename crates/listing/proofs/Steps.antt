@@ -254,7 +254,7 @@ module _ (input : List ℕ) where
             at true r = let z : j ≡ 1 = cc in ap (λ (i : ℕ). stopped i 1) z
             at false r = let z : ◌≡◌ {A = ℕ} 0 1 = cc in absurd (omega arith)
 
-    first_goes : (fs : FileStorage) → opened_by (piece_length_in l) ≡ value fs → (m : ℕ) × (fs ≡ new_storage m false) × (run_from places 1 (new_model m) ls ≡ run places input)
+    pub first_goes : (fs : FileStorage) → opened_by (piece_length_in l) ≡ value fs → (m : ℕ) × (fs ≡ new_storage m false) × (run_from places 1 (new_model m) ls ≡ run places input)
     first_goes fs o = let r = go (piece_length_in l) o in (r.0, r.1, r.2 ∙ run-first)
       where
         go : (x : Option ℕ) → opened_by x ≡ value fs → (m : ℕ) × (fs ≡ new_storage m false) × (run_from places 1 (new_model m) ls ≡ read_as x 1 (λ i. go_on (opened_as i) 1 (λ y. run_from places 1 y ls)))

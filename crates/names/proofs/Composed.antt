@@ -22,7 +22,7 @@ append-none a b = at (is_alone a) refl
     at false e = refl
 
 -- a path that is kept has a byte
-kept-some : (p : List ℕ) → is_alone p ≡ false → 0 < length p
+pub kept-some : (p : List ℕ) → is_alone p ≡ false → 0 < length p
 kept-some [] e = absurd (true≢false e)
 kept-some (c ∷ t) e = omega arith
 

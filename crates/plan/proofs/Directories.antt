@@ -26,7 +26,7 @@ use Rattle.plan.specs.Write.{directory_index_from, directory_index}
 use Rattle.plan.specs.private.Steps.{dir_texts, dir_plan_of, dirs_with, count_with, known_at, added_at, plan_among}
 
 -- one more text, at the end
-index-more : (d : List ℕ) (xs : List (List ℕ)) (x : List ℕ) (found i : ℕ)
+pub index-more : (d : List ℕ) (xs : List (List ℕ)) (x : List ℕ) (found i : ℕ)
     → directory_index_from found i d (xs ++ (x ∷ [])) ≡ cond (equal d x) (i + length xs) (directory_index_from found i d xs)
 unfolding directory_index_from
 index-more d [] x found i = let e : i + 0 ≡ i = omega arith in rw e
@@ -39,14 +39,14 @@ either-false : (a b : Bool) → cond a true b ≡ false → (a ≡ false) × (b 
 either-false true b e = absurd (true≢false e)
 either-false false b e = (refl, e)
 
-index-none : (d : List ℕ) (xs : List (List ℕ)) (found i : ℕ) → is_among d xs ≡ false → directory_index_from found i d xs ≡ found
+pub index-none : (d : List ℕ) (xs : List (List ℕ)) (found i : ℕ) → is_among d xs ≡ false → directory_index_from found i d xs ≡ found
 unfolding directory_index_from
 index-none d [] found i e = refl
 index-none d (x ∷ xs) found i e =
     let p = either-false (equal d x) (any (equal d) xs) e in
     rw p.0 (index-none d xs found (i + 1) p.1)
 
-index_in : (d : List ℕ) (xs : List (List ℕ)) (found i : ℕ) → is_among d xs ≡ true → directory_index_from found i d xs < i + length xs
+pub index_in : (d : List ℕ) (xs : List (List ℕ)) (found i : ℕ) → is_among d xs ≡ true → directory_index_from found i d xs < i + length xs
 unfolding directory_index_from
 index_in d [] found i e = absurd (false≢true e)
 index_in d (x ∷ xs) found i e = at (equal d x) (any (equal d) xs) refl e (index_in d xs) (index-none d xs)
@@ -59,7 +59,7 @@ index_in d (x ∷ xs) found i e = at (equal d x) (any (equal d) xs) refl e (inde
     at true false q e f g = omega (arith, g i (i + 1) q)
     at false false q e f g = absurd (false≢true e)
 
-index_same : (d : List ℕ) (xs : List (List ℕ)) (a b i : ℕ) → is_among d xs ≡ true → directory_index_from a i d xs ≡ directory_index_from b i d xs
+pub index_same : (d : List ℕ) (xs : List (List ℕ)) (a b i : ℕ) → is_among d xs ≡ true → directory_index_from a i d xs ≡ directory_index_from b i d xs
 unfolding directory_index_from
 index_same d [] a b i e = absurd (false≢true e)
 index_same d (x ∷ xs) a b i e = at (equal d x) e (index_same d xs a b (i + 1))
@@ -72,14 +72,14 @@ index_same d (x ∷ xs) a b i e = at (equal d x) e (index_same d xs a b (i + 1))
 
 -- the index says whether the text is there
 module _ (d : List ℕ) (xs : List (List ℕ)) where
-  there : directory_index d xs < length xs → is_among d xs ≡ true
+  pub there : directory_index d xs < length xs → is_among d xs ≡ true
   there h = at (is_among d xs) refl
     where
       at : (t : Bool) → is_among d xs ≡ t → t ≡ true
       at true q = refl
       at false q = absurd (omega (arith, index-none d xs (length xs) 0 q))
 
-  not_there : length xs ≤ directory_index d xs → is_among d xs ≡ false
+  pub not_there : length xs ≤ directory_index d xs → is_among d xs ≡ false
   not_there h = at (is_among d xs) refl
     where
       at : (t : Bool) → is_among d xs ≡ t → t ≡ false
@@ -97,10 +97,10 @@ module _ (g : ℕ → List ℕ) (d : List ℕ) (n i : ℕ) (h : 0 < i) where
       ∙ index-more d (tabled (i - 1) g) (g (i - 1)) n 0
       ∙ ap (λ (k : ℕ). cond (equal d (g (i - 1))) k (directory_index_from n 0 d (tabled (i - 1) g))) z
 
-  search-turn : equal d (g (i - 1)) ≡ false → directory_index_from n 0 d (tabled (i - 1) g) ≡ directory_index_from n 0 d (tabled i g)
+  pub search-turn : equal d (g (i - 1)) ≡ false → directory_index_from n 0 d (tabled (i - 1) g) ≡ directory_index_from n 0 d (tabled i g)
   search-turn e = sym (more ∙ ap (λ (t : Bool). cond t (i - 1) (directory_index_from n 0 d (tabled (i - 1) g))) e)
 
-  search-found : equal d (g (i - 1)) ≡ true → i - 1 ≡ directory_index_from n 0 d (tabled i g)
+  pub search-found : equal d (g (i - 1)) ≡ true → i - 1 ≡ directory_index_from n 0 d (tabled i g)
   search-found e = sym (more ∙ ap (λ (t : Bool). cond t (i - 1) (directory_index_from n 0 d (tabled (i - 1) g))) e)
 
 pub search_is : (g : ℕ → List ℕ) (d : List ℕ) (n : ℕ) → directory_index_from n 0 d (tabled n g) ≡ directory_index d (tabled n g)
@@ -227,10 +227,10 @@ found-row dirs text d n s u r asks is ran =
 
 -- the plan of a directory that the search found, and of one that it did not
 module _ (d : List ℕ) (xs : List (List ℕ)) (n : ℕ) (l : length xs ≡ n) where
-  old-is : (k m : ℕ) → k ≡ directory_index d xs → is_among d xs ≡ true → m ≡ n → known_at k m ≡ dir_plan_of (stored d false) xs
+  pub old-is : (k m : ℕ) → k ≡ directory_index d xs → is_among d xs ≡ true → m ≡ n → known_at k m ≡ dir_plan_of (stored d false) xs
   old-is k m e h f = rw (h, ← e, f, l)
 
-  new_is : (m : ℕ) → is_among d xs ≡ false → m ≡ n → added_at m (length d) ≡ dir_plan_of (stored d false) xs
+  pub new_is : (m : ℕ) → is_among d xs ≡ false → m ≡ n → added_at m (length d) ≡ dir_plan_of (stored d false) xs
   new_is m h f =
       let p : directory_index d xs ≡ n = index-none d xs (length xs) 0 h ∙ l in
       rw (h, p, f, length-append xs (d ∷ []), l)
@@ -257,7 +257,7 @@ length-new true d = refl
 length-new false d = refl
 
 -- the same once a file's directory is stored, where that is new
-with-length : (new : Bool) (d : List ℕ) (xs : List (List ℕ)) (n : ℕ) → length xs ≡ n → length (dirs_with new d xs) ≡ count_with new n
+pub with-length : (new : Bool) (d : List ℕ) (xs : List (List ℕ)) (n : ℕ) → length xs ≡ n → length (dirs_with new d xs) ≡ count_with new n
 with-length true d xs n l = length-append xs (d ∷ []) ∙ omega arith
 with-length false d xs n l = omega arith
 
@@ -265,7 +265,7 @@ module _ (p : List ℕ) (d : List ℕ) (xs : List (List ℕ)) where
   among-with : (t u : Bool) → any (equal p) xs ≡ t → equal p d ≡ u → is_among p (xs ++ (d ∷ [])) ≡ (t || cond u true false)
   among-with t u a b = any_append (equal p) xs (d ∷ []) ∙ rw (a, b)
 
-  own-there : (new : Bool) → (new && equal p d) ≡ true → is_among p (dirs_with new d xs) ≡ true
+  pub own-there : (new : Bool) → (new && equal p d) ≡ true → is_among p (dirs_with new d xs) ≡ true
   own-there true e = at (any (equal p) xs) refl
     where
       at : (t : Bool) → any (equal p) xs ≡ t → is_among p (xs ++ (d ∷ [])) ≡ true
@@ -273,23 +273,23 @@ module _ (p : List ℕ) (d : List ℕ) (xs : List (List ℕ)) where
       at false q = among-with false true q e
   own-there false e = absurd (false≢true e)
 
-  own-index : (new : Bool) → (new && equal p d) ≡ true → length xs ≡ directory_index p (dirs_with new d xs)
+  pub own-index : (new : Bool) → (new && equal p d) ≡ true → length xs ≡ directory_index p (dirs_with new d xs)
   own-index true e =
       let z : 0 + length xs ≡ length xs = omega arith in
       sym (index-more p xs d (length (xs ++ (d ∷ []))) 0 ∙ rw (e, z))
   own-index false e = absurd (false≢true e)
 
   module _ (a : is_among p xs ≡ true) where
-    old-there : (new : Bool) → (new && equal p d) ≡ false → is_among p (dirs_with new d xs) ≡ true
+    pub old-there : (new : Bool) → (new && equal p d) ≡ false → is_among p (dirs_with new d xs) ≡ true
     old-there true e = among-with true false a e
     old-there false e = a
 
-    old-index : (new : Bool) → (new && equal p d) ≡ false → directory_index p xs ≡ directory_index p (dirs_with new d xs)
+    pub old-index : (new : Bool) → (new && equal p d) ≡ false → directory_index p xs ≡ directory_index p (dirs_with new d xs)
     old-index true e =
         index_same p xs (length xs) (length (xs ++ (d ∷ []))) 0 a ∙ sym (index-more p xs d (length (xs ++ (d ∷ []))) 0 ∙ rw e)
     old-index false e = refl
 
-  new-there : (new : Bool) → (new && equal p d) ≡ false → is_among p xs ≡ false → is_among p (dirs_with new d xs) ≡ false
+  pub new-there : (new : Bool) → (new && equal p d) ≡ false → is_among p xs ≡ false → is_among p (dirs_with new d xs) ≡ false
   new-there true e a = among-with false false a e
   new-there false e a = a
 

@@ -66,7 +66,7 @@ by_kind false false false branch = refl
 pub directory-is : (name path : List ℕ) → directory_at (kind_for name path) (text_under (kind_for name path) (rsplit_branch path)) ≡ directory_for name path
 directory-is name path = by_kind (is_complete path) (is_empty (rsplit_branch path)) (equal (lsplit_first (rsplit_branch path)) name) (rsplit_branch path)
 
-out-is : (kind : PathKind) (d : List ℕ) → outside_kind kind ≡ is_outside (directory_at kind d)
+pub out-is : (kind : PathKind) (d : List ℕ) → outside_kind kind ≡ is_outside (directory_at kind d)
 out-is Single d = refl
 out-is Absolute d = refl
 out-is Inside d = refl
@@ -243,7 +243,7 @@ module _ (fs : FileStorage) (name : List ℕ) (files : List File) (ds : List (Li
 
 -- ---- the same on the model that the tables mean
 
-here-is : (p : Presence) (xs : List ℕ) → is_here p ≡ is_present (optional_of p xs)
+pub here-is : (p : Presence) (xs : List ℕ) → is_here p ≡ is_present (optional_of p xs)
 here-is Absent xs = refl
 here-is Present xs = refl
 
@@ -286,13 +286,13 @@ module _ (s : Store) (a : Addition) where
       omega arith
 
   -- a rule before that of room stops
-  add-stopped : {A : Type 0} (x : Refusal) (z : A) → refused (number_of x) ≡ outcome_of before z → refused (number_of x) ≡ result
+  pub add-stopped : {A : Type 0} (x : Refusal) (z : A) → refused (number_of x) ≡ outcome_of before z → refused (number_of x) ≡ result
   add-stopped x z h =
       let k : before ≡ number_of x = outcome-refused before (number_of x) z h in
       rw (number_is, k, numbered x, numbered x)
 
   -- the test of the code, by the sizes that it decided
-  full_is : (z : Sizes) → z ≡ sizes_for s.fs a.size a.link (is_present a.root)
+  pub full_is : (z : Sizes) → z ≡ sizes_for s.fs a.size a.link (is_present a.root)
       → (not (holds s) || places_lack s.fs (length s.firsts) (z.total_size)) ≡ full
   full_is z e =
       ap (λ (v : Sizes). not (holds s) || places_lack s.fs (length s.firsts) v.total_size)
@@ -308,7 +308,7 @@ module _ (s : Store) (a : Addition) where
         ∙ ap (λ (b : Bool). cond (b || lacking) 10 0) h
 
     -- the tables do not hold what the set counts, or the table of first files lacks places
-    add-full : full ≡ true → refused 10 ≡ result
+    pub add-full : full ≡ true → refused 10 ≡ result
     add-full h = rw (number_by_lem true h)
 
     module _ (h : full ≡ false) where
@@ -342,7 +342,7 @@ module _ (s : Store) (a : Addition) where
           (sym (room-is s.fs (text_at s.text s.fs.name) (tabled s.fs.num_files (file_of s)) dirs count a (rooms_of s)))
           ∙ ap (λ (n : ℕ). outcome_of n (plan_of s.fs (view_of s) a)) (sym number-held)
 
-      add-planned : (z : Sizes) (f : FileFacts) (kind : PathKind) (x dir name link : List ℕ) (p : PathParts)
+      pub add-planned : (z : Sizes) (f : FileFacts) (kind : PathKind) (x dir name link : List ℕ) (p : PathParts)
           → z ≡ sizes_for s.fs a.size a.link (is_present a.root) → f ≡ facts_seen → p ≡ parts_seen
           → TextsOf (view_of s) a x kind dir name link
           → decided z f (directory_at kind dir) (lengths_for x name link) p ≡ result

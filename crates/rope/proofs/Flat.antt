@@ -20,11 +20,11 @@ module _ (t : ℕ → List ℕ) (frames : List ℕ) where
       ∙ ap (λ (m : ℕ). length (unused t frames k) + m) (length-replicate (kind frames k % 2) 47)
 
   -- a byte of it, of its text or the separator behind that
-  segment-text : (k j : ℕ) → j < length (unused t frames k) → get_or (segment t frames k) j 0 ≡ get_or (unused t frames k) j 0
+  pub segment-text : (k j : ℕ) → j < length (unused t frames k) → get_or (segment t frames k) j 0 ≡ get_or (unused t frames k) j 0
   unfolding segment
   segment-text k j l = get_or-append (unused t frames k) (replicate (kind frames k % 2) 47) 0 j l
 
-  segment-mark : (k j : ℕ) → length (unused t frames k) ≤ j → j < length (segment t frames k) → get_or (segment t frames k) j 0 ≡ 47
+  pub segment-mark : (k j : ℕ) → length (unused t frames k) ≤ j → j < length (segment t frames k) → get_or (segment t frames k) j 0 ≡ 47
   unfolding segment
   segment-mark k j h l =
       let m : kind frames k % 2 < 2 = omega arith in
@@ -47,7 +47,7 @@ module _ (t : ℕ → List ℕ) (frames : List ℕ) where
   pub flat-long : (k : ℕ) → 0 < k → length (segment t frames (k - 1)) ≤ length (flat t frames k)
   flat-long k h = omega (arith, ap length (flat_step k h), length-append (segment t frames (k - 1)) (flat t frames (k - 1)))
 
-  flat_here : (k at : ℕ) → 0 < k → at < length (segment t frames (k - 1)) → get_or (segment t frames (k - 1)) at 0 ≡ get_or (flat t frames k) at 0
+  pub flat_here : (k at : ℕ) → 0 < k → at < length (segment t frames (k - 1)) → get_or (segment t frames (k - 1)) at 0 ≡ get_or (flat t frames k) at 0
   flat_here k at h l =
       sym (get_or-append (segment t frames (k - 1)) (flat t frames (k - 1)) 0 at l)
       ∙ ap (λ (x : List ℕ). get_or x at 0) (flat_step k h)

@@ -12,7 +12,7 @@ use lib.Seq.{sets, length-sets}
 use Rattle.lists.proofs.Runs.{sets-append, sets-none, sets_over, sets-whole, sets-filled}
 
 module _ {A : Type 0} (v : A) where
-  runs-join : (l : List A) (i a j b : ℕ) → i ≤ j → j ≤ i + a → i + a ≤ j + b
+  pub runs-join : (l : List A) (i a j b : ℕ) → i ≤ j → j ≤ i + a → i + a ≤ j + b
       → sets (sets l i (replicate a v)) j (replicate b v) ≡ sets l i (replicate (j + b - i) v)
   runs-join l i a j b p q r =
       let k : i + (j - i) ≡ j = omega arith in

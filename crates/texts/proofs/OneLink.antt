@@ -33,7 +33,7 @@ value-fit true t scratch buf n q = let p = ap (λ (j : Joined). j.says) q in (re
 value-fit false t scratch buf n q = absurd (let p = ap (λ (j : Joined). j.says) q in let z : ◌≡◌ {A = ℕ} 0 1 = cc in omega arith)
 
 -- the text, read from the scratch space
-staged-part : (t scratch : List ℕ) {n : ℕ} {buf : List ℕ} → leb (length t) (length scratch) ≡ true → n ≡ length t → buf ≡ sets scratch 0 t → part_of buf 0 n ≡ t
+pub staged-part : (t scratch : List ℕ) {n : ℕ} {buf : List ℕ} → leb (length t) (length scratch) ≡ true → n ≡ length t → buf ≡ sets scratch 0 t → part_of buf 0 n ≡ t
 staged-part t scratch {n} {buf} e h q =
     ap (λ (x : ℕ). part_of buf 0 x) h
     ∙ ap (λ (x : List ℕ). part_of x 0 (length t)) q

@@ -102,7 +102,7 @@ module _ (rows : List ℕ) where
       by false = refl
 
 -- what is found is one of the rows
-found_below : (rows : List ℕ) (n f : ℕ) → tail_pad_in rows n ≡ Some f → f < n
+pub found_below : (rows : List ℕ) (n f : ℕ) → tail_pad_in rows n ≡ Some f → f < n
 unfolding tail_pad_in
 found_below rows zero f e = absurd (let z : ◌≡◌ {A = ℕ} 0 1 = cc in omega arith)
 found_below rows (suc n) f e = at (eqb (row_at rows n).size 0) (has (row_at rows n).flags 1) (found_below rows n f) e
