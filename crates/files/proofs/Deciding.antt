@@ -3,7 +3,6 @@
 --     past-held, past_index, bytes_past   a negative number's file is past the end of every set that a table holds
 --     position-range                      the tests of a question, where there is such a file
 --     last-known                          the refusal of a question that does not pass
---     place-known                         the same, where the set passes
 --     rules-apart                         a question about bytes of a file is answered where the set and the question pass
 use Rattle.std.proofs.Common.{◌≡◌, ℕ, suc, ◌-◌, ◌%◌, ◌^◌, ◌<◌, ◌≤◌, Bool, true, false, not, ◌&&◌, eqb, ltb, leb, [], ◌∷◌, ℤ, pos, negsuc, sym, refl, ap, ◌∙◌, true≢false, arith, w32, w64, SFits, of_z, le-ltb, leb-true}
 use Rattle.tables.specs.declared.storage.FileStorage.{FileStorage}
@@ -47,17 +46,6 @@ last-known false false true d h p q e = refl
 last-known false false false true h p q e = rw (q refl)
 last-known false false false false true p q e = absurd (true≢false e)
 last-known false false false false false p q e = rw (q refl)
-
--- the refusal of a question that does not pass, where the set passes its tests
-pub place-known : (a b c d h : Bool) → eqb (first_of (when a 1 ∷ when c 13 ∷ short h ∷ [])) 0 ≡ true
-    → eqb (first_of (when a 1 ∷ when b 11 ∷ when c 13 ∷ when d 14 ∷ short h ∷ [])) 0 ≡ false
-    → first_of (when b 11 ∷ when true 14 ∷ []) ≡ first_of (when a 1 ∷ when b 11 ∷ when c 13 ∷ when d 14 ∷ short h ∷ [])
-place-known true b c d h s e = absurd (true≢false (sym s))
-place-known false b true d h s e = absurd (true≢false (sym s))
-place-known false b false d false s e = absurd (true≢false (sym s))
-place-known false true false d true s e = refl
-place-known false false false true true s e = refl
-place-known false false false false true s e = absurd (true≢false e)
 
 -- a negative number's file is past the end of every set that a table holds
 past-held : (z : ℤ) (n : ℕ) → SFits w32 z → n < 2 ^ 63 → ltb (of_z w64 z) n ≡ is_below n z

@@ -51,9 +51,7 @@ fn answer_each(
 {
     // Stays: the answers are cut by number. Tried, with `answers.chunks_exact_mut(4)` in the zip, and with the table
     // walked down by `split_at_mut(4)`, `returns` stayed open: after both loops only the table's length is known.
-    let n = files.len();
-    let columns = files.iter().zip(&offsets[..n]).zip(&sizes[..n]);
-    for (i, ((file, offset), size)) in columns.enumerate() {
+    for (i, ((file, offset), size)) in files.iter().zip(offsets).zip(sizes).enumerate() {
         let words = answer_words(map_file(fs, rows, FileIndex(*file), *offset, *size));
         let at = i * 4;
         answers[at..at + 4].copy_from_slice(&words);

@@ -12,7 +12,7 @@ use Rattle.rules.proofs.Deciding.{index-low}
 use Rattle.layout.proofs.Deciding.{few-pieces}
 use Rattle.files.specs.Request.{Request, request_at, map_file}
 use Rattle.files.specs.private.Deciding.{bytes_rules, set_rules, position_rules}
-use Rattle.files.proofs.Deciding.{past_index, position-range, last-known, place-known, bytes_past}
+use Rattle.files.proofs.Deciding.{past_index, position-range, last-known, bytes_past}
 use Rattle.files.proofs.Requests.{Placed, placed}
 use Rattle.files.proofs.file.map_file.Goals as goal
 use Rattle.files.proofs.file.map_file.Goals.{After-passes_position-in_place}
@@ -74,14 +74,14 @@ module _ {fs : FileStorage} {rows : List ℕ} {z offset size : ℤ} {k : ℕ} {s
 pub signed_request-requires : goal.signed_request-requires
 signed_request-requires c =
     let k = asked (goal.at.signed_request-requires c).After-passes_position-in_place in
-    let q = request-is k c.if-fit.true c.if-in_place.true c.offset_of.ensures c.clamped.ensures (search rules) c.from.ensures c.clamped-then-in_place.ensures c.request_at.ensures in
+    let q = request-is k c.if-fit.true c.if-in_place.true c.offset_at.ensures c.clamped.ensures (search rules) c.from.ensures c.clamped-then-in_place.ensures c.request_at.ensures in
     let p = due k c.if-fit.true c.if-in_place.true in
     (omega (arith, ap (λ (r : Request). r.piece) q, p.piece), omega (arith, ap (λ (r : Request). r.start) q, p.start), omega (arith, ap (λ (r : Request). r.length) q, p.length, index-low c.args.size k.size-fits))
 
 pub returns-then-in_place : goal.returns-then-in_place
 returns-then-in_place c =
     let k = asked (goal.at.returns-then-in_place c).After-passes_position-in_place in
-    let q = request-is k c.if-fit.true c.if-in_place.true c.offset_of.ensures c.clamped.ensures (search rules) c.from.ensures c.clamped-then-in_place.ensures c.request_at.ensures in
+    let q = request-is k c.if-fit.true c.if-in_place.true c.offset_at.ensures c.clamped.ensures (search rules) c.from.ensures c.clamped-then-in_place.ensures c.request_at.ensures in
     let h = c.signed_request.ensures in
     rw (whole k c.if-fit.true c.if-in_place.true)
     (ap value
@@ -91,21 +91,12 @@ returns-then-in_place c =
       h.2 ∙ ap (λ (r : Request). pos r.length) q,
     )))
 
--- where the question is not answered, a refusal's test holds: where the set passes, one of the question's
-pub returns-then-fit : goal.returns-then-fit
-returns-then-fit c =
-    let a = c.args in
-    let k = asked (goal.at.returns-then-fit c).After-passes_position-in_place in
-    let e = sym (answered-is k) ∙ not-both _ _ (inl (c.if-fit.true, c.if-in_place.false)) in
-    let l = place-known (bad_piece_length a.fs).test (no_file a.fs a.index.0).test (many_pieces a.fs).test (bad_range a.offset a.size).test (leb a.fs.num_files (length a.rows.now / 8) && few_entries a.fs)
-    (sym k.set-passes ∙ c.if-fit.true) e in
-    rw e (ap refused (c.refused_place.ensures ∙ l))
-
+-- where the question is not answered, a refusal's test holds
 pub returns : goal.returns
 returns c =
     let a = c.args in
     let k = asked (goal.at.returns c).After-passes_position-in_place in
-    let e = sym (answered-is k) ∙ not-both _ _ (inr c.if-fit.false) in
+    let e = sym (answered-is k) ∙ not-both _ _ c.else-fit.either in
     let l = last-known (bad_piece_length a.fs).test (no_file a.fs a.index.0).test (many_pieces a.fs).test (bad_range a.offset a.size).test (leb a.fs.num_files (length a.rows.now / 8) && few_entries a.fs) _
     (λ h. in_place k ∙ position-range a.fs a.index.0 a.offset a.size h) e in
     rw e (ap refused (c.refused_bytes.ensures ∙ l))

@@ -1,5 +1,5 @@
 -- `files::list::answer_each` meets its contract: each question is the one of its number.
-use Rattle.std.proofs.Common.{rules, ◌≡◌, length, get_or, take, pos, ap, ◌∙◌, to_z-of_z, w32, w64, SFits, arith}
+use Rattle.std.proofs.Common.{rules, ◌≡◌, length, get_or, pos, ap, ◌∙◌, to_z-of_z, w32, w64, SFits, arith}
 use Rattle.std.proofs.lemmas.Iterator.{YieldsList-from_slice, YieldsList-from_zip}
 use Rattle.std.proofs.lemmas.Iterator.Consumers.{YieldsList-from_enumerate, YieldsList-turn, YieldsList-end}
 use Rattle.std.proofs.lemmas.List.{length_push}
@@ -16,7 +16,7 @@ asked : (c : In-Some) → Asked c.args.files.now c.args.offsets.now c.args.sizes
 asked c =
     let a = c.args in
     let l = c.loop-i in
-    let listed = YieldsList-from_enumerate {s = c.into_iter-i-iterator.result} (YieldsList-from_zip (YieldsList-from_zip (YieldsList-from_slice a.files.now cc) (YieldsList-from_slice (take (length a.files.now) a.offsets.now) cc)) (YieldsList-from_slice (take (length a.files.now) a.sizes.now) cc)) cc in
+    let listed = YieldsList-from_enumerate {s = c.into_iter-i-iterator.result} (YieldsList-from_zip (YieldsList-from_zip (YieldsList-from_slice a.files.now cc) (YieldsList-from_slice a.offsets.now cc)) (YieldsList-from_slice a.sizes.now cc)) cc in
     let t = YieldsList-turn listed l.yielded l.i-iterator l.yielded_by c.next.result c.next.new.self (c.in-Some.i, ((c.in-Some.file, c.in-Some.offset), c.in-Some.size)) c.in-Some.is c.next.ensures.steps in
     asked-is a.files.now a.offsets.now a.sizes.now c.requires.0 c.requires.1 (length l.yielded) _ t.0 t.1
 
@@ -48,7 +48,7 @@ loop-i-preserved c =
 
 pub returns : goal.returns
 returns c =
-    let listed = YieldsList-from_enumerate {s = c.into_iter-i-iterator.result} (YieldsList-from_zip (YieldsList-from_zip (YieldsList-from_slice c.args.files.now cc) (YieldsList-from_slice (take (length c.args.files.now) c.args.offsets.now) cc)) (YieldsList-from_slice (take (length c.args.files.now) c.args.sizes.now) cc)) cc in
+    let listed = YieldsList-from_enumerate {s = c.into_iter-i-iterator.result} (YieldsList-from_zip (YieldsList-from_zip (YieldsList-from_slice c.args.files.now cc) (YieldsList-from_slice c.args.offsets.now cc)) (YieldsList-from_slice c.args.sizes.now cc)) cc in
     let e = YieldsList-end listed c.loop-i.yielded c.loop-i.i-iterator c.loop-i.yielded_by c.next.result c.next.new.self c.in-None.is c.next.ensures.steps in
     writing-end 4 (answer_at c.args.fs c.args.rows.now c.args.files.now c.args.offsets.now c.args.sizes.now) (length c.args.files.now) c.args.answers.now c.loop-i.answers (length c.loop-i.yielded) c.loop-i.invariant
     (omega (arith, e.1, all-asked c.args.files.now c.args.offsets.now c.args.sizes.now c.requires.0 c.requires.1))
