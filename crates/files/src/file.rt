@@ -1,7 +1,7 @@
 // Answers about files' pieces, blocks and trees, and `map_file`. They rely on `merkle` for the nodes, on `types` for
 // signed numbers and on `rules`: each decides its refusals first.
-ghost use Rattle.std.specs.Prelude.{◌≡◌, ◌+◌, ◌*◌, ◌/◌, ◌^◌, ◌<◌, ◌≤◌, ◌&&◌, ◌==◌};
-ghost use Rattle.std.specs.Prelude.{false, not, [], ◌∷◌, length, pos, IfOk};
+ghost use Rattle.std.specs.Prelude.{◌≡◌, ◌+◌, ◌*◌, ◌/◌, ◌%◌, ◌^◌, ◌<◌, ◌≤◌, ◌&&◌, ◌==◌};
+ghost use Rattle.std.specs.Prelude.{false, true, not, [], ◌∷◌, length, pos, IfOk};
 ghost use Rattle.types.specs.Refusals.{number_of, outcome};
 ghost use Rattle.lists.specs.Lists.{ceiling};
 ghost use Rattle.tables.specs.Rows.{row_at};
@@ -24,12 +24,12 @@ ghost use Rattle.files.specs.Files.{exclusive_range, inclusive_range};
 
 use crate::asked::AskedFile;
 use crate::number::file_or_past;
-use lists::{div, div_ceil, rem};
+use lists::{div, div_ceil};
 use rules::{
     DEFAULT_BLOCK_SIZE, Tests, are_held, count_pieces, has_many, holds_roots, holds_rows,
     is_bad_length, is_bad_range, is_no_tree,
 };
-use tables::{FileStorage, Sha256Hash};
+use tables::{FileStorage, ROW_WIDTH, SIZE_RANGE, Sha256Hash};
 use types::{FileIndex, I32Range, PeerRequest, PieceIndex, PieceIndexRange, Refusal, clamped};
 
 // A request in unsigned numbers.
@@ -64,8 +64,22 @@ fn last_quotient(n: u64, d: u64) -> PieceIndex
     PieceIndex::last_of(after_quotient(n, d))
 }
 
+// Position `at` as its piece and its start in that piece. A piece length that is a power of two, as most are, cuts by a
+// shift.
+// Stays: `lists::div` and `lists::rem` would each test the length again, in a question that is as short as that.
+fn cut_at(at: u64, piece_length: u64) -> (u64, u64)
+    requires { 0 < piece_length }
+    ensures { (result.0 ≡ at / piece_length) × (result.1 ≡ at % piece_length) }
+{
+    match lists::exponent(piece_length) {
+        Some(bits) => (at >> bits, at % (1 << bits)),
+        None => (at / piece_length, at % piece_length),
+    }
+}
+
 // The piece and the start of position `at` of the set's bytes, and how many of `size` bytes the set has from there on.
 fn request_at(fs: FileStorage, at: u64, size: u64) -> UnsignedRequest
+    requires { 0 < fs.piece_length }
     ensures { request_of result ≡ request_at fs at size }
 {
     if fs.total_size <= at {
@@ -75,9 +89,10 @@ fn request_at(fs: FileStorage, at: u64, size: u64) -> UnsignedRequest
             length: 0,
         };
     }
+    let (piece, start) = cut_at(at, fs.piece_length);
     UnsignedRequest {
-        piece: div(at, fs.piece_length),
-        start: rem(at, fs.piece_length),
+        piece,
+        start,
         length: size.min(fs.total_size - at),
     }
 }
@@ -358,8 +373,17 @@ fn signed_request(r: UnsignedRequest) -> PeerRequest
     }
 }
 
+// The offset of row k, which the table has.
+// Stays: `tables::offset_at` tests for the row, as `map_tested` has done.
+fn offset_of(rows: &[u64], k: usize) -> u64
+    requires { k * 8 < length rows.now }
+    ensures { result ≡ (row_at rows.now k).offset }
+{
+    rows[k * ROW_WIDTH] % SIZE_RANGE
+}
+
 // Whether the set passes its own tests, so that it answers questions about bytes of its files.
-fn passes_set(fs: FileStorage, rows: &[u64]) -> bool
+pub(crate) fn passes_set(fs: FileStorage, rows: &[u64]) -> bool
     ensures { result ≡ (first_of (set_rules fs (length rows.now / 8)) == 0) }
 {
     !is_bad_length(fs.piece_length) && !has_many(fs) && are_held(fs, holds_rows(fs, rows))
@@ -387,10 +411,46 @@ fn refused_bytes(fs: FileStorage, index: FileIndex, in_place: bool) -> Refusal
     tests.first_refusal().err().unwrap_or(Refusal::NoRoom)
 }
 
-// Where bytes of a file lie: the piece, the start in it, and how many of them the set has. It does not stop at the
-// file's end. All tests stand before the answer, so that no answer waits for the number of a refusal, and those on the
-// set stand apart, so that a compiler can make them once for a loop of questions, into which it takes this function.
+// The refusal of a question about bytes of file k that does not pass, where the set passes.
+fn refused_place(fs: FileStorage, k: usize) -> Refusal
+    ensures { number_of result ≡ first_of (no_file fs (pos k) ∷ when true 14 ∷ []) }
+{
+    if fs.num_files <= k {
+        return Refusal::NoSuchFile;
+    }
+    Refusal::OutOfRange
+}
+
+// Where bytes of a file lie; PASSES says whether the set passes its own tests. All tests stand before the answer, so that
+// no answer waits for the number of a refusal.
 #[inline(always)]
+pub(crate) fn map_tested<const PASSES: bool>(
+    fs: FileStorage,
+    rows: &[u64],
+    index: FileIndex,
+    offset: i64,
+    size: i32,
+) -> Result<PeerRequest, Refusal>
+    requires { PASSES ≡ (first_of (set_rules fs (length rows.now / 8)) == 0) }
+    ensures { request_says result ≡ file_mapped fs rows.now index.0 offset size }
+{
+    let k = file_or_past(index);
+    let in_place = passes_position(fs, k, offset, size);
+    if PASSES {
+        if in_place {
+            return Ok(signed_request(request_at(
+                fs,
+                offset_of(rows, k) + clamped(offset),
+                clamped(i64::from(size)),
+            )));
+        }
+        return Err(refused_place(fs, k));
+    }
+    Err(refused_bytes(fs, index, in_place))
+}
+
+// Where bytes of a file lie: the piece, the start in it, and how many of them the set has. It does not stop at the
+// file's end.
 pub fn map_file(
     fs: FileStorage,
     rows: &[u64],
@@ -400,17 +460,11 @@ pub fn map_file(
 ) -> Result<PeerRequest, Refusal>
     ensures { request_says result ≡ file_mapped fs rows.now index.0 offset size }
 {
-    let k = file_or_past(index);
-    let fit = passes_set(fs, rows);
-    let in_place = passes_position(fs, k, offset, size);
-    if fit && in_place {
-        return Ok(signed_request(request_at(
-            fs,
-            tables::offset_at(rows, k) + clamped(offset),
-            clamped(i64::from(size)),
-        )));
+    if passes_set(fs, rows) {
+        map_tested::<true>(fs, rows, index, offset, size)
+    } else {
+        map_tested::<false>(fs, rows, index, offset, size)
     }
-    Err(refused_bytes(fs, index, in_place))
 }
 
 // The pieces that lie wholly in a file.

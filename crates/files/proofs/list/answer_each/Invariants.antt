@@ -6,4 +6,4 @@ use Rattle.tables.proofs.Filled.{Writing}
 use Rattle.files.proofs.list.answer_each.Given as goal
 
 abbrev pub invariant-loop-i : goal.invariant-loop-i
-invariant-loop-i l = Writing 4 (answer_at l.fs l.rows l.files l.offsets l.sizes) (length l.files) l.initial.answers l.answers (length l.yielded)
+invariant-loop-i g l = Writing 4 (answer_at l.fs l.rows l.files l.offsets l.sizes) (length l.files) l.initial.answers l.answers (length l.yielded)

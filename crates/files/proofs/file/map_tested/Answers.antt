@@ -1,6 +1,8 @@
--- `files::file::map_file` meets its contract.
-use Rattle.std.proofs.Common.{◌≡◌, ℕ, ◌+◌, ◌/◌, ◌^◌, ◌<◌, Bool, true, false, ◌&&◌, ◌⊎◌, inl, inr, eqb, leb, List, length, ℤ, pos, sym, refl, ap, ◌∙◌, arith, to_z-of_z, w32, w64, SFits, to_z, of_z, rules, eqb-true}
+-- `files::file::map_tested` meets its contract.
+use Rattle.std.proofs.Common.{◌≡◌, ℕ, zero, suc, not, ◌+◌, ◌/◌, ◌^◌, ◌<◌, Bool, true, false, ◌&&◌, ◌⊎◌, inl, inr, eqb, leb, List, length, ℤ, pos, sym, refl, ap, ◌∙◌, arith, to_z-of_z, w32, w64, SFits, to_z, of_z, rules, eqb-true}
 use borrow.Author.Tests.{not-false}
+use Rattle.std.proofs.Math.Dec.{eqb-suc-zero}
+use denote.Param.{number}
 use Rattle.types.specs.Refusals.{value, refused}
 use Rattle.tables.specs.declared.storage.FileStorage.{FileStorage}
 use Rattle.tables.specs.Rows.{row_at}
@@ -12,10 +14,12 @@ use Rattle.rules.proofs.Deciding.{index-low}
 use Rattle.layout.proofs.Deciding.{few-pieces}
 use Rattle.files.specs.Request.{Request, request_at, map_file}
 use Rattle.files.specs.private.Deciding.{bytes_rules, set_rules, position_rules}
-use Rattle.files.proofs.Deciding.{past_index, position-range, last-known, bytes_past}
+use Rattle.files.specs.contracts.file.map_tested.{PASSES-type}
+use Rattle.files.proofs.Deciding.{past_index, position-range, last-known, place-known, past-set, bytes_past}
 use Rattle.files.proofs.Requests.{Placed, placed}
-use Rattle.files.proofs.file.map_file.Goals as goal
-use Rattle.files.proofs.file.map_file.Goals.{After-passes_position-in_place}
+use Rattle.files.proofs.file.map_tested.Goals as goal
+use Rattle.files.proofs.file.map_tested.Given.{Over}
+use Rattle.files.proofs.file.map_tested.Goals.{After-passes_position-in_place}
 
 not-both : (a b : Bool) → ((a ≡ true) × (b ≡ false)) ⊎ (a ≡ false) → (a && b) ≡ false
 not-both a b (inl h) = rw (h.0, h.1)
@@ -34,15 +38,23 @@ record Asked (fs : FileStorage) (rows : List ℕ) (z offset size : ℤ) (k : ℕ
   set-passes : set ≡ eqb (first_of (set_rules fs (length rows / 8))) 0
   passes : own ≡ eqb (first_of (position_rules fs (pos k) (to_z w64 (of_z w64 offset)) (to_z w32 (of_z w32 size)))) 0
 
-asked : (c : After-passes_position-in_place)
-    → Asked c.args.fs c.args.rows.now c.args.index.0 c.args.offset c.args.size c.file_or_past-k.result c.passes_set-fit.result c.passes_position-in_place.result
-asked c = record {
+-- PASSES, which is a byte here, as a Bool
+set-true : (n : ℕ) → (n ≡ 0 → ⊥) → not (eqb n 0) ≡ true
+set-true zero h = absurd (h refl)
+set-true (suc n) h = ap not (eqb-suc-zero n)
+
+set-false : (n : ℕ) → n ≡ 0 → not (eqb n 0) ≡ false
+set-false n h = rw h
+
+asked : {g : Over} (c : After-passes_position-in_place g)
+    → Asked c.args.fs c.args.rows.now c.args.index.0 c.args.offset c.args.size c.file_or_past-k.result (PASSES-type (number g.row.PASSES)) c.passes_position-in_place.result
+asked {g = g} c = record {
   index = search rules;
   room = search rules;
   offset-fits = search rules;
   size-fits = search rules;
   number = c.file_or_past-k.ensures;
-  set-passes = c.passes_set-fit.ensures;
+  set-passes = c.requires;
   passes = c.passes_position-in_place.ensures;
 }
 
@@ -72,18 +84,18 @@ module _ {fs : FileStorage} {rows : List ℕ} {z offset size : ℤ} {k : ℕ} {s
     due = placed fs _ (clamped_of size) _ (few-pieces fs tests.0 tests.1.1.0) refl
 
 pub signed_request-requires : goal.signed_request-requires
-signed_request-requires c =
-    let k = asked (goal.at.signed_request-requires c).After-passes_position-in_place in
-    let q = request-is k c.if-fit.true c.if-in_place.true c.offset_at.ensures c.clamped.ensures (search rules) c.from.ensures c.clamped-then-in_place.ensures c.request_at.ensures in
-    let p = due k c.if-fit.true c.if-in_place.true in
+signed_request-requires g c =
+    let k = asked (goal.at.signed_request-requires g c).After-passes_position-in_place in
+    let q = request-is k (set-true _ c.if-this-ne0.true) c.if-in_place.true c.offset_of.ensures c.clamped.ensures (search rules) c.from.ensures c.clamped-then-in_place.ensures c.request_at.ensures in
+    let p = due k (set-true _ c.if-this-ne0.true) c.if-in_place.true in
     (omega (arith, ap (λ (r : Request). r.piece) q, p.piece), omega (arith, ap (λ (r : Request). r.start) q, p.start), omega (arith, ap (λ (r : Request). r.length) q, p.length, index-low c.args.size k.size-fits))
 
 pub returns-then-in_place : goal.returns-then-in_place
-returns-then-in_place c =
-    let k = asked (goal.at.returns-then-in_place c).After-passes_position-in_place in
-    let q = request-is k c.if-fit.true c.if-in_place.true c.offset_at.ensures c.clamped.ensures (search rules) c.from.ensures c.clamped-then-in_place.ensures c.request_at.ensures in
+returns-then-in_place g c =
+    let k = asked (goal.at.returns-then-in_place g c).After-passes_position-in_place in
+    let q = request-is k (set-true _ c.if-this-ne0.true) c.if-in_place.true c.offset_of.ensures c.clamped.ensures (search rules) c.from.ensures c.clamped-then-in_place.ensures c.request_at.ensures in
     let h = c.signed_request.ensures in
-    rw (whole k c.if-fit.true c.if-in_place.true)
+    rw (whole k (set-true _ c.if-this-ne0.true) c.if-in_place.true)
     (ap value
     (cc (
       h.0 ∙ ap (λ (r : Request). pos r.piece) q,
@@ -91,12 +103,24 @@ returns-then-in_place c =
       h.2 ∙ ap (λ (r : Request). pos r.length) q,
     )))
 
--- where the question is not answered, a refusal's test holds
-pub returns : goal.returns
-returns c =
+-- where the question is not answered, a refusal's test holds: where the set passes, one of the question's
+pub returns-then-this-ne0 : goal.returns-then-this-ne0
+returns-then-this-ne0 g c =
     let a = c.args in
-    let k = asked (goal.at.returns c).After-passes_position-in_place in
-    let e = sym (answered-is k) ∙ not-both _ _ c.else-fit.either in
+    let k = asked (goal.at.returns-then-this-ne0 g c).After-passes_position-in_place in
+    let s = set-true _ c.if-this-ne0.true in
+    let e = sym (answered-is k) ∙ not-both _ _ (inl (s, c.if-in_place.false)) in
+    let p = sym k.set-passes ∙ s in
+    let l = place-known (bad_piece_length a.fs).test (no_file a.fs a.index.0).test (many_pieces a.fs).test (bad_range a.offset a.size).test (leb a.fs.num_files (length a.rows.now / 8) && few_entries a.fs)
+    p e in
+    let r = rw (k.number, past-set a.fs a.index.0 (length a.rows.now / 8) k.index k.room p) at c.refused_place.ensures in
+    rw e (ap refused (r ∙ l))
+
+pub returns : goal.returns
+returns g c =
+    let a = c.args in
+    let k = asked (goal.at.returns g c).After-passes_position-in_place in
+    let e = sym (answered-is k) ∙ not-both _ _ (inr (set-false _ c.if-this-ne0.false)) in
     let l = last-known (bad_piece_length a.fs).test (no_file a.fs a.index.0).test (many_pieces a.fs).test (bad_range a.offset a.size).test (leb a.fs.num_files (length a.rows.now / 8) && few_entries a.fs) _
     (λ h. in_place k ∙ position-range a.fs a.index.0 a.offset a.size h) e in
     rw e (ap refused (c.refused_bytes.ensures ∙ l))
