@@ -261,7 +261,7 @@ module _ (s : Store) (a : Addition) where
   result = planned_for s a
 
   -- the tables do not hold what the set counts, or the table of first files is too short
-  abbrev full : Bool
+  abbrev pub full : Bool
   full = not (holds s) || lacks_places s (view_of s) a
 
   abbrev lacking : Bool
