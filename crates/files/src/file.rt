@@ -374,7 +374,7 @@ fn signed_request(r: UnsignedRequest) -> PeerRequest
 }
 
 // The offset of row k, which the table has.
-// Stays: `tables::offset_at` tests for the row, as `map_tested` has done.
+// Stays: `tables::offset_at` tests for the row; where the set passes and has file k, it is there.
 fn offset_of(rows: &[u64], k: usize) -> u64
     requires { k * 8 < length rows.now }
     ensures { result ≡ (row_at rows.now k).offset }
@@ -421,8 +421,8 @@ fn refused_place(fs: FileStorage, k: usize) -> Refusal
     Refusal::OutOfRange
 }
 
-// Where bytes of a file lie; PASSES says whether the set passes its own tests. All tests stand before the answer, so that
-// no answer waits for the number of a refusal.
+// Where bytes of a file lie; PASSES says whether the set passes its own tests. All tests stand before the answer, so
+// that no answer waits for the number of a refusal.
 #[inline(always)]
 pub(crate) fn map_tested<const PASSES: bool>(
     fs: FileStorage,

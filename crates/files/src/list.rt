@@ -1,6 +1,6 @@
-// `map_file` for a list of questions: the set is tested once, and each question in a loop. It relies on
-// file.rt, on the laws of rows written one after another (tables, proofs/Filled.antt) and on those of
-// proofs/Columns.antt and proofs/Words.antt.
+// `map_file` for a list of questions: the set is tested once, and each question in a loop. It relies on file.rt, on the
+// laws of words stored side by side and of rows written one after another (tables, proofs/Words.antt and
+// proofs/Filled.antt) and on those of proofs/Columns.antt and proofs/Words.antt.
 ghost use Rattle.std.specs.Prelude.{◌≡◌, ◌+◌, ◌*◌, ◌/◌, ◌<◌, ◌≤◌, ◌==◌, length};
 ghost use Rattle.std.proofs.lemmas.List.Edits.{sets};
 ghost use Rattle.tables.specs.Rows.{filled};
@@ -23,8 +23,8 @@ fn word32(x: i32) -> u32
 }
 
 // Puts four words side by side, from position `at` on.
-// Stays: tried, `copy_from_slice`, which compares the places of both slices, and `first_chunk_mut`, which tests for room:
-// a question takes 64 and 55 instructions in the place of 44.
+// Stays: tried, `copy_from_slice`, which compares the places of both slices, and `first_chunk_mut`, which tests for
+// room: a question takes 64 and 55 instructions in the place of 44.
 #[tactic(auto, using(tables::proofs::Words::stored_more, tables::proofs::Words::stored_all))]
 fn put_words(answers: &mut [u32], at: usize, words: &[u32; 4])
     requires { at + 3 < length answers.old }
@@ -70,11 +70,11 @@ fn answer_each<const PASSES: bool>(
         (filled (answer_at fs rows.now files.now offsets.now sizes.now) 0
         (length files.now)) }
 {
-    // Stays: the answers are cut by number. Tried, with `answers.chunks_exact_mut(4)` in the zip, and with the table
-    // walked down by `split_at_mut(4)`, `returns` stayed open: after both loops only the table's length is known.
-    // Columns of one length, so that one test ends the loop.
+    // The columns have one length, so that one test ends the loop.
     let n = files.len();
     let columns = files.iter().zip(&offsets[..n]).zip(&sizes[..n]);
+    // Stays: an answer is put by its number. Tried, with `answers.chunks_exact_mut(4)` in the zip, and with the table
+    // walked down by `split_at_mut(4)`, `returns` stayed open: after both loops only the table's length is known.
     for (i, ((file, offset), size)) in columns.enumerate() {
         let answer = map_tested::<PASSES>(fs, rows, FileIndex(*file), *offset, *size);
         put_answer(answers, i, answer);
